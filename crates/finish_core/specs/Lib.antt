@@ -1,0 +1,2 @@
+pub mod FinishArguments
+pub mod Restart

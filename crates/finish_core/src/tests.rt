@@ -1,0 +1,34 @@
+use super::*;
+use s6_events::{At, Exit};
+use std::test::Fail;
+
+#[test]
+fn pauses_a_second_unless_it_was_ready_for_longer(rt: HostRuntime) -> Result<(), Fail> {
+    // ready since, death, now, due
+    let rows: [(Option<u64>, u64, u64, u64); 6] = [
+        (None, 300, 300, 1300),
+        (None, 300, 1300, 1300),
+        (None, 300, 1301, 1301),
+        (Some(100), 1100, 1100, 2100),
+        (Some(100), 1101, 1101, 1101),
+        (Some(0), 5, 20, 1005),
+    ];
+    for (since, death, now, due) in rows {
+        let since = match since {
+            Some(millis) => Some(At::new(millis).ok_or("since")?),
+            None => None,
+        };
+        let death = At::new(death).ok_or("death")?;
+        let now = At::new(now).ok_or("now")?;
+        assert_eq!(rt; restart_due(since, death, now), due);
+    }
+    Ok(())
+}
+
+#[test]
+fn tells_finish_the_code_or_the_signal(rt: HostRuntime) {
+    assert_eq!(rt; finish_args(Exit::Code(7)), (7, 0));
+    assert_eq!(rt; finish_args(Exit::Code(0)), (0, 0));
+    assert_eq!(rt; finish_args(Exit::Killed(9)), (256, 9));
+    assert_eq!(rt; finish_args(Exit::Killed(0)), (256, 0));
+}

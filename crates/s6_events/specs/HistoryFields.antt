@@ -1,0 +1,12 @@
+-- What a contract sees of a history.
+use Rattle.std.specs.Prelude.{ℕ, ◌+◌, ◌-◌, ◌<◌, ◌^◌, vec_len, vec_capacity}
+use Rattle.s6_events.specs.History.{Recorded}
+use Rattle.s6_events.specs.declared.history.History.TheInside.{Inside}
+
+-- what it forgot and keeps, and the room that is left
+abbrev pub recorded : {A : Type 0} → Inside A → Recorded
+recorded h = record { forgotten = h.forgotten; kept = h.moments.items; room = vec_capacity h.moments - vec_len h.moments }
+
+-- places stay below 2 ^ 63
+abbrev pub IsCounted : {A : Type 0} → Inside A → Type 0
+IsCounted h = h.forgotten + vec_len h.moments < 2 ^ 63

@@ -1,0 +1,120 @@
+ghost use Rattle.std.specs.Prelude.{◌≡◌, ◌==◌, ◌+◌, ◌^◌, ◌<◌, ◌≤◌, ◌++◌, ◌∷◌, [], length, vec_len, vec_capacity, IsOk, IfOk, OnOk, OnErr, option_map};
+ghost use Rattle.s6_events.specs.History.{end_of, from_place};
+
+use crate::moment::Moment;
+use crate::no_memory::NoMemory;
+use std::alloc::Allocator;
+use std::marker::Model;
+
+/// All moments since it was made, in the order in which they were pushed; places count from 0. This project's own.
+#[derive(Drop)]
+pub struct History<A: Allocator> {
+    forgotten: u64,
+    moments: Vec<Moment, A>,
+}
+
+impl<A: Allocator> Model for History<A> {
+    ghost use Rattle.s6_events.specs.History.{Recorded};
+
+    ghost Value = { Recorded };
+
+    ghost use Rattle.s6_events.specs.HistoryFields.{recorded, IsCounted};
+
+    ghost view = { recorded };
+
+    ghost invariant = { IsCounted };
+}
+
+/// The moments that one step will push, for which a history has made room.
+#[derive(Drop)]
+pub struct Plan<A: Allocator> {
+    moments: Vec<Moment, A>,
+}
+
+impl<A: Allocator> Model for Plan<A> {
+    ghost use Rattle.std.specs.Prelude.{List};
+    ghost use Rattle.s6_events.specs.declared.moment.Moment.{Moment};
+
+    ghost Value = { List Moment };
+
+    ghost view = { λ p. p.moments.items };
+}
+
+impl<A: Allocator + Copy> History<A> {
+    /// A history with no moment. It takes no memory yet, and keeps the allocator.
+    pub fn new(alloc: A) -> History<A>
+        ensures forgotten { result.forgotten ≡ 0 }
+        ensures kept { result.kept ≡ [] }
+    {
+        History {
+            forgotten: 0,
+            moments: Vec::new(alloc),
+        }
+    }
+
+    /// How many moments were pushed.
+    pub fn len(&self) -> u64
+        ensures value { result ≡ end_of self.now }
+        ensures bound { result < 2 ^ 63 }
+    {
+        self.forgotten + self.moments.len() as u64
+    }
+
+    /// Whether no moment was pushed.
+    pub fn is_empty(&self) -> bool
+        ensures { result ≡ (end_of self.now == 0) }
+    {
+        self.len() == 0
+    }
+
+    /// Adds a moment at the end. `NoMemory` where the growth was refused; nothing has changed then.
+    pub fn push(&mut self, moment: Moment) -> Result<(), NoMemory>
+        requires { end_of self.old + 1 < 2 ^ 63 }
+        ensures ok { OnOk result (self.new.kept ≡ self.old.kept ++ moment ∷ []) }
+        ensures err { OnErr result (self.new.kept ≡ self.old.kept) }
+        ensures forgotten { self.new.forgotten ≡ self.old.forgotten }
+    {
+        self.moments.push(moment)?;
+        Ok(())
+    }
+
+    /// The moments from a place on, the empty slice at the place `len`; None where that place is not there yet. Takes no memory.
+    pub fn from(&self, place: u64) -> Option<&[Moment]>
+        ensures { option_map (λ s. s.now) result ≡ from_place self.now place }
+    {
+        if place < self.forgotten {
+            return None;
+        }
+        let skipped = (place - self.forgotten) as usize;
+        if skipped > self.moments.len() {
+            return None;
+        }
+        Some(&self.moments[skipped..])
+    }
+
+    /// Makes room for these pushes, and changes nothing else. `NoMemory` where a growth was refused; none is asked for where
+    /// there is nothing to push.
+    pub fn prepare(&mut self, moments: &[Moment]) -> Result<Plan<A>, NoMemory>
+        ensures ok { IfOk result (λ plan. plan ≡ moments.now) }
+        ensures room { OnOk result (length moments.now ≤ self.new.room) }
+        ensures forgotten { self.new.forgotten ≡ self.old.forgotten }
+        ensures kept { self.new.kept ≡ self.old.kept }
+        ensures quiet { moments.now ≡ [] → IsOk result }
+    {
+        let mut planned = Vec::new(*self.moments.allocator());
+        planned.reserve(moments.len())?;
+        self.moments.reserve(moments.len())?;
+        planned.extend_from_slice(moments).unwrap();
+        Ok(Plan { moments: planned })
+    }
+
+    /// Makes the pushes of a plan that this history made, where nothing was pushed in between. Takes no memory.
+    pub fn commit(&mut self, plan: Plan<A>)
+        requires room { length plan ≤ self.old.room }
+        requires count { end_of self.old + length plan < 2 ^ 63 }
+        ensures forgotten { self.new.forgotten ≡ self.old.forgotten }
+        ensures kept { self.new.kept ≡ self.old.kept ++ plan }
+    {
+        self.moments.extend_from_slice(&plan.moments).unwrap();
+    }
+}

@@ -1,0 +1,24 @@
+//! What every layer speaks of: services, moments, marks, orders, and the history of all of them.
+#![tactic(auto)]
+
+mod at;
+mod exit;
+mod history;
+mod ids;
+mod mark;
+mod moment;
+mod name;
+mod no_memory;
+mod order;
+#[cfg(test)]
+mod tests;
+
+pub use at::At;
+pub use exit::Exit;
+pub use history::{History, Plan};
+pub use ids::{Actor, Sid, SubId, WaitId};
+pub use mark::{Letter, Mark};
+pub use moment::Moment;
+pub use name::Name;
+pub use no_memory::NoMemory;
+pub use order::Order;
