@@ -57,6 +57,14 @@ impl Name {
         })
     }
 
+    // The name `-`, which fills unused places.
+    #[tactic(auto, unfolding(crate::specs::Name::is_name))]
+    fn filler() -> Name {
+        let mut bytes = [0; 64];
+        bytes[0] = b'-';
+        Name { bytes, len: 1 }
+    }
+
     /// Its bytes.
     pub fn as_bytes(&self) -> &[u8]
         ensures bytes { result.now ≡ self.now }
@@ -135,5 +143,12 @@ impl Hash for Name {
 
     fn hash<H: Hasher>(&self, state: &mut H) {
         self.as_bytes().hash(state);
+    }
+}
+
+/// What fills the unused places of a list of fixed size.
+impl Default for Name {
+    fn default() -> Name {
+        Name::filler()
     }
 }

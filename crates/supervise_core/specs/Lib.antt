@@ -1,0 +1,6 @@
+pub mod Config
+pub mod ChartState
+pub mod Moves
+pub mod Chart
+pub mod Gives
+pub mod Service

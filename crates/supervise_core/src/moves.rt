@@ -1,0 +1,155 @@
+ghost use Rattle.std.specs.Prelude.{◌≡◌, ◌+◌, ◌<◌, ◌≤◌, ◌^◌, ◌++◌, length};
+ghost use Rattle.supervise_core.specs.Moves.{start_run as start_move, begin_supervisor as begin_move, send_down_signal as down_move, kill_timer, end_supervisor as end_move, settle as settle_move, start_finish as finish_move};
+ghost use Rattle.supervise_core.specs.Chart.{timer_rule};
+ghost use Rattle.supervise_core.specs.Gives.{Adds};
+
+use super::chart::ChartState;
+use super::out::Out;
+use super::phase::Phase;
+use finish_core::{finish_args, restart_due};
+use s6_events::{At, Exit, Mark, Order};
+
+/// SIGKILL.
+const KILL: u8 = 9;
+
+/// SIGCONT, which follows each down signal.
+const CONTINUE: u8 = 18;
+
+/// The milliseconds after which an ended supervisor whose directory is active starts again.
+const SUPERVISOR_PAUSE: u32 = 1000;
+
+// The moves that reports and timers are made of. Each adds its marks and orders to those of its change.
+impl ChartState {
+    // The next generation of `run` is ordered.
+    fn start_run(&mut self, out: &mut Out)
+        requires room { length out.old.orders.items < 126 }
+        requires next { self.old.generation + 1 < 2 ^ 64 }
+        ensures { Adds (start_move self.old) self.new out.old out.new }
+    {
+        self.generation += 1;
+        self.phase = Phase::Starting;
+        self.down_pending = false;
+        self.timer = None;
+        self.notification_fd = self.config.notification_fd;
+        let order = Order::Run(self.sid, self.generation, self.name, self.notification_fd);
+        out.orders.push(order);
+    }
+
+    // The supervisor starts.
+    pub(crate) fn begin_supervisor(&mut self, out: &mut Out)
+        requires marks { length out.old.events.items < 4 }
+        requires room { length out.old.orders.items < 126 }
+        requires next { self.old.generation + 1 < 2 ^ 64 }
+        ensures { Adds (begin_move self.old) self.new out.old out.new }
+    {
+        out.events.push(Mark::SupervisorStarted);
+        self.phase = Phase::Down;
+        self.wanted_up = !self.config.down;
+        self.exit_requested = false;
+        self.down_pending = false;
+        self.paused = false;
+        self.ready_since = None;
+        self.timer = None;
+        if self.wanted_up {
+            self.start_run(out);
+        }
+    }
+
+    // `run` gets its down signal and SIGCONT.
+    pub(crate) fn send_down_signal(&mut self, now: At, out: &mut Out)
+        requires { length out.old.orders.items < 125 }
+        ensures { Adds (down_move now self.old) self.new out.old out.new }
+    {
+        out.orders.push(Order::Signal(self.sid, self.generation, self.config.down_signal));
+        out.orders
+            .push(Order::Signal(self.sid, self.generation, CONTINUE));
+        self.paused = false;
+        self.timer = self.kill_timer(now);
+    }
+
+    // The timer of a run that was told to go down: an armed one is kept.
+    fn kill_timer(&self, now: At) -> Option<u64>
+        ensures { result ≡ kill_timer now self.now.config.timeout_kill self.now.timer }
+    {
+        match self.timer {
+            Some(due) => Some(due),
+            None if self.config.timeout_kill == 0 => None,
+            None => Some(now.later(self.config.timeout_kill)),
+        }
+    }
+
+    // `finish` is ordered for a run that ended so.
+    pub(crate) fn start_finish(&mut self, exit: Exit, now: At, out: &mut Out)
+        requires { length out.old.orders.items < 126 }
+        ensures { Adds (finish_move exit now self.old) self.new out.old out.new }
+    {
+        let (code, signal) = finish_args(exit);
+        self.phase = Phase::Finish;
+        self.timer = if self.config.timeout_finish == 0 {
+            None
+        } else {
+            Some(now.later(self.config.timeout_finish))
+        };
+        out.orders.push(Order::Finish(self.sid, self.generation, self.name, code, signal));
+    }
+
+    // The supervisor ends.
+    fn end_supervisor(&mut self, now: At, out: &mut Out)
+        requires { length out.old.events.items < 4 }
+        ensures { Adds (end_move now self.old) self.new out.old out.new }
+    {
+        out.events.push(Mark::SupervisorEnded);
+        self.phase = Phase::Gone;
+        self.timer = if self.active {
+            Some(now.later(SUPERVISOR_PAUSE))
+        } else {
+            None
+        };
+    }
+
+    // `finish` is done: the supervisor ends, or the service rests, or it is started now or later.
+    pub(crate) fn settle(&mut self, now: At, out: &mut Out)
+        requires marks { length out.old.events.items < 4 }
+        requires room { length out.old.orders.items < 126 }
+        requires next { self.old.generation + 1 < 2 ^ 64 }
+        ensures { Adds (settle_move now self.old) self.new out.old out.new }
+    {
+        let due = restart_due(self.ready_since, self.died_at, now);
+        self.phase = Phase::Down;
+        self.timer = None;
+        self.ready_since = None;
+        if self.exit_requested {
+            self.end_supervisor(now, out);
+        } else if self.wanted_up {
+            if due <= now.millis() {
+                self.start_run(out);
+            } else {
+                self.timer = Some(due);
+            }
+        }
+    }
+
+    // What the timer does, by the phase.
+    pub(crate) fn take_timer_rule(&mut self, out: &mut Out)
+        requires marks { length out.old.events.items < 4 }
+        requires room { length out.old.orders.items < 126 }
+        requires next { self.old.generation + 1 < 2 ^ 64 }
+        ensures { Adds (timer_rule self.old.phase self.old) self.new out.old out.new }
+    {
+        match self.phase {
+            Phase::Down => self.start_run(out),
+            Phase::Starting => {}
+            Phase::Up => {
+                out.orders
+                    .push(Order::Signal(self.sid, self.generation, KILL));
+                self.timer = None;
+            }
+            Phase::Finish => {
+                out.orders
+                    .push(Order::KillFinish(self.sid, self.generation));
+                self.timer = None;
+            }
+            Phase::Gone => self.begin_supervisor(out),
+        }
+    }
+}

@@ -1,0 +1,28 @@
+ghost use Rattle.std.specs.Prelude.{◌≡◌, ◌<◌, ◌∷◌, ◌++◌, [], false, length};
+
+use arrayvec::ArrayVec;
+use s6_events::{Mark, Order};
+
+/// What one change of a service gives: its marks and its orders, each in the order made, and whether it was a report that was
+/// refused as stale. A stale report changes nothing.
+#[derive(Drop)]
+pub struct Out {
+    pub events: ArrayVec<Mark, 4>,
+    pub orders: ArrayVec<Order, 126>,
+    pub stale: bool,
+}
+
+impl Out {
+    /// No mark, no order, not stale.
+    pub fn new() -> Out
+        ensures events { result.events.items ≡ [] }
+        ensures orders { result.orders.items ≡ [] }
+        ensures stale { result.stale ≡ false }
+    {
+        Out {
+            events: ArrayVec::new(),
+            orders: ArrayVec::new(),
+            stale: false,
+        }
+    }
+}

@@ -1,0 +1,14 @@
+/// Where a service stands. Page `s6-supervise`, "Detailed operation".
+#[derive(Clone, Copy, Debug, PartialEq, Eq)]
+pub enum Phase {
+    /// Neither `run` nor `finish` is there.
+    Down,
+    /// `run` was ordered, and nothing is known of it yet.
+    Starting,
+    /// `run` is there.
+    Up,
+    /// `run` is dead and `finish` is there.
+    Finish,
+    /// The supervisor has ended.
+    Gone,
+}
