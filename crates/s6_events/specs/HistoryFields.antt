@@ -1,5 +1,5 @@
 -- What a contract sees of a history.
-use Rattle.std.specs.Prelude.{ℕ, ◌+◌, ◌-◌, ◌<◌, ◌^◌, vec_len, vec_capacity}
+use Rattle.std.specs.Prelude.{◌+◌, ◌-◌, ◌<◌, ◌^◌, vec_len, vec_capacity}
 use Rattle.s6_events.specs.History.{Recorded}
 use Rattle.s6_events.specs.declared.history.History.TheInside.{Inside}
 

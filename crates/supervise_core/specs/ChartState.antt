@@ -6,7 +6,7 @@ use Rattle.s6_events.specs.declared.order.Order.{Order}
 use Rattle.supervise_core.specs.declared.config.Config.{Config}
 use Rattle.supervise_core.specs.declared.chart.ChartState.{ChartState}
 use Rattle.supervise_core.specs.declared.phase.Phase.{Phase}
-use Rattle.supervise_core.specs.declared.phase.Phase.TheVariants.{Down, Starting, Up, Finish, Gone}
+use Rattle.supervise_core.specs.declared.phase.Phase.TheVariants.{Starting, Up, Gone}
 
 -- an active service that no supervisor has begun yet
 abbrev pub new_service : ℕ → List ℕ → Config → ChartState

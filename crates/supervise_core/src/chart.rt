@@ -1,4 +1,4 @@
-ghost use Rattle.std.specs.Prelude.{◌≡◌, ◌+◌, ◌<◌, ◌≤◌, ◌^◌, length};
+ghost use Rattle.std.specs.Prelude.{◌≡◌, ◌+◌, ◌<◌, ◌≤◌, ◌^◌, false, length};
 ghost use Rattle.supervise_core.specs.ChartState.{new_service};
 ghost use Rattle.supervise_core.specs.Moves.{begin_supervisor};
 ghost use Rattle.supervise_core.specs.Chart.{started as started_move, death as death_move, fire as fire_move, set_active as with_activity, is_due, is_awaiting, is_running, changed_by};
@@ -169,6 +169,7 @@ impl ChartState {
         requires { self.old.generation + 1 < 2 ^ 64 }
         ensures gives { Gives (fire_move now self.old) self.new result }
         ensures few { length result.orders.items ≤ 1 }
+        ensures fresh { result.stale ≡ false }
     {
         let mut out = Out::new();
         if self.is_due(now) {

@@ -1,5 +1,5 @@
 -- What was copied is the text, and behind it lie the zeros that are left.
-use Rattle.std.proofs.Common.{rules, ◌≡◌, ◌≤◌, length, ℕ, List, ◌++◌, ◌-◌, take, drop, replicate, refl, arith, IsTrue, ◌∙◌}
+use Rattle.std.proofs.Common.{rules, ◌≡◌, ◌≤◌, length, ℕ, List, ◌++◌, ◌-◌, replicate, refl, arith, IsTrue, ◌∙◌}
 use Rattle.std.proofs.lemmas.List.{take_at, drop_at, length-append, length-replicate, drop-replicate}
 use Rattle.s6_events.specs.Name.{is_name}
 use Rattle.s6_events.specs.NameInverse.{IsPadded}

@@ -1,0 +1,59 @@
+-- An act orders at most one run of each service.
+use Rattle.std.proofs.Common.{ℕ, ◌+◌, ◌≤◌, arith, List, [], ◌∷◌, get_or, Bool, true, false, cond}
+use Rattle.std.specs.Prelude.{All, nat_lt, length}
+use Rattle.std.proofs.lemmas.List.Elements.{All-map, All-filter, All-push}
+use Rattle.supervise_core.specs.declared.chart.ChartState.{ChartState}
+use Rattle.supervise_core.specs.declared.change.Change.TheVariants.{Started as StartedReport, Death as DeathReport}
+use Rattle.supervise_core.specs.ChartState.{new_service, is_gone}
+use Rattle.supervise_core.specs.Moves.{begin_supervisor}
+use Rattle.supervise_core.specs.Chart.{set_active}
+use Rattle.supervise_core.specs.Config.{plain_config}
+use Rattle.tree_core.specs.declared.input.Act.{Act}
+use Rattle.tree_core.specs.declared.input.Act.TheVariants.{Scan, Started, Death, Tick}
+use Rattle.tree_core.specs.Acts.{Acted, acted}
+use Rattle.tree_core.specs.Listing.{lists, repeats, in_byte_order}
+use Rattle.tree_core.specs.Machine.{Machine}
+use Rattle.tree_core.specs.Scan.{Grown, looked_up, stays, stands, service_limit, with_service, with_name, with_names}
+use Rattle.tree_core.proofs.Generations.{all_changed}
+
+-- no generation is above n
+abbrev Below : ℕ → List ChartState → Type 0
+Below n cs = All (λ c. c.generation ≤ n) cs
+
+more : (n : ℕ) (cs : List ChartState) → Below n cs → Below (n + 1) cs
+more n cs h = λ k d lt. let here : (get_or cs k d).generation ≤ n = h k d lt in omega arith
+
+either : (n : ℕ) (b : Bool) (x y : ChartState) → x.generation ≤ n → y.generation ≤ n → (cond b x y).generation ≤ n
+either n true x y hx hy = hx
+either n false x y hx hy = hy
+
+either_grown : (n : ℕ) (b : Bool) (x y : Grown) → Below n x.services → Below n y.services → Below n (cond b x y).services
+either_grown n true x y hx hy = hx
+either_grown n false x y hx hy = hy
+
+looked : (listing : List (List ℕ)) (now n : ℕ) (cs : List ChartState) → Below n cs → Below n (looked_up now listing cs)
+looked listing now n cs h = All-map (λ c. c.generation ≤ n) (λ c. set_active (lists listing c.name) now c) cs
+    (λ k d lt. either n (is_gone (get_or cs k d).phase) _ _ (h k d lt) (h k d lt))
+
+named : (n : ℕ) (g : Grown) (name : List ℕ) → Below (n + 1) g.services → Below (n + 1) (with_name g name).services
+named n g name h =
+    either_grown (n + 1) (stands name g.services) g _ h
+    (either_grown (n + 1) (nat_lt (length g.services) service_limit) (with_service g name) _
+    (All-push (λ c. c.generation ≤ n + 1) g.services (begin_supervisor (new_service g.next_sid name plain_config)).chart h (omega arith)) h)
+
+all_named : (n : ℕ) (g : Grown) (names : List (List ℕ)) → Below (n + 1) g.services → Below (n + 1) (with_names g names).services
+all_named n g [] h = h
+all_named n g (name ∷ names) h = all_named n (with_name g name) names (named n g name h)
+
+either_acted : {A : Type 0} (n : ℕ) (b : Bool) (x y : Acted A) → Below n x.services → Below n y.services → Below n (cond b x y).services
+either_acted n true x y hx hy = hx
+either_acted n false x y hx hy = hy
+
+pub act_grows : {A : Type 0} (act : Act A) (m : Machine) (n : ℕ) → Below n m.services → Below (n + 1) (acted act m).services
+act_grows (Scan listing) m n h =
+    either_acted (n + 1) m.closing _ _ (more n m.services h)
+    (either_acted (n + 1) (repeats listing) _ _ (more n m.services h)
+    (all_named n _ (in_byte_order listing) (more n _ (All-filter stays (λ c. c.generation ≤ n) _ (looked listing m.clock n m.services h)))))
+act_grows (Started sid generation pid) m n h = all_changed sid (StartedReport generation pid) m.clock n m.services h
+act_grows (Death sid generation exit) m n h = all_changed sid (DeathReport generation exit) m.clock n m.services h
+act_grows Tick m n h = more n m.services h

@@ -1,0 +1,8 @@
+-- A report doesn't look at whether the tree is closing.
+use Rattle.tree_core.proofs.act.act.Goals as goal
+
+pub returns-in-Started-clause-draft : goal.returns-in-Started-clause-draft
+returns-in-Started-clause-draft g c = rw c.in-Started.is c.report.ensures.draft
+
+pub returns-in-Death-clause-draft : goal.returns-in-Death-clause-draft
+returns-in-Death-clause-draft g c = rw c.in-Death.is c.report-in-Death.ensures.draft

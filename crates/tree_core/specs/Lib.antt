@@ -1,0 +1,14 @@
+pub mod ScanReport
+pub mod Machine
+pub mod Moves
+pub mod Listing
+pub mod Scan
+pub mod Acts
+pub mod Step
+pub mod Run
+pub mod StandsFor
+pub mod Effect
+pub mod Views
+pub mod Plan
+pub mod Sound
+pub mod TreeFields

@@ -1,0 +1,39 @@
+-- The machine: what is there now, and all that has been.
+use Rattle.std.specs.Prelude.{ℕ, List, [], Bool, false}
+use Rattle.s6_events.specs.declared.exit.Exit.{Exit}
+use Rattle.s6_events.specs.declared.moment.Moment.{Moment}
+use Rattle.s6_events.specs.declared.order.Order.{Order}
+use Rattle.supervise_core.specs.declared.chart.ChartState.{ChartState}
+use Rattle.tree_core.specs.declared.effect.Event.{Event}
+use Rattle.tree_core.specs.declared.effect.Match.{Match}
+use Rattle.tree_core.specs.declared.effect.Release.{Release}
+use Rattle.tree_core.specs.declared.reply.Reply.{Reply}
+
+-- a death of a service: whose, when and how
+pub record DeathOf : Type 0 where
+  pub sid : ℕ
+  pub at : ℕ
+  pub exit : Exit
+
+-- the state: the clock, the steps taken, whether it is closing, the standing services in rising serial, the next serial, all
+-- moments so far, and all deaths so far
+pub record Machine : Type 0 where
+  pub clock : ℕ
+  pub steps : ℕ
+  pub closing : Bool
+  pub services : List ChartState
+  pub next_sid : ℕ
+  pub history : List Moment
+  pub deaths : List DeathOf
+
+-- before any input
+abbrev pub new_machine : Machine
+new_machine = record { clock = 0; steps = 0; closing = false; services = []; next_sid = 1; history = []; deaths = [] }
+
+-- what a step gives
+pub record Outcome (A : Type 0) : Type 0 where
+  pub reply : Reply A
+  pub events : List Event
+  pub orders : List Order
+  pub matched : List Match
+  pub released : List Release

@@ -1,0 +1,18 @@
+-- What is true of every tree.
+use Rattle.std.specs.Prelude.{◌≡◌, ℕ, ◌+◌, ◌*◌, ◌≤◌, List, length, All}
+use Rattle.s6_events.specs.Clock.{clock_of}
+use Rattle.s6_events.specs.declared.moment.Moment.{Moment}
+use Rattle.supervise_core.specs.declared.chart.ChartState.{ChartState}
+
+-- few services, and no serial or generation that outruns the steps
+pub record IsSound (taken next : ℕ) (services : List ChartState) : Type 0 where
+  pub steps : taken ≤ 281474976710656
+  pub few : length services ≤ 64
+  pub serials : next ≤ 64 * taken + 1
+  pub generations : All (λ c. c.generation ≤ 2 * taken) services
+
+-- a step adds at most 129 moments, none is forgotten yet, and the clock is their last reading
+pub record IsRecorded (taken clock forgotten : ℕ) (kept : List Moment) : Type 0 where
+  pub few : length kept ≤ 1024 * taken
+  pub whole : forgotten ≡ 0
+  pub reading : clock ≡ clock_of kept

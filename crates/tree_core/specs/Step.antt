@@ -1,0 +1,68 @@
+-- One step of the machine.
+use Rattle.std.specs.Prelude.{ℕ, ◌+◌, List, [], ◌∷◌, ◌++◌, map, max, ◌==◌, nat_lt, if◌then◌else◌}
+use Rattle.s6_events.specs.declared.moment.Moment.{Moment}
+use Rattle.s6_events.specs.declared.moment.Moment.TheVariants.{Clock}
+use Rattle.s6_events.specs.declared.order.Order.{Order}
+use Rattle.supervise_core.specs.declared.chart.ChartState.{ChartState}
+use Rattle.supervise_core.specs.ChartState.{Moved}
+use Rattle.supervise_core.specs.Chart.{fire}
+use Rattle.tree_core.specs.declared.effect.Event.{Event}
+use Rattle.tree_core.specs.declared.input.Act.{Act}
+use Rattle.tree_core.specs.declared.input.Input.{Input}
+use Rattle.tree_core.specs.declared.reply.Refusal.TheVariants.{Spent}
+use Rattle.tree_core.specs.declared.reply.Reply.TheVariants.{Refused}
+use Rattle.tree_core.specs.Acts.{acted, deaths_by}
+use Rattle.tree_core.specs.Machine.{Machine, Outcome}
+use Rattle.tree_core.specs.Moves.{services_after, events_after, orders_after, moment_of}
+
+-- the most steps of a tree: 2 ^ 48
+abbrev pub step_limit : ℕ
+step_limit = 281474976710656
+
+-- the machine after a step, and what the step gave
+pub record Stepped (A : Type 0) : Type 0 where
+  pub machine : Machine
+  pub outcome : Outcome A
+
+-- the clock reading of a later moment
+abbrev pub clock_moments : ℕ → ℕ → List Moment
+clock_moments clock at = if nat_lt clock at then Clock at ∷ [] else []
+
+-- the clock takes in the moment of an input: a later one becomes the clock and joins the history
+abbrev pub clocked : ℕ → Machine → Machine
+clocked at m = record m { clock = max m.clock at; history = m.history ++ clock_moments m.clock at }
+
+-- every service takes a move, in rising serial, and the marks join the history
+abbrev pub with_moves : (ChartState → Moved) → Machine → Machine
+with_moves move m = record m { services = services_after move m.services; history = m.history ++ map moment_of (events_after move m.services) }
+
+-- an act is done: its marks join the history, and its deaths the deaths
+abbrev pub with_act : {A : Type 0} → Act A → Machine → Machine
+with_act act m = record m {
+  services = (acted act m).services;
+  next_sid = (acted act m).next_sid;
+  history = m.history ++ map moment_of (acted act m).events;
+  deaths = m.deaths ++ deaths_by act m;
+}
+
+-- the act is done on the machine, after its timers gave these events and orders, and the step is counted
+abbrev pub finished : {A : Type 0} → Act A → List Event → List Order → Machine → Stepped A
+finished act events orders m = record {
+  machine = record (with_act act m) { steps = m.steps + 1 };
+  outcome = record { reply = (acted act m).reply; events = events ++ (acted act m).events; orders = orders ++ (acted act m).orders; matched = []; released = [] };
+}
+
+-- each service whose timer is due takes its rule once, and then the act is done
+abbrev pub timed : {A : Type 0} → Act A → Machine → Stepped A
+timed act m = finished act (events_after (fire m.clock) m.services) (orders_after (fire m.clock) m.services) (with_moves (fire m.clock) m)
+
+-- nothing is done, and no step is counted
+abbrev pub spent_outcome : {A : Type 0} → Outcome A
+spent_outcome = record { reply = Refused Spent; events = []; orders = []; matched = []; released = [] }
+
+abbrev pub spent : {A : Type 0} → Machine → Stepped A
+spent m = record { machine = m; outcome = spent_outcome }
+
+-- a step: the clock first, then the due timers, then the act
+abbrev pub step : {A : Type 0} → Machine → Input A → Stepped A
+step m input = if m.steps == step_limit then spent m else timed input.act (clocked input.at m)

@@ -1,0 +1,194 @@
+ghost use Rattle.std.specs.Prelude.{◌≡◌, ◌+◌, ◌<◌, ◌≤◌, ◌^◌, ◌==◌, length, All, IfOk, IsOk, false};
+ghost use Rattle.std.specs.List.{list_any};
+ghost use Rattle.tree_core.specs.Acts.{nothing_done, report_reply as reply_to_report, reported, scanned, listed_to, acted};
+ghost use Rattle.tree_core.specs.Listing.{in_byte_order};
+ghost use Rattle.tree_core.specs.Plan.{at_work, IsFew};
+ghost use Rattle.tree_core.specs.Views.{drafted};
+
+use super::gathered::{Gathered, change_at};
+use super::input::Act;
+use super::listing::sort_listing;
+use super::reply::{Refusal, Reply, ScanReport};
+use super::scan::{Growing, leaving, look_up, staying};
+use arrayvec::ArrayVec;
+use s6_events::{At, Name, NoMemory, Sid};
+use std::alloc::Allocator;
+use supervise_core::{Change, ChartState};
+
+/// What an act leaves and gives, before anything is changed.
+#[derive(Drop)]
+pub struct Draft<A: Allocator> {
+    pub reply: Reply<A>,
+    pub charts: ArrayVec<ChartState, 64>,
+    pub next_sid: u64,
+    pub gathered: Gathered<A>,
+}
+
+// A reply, and nothing done.
+fn reply_only<A: Allocator + Copy>(
+    alloc: A,
+    reply: Reply<A>,
+    charts: ArrayVec<ChartState, 64>,
+    next_sid: u64,
+) -> Draft<A>
+    requires { length charts.items ≤ 64 }
+    ensures places { length result.charts.items ≤ 64 }
+    ensures few { IsFew result.gathered.events.items result.gathered.orders.items }
+    ensures next { result.next_sid ≡ next_sid }
+    ensures draft { drafted result ≡ nothing_done reply charts.items next_sid }
+{
+    Draft {
+        reply,
+        charts,
+        next_sid,
+        gathered: Gathered::new(alloc),
+    }
+}
+
+// Whether a service has the serial.
+fn has_service(charts: &[ChartState], sid: Sid) -> bool
+    ensures { result ≡ list_any (λ c. c.sid == sid) charts.now }
+{
+    charts.iter().any(|chart| chart.sid.0 == sid.0)
+}
+
+// The reply to a report.
+fn report_reply<A: Allocator>(is_known: bool, is_stale: bool) -> Reply<A>
+    ensures { result ≡ reply_to_report is_known is_stale }
+{
+    if !is_known {
+        Reply::Refused(Refusal::NoService)
+    } else if is_stale {
+        Reply::Refused(Refusal::Stale)
+    } else {
+        Reply::Done
+    }
+}
+
+// A report changes the service of its serial, and no other.
+fn report<A: Allocator + Copy>(
+    alloc: A,
+    sid: Sid,
+    change: &Change,
+    now: At,
+    charts: ArrayVec<ChartState, 64>,
+    next_sid: u64,
+) -> Result<Draft<A>, NoMemory>
+    requires generations { All (λ c. c.generation + 1 < 2 ^ 64) charts.items }
+    ensures draft { IfOk result (λ d. drafted d ≡ reported sid change.now (at_work false now charts.items next_sid)) }
+    ensures places { IfOk result (λ d. length d.charts.items ≤ 64) }
+    ensures next { IfOk result (λ d. d.next_sid ≡ next_sid) }
+    ensures few { IfOk result (λ d. IsFew d.gathered.events.items d.gathered.orders.items) }
+{
+    let mut gathered = Gathered::new(alloc);
+    let before = charts.as_slice();
+    let is_known = has_service(before, sid);
+    let after = change_at(before, sid, change, now, &mut gathered)?;
+    let reply = report_reply(is_known, gathered.stale);
+    Ok(Draft {
+        reply,
+        charts: after,
+        next_sid,
+        gathered,
+    })
+}
+
+// A scan: activity, drops, and additions in the order of the names' bytes.
+fn scan<A: Allocator + Copy>(
+    alloc: A,
+    listing: &[Name],
+    sorted: &[Name],
+    now: At,
+    charts: ArrayVec<ChartState, 64>,
+    next_sid: u64,
+) -> Result<Draft<A>, NoMemory>
+    requires next { next_sid + 65 < 2 ^ 64 }
+    requires sorted { sorted.now ≡ in_byte_order listing.now }
+    ensures draft { IfOk result (λ d. drafted d ≡ scanned listing.now (at_work false now charts.items next_sid)) }
+    ensures places { IfOk result (λ d. length d.charts.items ≤ 64) }
+    ensures next { IfOk result (λ d. d.next_sid ≤ next_sid + 64) }
+    ensures few { IfOk result (λ d. IsFew d.gathered.events.items d.gathered.orders.items) }
+{
+    let looked_up = look_up(charts.as_slice(), listing, now);
+    let dropped = leaving(alloc, looked_up.as_slice())?;
+    let mut growing = Growing {
+        charts: staying(looked_up.as_slice()),
+        next_sid,
+        listed: Vec::new(alloc),
+        gathered: Gathered::new(alloc),
+    };
+    growing.take_all(sorted)?;
+    Ok(Draft {
+        reply: Reply::Scanned(ScanReport::new(dropped, growing.listed)),
+        charts: growing.charts,
+        next_sid: growing.next_sid,
+        gathered: growing.gathered,
+    })
+}
+
+// A listing is refused while the tree is closing, and where a name stands in it twice; else it is scanned.
+fn take_listing<A: Allocator + Copy>(
+    alloc: A,
+    listing: &[Name],
+    closing: bool,
+    now: At,
+    charts: ArrayVec<ChartState, 64>,
+    next_sid: u64,
+) -> Result<Draft<A>, NoMemory>
+    requires places { length charts.items ≤ 64 }
+    requires next { next_sid + 65 < 2 ^ 64 }
+    ensures draft { IfOk result (λ d. drafted d ≡ listed_to listing.now (at_work closing now charts.items next_sid)) }
+    ensures places { IfOk result (λ d. length d.charts.items ≤ 64) }
+    ensures next { IfOk result (λ d. d.next_sid ≤ next_sid + 64) }
+    ensures few { IfOk result (λ d. IsFew d.gathered.events.items d.gathered.orders.items) }
+{
+    if closing {
+        let reply = Reply::Refused(Refusal::Closing);
+        return Ok(reply_only(alloc, reply, charts, next_sid));
+    }
+    let sorted = sort_listing(alloc, listing)?;
+    if sorted.repeats {
+        let reply = Reply::Refused(Refusal::Repeated);
+        return Ok(reply_only(alloc, reply, charts, next_sid));
+    }
+    scan(
+        alloc,
+        listing,
+        sorted.names.as_slice(),
+        now,
+        charts,
+        next_sid,
+    )
+}
+
+/// The act itself.
+pub fn act<A: Allocator + Copy>(
+    alloc: A,
+    act: &Act<A>,
+    closing: bool,
+    now: At,
+    charts: ArrayVec<ChartState, 64>,
+    next_sid: u64,
+) -> Result<Draft<A>, NoMemory>
+    requires places { length charts.items ≤ 64 }
+    requires generations { All (λ c. c.generation + 1 < 2 ^ 64) charts.items }
+    requires next { next_sid + 65 < 2 ^ 64 }
+    ensures draft { IfOk result (λ d. drafted d ≡ acted act.now (at_work closing now charts.items next_sid)) }
+    ensures places { IfOk result (λ d. length d.charts.items ≤ 64) }
+    ensures next { IfOk result (λ d. d.next_sid ≤ next_sid + 64) }
+    ensures few { IfOk result (λ d. IsFew d.gathered.events.items d.gathered.orders.items) }
+    ensures quiet { act.now ≡ Act.Tick → IsOk result }
+{
+    match act {
+        Act::Scan(listing) => take_listing(alloc, listing.names(), closing, now, charts, next_sid),
+        Act::Started(sid, generation, pid) => {
+            let change = Change::Started(*generation, *pid);
+            report(alloc, *sid, &change, now, charts, next_sid)
+        }
+        Act::Death(sid, generation, exit) => {
+            let change = Change::Death(*generation, *exit);
+            report(alloc, *sid, &change, now, charts, next_sid)
+        }
+        Act::Tick => Ok(reply_only(alloc, Reply::Done, charts, next_sid)),
+    }
+}

@@ -1,0 +1,186 @@
+ghost use Rattle.std.specs.Prelude.{◌≡◌, ◌+◌, ◌*◌, ◌<◌, ◌≤◌, ◌^◌, [], ◌∷◌, ◌++◌, map, length, All, IsOk, OnOk, IfOk, false, ◌||◌, ◌==◌};
+ghost use Rattle.std.specs.List.{list_any};
+ghost use Rattle.supervise_core.specs.Chart.{is_due, fire};
+ghost use Rattle.tree_core.specs.Acts.{changed_at};
+ghost use Rattle.tree_core.specs.Moves.{event, services_after, events_after, orders_after};
+
+use super::effect::Event;
+use arrayvec::ArrayVec;
+use s6_events::{At, Mark, NoMemory, Order, Sid};
+use std::alloc::Allocator;
+use supervise_core::{Change, ChartState, Out};
+
+/// The events and orders of a step under way, and whether a report was stale.
+#[derive(Drop)]
+pub struct Gathered<A: Allocator> {
+    pub events: Vec<Event, A>,
+    pub orders: ArrayVec<Order, 256>,
+    pub stale: bool,
+}
+
+impl<A: Allocator + Copy> Gathered<A> {
+    /// Nothing yet.
+    pub fn new(alloc: A) -> Gathered<A>
+        ensures events { result.events.items ≡ [] }
+        ensures orders { result.orders.items ≡ [] }
+        ensures stale { result.stale ≡ false }
+    {
+        Gathered {
+            events: Vec::new(alloc),
+            orders: ArrayVec::new(),
+            stale: false,
+        }
+    }
+
+    /// Adds the marks and orders of a service.
+    pub fn add(&mut self, sid: Sid, out: &Out) -> Result<(), NoMemory>
+        requires { length self.old.orders.items + length out.now.orders.items ≤ 256 }
+        ensures events { OnOk result (self.new.events.items ≡ self.old.events.items ++ map (event sid) out.now.events.items) }
+        ensures orders { OnOk result (self.new.orders.items ≡ self.old.orders.items ++ out.now.orders.items) }
+        ensures stale { self.new.stale ≡ (self.old.stale || out.now.stale) }
+        ensures few { OnOk result (length self.new.events.items ≤ length self.old.events.items + 4) }
+    {
+        self.stale = self.stale || out.stale;
+        if self
+            .orders
+            .try_extend_from_slice(out.orders.as_slice())
+            .is_err()
+        {
+            unreachable!()
+        }
+        add_events(&mut self.events, sid, out.events.as_slice())
+    }
+
+    /// Adds what came after it.
+    pub fn append(&mut self, later: &Gathered<A>) -> Result<(), NoMemory>
+        requires { length self.old.orders.items + length later.now.orders.items ≤ 256 }
+        ensures events { OnOk result (self.new.events.items ≡ self.old.events.items ++ later.now.events.items) }
+        ensures orders { OnOk result (self.new.orders.items ≡ self.old.orders.items ++ later.now.orders.items) }
+        ensures quiet { later.now.events.items ≡ [] → IsOk result }
+    {
+        if self
+            .orders
+            .try_extend_from_slice(later.orders.as_slice())
+            .is_err()
+        {
+            unreachable!()
+        }
+        self.events.extend_from_slice(later.events.as_slice())?;
+        Ok(())
+    }
+}
+
+// Adds the marks of a service as events.
+fn add_events<A: Allocator>(
+    events: &mut Vec<Event, A>,
+    sid: Sid,
+    marks: &[Mark],
+) -> Result<(), NoMemory>
+    ensures events { OnOk result (events.new.items ≡ events.old.items ++ map (event sid) marks.now) }
+    ensures count { OnOk result (length events.new.items ≡ length events.old.items + length marks.now) }
+{
+    for mark in marks {
+        events.push(Event { sid, mark: *mark })?;
+    }
+    Ok(())
+}
+
+/// Each service whose timer is due takes its rule once.
+pub fn fire_due<A: Allocator + Copy>(
+    charts: &[ChartState],
+    now: At,
+    gathered: &mut Gathered<A>,
+) -> Result<ArrayVec<ChartState, 64>, NoMemory>
+    requires few { length charts.now ≤ 64 }
+    requires orders { length gathered.old.orders.items + length charts.now ≤ 256 }
+    requires generations { All (λ c. c.generation + 1 < 2 ^ 64) charts.now }
+    ensures services { IfOk result (λ after. after.items ≡ services_after (fire now) charts.now) }
+    ensures events { OnOk result (gathered.new.events.items ≡ gathered.old.events.items ++ events_after (fire now) charts.now) }
+    ensures orders { OnOk result (gathered.new.orders.items ≡ gathered.old.orders.items ++ orders_after (fire now) charts.now) }
+    ensures count { OnOk result (length gathered.new.orders.items ≤ length gathered.old.orders.items + length charts.now) }
+    ensures few { OnOk result (length gathered.new.events.items ≤ length gathered.old.events.items + 4 * length charts.now) }
+    ensures places { IfOk result (λ after. length after.items ≤ 64) }
+    ensures stale { gathered.new.stale ≡ gathered.old.stale }
+    ensures quiet { list_any (λ c. is_due now c.timer) charts.now ≡ false → IsOk result × (gathered.new.events.items ≡ gathered.old.events.items) }
+{
+    let mut after = ArrayVec::new();
+    for chart in charts {
+        after.push(fire_one(chart, now, gathered)?);
+    }
+    Ok(after)
+}
+
+// A service takes its timer rule where it is due.
+fn fire_one<A: Allocator + Copy>(
+    chart: &ChartState,
+    now: At,
+    gathered: &mut Gathered<A>,
+) -> Result<ChartState, NoMemory>
+    requires orders { length gathered.old.orders.items < 256 }
+    requires next { chart.now.generation + 1 < 2 ^ 64 }
+    ensures chart { IfOk result (λ next. next ≡ (fire now chart.now).chart) }
+    ensures events { OnOk result (gathered.new.events.items ≡ gathered.old.events.items ++ map (event chart.now.sid) (fire now chart.now).marks) }
+    ensures orders { OnOk result (gathered.new.orders.items ≡ gathered.old.orders.items ++ (fire now chart.now).orders) }
+    ensures count { OnOk result (length gathered.new.orders.items ≤ length gathered.old.orders.items + 1) }
+    ensures few { OnOk result (length gathered.new.events.items ≤ length gathered.old.events.items + 4) }
+    ensures stale { gathered.new.stale ≡ gathered.old.stale }
+    ensures quiet { is_due now chart.now.timer ≡ false → IsOk result × (gathered.new.events.items ≡ gathered.old.events.items) }
+{
+    let mut next = *chart;
+    if next.is_due(now) {
+        let out = next.fire(now);
+        gathered.add(chart.sid, &out)?;
+    }
+    Ok(next)
+}
+
+/// The service of the serial takes the change of a report, and every other one stays.
+pub fn change_at<A: Allocator + Copy>(
+    charts: &[ChartState],
+    sid: Sid,
+    change: &Change,
+    now: At,
+    gathered: &mut Gathered<A>,
+) -> Result<ArrayVec<ChartState, 64>, NoMemory>
+    requires few { length charts.now ≤ 64 }
+    requires orders { length gathered.old.orders.items + 2 * length charts.now ≤ 256 }
+    requires generations { All (λ c. c.generation + 1 < 2 ^ 64) charts.now }
+    ensures services { IfOk result (λ after. after.items ≡ services_after (changed_at sid change.now now) charts.now) }
+    ensures events { OnOk result (gathered.new.events.items ≡ gathered.old.events.items ++ events_after (changed_at sid change.now now) charts.now) }
+    ensures orders { OnOk result (gathered.new.orders.items ≡ gathered.old.orders.items ++ orders_after (changed_at sid change.now now) charts.now) }
+    ensures stale { OnOk result (gathered.new.stale ≡ (gathered.old.stale || list_any (λ c. (changed_at sid change.now now c).stale) charts.now)) }
+    ensures places { IfOk result (λ after. length after.items ≤ 64) }
+    ensures count { OnOk result (length gathered.new.orders.items ≤ length gathered.old.orders.items + 2 * length charts.now) }
+    ensures few { OnOk result (length gathered.new.events.items ≤ length gathered.old.events.items + 4 * length charts.now) }
+{
+    let mut after = ArrayVec::new();
+    for chart in charts {
+        after.push(change_one(chart, sid, change, now, gathered)?);
+    }
+    Ok(after)
+}
+
+// A service takes the change where the serial is its own.
+fn change_one<A: Allocator + Copy>(
+    chart: &ChartState,
+    sid: Sid,
+    change: &Change,
+    now: At,
+    gathered: &mut Gathered<A>,
+) -> Result<ChartState, NoMemory>
+    requires orders { length gathered.old.orders.items + 2 ≤ 256 }
+    requires next { chart.now.generation + 1 < 2 ^ 64 }
+    ensures chart { IfOk result (λ next. next ≡ (changed_at sid change.now now chart.now).chart) }
+    ensures events { OnOk result (gathered.new.events.items ≡ gathered.old.events.items ++ map (event chart.now.sid) (changed_at sid change.now now chart.now).marks) }
+    ensures orders { OnOk result (gathered.new.orders.items ≡ gathered.old.orders.items ++ (changed_at sid change.now now chart.now).orders) }
+    ensures count { OnOk result (length gathered.new.orders.items ≤ length gathered.old.orders.items + 2) }
+    ensures few { OnOk result (length gathered.new.events.items ≤ length gathered.old.events.items + 4) }
+    ensures stale { gathered.new.stale ≡ (gathered.old.stale || (changed_at sid change.now now chart.now).stale) }
+{
+    let mut next = *chart;
+    if chart.sid.0 == sid.0 {
+        let out = next.change(change, now);
+        gathered.add(chart.sid, &out)?;
+    }
+    Ok(next)
+}

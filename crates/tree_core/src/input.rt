@@ -1,0 +1,56 @@
+ghost use Rattle.std.specs.Prelude.{◌≡◌};
+
+use s6_events::{Actor, At, Exit, Name, Sid};
+use std::alloc::Allocator;
+use std::marker::Model;
+
+/// The names that a look at the scan directory found, in the order in which they came.
+#[derive(Drop)]
+pub struct Listing<A: Allocator> {
+    names: Vec<Name, A>,
+}
+
+impl<A: Allocator> Model for Listing<A> {
+    ghost use Rattle.std.specs.Prelude.{ℕ, List};
+
+    ghost Value = { List (List ℕ) };
+
+    ghost view = { λ l. l.names.items };
+}
+
+impl<A: Allocator> Listing<A> {
+    /// The listing of these names.
+    pub fn new(names: Vec<Name, A>) -> Listing<A>
+        ensures { result ≡ names.items }
+    {
+        Listing { names }
+    }
+
+    /// Its names, in the order in which they came.
+    pub fn names(&self) -> &[Name]
+        ensures { result.now ≡ self.now }
+    {
+        self.names.as_slice()
+    }
+}
+
+/// What an input asks of the tree or tells it. Requests name a service, reports its serial.
+#[derive(Drop)]
+pub enum Act<A: Allocator> {
+    /// The scan directory was listed. Page `s6-svscanctl`, `-a`.
+    Scan(Listing<A>),
+    /// `run` of this service and generation was spawned, with this process number.
+    Started(Sid, u64, u32),
+    /// `run` of this service and generation died.
+    Death(Sid, u64, Exit),
+    /// Nothing but the clock.
+    Tick,
+}
+
+/// One input: who gives it, at which moment, and what. What it does never depends on the actor.
+#[derive(Drop)]
+pub struct Input<A: Allocator> {
+    pub actor: Actor,
+    pub at: At,
+    pub act: Act<A>,
+}

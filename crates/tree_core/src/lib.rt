@@ -1,0 +1,23 @@
+//! The supervision tree: one step for each input, and all that the step gives.
+#![tactic(auto)]
+
+mod act;
+mod effect;
+mod gathered;
+mod hit;
+mod input;
+mod listing;
+mod plan;
+mod reply;
+mod scan;
+#[cfg(test)]
+mod tests;
+mod tree;
+mod verdict;
+
+pub use effect::{Effect, Event, Match, Release};
+pub use hit::Hit;
+pub use input::{Act, Input, Listing};
+pub use reply::{Listed, Refusal, Reply, ScanReport};
+pub use tree::Tree;
+pub use verdict::Verdict;

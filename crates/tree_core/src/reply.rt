@@ -1,0 +1,93 @@
+ghost use Rattle.std.specs.Prelude.{◌≡◌};
+
+use s6_events::{Name, Sid};
+use std::alloc::Allocator;
+use std::marker::Model;
+
+/// Why an act was refused. A refused act changes nothing itself; the clock and the timers of its step stand. The reasons are
+/// this project's own.
+#[derive(Clone, Copy, Debug, PartialEq, Eq)]
+pub enum Refusal {
+    /// No service has this name or serial.
+    NoService = 1,
+    /// A report of another run, or of a run that is not in the phase that awaits it.
+    Stale = 2,
+    /// A message from outside to the event directory of a service.
+    Reserved = 3,
+    /// A limit of the tree is reached.
+    TooMany = 4,
+    /// No free directory, subscription or waiter has this name or serial.
+    NoSuch = 5,
+    /// The tree is closing.
+    Closing = 6,
+    /// A name stands twice.
+    Repeated = 7,
+    /// Nothing was named.
+    Empty = 8,
+    /// A free directory has this name.
+    Exists = 9,
+    /// The supervisor of the service has ended.
+    Ended = 10,
+    /// The tree has taken 2^48 steps. Then nothing at all is done.
+    Spent = 11,
+}
+
+/// What became of a listed name for which no service stood.
+#[derive(Clone, Copy, Debug, PartialEq, Eq)]
+pub enum Listed {
+    /// It has a new service, of this serial.
+    Added(Sid, Name),
+    /// 64 services stood.
+    Full(Name),
+}
+
+/// What a scan answers: the services that were dropped, in rising serial, and what became of each name for which no service
+/// stood, in the order of the names' bytes.
+#[derive(Drop)]
+pub struct ScanReport<A: Allocator> {
+    dropped: Vec<Sid, A>,
+    listed: Vec<Listed, A>,
+}
+
+impl<A: Allocator> Model for ScanReport<A> {
+    ghost use Rattle.tree_core.specs.ScanReport.{Reported};
+
+    ghost Value = { Reported };
+
+    ghost view = { λ r. record { dropped = r.dropped.items; listed = r.listed.items } };
+}
+
+impl<A: Allocator> ScanReport<A> {
+    /// The report of these.
+    pub fn new(dropped: Vec<Sid, A>, listed: Vec<Listed, A>) -> ScanReport<A>
+        ensures dropped { result.dropped ≡ dropped.items }
+        ensures listed { result.listed ≡ listed.items }
+    {
+        ScanReport { dropped, listed }
+    }
+
+    /// The services that were dropped.
+    pub fn dropped(&self) -> &[Sid]
+        ensures { result.now ≡ self.now.dropped }
+    {
+        self.dropped.as_slice()
+    }
+
+    /// What became of each name for which no service stood.
+    pub fn listed(&self) -> &[Listed]
+        ensures { result.now ≡ self.now.listed }
+    {
+        self.listed.as_slice()
+    }
+}
+
+/// The answer to an act.
+#[derive(Drop)]
+pub enum Reply<A: Allocator> {
+    /// It was done.
+    Done,
+    /// It was refused.
+    Refused(Refusal),
+    /// The scan was done.
+    Scanned(ScanReport<A>),
+}

@@ -1,0 +1,146 @@
+ghost use Rattle.std.specs.Prelude.{◌≡◌, ◌+◌, ◌-◌, ◌≤◌, ◌++◌, map, length, vec_capacity, [], IfOk, IfErr, OnErr, IsOk};
+ghost use Rattle.tree_core.specs.Effect.{outcome_of};
+ghost use Rattle.tree_core.specs.Machine.{new_machine, Machine};
+ghost use Rattle.tree_core.specs.Plan.{Advances, IsQuiet};
+ghost use Rattle.tree_core.specs.StandsFor.{StandsFor};
+ghost use Rattle.tree_core.specs.Run.{after, outcome};
+ghost use Rattle.tree_core.specs.Step.{step_limit, spent_outcome};
+
+use super::effect::Effect;
+use super::input::Input;
+use super::plan::plan_step;
+use super::reply::{Refusal, Reply};
+use arrayvec::ArrayVec;
+use s6_events::{At, History, NoMemory};
+use std::alloc::Allocator;
+use std::marker::Model;
+use supervise_core::{ChartState, Service};
+
+/// The most steps of a tree: 2^48.
+const STEP_LIMIT: u64 = 281_474_976_710_656;
+
+/// All services, their clock and their history: the written machine, as far as it is remembered. A tree keeps the allocator
+/// that it was made with. This project's own.
+#[derive(Drop)]
+pub struct Tree<A: Allocator> {
+    clock: At,
+    steps: u64,
+    closing: bool,
+    next_sid: u64,
+    services: Vec<Service, A>,
+    history: History<A>,
+}
+
+impl<A: Allocator> Model for Tree<A> {
+    ghost use Rattle.tree_core.specs.StandsFor.{Stored};
+
+    ghost Value = { Stored };
+
+    ghost use Rattle.tree_core.specs.TreeFields.{stored, IsKept};
+
+    ghost view = { stored };
+
+    ghost invariant = { IsKept };
+}
+
+// What a spent tree gives.
+fn spent<A: Allocator + Copy>(alloc: A) -> Effect<A>
+    ensures { outcome_of result ≡ spent_outcome }
+{
+    Effect {
+        reply: Reply::Refused(Refusal::Spent),
+        events: Vec::new(alloc),
+        orders: ArrayVec::new(),
+        matched: Vec::new(alloc),
+        released: Vec::new(alloc),
+    }
+}
+
+// The services take over the states. There is room for them.
+fn install<A: Allocator>(services: &mut Vec<Service, A>, charts: &[ChartState])
+    requires { length charts.now ≤ vec_capacity services.old }
+    ensures { map (λ s. s.chart) services.new.items ≡ charts.now }
+{
+    services.clear();
+    for chart in charts {
+        services.push_reserved(Service::holding(*chart));
+    }
+}
+
+impl<A: Allocator + Copy> Tree<A> {
+    /// A tree with no service, at the moment 0. It takes no memory yet.
+    pub fn new(alloc: A) -> Tree<A>
+        ensures { StandsFor result new_machine }
+    {
+        Tree {
+            clock: At::zero(),
+            steps: 0,
+            closing: false,
+            next_sid: 1,
+            services: Vec::new(alloc),
+            history: History::new(alloc),
+        }
+    }
+
+    // One step, as the definitions have it.
+    fn take_step(&mut self, input: &Input<A>) -> Result<Effect<A>, NoMemory>
+        ensures ok { IfOk result (λ effect. Advances self.old self.new input.now (outcome_of effect)) }
+        ensures err { OnErr result (self.new ≡ self.old) }
+        ensures spent { self.old.steps ≡ step_limit → IsOk result }
+        ensures quiet { IsQuiet input.now self.old.clock self.old.services → IsOk result }
+    {
+        let alloc = *self.services.allocator();
+        if self.steps == STEP_LIMIT {
+            return Ok(spent(alloc));
+        }
+        let plan = plan_step(
+            alloc,
+            self.clock,
+            self.steps,
+            self.closing,
+            self.services.as_slice(),
+            self.next_sid,
+            input,
+        )?;
+        let moments = self.history.prepare(plan.moments.as_slice())?;
+        self.services
+            .reserve(plan.charts.len().saturating_sub(self.services.len()))?;
+        self.clock = plan.now;
+        self.steps += 1;
+        self.next_sid = plan.next_sid;
+        install(&mut self.services, plan.charts.as_slice());
+        self.history.commit(moments);
+        Ok(plan.effect)
+    }
+
+    /// Takes one input, whole: the clock first, then the due timers, then the act; and answers all that the step gives. A refused
+    /// act is a step like any other. Where a growth was refused the same input comes back with `NoMemory`, and nothing has changed
+    /// at all. A spent tree, and a tick that moves no clock while no timer is due, ask for no memory.
+    pub fn apply(&mut self, input: Input<A>) -> Result<Effect<A>, (Input<A>, NoMemory)>
+        ensures step { IfOk result (λ effect. (m : Machine) → StandsFor self.old m →
+            (outcome_of effect ≡ outcome m input) × StandsFor self.new (after m input)) }
+        ensures unchanged { IfErr result (λ back. (back.0 ≡ input) × (self.new ≡ self.old)) }
+        ensures spent { self.old.steps ≡ step_limit → IsOk result }
+        ensures quiet { IsQuiet input self.old.clock self.old.services → IsOk result }
+    {
+        match self.take_step(&input) {
+            Ok(effect) => Ok(effect),
+            Err(refused) => Err((input, refused)),
+        }
+    }
+
+    /// The clock: the greatest moment of all inputs so far, or 0.
+    pub fn now(&self) -> At
+        ensures clock { (m : Machine) → StandsFor self.now m → result ≡ m.clock }
+        ensures there { (m : Machine) × StandsFor self.now m }
+    {
+        self.clock
+    }
+
+    /// How many steps it has taken, at most 2^48.
+    pub fn steps(&self) -> u64
+        ensures { (m : Machine) → StandsFor self.now m → result ≡ m.steps }
+    {
+        self.steps
+    }
+}
