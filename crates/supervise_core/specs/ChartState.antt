@@ -3,7 +3,7 @@ use Rattle.std.specs.Prelude.{ℕ, List, [], ◌∷◌, Bool, true, false, None}
 use Rattle.s6_events.specs.declared.mark.Mark.{Mark}
 use Rattle.s6_events.specs.declared.exit.Exit.{Exit}
 use Rattle.s6_events.specs.declared.order.Order.{Order}
-use Rattle.supervise_core.specs.declared.config.Config.{Config}
+use Rattle.servicedir.specs.declared.config.Config.{Config}
 use Rattle.supervise_core.specs.declared.chart.ChartState.{ChartState}
 use Rattle.supervise_core.specs.declared.phase.Phase.{Phase}
 use Rattle.supervise_core.specs.declared.phase.Phase.TheVariants.{Starting, Up, Gone}

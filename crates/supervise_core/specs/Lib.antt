@@ -1,4 +1,3 @@
-pub mod Config
 pub mod ChartState
 pub mod Moves
 pub mod Chart

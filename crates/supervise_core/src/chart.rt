@@ -5,10 +5,10 @@ ghost use Rattle.supervise_core.specs.Chart.{started as started_move, death as d
 ghost use Rattle.supervise_core.specs.Gives.{Gives};
 
 use super::change::Change;
-use super::config::Config;
 use super::out::Out;
 use super::phase::Phase;
 use s6_events::{At, Exit, Mark, Name, Sid};
+use servicedir::Config;
 
 /// The milliseconds after which an ended supervisor whose directory is active starts again.
 const SUPERVISOR_PAUSE: u32 = 1000;

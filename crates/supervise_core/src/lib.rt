@@ -3,7 +3,6 @@
 
 mod change;
 mod chart;
-mod config;
 mod moves;
 mod out;
 mod phase;
@@ -13,7 +12,6 @@ mod tests;
 
 pub use change::Change;
 pub use chart::ChartState;
-pub use config::Config;
 pub use out::Out;
 pub use phase::Phase;
 pub use service::Service;

@@ -5,9 +5,9 @@ ghost use Rattle.supervise_core.specs.Chart.{started as started_move, death as d
 ghost use Rattle.supervise_core.specs.Gives.{Gives};
 
 use super::chart::ChartState;
-use super::config::Config;
 use super::out::Out;
 use s6_events::{At, Exit, Name, NoMemory, Sid};
+use servicedir::Config;
 use std::alloc::Allocator;
 use std::marker::Model;
 

@@ -7,7 +7,7 @@ use Rattle.supervise_core.specs.declared.change.Change.TheVariants.{Started as S
 use Rattle.supervise_core.specs.ChartState.{new_service, is_gone}
 use Rattle.supervise_core.specs.Moves.{begin_supervisor}
 use Rattle.supervise_core.specs.Chart.{set_active}
-use Rattle.supervise_core.specs.Config.{plain_config}
+use Rattle.servicedir.specs.Config.{plain_config}
 use Rattle.tree_core.specs.declared.input.Act.{Act}
 use Rattle.tree_core.specs.declared.input.Act.TheVariants.{Scan, Started, Death, Tick}
 use Rattle.tree_core.specs.Acts.{Acted, acted}

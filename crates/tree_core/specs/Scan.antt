@@ -6,7 +6,7 @@ use Rattle.supervise_core.specs.declared.chart.ChartState.{ChartState}
 use Rattle.supervise_core.specs.ChartState.{new_service, is_gone}
 use Rattle.supervise_core.specs.Moves.{begin_supervisor}
 use Rattle.supervise_core.specs.Chart.{set_active}
-use Rattle.supervise_core.specs.Config.{plain_config}
+use Rattle.servicedir.specs.Config.{plain_config}
 use Rattle.tree_core.specs.declared.effect.Event.{Event}
 use Rattle.tree_core.specs.declared.reply.Listed.{Listed}
 use Rattle.tree_core.specs.declared.reply.Listed.TheVariants.{Added, Full}

@@ -104,7 +104,7 @@ pub fn fire_due<A: Allocator + Copy>(
     ensures quiet { list_any (λ c. is_due now c.timer) charts.now ≡ false → IsOk result × (gathered.new.events.items ≡ gathered.old.events.items) }
 {
     let mut after = ArrayVec::new();
-    for chart in charts {
+    for chart in charts.iter() {
         after.push(fire_one(chart, now, gathered)?);
     }
     Ok(after)

@@ -1,7 +1,7 @@
 ghost use Rattle.std.specs.Prelude.{◌≡◌, ◌+◌, ◌*◌, ◌<◌, ◌≤◌, ◌^◌, ◌++◌, ◌∷◌, [], map, filter, length, IfOk, OnOk};
 ghost use Rattle.supervise_core.specs.ChartState.{new_service};
 ghost use Rattle.supervise_core.specs.Moves.{begin_supervisor};
-ghost use Rattle.supervise_core.specs.Config.{plain_config};
+ghost use Rattle.servicedir.specs.Config.{plain_config};
 ghost use Rattle.tree_core.specs.Scan.{looked_up, stays, leaves, stands, with_service, with_name, with_names};
 ghost use Rattle.tree_core.specs.Views.{grown_of};
 
@@ -10,8 +10,9 @@ use super::listing::is_listed;
 use super::reply::Listed;
 use arrayvec::ArrayVec;
 use s6_events::{At, Name, NoMemory, Sid};
+use servicedir::Config;
 use std::alloc::Allocator;
-use supervise_core::{ChartState, Config, Out, Phase};
+use supervise_core::{ChartState, Out, Phase};
 
 /// The services while new names get theirs.
 #[derive(Drop)]

@@ -1,0 +1,185 @@
+//! The worked rows `restart-after-pause` and `report-of-an-old-life-is-stale`, and what no clause says: that a step succeeds with
+//! ample memory, and that each growth of one may be refused.
+use super::*;
+use linked_list_allocator::LocalHeap;
+use s6_events::{Actor, At, Exit, Name, NoMemory, Order, Sid};
+use std::alloc::{AllocError, Allocator, Global};
+use std::fmt::Write;
+use std::process::Abort;
+use std::str;
+use std::test::Fail;
+
+// What a step of the rows does, before it has memory of its own.
+#[derive(Clone, Copy, Debug)]
+enum Deed {
+    Scan(&'static [&'static [u8]]),
+    Started(u64, u64, u32),
+    Death(u64, u64, Exit),
+    Tick,
+}
+
+const RESTART: [(u64, Deed, &str); 7] = [
+    (0, Deed::Scan(&[b"web"]), "scanned +1:web|e 1 s|o run 1 1"),
+    (0, Deed::Started(1, 1, 500), "done|e 1 u"),
+    (300, Deed::Death(1, 1, Exit::Code(1)), "done|e 1 d|e 1 D"),
+    (1299, Deed::Tick, "done"),
+    (1300, Deed::Tick, "done|o run 1 2"),
+    (1350, Deed::Started(1, 2, 501), "done|e 1 u"),
+    (1400, Deed::Death(1, 1, Exit::Code(1)), "refused Stale"),
+];
+
+fn input<A: Allocator + Copy>(alloc: A, at: u64, deed: Deed) -> Result<Input<A>, Fail> {
+    let act = match deed {
+        Deed::Scan(names) => {
+            let mut listing = Vec::new(alloc);
+            for name in names {
+                listing.push(Name::new(*name).ok_or("a name")?)?;
+            }
+            Act::Scan(Listing::new(listing))
+        }
+        Deed::Started(sid, generation, pid) => Act::Started(Sid(sid), generation, pid),
+        Deed::Death(sid, generation, exit) => Act::Death(Sid(sid), generation, exit),
+        Deed::Tick => Act::Tick,
+    };
+    Ok(Input {
+        actor: Actor::new(1).ok_or("an actor")?,
+        at: At::new(at).ok_or("a moment")?,
+        act,
+    })
+}
+
+fn name_text(name: &Name) -> &str {
+    str::from_utf8(name.as_bytes()).unwrap_or("?")
+}
+
+fn write_reply<A: Allocator>(text: &mut String, reply: &Reply<A>) -> Result<(), AllocError> {
+    match reply {
+        Reply::Done => write!(text, "done"),
+        Reply::Refused(refusal) => write!(text, "refused {refusal:?}"),
+        Reply::Scanned(report) => {
+            write!(text, "scanned")?;
+            for sid in report.dropped() {
+                let sid = sid.0;
+                write!(text, " -{sid}")?;
+            }
+            for listed in report.listed() {
+                match listed {
+                    Listed::Added(sid, name) => {
+                        let sid = sid.0;
+                        let name = name_text(name);
+                        write!(text, " +{sid}:{name}")?;
+                    }
+                    Listed::Full(name) => {
+                        let name = name_text(name);
+                        write!(text, " full:{name}")?;
+                    }
+                }
+            }
+            Ok(())
+        }
+    }
+}
+
+// The lines of a block without its number, joined by bars.
+fn lines<A: Allocator>(alloc: Global, effect: &Effect<A>) -> Result<String, AllocError> {
+    let mut text = String::new(alloc);
+    write_reply(&mut text, &effect.reply)?;
+    for event in &effect.events {
+        let sid = event.sid.0;
+        let letter = char::from(event.mark.letter().byte());
+        write!(text, "|e {sid} {letter}")?;
+    }
+    for order in effect.orders.as_slice() {
+        match order {
+            Order::Run(sid, generation, _, _) => {
+                let sid = sid.0;
+                write!(text, "|o run {sid} {generation}")?;
+            }
+            other => write!(text, "|{other:?}")?,
+        }
+    }
+    if !effect.matched.is_empty() || !effect.released.is_empty() {
+        write!(text, "|?")?;
+    }
+    Ok(text)
+}
+
+#[test]
+fn applies_the_rows_with_ample_memory(rt: HostRuntime) -> Result<(), Fail> {
+    let alloc = rt.alloc();
+    let mut tree = Tree::new(alloc);
+    assert_eq!(rt; tree.now().millis(), 0);
+    for (at, deed, block) in RESTART {
+        let effect = tree.apply(input(alloc, at, deed)?).ok().ok_or("memory")?;
+        let text = lines(alloc, &effect)?;
+        assert_eq!(rt; text.as_str(), block);
+    }
+    assert_eq!(rt; tree.now().millis(), 1400);
+    assert_eq!(rt; tree.steps(), 7);
+    Ok(())
+}
+
+// One row on a heap that has so many bytes left until a refusal gives it ample ones; how many refusals there were.
+fn apply_with_little(rt: &impl Abort, alloc: Global, left: usize) -> Result<u32, Fail> {
+    let heap = LocalHeap::new(alloc, 65_536)?;
+    let mut refused = 0u32;
+    let mut tree = Tree::new(&heap);
+    for (at, deed, block) in RESTART {
+        let input = input(&heap, at, deed)?;
+        let free = 65_536usize.saturating_sub(heap.used());
+        let filler = Vec::<u8, _>::with_capacity(&heap, free.saturating_sub(left)).ok();
+        let before = tree.steps();
+        let effect = match tree.apply(input) {
+            Ok(effect) => effect,
+            Err((back, NoMemory)) => {
+                refused = refused.saturating_add(1);
+                assert_eq!(rt; tree.steps(), before);
+                drop(filler);
+                tree.apply(back).ok().ok_or("memory")?
+            }
+        };
+        let text = lines(alloc, &effect)?;
+        assert_eq!(rt; text.as_str(), block);
+    }
+    Ok(refused)
+}
+
+#[test]
+fn a_refused_step_hands_its_input_back_and_can_be_taken_again(rt: HostRuntime) -> Result<(), Fail> {
+    let mut refusals = 0u32;
+    let mut without = 0u32;
+    for step in 0..150usize {
+        let refused = apply_with_little(&rt, rt.alloc(), 16 * step)?;
+        refusals = refusals.saturating_add(refused);
+        if refused == 0 {
+            without = without.saturating_add(1);
+        }
+    }
+    assert!(rt; refusals > 50, "{refusals} refusals");
+    assert!(rt; without > 5, "{without} runs with no refusal");
+    Ok(())
+}
+
+#[test]
+fn scans_in_the_order_of_the_bytes_and_refuses_a_name_twice(rt: HostRuntime) -> Result<(), Fail> {
+    let alloc = rt.alloc();
+    let mut tree = Tree::new(alloc);
+    let rows: [(u64, Deed, &str); 5] = [
+        (5, Deed::Scan(&[b"b", b"a", b"b"]), "refused Repeated"),
+        (
+            5,
+            Deed::Scan(&[b"b", b"a", b"B"]),
+            "scanned +1:B +2:a +3:b|e 1 s|e 2 s|e 3 s|o run 1 1|o run 2 1|o run 3 1",
+        ),
+        (4, Deed::Scan(&[b"a"]), "scanned"),
+        (6, Deed::Death(9, 1, Exit::Code(0)), "refused NoService"),
+        (6, Deed::Death(1, 1, Exit::Code(0)), "refused Stale"),
+    ];
+    for (at, deed, block) in rows {
+        let effect = tree.apply(input(alloc, at, deed)?).ok().ok_or("memory")?;
+        let text = lines(alloc, &effect)?;
+        assert_eq!(rt; text.as_str(), block);
+    }
+    assert_eq!(rt; tree.now().millis(), 6);
+    Ok(())
+}

@@ -1,0 +1,32 @@
+-- What a service directory gives, and how often it failed.
+use Rattle.std.specs.Prelude.{◌≡◌, ℕ, ◌+◌, List, Option, Some, Result, Ok, Err, codes}
+use Rattle.servicedir.specs.declared.files.ServiceFile.{ServiceFile}
+use Rattle.servicedir.specs.declared.files.ServiceFile.TheVariants.{Run, Kind, Finish, Down, NotificationFd, TimeoutKill, TimeoutFinish, MaxDeathTally, DownSignal}
+use Rattle.servicedir.specs.declared.files.ReadFault.{ReadFault}
+use Rattle.servicedir.specs.declared.files.ReadFault.TheVariants as fault
+
+-- the most bytes of a file that one reading gives
+abbrev pub reading_limit : ℕ
+reading_limit = 4097
+
+-- for each file that is there the bytes that a reading of it gives
+abbrev pub Directory : Type 0
+Directory = ServiceFile → Option (List ℕ)
+
+-- what a file is called in the directory
+abbrev pub file_name : ServiceFile → List ℕ
+file_name Run = codes "run"
+file_name Kind = codes "type"
+file_name Finish = codes "finish"
+file_name Down = codes "down"
+file_name NotificationFd = codes "notification-fd"
+file_name TimeoutKill = codes "timeout-kill"
+file_name TimeoutFinish = codes "timeout-finish"
+file_name MaxDeathTally = codes "max-death-tally"
+file_name DownSignal = codes "down-signal"
+
+-- a reading that failed is counted once, and its file is the last that failed; nothing else is counted
+abbrev pub Counts : {V : Type 0} → Result V ReadFault → ServiceFile → ℕ → ℕ → Option ServiceFile → Type 0
+Counts (Ok v) file old new last = new ≡ old
+Counts (Err fault.Io) file old new last = (new ≡ old + 1) × (last ≡ Some file)
+Counts (Err fault.NoMemory) file old new last = new ≡ old

@@ -1,0 +1,41 @@
+ghost use Rattle.std.specs.Prelude.{◌≡◌};
+
+use crate::files::ReadFault;
+use thiserror::Error;
+
+/// Why a service directory was not read. `NotifyFd` is only ever a note beside a configuration, and `BadName` is for who lists
+/// a scan directory and meets a name that is none.
+#[derive(Clone, Copy, Debug, PartialEq, Eq, Error)]
+pub enum DirFault {
+    /// There is no `run`. Page `servicedir`.
+    #[error("there is no run file")]
+    NoRun = 1,
+    /// `type` has another text than `longrun`. This project's own rule.
+    #[error("the type is not longrun")]
+    NotLongrun = 2,
+    /// `notification-fd` names no descriptor that is served. This project's own rule.
+    #[error("the notification descriptor is not served")]
+    NotifyFd = 3,
+    /// The reading of a file failed, and the directory counted it.
+    #[error("a file could not be read")]
+    Io = 4,
+    /// The directory's name is no name of a service. This project's own rule.
+    #[error("the name is no name of a service")]
+    BadName = 5,
+    /// A growth was refused.
+    #[error("out of memory")]
+    NoMemory = 6,
+}
+
+impl From<ReadFault> for DirFault {
+    ghost use Rattle.servicedir.specs.FirstFault.{fault_of_reading};
+
+    ghost from_gives = { λ fault result. result ≡ fault_of_reading fault };
+
+    fn from(fault: ReadFault) -> DirFault {
+        match fault {
+            ReadFault::Io => DirFault::Io,
+            ReadFault::NoMemory => DirFault::NoMemory,
+        }
+    }
+}

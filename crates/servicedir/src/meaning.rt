@@ -1,0 +1,69 @@
+ghost use Rattle.std.specs.Prelude.{◌≡◌, Some, None, is_some, unwrap_or, min, if◌then◌else◌};
+ghost use Rattle.std.specs.Str.{bytes_eq};
+ghost use Rattle.servicedir.specs.Number.{line_of};
+ghost use Rattle.servicedir.specs.Config.{number_in, signal_in, served, note_beside};
+ghost use Rattle.servicedir.specs.FirstFault.{is_longrun};
+
+use crate::dir_fault::DirFault;
+use crate::number::{parse_number, without_newline};
+use crate::signal::parse_signal;
+
+/// The greatest length of a text that may be valid.
+const TEXT_LIMIT: usize = 4096;
+
+/// The most deaths that are kept.
+const DEATH_LIMIT: u32 = 4096;
+
+// The valid number that the text of a file says.
+pub(crate) fn number_in_text(text: &[u8]) -> Option<u32>
+    ensures { result ≡ number_in (Some text.now) }
+{
+    if text.len() > TEXT_LIMIT {
+        return None;
+    }
+    parse_number(text)
+}
+
+// The valid signal that the text of a file says.
+pub(crate) fn signal_in_text(text: &[u8]) -> Option<u8>
+    ensures { result ≡ signal_in (Some text.now) }
+{
+    if text.len() > TEXT_LIMIT {
+        return None;
+    }
+    parse_signal(text)
+}
+
+// Whether the text of `type` says that a supervisor is wanted.
+pub(crate) fn is_longrun_text(text: &[u8]) -> bool
+    ensures { result ≡ is_longrun text.now }
+{
+    without_newline(text) == b"longrun".as_slice()
+}
+
+// The descriptor of this number, where it is served.
+pub(crate) fn served_descriptor(number: Option<u32>) -> Option<u8>
+    ensures { result ≡ served number }
+{
+    match number {
+        Some(number) if number == 1 || (3..=9).contains(&number) => Some(number as u8),
+        _ => None,
+    }
+}
+
+// What is noted of a notification-fd that is there.
+pub(crate) fn note_of_descriptor(descriptor: Option<u8>) -> Option<DirFault>
+    ensures { result ≡ note_beside descriptor }
+{
+    match descriptor {
+        Some(_) => None,
+        None => Some(DirFault::NotifyFd),
+    }
+}
+
+// How many deaths are kept, where max-death-tally says this number.
+pub(crate) fn death_tally(number: Option<u32>) -> u16
+    ensures { result ≡ min (unwrap_or number 100) 4096 }
+{
+    number.unwrap_or(100).min(DEATH_LIMIT) as u16
+}

@@ -1,0 +1,70 @@
+ghost use Rattle.std.specs.Prelude.{◌≡◌, ◌≤◌, ◌<◌, ◌^◌, ℕ, IsTrue, IfSome, nat_le, Some, None, if◌then◌else◌};
+ghost use Rattle.std.specs.Fmt.{decimal};
+ghost use Rattle.std.specs.List.{list_all};
+ghost use Rattle.servicedir.specs.Number.{is_digit, are_digits, value_of_digits, number_up_to, line_of, number_of};
+
+/// The greatest number of a number file.
+const GREATEST_NUMBER: u32 = 4_294_967_295;
+
+/// The number that the text of a number file says: one or more digits of ASCII, leading zeros among them, with at most one
+/// newline behind them, and at most 4294967295. So what is printed of a number is read as that number. None for any other
+/// text. Takes no memory. Page `servicedir`; that a second newline, and whatever is no digit, make the text invalid is this
+/// project's own rule.
+#[tactic(auto, using(crate::proofs::Decimals::read_back))]
+pub fn parse_number(text: &[u8]) -> Option<u32>
+    ensures value { result ≡ number_of text.now }
+    ensures printed { (number : ℕ) → number < 2 ^ 32 → line_of text.now ≡ decimal number → result ≡ Some number }
+{
+    parse_digits(without_newline(text), GREATEST_NUMBER)
+}
+
+/// The number that digits alone say, or None where the text has another byte, is empty, or says more than `most`. Takes no
+/// memory. This project's own rule.
+#[tactic(auto, unfolding(crate::specs::Number::number_up_to))]
+pub fn parse_digits(text: &[u8], most: u32) -> Option<u32>
+    ensures value { result ≡ number_up_to most text.now }
+    ensures bound { IfSome result (λ number. number ≤ most) }
+{
+    if !are_digits(text) {
+        return None;
+    }
+    value_up_to(text, most)
+}
+
+// Whether the text is one digit or more, and nothing else.
+fn are_digits(text: &[u8]) -> bool
+    ensures { result ≡ are_digits text.now }
+{
+    !text.is_empty() && all_are_digits(text)
+}
+
+// The text without the one newline that may end it.
+pub(crate) fn without_newline(text: &[u8]) -> &[u8]
+    ensures { result.now ≡ line_of text.now }
+{
+    match text {
+        [line @ .., b'\n'] => line,
+        _ => text,
+    }
+}
+
+fn all_are_digits(text: &[u8]) -> bool
+    ensures { result ≡ list_all is_digit text.now }
+{
+    text.iter().all(|byte| (b'0'..=b'9').contains(byte))
+}
+
+// The number that digits say, or None as soon as it is over `most`: the digits that follow never make it less.
+fn value_up_to(digits: &[u8], most: u32) -> Option<u32>
+    requires { IsTrue (are_digits digits.now) }
+    ensures { result ≡ (if nat_le (value_of_digits digits.now) most then Some (value_of_digits digits.now) else None) }
+{
+    let mut value = 0u64;
+    for digit in digits {
+        value = 10 * value + u64::from(digit - b'0');
+        if value > u64::from(most) {
+            return None;
+        }
+    }
+    Some(value as u32)
+}

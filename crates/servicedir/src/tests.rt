@@ -1,0 +1,3 @@
+mod directories;
+mod fake_files;
+mod texts;

@@ -1,0 +1,100 @@
+ghost use Rattle.std.specs.Prelude.{◌≡◌, ◌≤◌, IsTrue, None, length, IfOk, IfErr, option_map, find, take};
+
+use crate::{Files, ReadFault, ServiceFile};
+use s6_events::Name;
+use std::alloc::Allocator;
+
+/// The most bytes of a file that one reading gives.
+const READING_LIMIT: usize = 4097;
+
+/// Directories in memory: each service has these files. The first reading of the file `failing` fails.
+#[derive(Drop)]
+pub struct FakeFiles<'a> {
+    pub files: &'a [(ServiceFile, &'a [u8])],
+    pub failing: Option<ServiceFile>,
+    pub failed: Option<ServiceFile>,
+}
+
+impl<'a> FakeFiles<'a> {
+    pub fn new(files: &'a [(ServiceFile, &'a [u8])]) -> FakeFiles<'a> {
+        FakeFiles {
+            files,
+            failing: None,
+            failed: None,
+        }
+    }
+
+    fn find(&self, file: ServiceFile) -> Option<&'a [u8]>
+        ensures { option_map (λ t. t.now) result ≡ option_map (λ e. e.1.now) (find (λ e. ⟦<ServiceFile as PartialEq>⟧.eq e.0 file) self.now.files.now) }
+    {
+        match self.files.iter().find(|entry| entry.0 == file) {
+            Some(entry) => Some(entry.1),
+            None => None,
+        }
+    }
+
+    // Whether this reading fails.
+    fn fails(&self, file: ServiceFile) -> bool
+        ensures { IsTrue result → self.now.failed ≡ None }
+    {
+        self.failed.is_none() && self.failing == Some(file)
+    }
+}
+
+impl<'a> Files for FakeFiles<'a> {
+    ghost use Rattle.std.specs.Prelude.{option_map, find, is_some, take, if◌then◌else◌};
+
+    ghost gives = { λ f name file. option_map (λ e. take 4097 e.1.now) (find (λ e. ⟦<ServiceFile as PartialEq>⟧.eq e.0 file) f.files.now) };
+
+    ghost failures = { λ f. if is_some f.failed then 1 else 0 };
+
+    ghost failed = { λ f. f.failed };
+
+    fn has(&mut self, _name: Name, file: ServiceFile) -> Result<bool, ReadFault> {
+        if self.fails(file) {
+            self.failed = Some(file);
+            return Err(ReadFault::Io);
+        }
+        Ok(self.find(file).is_some())
+    }
+
+    fn text<A: Allocator + Copy>(
+        &mut self,
+        alloc: A,
+        _name: Name,
+        file: ServiceFile,
+    ) -> Result<Option<Vec<u8, A>>, ReadFault> {
+        if self.fails(file) {
+            self.failed = Some(file);
+            return Err(ReadFault::Io);
+        }
+        match self.find(file) {
+            Some(text) => Ok(Some(copied(alloc, front(text, READING_LIMIT))?)),
+            None => Ok(None),
+        }
+    }
+}
+
+// The first bytes of a text.
+fn front(text: &[u8], limit: usize) -> &[u8]
+    ensures front { result.now ≡ take limit text.now }
+    ensures bound { length result.now ≤ limit }
+{
+    if text.len() <= limit {
+        text
+    } else {
+        &text[..limit]
+    }
+}
+
+fn copied<A: Allocator + Copy>(alloc: A, text: &[u8]) -> Result<Vec<u8, A>, ReadFault>
+    ensures ok { IfOk result (λ v. v.items ≡ text.now) }
+    ensures err { IfErr result (λ fault. fault ≡ ReadFault.NoMemory) }
+{
+    let mut bytes = Vec::new(alloc);
+    if bytes.reserve(text.len()).is_err() {
+        return Err(ReadFault::NoMemory);
+    }
+    bytes.extend_from_slice(text).unwrap();
+    Ok(bytes)
+}
