@@ -1,0 +1,5 @@
+pub mod HeadRead
+pub mod Joined
+pub mod LineRead
+pub mod Reading
+pub mod Runs

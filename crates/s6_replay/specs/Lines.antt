@@ -1,0 +1,19 @@
+-- What reading a line takes from a reader, and writing gives to a writer.
+use Rattle.std.specs.Prelude.{◌≡◌, ◌≢◌, ℕ, ◌≤◌, List, [], ◌∷◌, ◌++◌, All, length, take, Option}
+use Rattle.std.specs.Io.KnownBytes.{Consumes, Appends, IsAtEnd}
+use Rattle.s6_replay.specs.declared.line.Ended.{Ended}
+use Rattle.s6_replay.specs.declared.line.Ended.TheVariants.{Newline, End, TooLong}
+
+-- no byte is a newline
+abbrev pub HasNoNewline : List ℕ → Type 0
+HasNoNewline line = All (λ b. b ≢ 10) line
+
+-- how a line ended: by its newline, within the limit; by the end of the input; or it went on beyond the limit
+abbrev pub EndsAs : Ended → Option (List ℕ) → Option (List ℕ) → List ℕ → Type 0
+EndsAs Newline old new line = HasNoNewline line × (length line ≤ 65535) × Consumes old new (line ++ 10 ∷ [])
+EndsAs End old new line = HasNoNewline line × (length line ≤ 65536) × Consumes old new line × IsAtEnd new
+EndsAs TooLong old new line = HasNoNewline line × (length line ≡ 65536) × ((b : ℕ) × Consumes old new (line ++ b ∷ []))
+
+-- the writer got some of the bytes, from the front on
+abbrev pub AppendsFront : Option (List ℕ) → Option (List ℕ) → List ℕ → Type 0
+AppendsFront old new bytes = (n : ℕ) × Appends old new (take n bytes)

@@ -1,0 +1,94 @@
+-- Scripts, their transcripts, and where reading one stops.
+use Rattle.std.specs.Prelude.{◌≡◌, ◌≢◌, ℕ, ◌+◌, ◌<◌, ◌≤◌, List, [], ◌∷◌, ◌++◌, length, take, codes, Option, Some}
+use Rattle.std.specs.List.{flat_map, AllByRecursion}
+use Rattle.std.specs.Io.KnownBytes.{Consumes, Appends, IsAtEnd}
+use Rattle.tree_core.specs.declared.input.Input.{Input}
+use Rattle.tree_core.specs.Machine.{new_machine}
+use Rattle.tree_core.specs.Run.{outcomes}
+use Rattle.s6_replay.specs.Lines.{HasNoNewline, AppendsFront}
+use Rattle.s6_replay.specs.Spelling.{IsSpelt, Spells, spelling}
+use Rattle.s6_replay.specs.Transcript.{blocks}
+use Rattle.s6_replay.specs.declared.counts.Counts.{Counts}
+use Rattle.s6_replay.specs.declared.fault.ReplayFault.{ReplayFault}
+use Rattle.s6_replay.specs.declared.fault.ReplayFault.TheVariants.{Head, Line, Pattern, Truncated, Read, Write, NoMemory}
+
+-- the head line of a script
+abbrev pub head_line : List ℕ
+head_line = codes "s6-script 1\n"
+
+-- the most inputs of a script
+abbrev pub input_limit : ℕ
+input_limit = 1000000
+
+-- the line of an input
+abbrev pub input_line : {A : Type 0} → Input A → List ℕ
+input_line i = spelling i ++ 10 ∷ []
+
+-- the input has a spelling, and its line is within the limit
+pub record HasLine {A : Type 0} (i : Input A) : Type 0 where
+  pub spelt : IsSpelt i
+  pub within : length (input_line i) ≤ 65536
+
+-- the script of some inputs: the head line, and a line for each of them
+abbrev pub script : {A : Type 0} → List (Input A) → List ℕ
+script inputs = head_line ++ flat_map input_line inputs
+
+-- the transcript of some inputs: what a new machine answers to each, numbered from 1 on
+abbrev pub transcript : {A : Type 0} → List (Input A) → List ℕ
+transcript inputs = blocks 1 (outcomes new_machine inputs)
+
+-- the counts are those of some inputs: how many there are, and how many events and orders they gave
+pub record CountsOf {A : Type 0} (inputs : List (Input A)) (counts : Counts) : Type 0 where
+  pub input_count : counts.inputs ≡ length inputs
+  pub event_count : counts.events ≡ length (flat_map (λ o. o.events) (outcomes new_machine inputs))
+  pub order_count : counts.orders ≡ length (flat_map (λ o. o.orders) (outcomes new_machine inputs))
+
+-- the inputs make a script, of which this was written: their transcript, and nothing else
+pub record Written {A : Type 0} (inputs : List (Input A)) (held held' : Option (List ℕ)) : Type 0 where
+  pub lines : AllByRecursion HasLine inputs
+  pub few : length inputs ≤ input_limit
+  pub written : Appends held held' (transcript inputs)
+
+-- all that was read is a script, and its transcript was written
+pub record IsWhole {A : Type 0} (inputs : List (Input A)) (counts : Counts) (left left' held held' : Option (List ℕ)) : Type 0 where
+  pub answered : Written inputs held held'
+  pub read : Consumes left left' (script inputs)
+  pub ended : IsAtEnd left'
+  pub counted : CountsOf inputs counts
+
+-- some of a line: no newline has come, and it is within the limit
+pub record IsPart (line : List ℕ) : Type 0 where
+  pub plain : HasNoNewline line
+  pub within : length line ≤ 65536
+
+-- a line, within the limit, that spells no input
+pub record SpellsNothing (A : Type 0) (line : List ℕ) : Type 0 where
+  pub plain : HasNoNewline line
+  pub within : length line ≤ 65535
+  pub none : (i : Input A) → Spells line i → ⊥
+
+-- what is no input line after so many inputs: it holds nothing that is spelled, or is too long, or is one line too many
+pub data IsNoInputLine (A : Type 0) (before : ℕ) (bytes : List ℕ) : Type 0 where
+  spells_nothing : (line : List ℕ) → SpellsNothing A line → bytes ≡ line ++ 10 ∷ [] → IsNoInputLine A before bytes
+  too_long : HasNoNewline (take 65536 bytes) → length bytes ≡ 65537 → IsNoInputLine A before bytes
+  too_many : before ≡ input_limit → length bytes ≡ 1 → IsNoInputLine A before bytes
+
+-- the inputs, if there were any, stood at the beginning of what was read
+abbrev pub Reached : {A : Type 0} → List (Input A) → Option (List ℕ) → Option (List ℕ) → Type 0
+Reached [] left left' = Unit {0}
+Reached (i ∷ is) left left' = (part : List ℕ) × Consumes left left' (script (i ∷ is) ++ part)
+
+-- where a script stopped, and the transcript of the inputs before it; at a failed write some of a transcript
+abbrev pub Stops : (A : Type 0) → ReplayFault → (left left' held held' : Option (List ℕ)) → Type 0
+Stops A Head left left' held held' = ((rest : List ℕ) → left ≢ Some (head_line ++ rest)) × (held' ≡ held)
+Stops A (Line n) left left' held held' =
+    (inputs : List (Input A)) × Written inputs held held' × (n ≡ length inputs + 2)
+    × ((bytes : List ℕ) × IsNoInputLine A (length inputs) bytes × Consumes left left' (script inputs ++ bytes))
+Stops A (Pattern n) left left' held held' = ⊥
+Stops A Truncated left left' held held' =
+    (inputs : List (Input A)) × Written inputs held held' × (length inputs < input_limit) × IsAtEnd left'
+    × ((line : List ℕ) × IsPart line × (line ≢ []) × Consumes left left' (script inputs ++ line))
+Stops A Read left left' held held' = (inputs : List (Input A)) × Written inputs held held' × Reached inputs left left'
+Stops A NoMemory left left' held held' = (inputs : List (Input A)) × Written inputs held held' × Reached inputs left left'
+Stops A Write left left' held held' =
+    (inputs : List (Input A)) × AllByRecursion HasLine inputs × AppendsFront held held' (transcript inputs) × Reached inputs left left'

@@ -1,0 +1,53 @@
+-- How an input is spelled.
+use Rattle.std.specs.Prelude.{◌≡◌, ℕ, ◌^◌, ◌<◌, ◌≤◌, List, [], ◌∷◌, codes, decimal, IsTrue}
+use Rattle.std.specs.List.{join_with_byte, list_all}
+use Rattle.s6_events.specs.declared.exit.Exit.{Exit}
+use Rattle.s6_events.specs.declared.exit.Exit.TheVariants.{Code, Killed}
+use Rattle.s6_events.specs.At.{last_moment}
+use Rattle.s6_events.specs.Name.{is_name}
+use Rattle.tree_core.specs.declared.input.Act.{Act}
+use Rattle.tree_core.specs.declared.input.Act.TheVariants.{Scan, Started, Death, Tick}
+use Rattle.tree_core.specs.declared.input.Input.{Input}
+
+-- the words of an exit
+abbrev pub exit_words : Exit → List (List ℕ)
+exit_words (Code n) = codes "code" ∷ decimal n ∷ []
+exit_words (Killed n) = codes "signal" ∷ decimal n ∷ []
+
+-- the words of an act
+abbrev pub act_words : {A : Type 0} → Act A → List (List ℕ)
+act_words (Scan names) = codes "scan" ∷ names
+act_words (Started sid generation pid) = codes "started" ∷ decimal sid ∷ decimal generation ∷ decimal pid ∷ []
+act_words (Death sid generation exit) = codes "death" ∷ decimal sid ∷ decimal generation ∷ exit_words exit
+act_words Tick = codes "tick" ∷ []
+
+-- the words of an input: its moment, its actor, its act
+abbrev pub input_words : {A : Type 0} → Input A → List (List ℕ)
+input_words i = decimal i.at ∷ decimal i.actor ∷ act_words i.act
+
+-- the one spelling of an input: its words, with one space between each two
+abbrev pub spelling : {A : Type 0} → Input A → List ℕ
+spelling i = join_with_byte 32 (input_words i)
+
+-- an exit code is at most 255, a signal at most 64
+abbrev pub IsExit : Exit → Type 0
+IsExit (Code n) = n ≤ 255
+IsExit (Killed n) = n ≤ 64
+
+-- names are names, serials and generations have 64 bits, a process number is positive and has 31 bits
+abbrev pub IsAct : {A : Type 0} → Act A → Type 0
+IsAct (Scan names) = IsTrue (list_all is_name names)
+IsAct (Started sid generation pid) = (sid < 2 ^ 64) × (generation < 2 ^ 64) × (1 ≤ pid) × (pid ≤ 2147483647)
+IsAct (Death sid generation exit) = (sid < 2 ^ 64) × (generation < 2 ^ 64) × IsExit exit
+IsAct Tick = Unit {0}
+
+-- the input has a spelling
+pub record IsSpelt {A : Type 0} (i : Input A) : Type 0 where
+  pub at : i.at ≤ last_moment
+  pub actor : i.actor ≤ 15
+  pub act : IsAct i.act
+
+-- the text spells the input
+pub record Spells {A : Type 0} (text : List ℕ) (i : Input A) : Type 0 where
+  pub spelt : IsSpelt i
+  pub text_is : text ≡ spelling i

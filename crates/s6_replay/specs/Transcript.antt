@@ -1,0 +1,99 @@
+-- What is printed for a step.
+use Rattle.std.specs.Prelude.{ℕ, ◌+◌, List, [], ◌∷◌, ◌++◌, codes, decimal, None, Some}
+use Rattle.std.specs.List.{flat_map}
+use Rattle.s6_events.specs.Mark.{letter_of}
+use Rattle.s6_events.specs.declared.order.Order.{Order}
+use Rattle.s6_events.specs.declared.order.Order.TheVariants.{Run, Finish, Signal, KillFinish}
+use Rattle.tree_core.specs.declared.effect.Event.{Event}
+use Rattle.tree_core.specs.declared.effect.Match.{Match}
+use Rattle.tree_core.specs.declared.effect.Release.{Release}
+use Rattle.tree_core.specs.declared.hit.Hit.{Hit}
+use Rattle.tree_core.specs.declared.hit.Hit.TheVariants.{Matched, Overlong}
+use Rattle.tree_core.specs.declared.reply.Listed.{Listed}
+use Rattle.tree_core.specs.declared.reply.Listed.TheVariants.{Added, Full}
+use Rattle.tree_core.specs.declared.reply.Refusal.{Refusal}
+use Rattle.tree_core.specs.declared.reply.Refusal.TheVariants.{NoService, Stale, Reserved, TooMany, NoSuch, Closing, Repeated, Empty, Exists, Ended, Spent}
+use Rattle.tree_core.specs.declared.reply.Reply.{Reply}
+use Rattle.tree_core.specs.declared.reply.Reply.TheVariants.{Done, Refused, Scanned}
+use Rattle.tree_core.specs.declared.verdict.Verdict.{Verdict}
+use Rattle.tree_core.specs.declared.verdict.Verdict.TheVariants.{Held, Failed, Gone, TimedOut}
+use Rattle.tree_core.specs.Machine.{Outcome}
+
+-- a reason is printed by its name
+abbrev pub reason : Refusal → List ℕ
+reason NoService = codes "NoService"
+reason Stale = codes "Stale"
+reason Reserved = codes "Reserved"
+reason TooMany = codes "TooMany"
+reason NoSuch = codes "NoSuch"
+reason Closing = codes "Closing"
+reason Repeated = codes "Repeated"
+reason Empty = codes "Empty"
+reason Exists = codes "Exists"
+reason Ended = codes "Ended"
+reason Spent = codes "Spent"
+
+-- a service that was dropped
+abbrev pub dropped_text : ℕ → List ℕ
+dropped_text sid = codes " -" ++ decimal sid
+
+-- a listed name: added under a serial, or without a place
+abbrev pub listed_text : Listed → List ℕ
+listed_text (Added sid name) = (codes " +" ++ (decimal sid ++ (58 ∷ []))) ++ name
+listed_text (Full name) = codes " full:" ++ name
+
+-- a reply
+abbrev pub reply_text : {A : Type 0} → Reply A → List ℕ
+reply_text Done = codes "done"
+reply_text (Refused why) = codes "refused " ++ reason why
+reply_text (Scanned s) = codes "scanned" ++ flat_map dropped_text s.dropped ++ flat_map listed_text s.listed
+
+-- the line of an event
+abbrev pub event_line : Event → List ℕ
+event_line e = codes "e " ++ (decimal e.sid ++ (32 ∷ letter_of e.mark ∷ 10 ∷ []))
+
+-- the line of an order, with its descriptor where it has one
+abbrev pub order_line : Order → List ℕ
+order_line (Run sid generation name None) = codes "o run " ++ (decimal sid ++ (32 ∷ (decimal generation ++ (10 ∷ []))))
+order_line (Run sid generation name (Some fd)) =
+    codes "o run " ++ (decimal sid ++ (32 ∷ (decimal generation ++ (codes " fd " ++ (decimal fd ++ (10 ∷ []))))))
+order_line (Finish sid generation name code signal) =
+    codes "o finish " ++ (decimal sid ++ (32 ∷ (decimal generation ++ (32 ∷ (decimal code ++ (32 ∷ (decimal signal ++ (10 ∷ []))))))))
+order_line (Signal sid generation n) =
+    codes "o signal " ++ (decimal sid ++ (32 ∷ (decimal generation ++ (32 ∷ (decimal n ++ (10 ∷ []))))))
+order_line (KillFinish sid generation) = codes "o killfinish " ++ (decimal sid ++ (32 ∷ (decimal generation ++ (10 ∷ []))))
+
+-- the letter of a hit, or that it was overlong
+abbrev pub hit_text : Hit → List ℕ
+hit_text (Matched letter) = letter ∷ 10 ∷ []
+hit_text Overlong = codes "overlong\n"
+
+-- the line of a match
+abbrev pub match_line : Match → List ℕ
+match_line m = (codes "m " ++ (decimal m.subscription ++ (32 ∷ []))) ++ hit_text m.hit
+
+-- a verdict is printed by its word
+abbrev pub verdict_text : Verdict → List ℕ
+verdict_text Held = codes "held\n"
+verdict_text Failed = codes "failed\n"
+verdict_text Gone = codes "gone\n"
+verdict_text TimedOut = codes "timedout\n"
+
+-- the line of a release
+abbrev pub release_line : Release → List ℕ
+release_line r = (codes "r " ++ (decimal r.waiter ++ (32 ∷ []))) ++ verdict_text r.verdict
+
+-- the line of a reply, under its number
+abbrev pub reply_line : {A : Type 0} → ℕ → Reply A → List ℕ
+reply_line n reply = ((decimal n ++ (32 ∷ [])) ++ reply_text reply) ++ 10 ∷ []
+
+-- the block of a step: its reply, events, orders, matches and releases
+abbrev pub block : {A : Type 0} → ℕ → Outcome A → List ℕ
+block n o =
+    reply_line n o.reply ++ flat_map event_line o.events ++ flat_map order_line o.orders
+    ++ flat_map match_line o.matched ++ flat_map release_line o.released
+
+-- the blocks of steps, numbered from n on
+abbrev pub blocks : {A : Type 0} → ℕ → List (Outcome A) → List ℕ
+blocks n [] = []
+blocks n (o ∷ os) = block n o ++ blocks (n + 1) os

@@ -1,0 +1,208 @@
+//! Reading an input line. A line is first read as the input that it comes closest to; that input is spelled again, and only
+//! where this gives the line it is answered. So each form that is no input of the page is refused with no case of its own.
+ghost use Rattle.std.specs.Prelude.{◌≡◌, ◌≢◌, ℕ, ◌≤◌, ◌∷◌, [], List, Bool, Err, IfOk, decimal, map, filter, bytes_eq, drop, slice_index_or, ◌==◌};
+ghost use Rattle.std.specs.List.{slice_split};
+ghost use Rattle.s6_events.specs.Name.{is_name};
+ghost use Rattle.s6_replay.specs.Spelling.{IsSpelt, IsExit, IsAct, Spells, exit_words, input_words};
+ghost use Rattle.s6_replay.specs.Verb.{verb_word, verb_of_act, details};
+
+use super::spelling::spell;
+use s6_events::{Actor, At, Exit, Name, Sid};
+use std::alloc::{AllocError, Allocator};
+use std::str;
+use thiserror::Error;
+use tree_core::{Act, Input, Listing};
+
+/// Why a line is no input.
+#[derive(Clone, Copy, Debug, PartialEq, Eq, Error)]
+pub enum LineFault {
+    /// It spells no input.
+    #[error("the line spells no input")]
+    Line = 1,
+    /// It spells an input but for its pattern, which does not build. No input of today has a pattern, so this is not answered.
+    #[error("the pattern of the line does not build")]
+    Pattern = 2,
+    /// A growth was refused.
+    #[error("out of memory")]
+    NoMemory = 3,
+}
+
+// The first word of an act.
+#[derive(Clone, Copy, Debug, PartialEq, Eq)]
+pub enum Verb {
+    Scan,
+    Started,
+    Death,
+    Tick,
+}
+
+// The words of a line, between its spaces.
+fn words_of<A: Allocator + Copy>(alloc: A, line: &[u8]) -> Result<Vec<&[u8], A>, AllocError>
+    ensures { IfOk result (λ words. map (λ w. w.now) words.items ≡ slice_split (λ b. b == 32) line.now) }
+{
+    line.split(|b| *b == b' ').collect(alloc)
+}
+
+// The word at this place, or no byte where there is none.
+fn word_at<'a>(words: &[&'a [u8]], place: usize) -> &'a [u8]
+    ensures { result.now ≡ slice_index_or (map (λ w. w.now) words.now) place [] }
+{
+    match words.get(place) {
+        Some(word) => word,
+        None => &[],
+    }
+}
+
+// The words from this place on.
+fn words_from<'a, 'b>(words: &'b [&'a [u8]], place: usize) -> &'b [&'a [u8]]
+    ensures { map (λ w. w.now) result.now ≡ drop place (map (λ w. w.now) words.now) }
+{
+    if place <= words.len() {
+        &words[place..]
+    } else {
+        &[]
+    }
+}
+
+// The number that a word spells, or another one where it spells none.
+fn number(word: &[u8], most: u64) -> u64
+    ensures spelled { (n : ℕ) → n ≤ most → word.now ≡ decimal n → result ≡ n }
+    ensures fits { result ≤ most }
+{
+    let Ok(text) = str::from_utf8(word) else {
+        return 0;
+    };
+    match text.parse::<u64>() {
+        Ok(n) => n.min(most),
+        Err(_) => 0,
+    }
+}
+
+// The words that are names.
+fn names_of<A: Allocator + Copy>(alloc: A, words: &[&[u8]]) -> Result<Vec<Name, A>, AllocError>
+    ensures { IfOk result (λ names. names.items ≡ filter is_name (map (λ w. w.now) words.now)) }
+{
+    let mut names = Vec::new(alloc);
+    for word in words {
+        if let Some(name) = Name::new(word) {
+            names.push(name)?;
+        }
+    }
+    Ok(names)
+}
+
+fn is_word(word: &[u8], text: &[u8]) -> bool
+    ensures { result ≡ bytes_eq word.now text.now }
+{
+    word == text
+}
+
+// The exit that two words spell, or another one.
+fn exit_of(kind: &[u8], word: &[u8]) -> Exit
+    ensures spelled { (e : Exit) → IsExit e → kind.now ∷ word.now ∷ [] ≡ exit_words e → result ≡ e }
+    ensures fits { IsExit result }
+{
+    if is_word(kind, b"code") {
+        Exit::Code(number(word, 255) as u8)
+    } else {
+        Exit::Killed(number(word, 64) as u8)
+    }
+}
+
+// The verb that a word spells, or another one.
+fn verb_of(word: &[u8]) -> Verb
+    ensures { (v : Verb) → word.now ≡ verb_word v → result ≡ v }
+{
+    if is_word(word, b"scan") {
+        Verb::Scan
+    } else if is_word(word, b"started") {
+        Verb::Started
+    } else if is_word(word, b"death") {
+        Verb::Death
+    } else {
+        Verb::Tick
+    }
+}
+
+// The process number that a word spells, or another one.
+fn process_of(word: &[u8]) -> u32
+    ensures spelled { (n : ℕ) → 1 ≤ n → n ≤ 2147483647 → word.now ≡ decimal n → result ≡ n }
+    ensures low { 1 ≤ result }
+    ensures high { result ≤ 2147483647 }
+{
+    number(word, 2_147_483_647).max(1) as u32
+}
+
+// The act that a verb and the words after it spell, or another one.
+fn act_of<A: Allocator + Copy>(alloc: A, verb: Verb, words: &[&[u8]]) -> Result<Act<A>, AllocError>
+    ensures spelled { IfOk result (λ found. (act : Act A) → IsAct act → verb ≡ verb_of_act act
+        → map (λ w. w.now) words.now ≡ details act → found ≡ act) }
+    ensures fits { IfOk result IsAct }
+{
+    match verb {
+        Verb::Scan => Ok(Act::Scan(Listing::new(names_of(alloc, words)?))),
+        Verb::Started => {
+            let sid = Sid(number(word_at(words, 0), u64::MAX));
+            let generation = number(word_at(words, 1), u64::MAX);
+            Ok(Act::Started(sid, generation, process_of(word_at(words, 2))))
+        }
+        Verb::Death => {
+            let sid = Sid(number(word_at(words, 0), u64::MAX));
+            let generation = number(word_at(words, 1), u64::MAX);
+            let exit = exit_of(word_at(words, 2), word_at(words, 3));
+            Ok(Act::Death(sid, generation, exit))
+        }
+        Verb::Tick => Ok(Act::Tick),
+    }
+}
+
+// The moment that a word spells, or another one.
+fn moment_of(word: &[u8]) -> At
+    ensures spelled { (n : ℕ) → n ≤ 1000000000000000 → word.now ≡ decimal n → result ≡ n }
+    ensures fits { result ≤ 1000000000000000 }
+{
+    At::new(number(word, 1_000_000_000_000_000)).unwrap_or(At::zero())
+}
+
+// The actor that a word spells, or another one.
+fn actor_of(word: &[u8]) -> Actor
+    ensures spelled { (n : ℕ) → n ≤ 15 → word.now ≡ decimal n → result ≡ n }
+    ensures fits { result ≤ 15 }
+{
+    Actor::new(number(word, 15) as u8).unwrap()
+}
+
+// The input that the words spell, or another one.
+fn input_of<A: Allocator + Copy>(alloc: A, words: &[&[u8]]) -> Result<Input<A>, AllocError>
+    ensures spelled { IfOk result (λ found. (i : Input A) → IsSpelt i → map (λ w. w.now) words.now ≡ input_words i → found ≡ i) }
+    ensures fits { IfOk result IsSpelt }
+{
+    let at = moment_of(word_at(words, 0));
+    let actor = actor_of(word_at(words, 1));
+    let verb = verb_of(word_at(words, 2));
+    let act = act_of(alloc, verb, words_from(words, 3))?;
+    Ok(Input { actor, at, act })
+}
+
+/// The input that a line spells; the line is given without its newline. At any error nothing else is left of it.
+pub fn parse_line<A: Allocator + Copy>(alloc: A, line: &[u8]) -> Result<Input<A>, LineFault>
+    ensures found { IfOk result (Spells line.now) }
+    ensures only { IfOk result (λ found. (i : Input A) → Spells line.now i → found ≡ i) }
+    ensures line { result ≡ Err LineFault.Line → (i : Input A) → Spells line.now i → ⊥ }
+    ensures pattern { result ≢ Err LineFault.Pattern }
+{
+    let Ok(words) = words_of(alloc, line) else {
+        return Err(LineFault::NoMemory);
+    };
+    let Ok(input) = input_of(alloc, words.as_slice()) else {
+        return Err(LineFault::NoMemory);
+    };
+    let Ok(text) = spell(alloc, &input) else {
+        return Err(LineFault::NoMemory);
+    };
+    if text.as_slice() == line {
+        Ok(input)
+    } else {
+        Err(LineFault::Line)
+    }
+}

@@ -1,0 +1,85 @@
+//! A replay: from a script to its transcript.
+ghost use Rattle.std.specs.Prelude.{List, [], IfOk, IfErr, OnOk};
+ghost use Rattle.std.specs.Io.KnownBytes.{Consumes, IsAtEnd};
+ghost use Rattle.tree_core.specs.declared.input.Input.{Input};
+ghost use Rattle.s6_replay.specs.Replay.{head_line, IsWhole, Stops};
+ghost use Rattle.s6_replay.specs.Turn.{HeadStops, EndStops};
+
+use super::counts::Counts;
+use super::fault::ReplayFault;
+use super::turn::{Turn, take_turn};
+use std::alloc::Allocator;
+use std::io::{BufRead, Read, Write};
+use tree_core::Tree;
+
+/// The most input lines of a script.
+const INPUT_LIMIT: u64 = 1_000_000;
+
+// Reads the head line.
+fn read_head<R: BufRead>(reader: &mut R) -> Result<(), ReplayFault>
+    ensures ok { OnOk result (Consumes (R.remaining reader.old) (R.remaining reader.new) head_line) }
+    ensures fault { IfErr result (λ fault. HeadStops fault (R.remaining reader.old)) }
+{
+    let mut byte = [0; 1];
+    for want in b"s6-script 1\n" {
+        match reader.read(&mut byte) {
+            Err(_) => return Err(ReplayFault::Read),
+            Ok(0) => return Err(ReplayFault::Head),
+            Ok(_) => {}
+        }
+        if byte[0] != *want {
+            return Err(ReplayFault::Head);
+        }
+    }
+    Ok(())
+}
+
+// Looks for the end of the input, after the last line that a script may have.
+fn read_end<R: BufRead>(reader: &mut R) -> Result<(), ReplayFault>
+    ensures ok { OnOk result (Consumes (R.remaining reader.old) (R.remaining reader.new) [] × IsAtEnd (R.remaining reader.new)) }
+    ensures fault { IfErr result (λ fault. EndStops fault (R.remaining reader.old) (R.remaining reader.new)) }
+{
+    let mut byte = [0; 1];
+    match reader.read(&mut byte) {
+        Err(_) => Err(ReplayFault::Read),
+        Ok(0) => Ok(()),
+        Ok(_) => Err(ReplayFault::Line(INPUT_LIMIT + 2)),
+    }
+}
+
+/// Replays a script: reads its inputs one after the other, hands each to a new tree, and writes what the tree answers. The script is
+/// read through the reader's own buffer and written a block at a time, so hand in a buffered writer; it is not flushed here.
+/// The format of scripts and transcripts is this project's own.
+///
+/// An input line has at most 65,536 bytes with its newline, and a script at most 1,000,000 of them. These limits are looked at before
+/// what a line holds, and before its end. `Head` comes where the input does not begin with the head line, however long that is;
+/// `Line`, `Truncated`, `Read` and `NoMemory` after the transcript of all inputs before; `Write` after the beginning of a transcript.
+/// `Pattern` is not answered today.
+pub fn run<A: Allocator + Copy, R: BufRead, W: Write>(
+    alloc: A,
+    reader: &mut R,
+    writer: &mut W,
+) -> Result<Counts, ReplayFault>
+    ensures ok { IfOk result (λ counts. (inputs : List (Input A)) × IsWhole inputs counts
+        (R.remaining reader.old) (R.remaining reader.new) (W.contents writer.old) (W.contents writer.new)) }
+    ensures fault { IfErr result (λ fault. Stops A fault
+        (R.remaining reader.old) (R.remaining reader.new) (W.contents writer.old) (W.contents writer.new)) }
+{
+    if let Err(fault) = read_head(reader) {
+        return Err(fault);
+    }
+    let mut tree = Tree::new(alloc);
+    let mut line = Vec::new(alloc);
+    let mut counts = Counts::none();
+    for done in 0..INPUT_LIMIT {
+        match take_turn(alloc, reader, writer, &mut tree, &mut line, done + 1) {
+            Err(fault) => return Err(fault),
+            Ok(Turn::End) => return Ok(counts),
+            Ok(Turn::Done(events, orders)) => counts = counts.with_input(events, orders),
+        }
+    }
+    match read_end(reader) {
+        Err(fault) => Err(fault),
+        Ok(()) => Ok(counts),
+    }
+}

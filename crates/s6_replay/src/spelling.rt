@@ -1,0 +1,67 @@
+//! The spelling of an input.
+ghost use Rattle.std.specs.Prelude.{◌≡◌, ◌++◌, ◌∷◌, string_bytes, IfOk, OnOk};
+ghost use Rattle.std.specs.List.{join_with_byte, flat_map};
+ghost use Rattle.s6_replay.specs.Spelling.{exit_words, act_words, spelling};
+
+use s6_events::{Exit, Name};
+use std::alloc::{AllocError, Allocator};
+use tree_core::{Act, Input};
+
+// Adds each name's bytes behind a space.
+fn push_names<A: Allocator + Copy>(text: &mut Vec<u8, A>, names: &[Name]) -> Result<(), AllocError>
+    ensures { OnOk result (text.new.items ≡ text.old.items ++ flat_map (λ name. 32 ∷ name) names.now) }
+{
+    for name in names {
+        text.push(b' ')?;
+        text.extend_from_slice(name.as_bytes())?;
+    }
+    Ok(())
+}
+
+fn exit_text<A: Allocator + Copy>(alloc: A, exit: Exit) -> Result<String<A>, AllocError>
+    ensures { IfOk result (λ text. string_bytes text ≡ join_with_byte 32 (exit_words exit)) }
+{
+    match exit {
+        Exit::Code(n) => format!(in alloc; "code {n}"),
+        Exit::Killed(n) => format!(in alloc; "signal {n}"),
+    }
+}
+
+#[tactic(auto, using(crate::proofs::Joined::join_names))]
+fn act_text<A: Allocator + Copy>(alloc: A, act: &Act<A>) -> Result<Vec<u8, A>, AllocError>
+    ensures { IfOk result (λ text. text.items ≡ join_with_byte 32 (act_words act.now)) }
+{
+    match act {
+        Act::Scan(listing) => {
+            let mut text = b"scan".to_vec(alloc)?;
+            push_names(&mut text, listing.names())?;
+            Ok(text)
+        }
+        Act::Started(sid, generation, pid) => {
+            let sid = sid.0;
+            let text = format!(in alloc; "started {sid} {generation} {pid}")?;
+            Ok(text.into_bytes())
+        }
+        Act::Death(sid, generation, exit) => {
+            let sid = sid.0;
+            let exit = exit_text(alloc, *exit)?;
+            let text = format!(in alloc; "death {sid} {generation} {exit}")?;
+            Ok(text.into_bytes())
+        }
+        Act::Tick => b"tick".to_vec(alloc),
+    }
+}
+
+// The spelling of an input.
+#[tactic(auto, using(crate::proofs::Joined::join_act))]
+pub fn spell<A: Allocator + Copy>(alloc: A, input: &Input<A>) -> Result<Vec<u8, A>, AllocError>
+    ensures { IfOk result (λ text. text.items ≡ spelling input.now) }
+{
+    let at = input.at.millis();
+    let actor = input.actor.number();
+    let act = act_text(alloc, &input.act)?;
+    let head = format!(in alloc; "{at} {actor} ")?;
+    let mut text = head.into_bytes();
+    text.extend_from_slice(act.as_slice())?;
+    Ok(text)
+}
