@@ -128,18 +128,18 @@ unread : (A : Type 0) (fault : ReplayFault) (a b c x y z : Option (List ℕ)) (t
     → RunsTo a b x y tree number counts inputs → number < 1000000 → ReadingStops A fault (number + 1) b c → z ≡ y → Stops A fault a c x z
 unread A Head a b c x y z tree number counts inputs done few t same = absurd t
 unread A (Line n) a b c x y z tree number counts inputs done few t same = (
-    inputs,
-    kept a b x y z tree number counts inputs done (omega arith) same,
-    omega (arith, t.0, done.many),
-    (t.1.0, t.1.1 (length inputs), Consumes-trans a b c _ _ done.read t.1.2),
+  inputs,
+  kept a b x y z tree number counts inputs done (omega arith) same,
+  omega (arith, t.0, done.many),
+  (t.1.0, t.1.1 (length inputs), Consumes-trans a b c _ _ done.read t.1.2),
 )
 unread A (Pattern n) a b c x y z tree number counts inputs done few t same = absurd t
 unread A Truncated a b c x y z tree number counts inputs done few t same = (
-    inputs,
-    kept a b x y z tree number counts inputs done (omega arith) same,
-    omega (arith, done.many),
-    t.0,
-    (t.1.0, t.1.1, t.1.2, Consumes-trans a b c _ _ done.read t.1.3),
+  inputs,
+  kept a b x y z tree number counts inputs done (omega arith) same,
+  omega (arith, done.many),
+  t.0,
+  (t.1.0, t.1.1, t.1.2, Consumes-trans a b c _ _ done.read t.1.3),
 )
 unread A Read a b c x y z tree number counts inputs done few t same =
     (inputs, kept a b x y z tree number counts inputs done (omega arith) same, reached inputs a b c t.0 done.read t.1)
@@ -180,13 +180,13 @@ pub ends_after : (A : Type 0) (a b c x y z : Option (List ℕ)) (tree : Stored) 
     → RunsTo a b x y tree number counts inputs → number ≤ 1000000 → Consumes b c [] → IsAtEnd c → z ≡ y
     → (all : List (Input A)) × IsWhole all counts a c x z
 ends_after A a b c x y z tree number counts inputs done few none end same = (
-    inputs,
-    record {
-      answered = kept a b x y z tree number counts inputs done few same;
-      read = subst (Consumes a c) (append-nil (script inputs)) (Consumes-trans a b c (script inputs) [] done.read none);
-      ended = end;
-      counted = done.counted;
-    },
+  inputs,
+  record {
+    answered = kept a b x y z tree number counts inputs done few same;
+    read = subst (Consumes a c) (append-nil (script inputs)) (Consumes-trans a b c (script inputs) [] done.read none);
+    ended = end;
+    counted = done.counted;
+  },
 )
 
 -- there was something behind the last line, or the reader failed there
@@ -194,10 +194,10 @@ pub stops_at_end : (A : Type 0) (fault : ReplayFault) (a b c x y : Option (List 
     → RunsTo a b x y tree number counts inputs → number ≡ 1000000 → EndStops fault b c → Stops A fault a c x y
 stops_at_end A Head a b c x y tree number counts inputs done last t = absurd t
 stops_at_end A (Line n) a b c x y tree number counts inputs done last t = (
-    inputs,
-    kept a b x y y tree number counts inputs done (omega arith) refl,
-    omega (arith, t.0, done.many),
-    (t.1.0, too_many (done.many ∙ last) t.1.1, Consumes-trans a b c _ _ done.read t.1.2),
+  inputs,
+  kept a b x y y tree number counts inputs done (omega arith) refl,
+  omega (arith, t.0, done.many),
+  (t.1.0, too_many (done.many ∙ last) t.1.1, Consumes-trans a b c _ _ done.read t.1.2),
 )
 stops_at_end A (Pattern n) a b c x y tree number counts inputs done last t = absurd t
 stops_at_end A Truncated a b c x y tree number counts inputs done last t = absurd t
@@ -210,15 +210,15 @@ stops_at_end A Write a b c x y tree number counts inputs done last t = absurd t
 pub starts : (A : Type 0) (a b x : Option (List ℕ)) (tree : Stored) (counts : Counts) → Consumes a b head_line → StandsFor tree new_machine
     → counts.inputs ≡ 0 → counts.events ≡ 0 → counts.orders ≡ 0 → (inputs : List (Input A)) × RunsTo a b x x tree 0 counts inputs
 starts A a b x tree counts read stands e0 e1 e2 = (
-    [],
-    record {
-      lines = tt;
-      many = refl;
-      read = read;
-      written = Appends-nil x;
-      stands = stands;
-      counted = record { input_count = e0; event_count = e1; order_count = e2 };
-      events_fit = omega (arith, e1);
-      orders_fit = omega (arith, e2);
-    },
+  [],
+  record {
+    lines = tt;
+    many = refl;
+    read = read;
+    written = Appends-nil x;
+    stands = stands;
+    counted = record { input_count = e0; event_count = e1; order_count = e2 };
+    events_fit = omega (arith, e1);
+    orders_fit = omega (arith, e2);
+  },
 )

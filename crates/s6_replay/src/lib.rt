@@ -11,6 +11,8 @@ mod parse;
 mod replay;
 mod replies;
 mod spelling;
+#[cfg(test)]
+mod tests;
 mod turn;
 mod whole;
 

@@ -65,7 +65,10 @@ fn answer_input<A: Allocator + Copy, W: Write>(
     let Ok(effect) = tree.apply(input) else {
         return Err(ReplayFault::NoMemory);
     };
-    let given = (effect.events.as_slice().len(), effect.orders.as_slice().len());
+    let given = (
+        effect.events.as_slice().len(),
+        effect.orders.as_slice().len(),
+    );
     match write_effect(alloc, number, &effect, writer) {
         Ok(()) => Ok(given),
         Err(WriteFault::Write) => Err(ReplayFault::Write),

@@ -7,4 +7,4 @@ abbrev pub invariant-loop-done : goal.invariant-loop-done
 invariant-loop-done g l =
     (inputs : List (Input g.row.A.Denot))
     × RunsTo (g.R.Read.remaining l.fn.reader) (g.R.Read.remaining l.reader) (g.W.Write.contents l.fn.writer) (g.W.Write.contents l.writer)
-        l.tree l.done l.counts inputs
+    l.tree l.done l.counts inputs

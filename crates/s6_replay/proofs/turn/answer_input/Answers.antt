@@ -4,10 +4,10 @@ use Rattle.s6_replay.proofs.turn.answer_input.Goals as goal
 
 pub returns-in-Ok-write_effect-clause-ok : goal.returns-in-Ok-write_effect-clause-ok
 returns-in-Ok-write_effect-clause-ok g c = (
-    c.as_slice.type_inv.0,
-    c.as_slice-2.type_inv.0,
-    answers_by _ _ c.args.number _ _ _ _ c.args.input _ c.in-Ok.ensures.step c.in-Ok-write_effect.ensures.ok
-    (ap length c.as_slice.ensures.value) (ap length c.as_slice-2.ensures.value),
+  c.as_slice.type_inv.0,
+  c.as_slice-2.type_inv.0,
+  answers_by _ _ c.args.number _ _ _ _ c.args.input _ c.in-Ok.ensures.step c.in-Ok-write_effect.ensures.ok
+      (ap length c.as_slice.ensures.value) (ap length c.as_slice-2.ensures.value),
 )
 
 pub returns-in-Err-Write-clause-fault : goal.returns-in-Err-Write-clause-fault

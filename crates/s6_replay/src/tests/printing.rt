@@ -1,0 +1,125 @@
+//! The block of an effect with lines of each kind.
+use super::fakes::FailingWriter;
+use crate::{WriteFault, write_effect};
+use arrayvec::ArrayVec;
+use s6_events::{Letter, Mark, Name, Order, Sid, SubId, WaitId};
+use std::alloc::Global;
+use std::test::Fail;
+use tree_core::{Effect, Event, Hit, Match, Refusal, Release, Reply, Verdict};
+
+const TEXT: &str =
+    "12 done\ne 1 s\ne 2 O\no run 1 1\no run 1 2 fd 3\no finish 1 2 256 15\no signal 1 2 18\no killfinish 1 2\n\
+    m 1 D\nm 2 overlong\nr 1 held\nr 2 failed\nr 3 gone\nr 4 timedout\n";
+
+// An effect with lines of each kind.
+fn effect(rt: &HostRuntime) -> Result<Effect<Global>, Fail> {
+    let web = Name::new(b"web").ok_or("web")?;
+    let letter = Letter::new(b'D').ok_or("D")?;
+    let orders = [
+        Order::Run(Sid(1), 1, web, None),
+        Order::Run(Sid(1), 2, web, Some(3)),
+        Order::Finish(Sid(1), 2, web, 256, 15),
+        Order::Signal(Sid(1), 2, 18),
+        Order::KillFinish(Sid(1), 2),
+    ];
+    let events = [
+        Event {
+            sid: Sid(1),
+            mark: Mark::SupervisorStarted,
+        },
+        Event {
+            sid: Sid(2),
+            mark: Mark::PermanentFailure,
+        },
+    ];
+    let matched = [
+        Match {
+            subscription: SubId(1),
+            hit: Hit::Matched(letter),
+        },
+        Match {
+            subscription: SubId(2),
+            hit: Hit::Overlong,
+        },
+    ];
+    let verdicts = [
+        Verdict::Held,
+        Verdict::Failed,
+        Verdict::Gone,
+        Verdict::TimedOut,
+    ];
+    let mut made = Effect {
+        reply: Reply::Done,
+        events: Vec::from_slice(rt.alloc(), &events)?,
+        orders: ArrayVec::new(),
+        matched: Vec::from_slice(rt.alloc(), &matched)?,
+        released: Vec::new(rt.alloc()),
+    };
+    for order in orders {
+        if made.orders.try_push(order).is_err() {
+            return Err("an order".into());
+        }
+    }
+    for (place, verdict) in verdicts.iter().enumerate() {
+        made.released.push(Release {
+            waiter: WaitId(place as u64 + 1),
+            verdict: *verdict,
+        })?;
+    }
+    Ok(made)
+}
+
+#[test]
+fn a_block_has_lines_of_each_kind(rt: HostRuntime) -> Result<(), Fail> {
+    let made = effect(&rt)?;
+    let mut written = Vec::new(rt.alloc());
+    assert_eq!(rt; write_effect(rt.alloc(), 12, &made, &mut written), Ok(()));
+    assert_eq!(rt; written.as_slice(), TEXT.as_bytes());
+    Ok(())
+}
+
+#[test]
+fn a_block_that_is_not_written_whole(rt: HostRuntime) -> Result<(), Fail> {
+    let made = effect(&rt)?;
+    for room in 0..TEXT.len() {
+        let mut writer = FailingWriter {
+            taken: Vec::new(rt.alloc()),
+            room,
+            fails: true,
+        };
+        let answer = write_effect(rt.alloc(), 12, &made, &mut writer);
+        assert_eq!(rt; answer, Err(WriteFault::Write));
+        assert_eq!(rt; writer.taken.as_slice(), &TEXT.as_bytes()[..room]);
+    }
+    Ok(())
+}
+
+#[test]
+fn refusals_have_their_names(rt: HostRuntime) -> Result<(), Fail> {
+    let rows = [
+        (Refusal::NoService, "1 refused NoService\n"),
+        (Refusal::Stale, "1 refused Stale\n"),
+        (Refusal::Reserved, "1 refused Reserved\n"),
+        (Refusal::TooMany, "1 refused TooMany\n"),
+        (Refusal::NoSuch, "1 refused NoSuch\n"),
+        (Refusal::Closing, "1 refused Closing\n"),
+        (Refusal::Repeated, "1 refused Repeated\n"),
+        (Refusal::Empty, "1 refused Empty\n"),
+        (Refusal::Exists, "1 refused Exists\n"),
+        (Refusal::Ended, "1 refused Ended\n"),
+        (Refusal::Spent, "1 refused Spent\n"),
+    ];
+    for (refusal, text) in rows {
+        let made = Effect {
+            reply: Reply::Refused(refusal),
+            events: Vec::new(rt.alloc()),
+            orders: ArrayVec::new(),
+            matched: Vec::new(rt.alloc()),
+            released: Vec::new(rt.alloc()),
+        };
+        let mut written = Vec::new(rt.alloc());
+        assert_eq!(rt; write_effect(rt.alloc(), 1, &made, &mut written), Ok(()));
+        assert_eq!(rt; written.as_slice(), text.as_bytes());
+    }
+    Ok(())
+}
