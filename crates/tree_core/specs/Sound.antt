@@ -11,7 +11,7 @@ pub record IsSound (taken next : ℕ) (services : List ChartState) : Type 0 wher
   pub serials : next ≤ 64 * taken + 1
   pub generations : All (λ c. c.generation ≤ 2 * taken) services
 
--- a step adds at most 129 moments, none is forgotten yet, and the clock is their last reading
+-- a step adds at most 1024 moments, none is forgotten yet, and the clock is their last reading
 pub record IsRecorded (taken clock forgotten : ℕ) (kept : List Moment) : Type 0 where
   pub few : length kept ≤ 1024 * taken
   pub whole : forgotten ≡ 0
