@@ -1,0 +1,6 @@
+//! The words of the control tools, read into values.
+#![tactic(auto)]
+
+mod control_letter;
+
+pub use control_letter::{ControlLetter, Letters};
