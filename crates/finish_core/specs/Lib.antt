@@ -1,2 +1,3 @@
 pub mod FinishArguments
+pub mod ExitVerdict
 pub mod Restart

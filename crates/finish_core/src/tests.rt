@@ -32,3 +32,12 @@ fn tells_finish_the_code_or_the_signal(rt: HostRuntime) {
     assert_eq!(rt; finish_args(Exit::Killed(9)), (256, 9));
     assert_eq!(rt; finish_args(Exit::Killed(0)), (256, 0));
 }
+
+#[test]
+fn takes_the_code_125_for_a_permanent_failure(rt: HostRuntime) {
+    assert_eq!(rt; verdict(Exit::Code(125)), Verdict125::Permanent);
+    assert_eq!(rt; verdict(Exit::Code(124)), Verdict125::Ordinary);
+    assert_eq!(rt; verdict(Exit::Code(0)), Verdict125::Ordinary);
+    assert_eq!(rt; verdict(Exit::Killed(0)), Verdict125::Ordinary);
+    assert_eq!(rt; verdict(Exit::Killed(125)), Verdict125::Ordinary);
+}

@@ -6,7 +6,7 @@ use Rattle.s6_events.specs.declared.order.Order.{Order}
 use Rattle.servicedir.specs.declared.config.Config.{Config}
 use Rattle.supervise_core.specs.declared.chart.ChartState.{ChartState}
 use Rattle.supervise_core.specs.declared.phase.Phase.{Phase}
-use Rattle.supervise_core.specs.declared.phase.Phase.TheVariants.{Starting, Up, Gone}
+use Rattle.supervise_core.specs.declared.phase.Phase.TheVariants.{Down, Starting, Up, Finish, Gone}
 
 -- an active service that no supervisor has begun yet
 abbrev pub new_service : ℕ → List ℕ → Config → ChartState
@@ -54,6 +54,10 @@ abbrev pub ordered : Order → ChartState → Moved
 ordered order c = record { chart = c; marks = []; orders = order ∷ []; deaths = []; stale = false }
 
 -- which phase it is
+abbrev pub is_down : Phase → Bool
+is_down Down = true
+is_down _ = false
+
 abbrev pub is_starting : Phase → Bool
 is_starting Starting = true
 is_starting _ = false
@@ -61,6 +65,10 @@ is_starting _ = false
 abbrev pub is_up : Phase → Bool
 is_up Up = true
 is_up _ = false
+
+abbrev pub is_finishing : Phase → Bool
+is_finishing Finish = true
+is_finishing _ = false
 
 abbrev pub is_gone : Phase → Bool
 is_gone Gone = true

@@ -1,5 +1,7 @@
 -- What a change of a service answers.
-use Rattle.std.specs.Prelude.{◌≡◌, ◌++◌}
+use Rattle.std.specs.Prelude.{◌≡◌, ◌++◌, ℕ}
+use Rattle.supervise_core.specs.declared.change.Change.{Change}
+use Rattle.supervise_core.specs.declared.change.Change.TheVariants.{Control}
 use Rattle.supervise_core.specs.declared.chart.ChartState.{ChartState}
 use Rattle.supervise_core.specs.declared.out.Out.{Out}
 use Rattle.supervise_core.specs.ChartState.{Moved}
@@ -17,3 +19,8 @@ pub record Adds (moved : Moved) (after : ChartState) (old new : Out) : Type 0 wh
   pub marks : new.events.items ≡ old.events.items ++ moved.marks
   pub orders : new.orders.items ≡ old.orders.items ++ moved.orders
   pub stale : new.stale ≡ old.stale
+
+-- the most orders that a change may give: two for each of 63 letters, else two
+abbrev pub most_orders : Change → ℕ
+most_orders (Control letters) = 126
+most_orders _ = 2

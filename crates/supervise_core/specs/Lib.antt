@@ -1,5 +1,10 @@
 pub mod ChartState
 pub mod Moves
+pub mod Reports
+pub mod ControlLetters
+pub mod LetterBounds
+pub mod Timer
+pub mod Listed
 pub mod Chart
 pub mod Gives
 pub mod Service

@@ -1,17 +1,15 @@
-ghost use Rattle.std.specs.Prelude.{◌≡◌, ◌+◌, ◌<◌, ◌≤◌, ◌^◌, false, length};
+ghost use Rattle.std.specs.Prelude.{◌≡◌, ◌+◌, ◌<◌, ◌≤◌, ◌^◌, length};
 ghost use Rattle.supervise_core.specs.ChartState.{new_service};
 ghost use Rattle.supervise_core.specs.Moves.{begin_supervisor};
-ghost use Rattle.supervise_core.specs.Chart.{started as started_move, death as death_move, fire as fire_move, set_active as with_activity, is_due, is_awaiting, is_running, changed_by};
-ghost use Rattle.supervise_core.specs.Gives.{Gives};
+ghost use Rattle.supervise_core.specs.Chart.{set_active as with_activity, set_config as with_config, changed_by};
+ghost use Rattle.supervise_core.specs.Gives.{Gives, most_orders};
 
 use super::change::Change;
+use super::moves::SUPERVISOR_PAUSE;
 use super::out::Out;
 use super::phase::Phase;
-use s6_events::{At, Exit, Mark, Name, Sid};
+use s6_events::{At, Exit, Name, Sid};
 use servicedir::Config;
-
-/// The milliseconds after which an ended supervisor whose directory is active starts again.
-const SUPERVISOR_PAUSE: u32 = 1000;
 
 /// The state of a service and its supervisor, without its tally of deaths. It is copyable and takes each change as its service
 /// does, so that the marks and orders of a change are known before it is made. No change takes memory.
@@ -29,7 +27,7 @@ pub struct ChartState {
     pub down_pending: bool,
     /// Since when this run has been ready.
     pub ready_since: Option<At>,
-    /// It was told to stop by SIGSTOP or SIGTSTP.
+    /// It was told to stop by SIGSTOP.
     pub paused: bool,
     /// The number of runs that were ordered.
     pub generation: u64,
@@ -92,102 +90,28 @@ impl ChartState {
         (chart, out)
     }
 
-    // The run of this generation was ordered, and nothing is known of it yet.
-    fn is_awaiting(&self, generation: u64) -> bool
-        ensures { result ≡ is_awaiting generation self.now }
-    {
-        self.phase == Phase::Starting && self.generation == generation
-    }
-
-    // The run of this generation is there.
-    fn is_running(&self, generation: u64) -> bool
-        ensures { result ≡ is_running generation self.now }
-    {
-        self.phase == Phase::Up && self.generation == generation
-    }
-
-    /// `run` was spawned: mark `u`. Where it was told to go down meanwhile, the down signal follows. Stale unless its start was
-    /// under way. Page `s6-supervise`, "Events".
-    pub fn started(&mut self, generation: u64, pid: u32, now: At) -> Out
-        ensures gives { Gives (started_move generation pid now self.old) self.new result }
-        ensures few { length result.orders.items ≤ 2 }
-    {
-        let mut out = Out::new();
-        if !self.is_awaiting(generation) {
-            out.stale = true;
-            return out;
-        }
-        self.phase = Phase::Up;
-        self.pid = pid;
-        self.paused = false;
-        self.ready_since = None;
-        out.events.push(Mark::Spawned);
-        if self.down_pending {
-            self.down_pending = false;
-            self.send_down_signal(now, &mut out);
-        }
-        out
-    }
-
-    /// `run` died: mark `d`, and `finish` is ordered where there is one. Else mark `D` and what comes next: the end of the
-    /// supervisor, rest, a start at once after more than 1000 ms of readiness, else 1000 ms after the death. Stale unless it was
-    /// up. Pages `s6-supervise`, "Detailed operation", and `servicedir`, "finish"; the length of the pause is this project's own.
-    pub fn death(&mut self, generation: u64, exit: Exit, now: At) -> Out
-        requires { self.old.generation + 1 < 2 ^ 64 }
-        ensures gives { Gives (death_move generation exit now self.old) self.new result }
-        ensures few { length result.orders.items ≤ 1 }
-    {
-        let mut out = Out::new();
-        if !self.is_running(generation) {
-            out.stale = true;
-            return out;
-        }
-        out.events.push(Mark::Died);
-        self.died_at = now;
-        self.last_exit = Some(exit);
-        self.paused = false;
-        self.timer = None;
-        if self.config.finish {
-            self.start_finish(exit, now, &mut out);
-        } else {
-            out.events.push(Mark::FinishDone);
-            self.settle(now, &mut out);
-        }
-        out
-    }
-
-    /// Whether its timer goes off.
-    pub fn is_due(&self, now: At) -> bool
-        ensures { result ≡ is_due now self.now.timer }
-    {
-        self.timer.is_some_and(|due| due <= now.millis())
-    }
-
-    /// Its timer goes off where its moment has come, and else nothing happens: a start, a SIGKILL for `run` or `finish`, or a new
-    /// supervisor. Pages `s6-supervise` and `servicedir`, "timeout-kill" and "timeout-finish".
-    pub fn fire(&mut self, now: At) -> Out
-        requires { self.old.generation + 1 < 2 ^ 64 }
-        ensures gives { Gives (fire_move now self.old) self.new result }
-        ensures few { length result.orders.items ≤ 1 }
-        ensures fresh { result.stale ≡ false }
-    {
-        let mut out = Out::new();
-        if self.is_due(now) {
-            self.take_timer_rule(&mut out);
-        }
-        out
-    }
-
     /// Takes any of the changes.
     pub fn change(&mut self, change: &Change, now: At) -> Out
         requires { self.old.generation + 1 < 2 ^ 64 }
         ensures gives { Gives (changed_by change.now now self.old) self.new result }
-        ensures few { length result.orders.items ≤ 2 }
+        ensures few { length result.orders.items ≤ most_orders change.now }
     {
         match change {
             Change::Started(generation, pid) => self.started(*generation, *pid, now),
+            Change::StartFailed(generation) => self.start_failed(*generation, now),
+            Change::Notify(generation, bytes) => self.notify(*generation, bytes.as_slice(), now),
             Change::Death(generation, exit) => self.death(*generation, *exit, now),
+            Change::FinishEnded(generation, exit) => self.finish_ended(*generation, *exit, now),
+            Change::Control(letters) => self.control(letters, now),
             Change::Fire => self.fire(now),
+            Change::SetConfig(config) => {
+                self.set_config(*config);
+                Out::new()
+            }
+            Change::SetActive(active) => {
+                self.set_active(*active, now);
+                Out::new()
+            }
         }
     }
 
@@ -204,5 +128,16 @@ impl ChartState {
             }
         }
         self.active = active;
+    }
+
+    /// Its directory was read again, and says this now. The number of deaths that are kept stays that of the scan that opened
+    /// the service. Page `servicedir`.
+    pub fn set_config(&mut self, config: Config)
+        ensures { self.new ≡ with_config config self.old }
+    {
+        self.config = Config {
+            max_death_tally: self.config.max_death_tally,
+            ..config
+        };
     }
 }

@@ -3,12 +3,15 @@
 
 mod change;
 mod chart;
+mod letters;
 mod moves;
 mod out;
 mod phase;
+mod reports;
 mod service;
 #[cfg(test)]
 mod tests;
+mod timer;
 
 pub use change::Change;
 pub use chart::ChartState;

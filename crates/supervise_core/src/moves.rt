@@ -1,6 +1,5 @@
 ghost use Rattle.std.specs.Prelude.{◌≡◌, ◌+◌, ◌<◌, ◌≤◌, ◌^◌, ◌++◌, length};
 ghost use Rattle.supervise_core.specs.Moves.{start_run as start_move, begin_supervisor as begin_move, send_down_signal as down_move, kill_timer, end_supervisor as end_move, settle as settle_move, start_finish as finish_move};
-ghost use Rattle.supervise_core.specs.Chart.{timer_rule};
 ghost use Rattle.supervise_core.specs.Gives.{Adds};
 
 use super::chart::ChartState;
@@ -10,18 +9,18 @@ use finish_core::{finish_args, restart_due};
 use s6_events::{At, Exit, Mark, Order};
 
 /// SIGKILL.
-const KILL: u8 = 9;
+pub const KILL: u8 = 9;
 
 /// SIGCONT, which follows each down signal.
 const CONTINUE: u8 = 18;
 
 /// The milliseconds after which an ended supervisor whose directory is active starts again.
-const SUPERVISOR_PAUSE: u32 = 1000;
+pub const SUPERVISOR_PAUSE: u32 = 1000;
 
 // The moves that reports and timers are made of. Each adds its marks and orders to those of its change.
 impl ChartState {
     // The next generation of `run` is ordered.
-    fn start_run(&mut self, out: &mut Out)
+    pub(crate) fn start_run(&mut self, out: &mut Out)
         requires room { length out.old.orders.items < 126 }
         requires next { self.old.generation + 1 < 2 ^ 64 }
         ensures { Adds (start_move self.old) self.new out.old out.new }
@@ -94,7 +93,7 @@ impl ChartState {
     }
 
     // The supervisor ends.
-    fn end_supervisor(&mut self, now: At, out: &mut Out)
+    pub(crate) fn end_supervisor(&mut self, now: At, out: &mut Out)
         requires { length out.old.events.items < 4 }
         ensures { Adds (end_move now self.old) self.new out.old out.new }
     {
@@ -126,30 +125,6 @@ impl ChartState {
             } else {
                 self.timer = Some(due);
             }
-        }
-    }
-
-    // What the timer does, by the phase.
-    pub(crate) fn take_timer_rule(&mut self, out: &mut Out)
-        requires marks { length out.old.events.items < 4 }
-        requires room { length out.old.orders.items < 126 }
-        requires next { self.old.generation + 1 < 2 ^ 64 }
-        ensures { Adds (timer_rule self.old.phase self.old) self.new out.old out.new }
-    {
-        match self.phase {
-            Phase::Down => self.start_run(out),
-            Phase::Starting => {}
-            Phase::Up => {
-                out.orders
-                    .push(Order::Signal(self.sid, self.generation, KILL));
-                self.timer = None;
-            }
-            Phase::Finish => {
-                out.orders
-                    .push(Order::KillFinish(self.sid, self.generation));
-                self.timer = None;
-            }
-            Phase::Gone => self.begin_supervisor(out),
         }
     }
 }

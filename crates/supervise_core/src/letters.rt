@@ -1,0 +1,117 @@
+ghost use Rattle.std.specs.Prelude.{◌≡◌, ◌+◌, ◌<◌, ◌≤◌, ◌^◌, length};
+ghost use Rattle.supervise_core.specs.ControlLetters.{take_letter as letter_move, told_up, told_down, told_signal, not_wanted, control as control_move};
+ghost use Rattle.supervise_core.specs.Gives.{Gives, Adds};
+ghost use Rattle.svc_commands.specs.ControlLetter.{signal_of};
+ghost use Rattle.supervise_core.specs.LetterBounds.{marks_left, runs_left};
+
+use super::chart::ChartState;
+use super::out::Out;
+use super::phase::Phase;
+use s6_events::{At, Order};
+use svc_commands::{ControlLetter, Letters};
+
+// The letters of a user.
+impl ChartState {
+    /// A user sent these letters; they are done in the order written, all at one moment. Once the supervisor has ended no letter
+    /// does anything. Page `s6-svc`; that they are done in the order written is this project's own rule.
+    pub fn control(&mut self, letters: &Letters, now: At) -> Out
+        requires { self.old.generation + 1 < 2 ^ 64 }
+        ensures gives { Gives (control_move letters.now.items now self.old) self.new result }
+    {
+        let mut out = Out::new();
+        for letter in letters.iter() {
+            self.take_letter(*letter, now, &mut out);
+        }
+        out
+    }
+
+    // One letter.
+    fn take_letter(&mut self, letter: ControlLetter, now: At, out: &mut Out)
+        requires marks { length out.old.events.items < 4 }
+        requires room { length out.old.orders.items + 2 ≤ 126 }
+        requires next { self.old.generation + runs_left self.old.phase < 2 ^ 64 }
+        ensures gives { Adds (letter_move now letter self.old) self.new out.old out.new }
+        ensures few { length out.new.orders.items ≤ length out.old.orders.items + 2 }
+        ensures marks { length out.new.events.items + marks_left self.new.phase ≤ length out.old.events.items + marks_left self.old.phase }
+        ensures runs { self.new.generation + runs_left self.new.phase ≤ self.old.generation + runs_left self.old.phase }
+    {
+        if self.phase == Phase::Gone {
+            return;
+        }
+        match letter {
+            ControlLetter::Up => self.be_told_up(out),
+            ControlLetter::Down => self.be_told_down(now, out),
+            ControlLetter::Once => {
+                self.wanted_up = false;
+                if self.phase == Phase::Down {
+                    self.timer = None;
+                }
+            }
+            ControlLetter::Restart => {
+                if self.phase == Phase::Up {
+                    self.send_down_signal(now, out);
+                }
+            }
+            ControlLetter::Exit => {
+                self.exit_requested = true;
+                if self.phase == Phase::Down {
+                    self.end_supervisor(now, out);
+                }
+            }
+            _ => self.pass_signal(letter, out),
+        }
+    }
+
+    // `u`: it is wanted up, and started where it is down.
+    fn be_told_up(&mut self, out: &mut Out)
+        requires room { length out.old.orders.items < 126 }
+        requires next { self.old.generation + runs_left self.old.phase < 2 ^ 64 }
+        ensures { Adds (told_up self.old) self.new out.old out.new }
+    {
+        if self.exit_requested {
+            return;
+        }
+        self.wanted_up = true;
+        if self.phase == Phase::Down {
+            self.start_run(out);
+        }
+    }
+
+    // `d`: it is no longer wanted up, and gets its down signal now or once it is spawned.
+    fn be_told_down(&mut self, now: At, out: &mut Out)
+        requires { length out.old.orders.items < 125 }
+        ensures { Adds (told_down self.old.phase now (not_wanted self.old)) self.new out.old out.new }
+    {
+        self.wanted_up = false;
+        match self.phase {
+            Phase::Down => self.timer = None,
+            Phase::Starting => self.down_pending = true,
+            Phase::Up => self.send_down_signal(now, out),
+            Phase::Finish | Phase::Gone => {}
+        }
+    }
+
+    // A letter that stands for a signal, which `run` gets where it is there.
+    fn pass_signal(&mut self, letter: ControlLetter, out: &mut Out)
+        requires { length out.old.orders.items < 126 }
+        ensures gives { Adds (told_signal (signal_of letter) letter self.old) self.new out.old out.new }
+        ensures few { length out.new.orders.items ≤ length out.old.orders.items + 1 }
+        ensures marks { out.new.events.items ≡ out.old.events.items }
+        ensures phase { self.new.phase ≡ self.old.phase }
+        ensures runs { self.new.generation ≡ self.old.generation }
+    {
+        let Some(number) = letter.signal() else {
+            return;
+        };
+        if self.phase != Phase::Up {
+            return;
+        }
+        out.orders
+            .push(Order::Signal(self.sid, self.generation, number));
+        match letter {
+            ControlLetter::Pause => self.paused = true,
+            ControlLetter::Continue => self.paused = false,
+            _ => {}
+        }
+    }
+}

@@ -1,0 +1,170 @@
+ghost use Rattle.std.specs.Prelude.{◌≡◌, ◌+◌, ◌<◌, ◌≤◌, ◌^◌, ◌++◌, length};
+ghost use Rattle.supervise_core.specs.Reports.{started as started_move, start_failed as start_failed_move, notified as notified_move, death as death_move, finish_ended as finish_ended_move, finish_done, not_spawned, is_awaiting, is_running, is_in_finish, says_ready};
+ghost use Rattle.finish_core.specs.ExitVerdict.{verdict_of};
+ghost use Rattle.supervise_core.specs.Gives.{Gives, Adds};
+
+use super::chart::ChartState;
+use super::out::Out;
+use super::phase::Phase;
+use finish_core::{Verdict125, verdict};
+use s6_events::{At, Exit, Mark};
+
+/// The milliseconds after which a spawn of `run` that failed is tried again.
+const SPAWN_PAUSE: u32 = 60000;
+
+// The reports of the outside. A report of another generation, or in a phase to which it does not belong, is stale.
+impl ChartState {
+    // The run of this generation was ordered, and nothing is known of it yet.
+    fn is_awaiting(&self, generation: u64) -> bool
+        ensures { result ≡ is_awaiting generation self.now }
+    {
+        self.phase == Phase::Starting && self.generation == generation
+    }
+
+    // The run of this generation is there.
+    fn is_running(&self, generation: u64) -> bool
+        ensures { result ≡ is_running generation self.now }
+    {
+        self.phase == Phase::Up && self.generation == generation
+    }
+
+    // The finish of this generation is there.
+    fn is_in_finish(&self, generation: u64) -> bool
+        ensures { result ≡ is_in_finish generation self.now }
+    {
+        self.phase == Phase::Finish && self.generation == generation
+    }
+
+    // These bytes of the run say, for the first time, that it is ready.
+    fn says_ready(&self, bytes: &[u8]) -> bool
+        ensures { result ≡ says_ready bytes.now self.now }
+    {
+        self.notification_fd.is_some() && self.ready_since.is_none() && bytes.contains(&b'\n')
+    }
+
+    /// `run` was spawned: mark `u`. Where it was told to go down meanwhile, the down signal follows. Stale unless its start was
+    /// under way. Page `s6-supervise`, "Events".
+    pub fn started(&mut self, generation: u64, pid: u32, now: At) -> Out
+        ensures gives { Gives (started_move generation pid now self.old) self.new result }
+        ensures few { length result.orders.items ≤ 2 }
+    {
+        let mut out = Out::new();
+        if !self.is_awaiting(generation) {
+            out.stale = true;
+            return out;
+        }
+        self.phase = Phase::Up;
+        self.pid = pid;
+        self.paused = false;
+        self.ready_since = None;
+        out.events.push(Mark::Spawned);
+        if self.down_pending {
+            self.down_pending = false;
+            self.send_down_signal(now, &mut out);
+        }
+        out
+    }
+
+    /// A spawn failed. Of `run`: it is tried again after 60000 ms, unless it is no longer wanted up; where its supervisor was
+    /// told to end, it ends. Of `finish`: it counts as done, mark `D` and what comes next. Stale unless that spawn was under
+    /// way or `finish` was there. Page `s6-supervise`, "Detailed operation"; that a `finish` that can't be spawned counts as
+    /// none is this project's own rule.
+    pub fn start_failed(&mut self, generation: u64, now: At) -> Out
+        requires { self.old.generation + 1 < 2 ^ 64 }
+        ensures gives { Gives (start_failed_move generation now self.old) self.new result }
+        ensures few { length result.orders.items ≤ 1 }
+    {
+        let mut out = Out::new();
+        if self.is_awaiting(generation) {
+            self.miss_spawn(now, &mut out);
+        } else if self.is_in_finish(generation) {
+            out.events.push(Mark::FinishDone);
+            self.settle(now, &mut out);
+        } else {
+            out.stale = true;
+        }
+        out
+    }
+
+    // The run could not be spawned.
+    fn miss_spawn(&mut self, now: At, out: &mut Out)
+        requires { length out.old.events.items < 4 }
+        ensures gives { Adds (not_spawned now self.old) self.new out.old out.new }
+        ensures quiet { out.new.orders.items ≡ out.old.orders.items }
+    {
+        self.phase = Phase::Down;
+        self.down_pending = false;
+        if self.exit_requested {
+            self.end_supervisor(now, out);
+        } else if self.wanted_up {
+            self.timer = Some(now.later(SPAWN_PAUSE));
+        }
+    }
+
+    /// `run` wrote these bytes to its notification descriptor: mark `U` at the first newline of this run, and else nothing.
+    /// Stale unless it was up. Page `notifywhenup`.
+    pub fn notify(&mut self, generation: u64, bytes: &[u8], now: At) -> Out
+        ensures gives { Gives (notified_move generation bytes.now now self.old) self.new result }
+        ensures few { length result.orders.items ≤ 0 }
+    {
+        let mut out = Out::new();
+        if !self.is_running(generation) {
+            out.stale = true;
+            return out;
+        }
+        if self.says_ready(bytes) {
+            self.ready_since = Some(now);
+            out.events.push(Mark::Ready);
+        }
+        out
+    }
+
+    /// `run` died: mark `d`, and `finish` is ordered where there is one. Else mark `D` and what comes next: the end of the
+    /// supervisor, rest, a start at once after more than 1000 ms of readiness, else 1000 ms after the death. Stale unless it was
+    /// up. Pages `s6-supervise`, "Detailed operation", and `servicedir`, "finish"; the length of the pause is this project's own.
+    pub fn death(&mut self, generation: u64, exit: Exit, now: At) -> Out
+        requires { self.old.generation + 1 < 2 ^ 64 }
+        ensures gives { Gives (death_move generation exit now self.old) self.new result }
+        ensures few { length result.orders.items ≤ 1 }
+    {
+        let mut out = Out::new();
+        if !self.is_running(generation) {
+            out.stale = true;
+            return out;
+        }
+        out.events.push(Mark::Died);
+        self.died_at = now;
+        self.last_exit = Some(exit);
+        self.paused = false;
+        self.timer = None;
+        if self.config.finish {
+            self.start_finish(exit, now, &mut out);
+        } else {
+            out.events.push(Mark::FinishDone);
+            self.settle(now, &mut out);
+        }
+        out
+    }
+
+    /// `finish` ended: mark `D` and what comes next, as after a death without `finish`. With the exit code 125 the service has
+    /// failed for good: mark `O` before, and it is no longer wanted up. Stale unless `finish` was there. Pages `servicedir`,
+    /// "finish", and `s6-supervise`, "Events".
+    pub fn finish_ended(&mut self, generation: u64, exit: Exit, now: At) -> Out
+        requires { self.old.generation + 1 < 2 ^ 64 }
+        ensures gives { Gives (finish_ended_move generation exit now self.old) self.new result }
+        ensures few { length result.orders.items ≤ 1 }
+    {
+        let mut out = Out::new();
+        if !self.is_in_finish(generation) {
+            out.stale = true;
+            return out;
+        }
+        if verdict(exit) == Verdict125::Permanent {
+            out.events.push(Mark::PermanentFailure);
+            self.wanted_up = false;
+        }
+        out.events.push(Mark::FinishDone);
+        self.settle(now, &mut out);
+        out
+    }
+}

@@ -1,0 +1,58 @@
+ghost use Rattle.std.specs.Prelude.{◌≡◌, ◌+◌, ◌<◌, ◌≤◌, ◌^◌, false, length};
+ghost use Rattle.supervise_core.specs.Timer.{fire as fire_move, timer_rule, is_due};
+ghost use Rattle.supervise_core.specs.Gives.{Gives, Adds};
+
+use super::chart::ChartState;
+use super::moves::KILL;
+use super::out::Out;
+use super::phase::Phase;
+use s6_events::{At, Order};
+
+// The timer.
+impl ChartState {
+    /// Whether its timer goes off.
+    pub fn is_due(&self, now: At) -> bool
+        ensures { result ≡ is_due now self.now.timer }
+    {
+        self.timer.is_some_and(|due| due <= now.millis())
+    }
+
+    /// Its timer goes off where its moment has come, and else nothing happens: a start, a SIGKILL for `run` or `finish`, or a new
+    /// supervisor. Pages `s6-supervise` and `servicedir`, "timeout-kill" and "timeout-finish".
+    pub fn fire(&mut self, now: At) -> Out
+        requires { self.old.generation + 1 < 2 ^ 64 }
+        ensures gives { Gives (fire_move now self.old) self.new result }
+        ensures few { length result.orders.items ≤ 1 }
+        ensures fresh { result.stale ≡ false }
+    {
+        let mut out = Out::new();
+        if self.is_due(now) {
+            self.take_timer_rule(&mut out);
+        }
+        out
+    }
+
+    // What the timer does, by the phase.
+    fn take_timer_rule(&mut self, out: &mut Out)
+        requires marks { length out.old.events.items < 4 }
+        requires room { length out.old.orders.items < 126 }
+        requires next { self.old.generation + 1 < 2 ^ 64 }
+        ensures { Adds (timer_rule self.old.phase self.old) self.new out.old out.new }
+    {
+        match self.phase {
+            Phase::Down => self.start_run(out),
+            Phase::Starting => {}
+            Phase::Up => {
+                out.orders
+                    .push(Order::Signal(self.sid, self.generation, KILL));
+                self.timer = None;
+            }
+            Phase::Finish => {
+                out.orders
+                    .push(Order::KillFinish(self.sid, self.generation));
+                self.timer = None;
+            }
+            Phase::Gone => self.begin_supervisor(out),
+        }
+    }
+}
