@@ -4,5 +4,6 @@ pub mod Mark
 pub mod Name
 pub mod NameInverse
 pub mod Clock
+pub mod CurrentLetter
 pub mod History
 pub mod HistoryFields
