@@ -1,5 +1,5 @@
 -- The control letters: what each of them does in each phase. Once the supervisor has ended no letter does anything.
-use Rattle.std.specs.Prelude.{ℕ, List, [], ◌∷◌, ◌++◌, Bool, true, false, fold, Option, None, Some, if◌then◌else◌}
+use Rattle.std.specs.Prelude.{ℕ, List, ◌++◌, Bool, true, false, fold, Option, None, Some, if◌then◌else◌}
 use Rattle.s6_events.specs.declared.order.Order.TheVariants.{Signal}
 use Rattle.svc_commands.specs.declared.control_letter.ControlLetter.{ControlLetter}
 use Rattle.svc_commands.specs.declared.control_letter.ControlLetter.TheVariants.{Pause, Continue, Up as LetterUp, Down as LetterDown, Once, Restart, Exit}

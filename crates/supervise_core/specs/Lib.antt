@@ -7,4 +7,6 @@ pub mod Timer
 pub mod Listed
 pub mod Chart
 pub mod Gives
+pub mod Status
+pub mod StatusRow
 pub mod Service

@@ -1,5 +1,5 @@
 -- The reports: what each of them does in the phase that it belongs to.
-use Rattle.std.specs.Prelude.{ℕ, ◌+◌, List, [], ◌∷◌, Bool, true, false, ◌&&◌, ◌==◌, is_some, is_none, None, Some, if◌then◌else◌}
+use Rattle.std.specs.Prelude.{ℕ, ◌+◌, List, [], ◌∷◌, Bool, false, ◌&&◌, ◌==◌, is_some, is_none, None, Some, if◌then◌else◌}
 use Rattle.std.specs.List.{list_any}
 use Rattle.s6_events.specs.declared.mark.Mark.TheVariants.{Spawned, Ready, Died, FinishDone, PermanentFailure}
 use Rattle.s6_events.specs.declared.exit.Exit.{Exit}
@@ -7,8 +7,7 @@ use Rattle.finish_core.specs.declared.exit_verdict.Verdict125.{Verdict125}
 use Rattle.finish_core.specs.declared.exit_verdict.Verdict125.TheVariants.{Permanent, Ordinary}
 use Rattle.finish_core.specs.ExitVerdict.{verdict_of}
 use Rattle.supervise_core.specs.declared.chart.ChartState.{ChartState}
-use Rattle.supervise_core.specs.declared.phase.Phase.{Phase}
-use Rattle.supervise_core.specs.declared.phase.Phase.TheVariants.{Down, Starting, Up, Finish}
+use Rattle.supervise_core.specs.declared.phase.Phase.TheVariants.{Down, Up}
 use Rattle.supervise_core.specs.ChartState.{Moved, still, refused, marked, is_starting, is_up, is_finishing}
 use Rattle.supervise_core.specs.Moves.{send_down_signal, start_finish, end_supervisor, settle}
 

@@ -94,6 +94,7 @@ impl ChartState {
     pub fn change(&mut self, change: &Change, now: At) -> Out
         requires { self.old.generation + 1 < 2 ^ 64 }
         ensures gives { Gives (changed_by change.now now self.old) self.new result }
+        ensures sid { self.new.sid ≡ self.old.sid }
         ensures few { length result.orders.items ≤ most_orders change.now }
     {
         match change {

@@ -17,6 +17,7 @@ impl ChartState {
     pub fn control(&mut self, letters: &Letters, now: At) -> Out
         requires { self.old.generation + 1 < 2 ^ 64 }
         ensures gives { Gives (control_move letters.now.items now self.old) self.new result }
+        ensures sid { self.new.sid ≡ self.old.sid }
     {
         let mut out = Out::new();
         for letter in letters.iter() {
@@ -31,6 +32,7 @@ impl ChartState {
         requires room { length out.old.orders.items + 2 ≤ 126 }
         requires next { self.old.generation + runs_left self.old.phase < 2 ^ 64 }
         ensures gives { Adds (letter_move now letter self.old) self.new out.old out.new }
+        ensures sid { self.new.sid ≡ self.old.sid }
         ensures few { length out.new.orders.items ≤ length out.old.orders.items + 2 }
         ensures marks { length out.new.events.items + marks_left self.new.phase ≤ length out.old.events.items + marks_left self.old.phase }
         ensures runs { self.new.generation + runs_left self.new.phase ≤ self.old.generation + runs_left self.old.phase }

@@ -8,7 +8,9 @@ mod moves;
 mod out;
 mod phase;
 mod reports;
+mod row;
 mod service;
+mod status;
 #[cfg(test)]
 mod tests;
 mod timer;
@@ -17,4 +19,5 @@ pub use change::Change;
 pub use chart::ChartState;
 pub use out::Out;
 pub use phase::Phase;
+pub use row::Row;
 pub use service::Service;

@@ -46,6 +46,7 @@ impl ChartState {
     /// under way. Page `s6-supervise`, "Events".
     pub fn started(&mut self, generation: u64, pid: u32, now: At) -> Out
         ensures gives { Gives (started_move generation pid now self.old) self.new result }
+        ensures sid { self.new.sid ≡ self.old.sid }
         ensures few { length result.orders.items ≤ 2 }
     {
         let mut out = Out::new();
@@ -72,6 +73,7 @@ impl ChartState {
     pub fn start_failed(&mut self, generation: u64, now: At) -> Out
         requires { self.old.generation + 1 < 2 ^ 64 }
         ensures gives { Gives (start_failed_move generation now self.old) self.new result }
+        ensures sid { self.new.sid ≡ self.old.sid }
         ensures few { length result.orders.items ≤ 1 }
     {
         let mut out = Out::new();
@@ -105,6 +107,7 @@ impl ChartState {
     /// Stale unless it was up. Page `notifywhenup`.
     pub fn notify(&mut self, generation: u64, bytes: &[u8], now: At) -> Out
         ensures gives { Gives (notified_move generation bytes.now now self.old) self.new result }
+        ensures sid { self.new.sid ≡ self.old.sid }
         ensures few { length result.orders.items ≤ 0 }
     {
         let mut out = Out::new();
@@ -125,6 +128,7 @@ impl ChartState {
     pub fn death(&mut self, generation: u64, exit: Exit, now: At) -> Out
         requires { self.old.generation + 1 < 2 ^ 64 }
         ensures gives { Gives (death_move generation exit now self.old) self.new result }
+        ensures sid { self.new.sid ≡ self.old.sid }
         ensures few { length result.orders.items ≤ 1 }
     {
         let mut out = Out::new();
@@ -152,6 +156,7 @@ impl ChartState {
     pub fn finish_ended(&mut self, generation: u64, exit: Exit, now: At) -> Out
         requires { self.old.generation + 1 < 2 ^ 64 }
         ensures gives { Gives (finish_ended_move generation exit now self.old) self.new result }
+        ensures sid { self.new.sid ≡ self.old.sid }
         ensures few { length result.orders.items ≤ 1 }
     {
         let mut out = Out::new();

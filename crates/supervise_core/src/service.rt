@@ -1,20 +1,29 @@
-ghost use Rattle.std.specs.Prelude.{◌≡◌, ◌+◌, ◌<◌, ◌^◌, IfOk};
+ghost use Rattle.std.specs.Prelude.{◌≡◌, ◌+◌, ◌<◌, ◌^◌, ◌++◌, List, IfOk};
+ghost use Rattle.s6_events.specs.declared.moment.Moment.{Moment};
 ghost use Rattle.supervise_core.specs.ChartState.{new_service};
 ghost use Rattle.supervise_core.specs.Moves.{begin_supervisor};
-ghost use Rattle.supervise_core.specs.Chart.{started as started_move, death as death_move, fire as fire_move, set_active as with_activity};
+ghost use Rattle.supervise_core.specs.Chart.{started as started_move, start_failed as start_failed_move, notified as notified_move, death as death_move, finish_ended as finish_ended_move, control as control_move, fire as fire_move, set_active as with_activity, set_config as with_config, changed_by};
 ghost use Rattle.supervise_core.specs.Gives.{Gives};
+ghost use Rattle.supervise_core.specs.Status.{events_of, nothing_told};
+ghost use Rattle.supervise_core.specs.Service.{AgreesWith, KeepsAgreeing};
+ghost use Rattle.supervise_core.specs.StatusRow.{status_row};
 
+use super::change::Change;
 use super::chart::ChartState;
 use super::out::Out;
+use super::row::Row;
+use super::status::Status;
 use s6_events::{At, Exit, Name, NoMemory, Sid};
 use servicedir::Config;
 use std::alloc::Allocator;
 use std::marker::Model;
+use svc_commands::Letters;
 
 /// A service under its supervisor. No change of it takes memory.
 #[derive(Drop)]
 pub struct Service {
     chart: ChartState,
+    status: Status,
 }
 
 impl Model for Service {
@@ -22,7 +31,7 @@ impl Model for Service {
 
     ghost Value = { Supervised };
 
-    ghost view = { λ s. record { chart = s.chart } };
+    ghost view = { λ s. record { chart = s.chart; status = s.status } };
 }
 
 impl Service {
@@ -35,17 +44,22 @@ impl Service {
         config: Config,
         _now: At,
     ) -> Result<(Service, Out), NoMemory>
-        ensures { IfOk result (λ made. Gives (begin_supervisor (new_service sid name config)) made.0.chart made.1) }
+        ensures gives { IfOk result (λ made. Gives (begin_supervisor (new_service sid name config)) made.0.chart made.1) }
+        ensures agrees { (history : List Moment) → IfOk result (λ made. AgreesWith made.0 (history ++ events_of sid made.1.events.items)) }
     {
         let (chart, out) = ChartState::begin(sid, name, config);
-        Ok((Service { chart }, out))
+        Ok((Service::holding(chart), out))
     }
 
-    /// A service in this state. It takes no memory.
+    /// A service in this state, of which no mark was told since its supervisor started. It takes no memory.
     pub fn holding(chart: ChartState) -> Service
-        ensures { result.chart ≡ chart }
+        ensures chart { result.chart ≡ chart }
+        ensures status { result.status ≡ nothing_told }
     {
-        Service { chart }
+        Service {
+            chart,
+            status: Status::new(),
+        }
     }
 
     /// Its state without its deaths, which takes the same changes.
@@ -55,34 +69,118 @@ impl Service {
         self.chart
     }
 
+    /// Its status row: that of each history which agrees with what it stores. Takes no memory. Page `s6-svstat`.
+    pub fn row(&self, now: At) -> Row
+        ensures { (history : List Moment) → AgreesWith self.now history → result ≡ status_row history now self.now.chart }
+    {
+        self.status.row(&self.chart, now)
+    }
+
     /// `run` of this generation was spawned: mark `u`. Stale unless its start was under way. Page `s6-supervise`, "Events".
     pub fn started(&mut self, generation: u64, pid: u32, now: At) -> Out
-        ensures { Gives (started_move generation pid now self.old.chart) self.new.chart result }
+        ensures gives { Gives (started_move generation pid now self.old.chart) self.new.chart result }
+        ensures agrees { KeepsAgreeing now result.events.items self.old self.new }
     {
-        self.chart.started(generation, pid, now)
+        let out = self.chart.started(generation, pid, now);
+        self.status.tell_all(out.events.as_slice(), now);
+        out
+    }
+
+    /// `run` or `finish` of this generation could not be spawned: `run` is tried again after 60000 ms, and `finish` counts as done.
+    /// Stale unless one of them was being spawned. Page `s6-supervise`, "Detailed operation"; what a failed spawn of `finish` means
+    /// is this project's own rule.
+    pub fn start_failed(&mut self, generation: u64, now: At) -> Out
+        requires { self.old.chart.generation + 1 < 2 ^ 64 }
+        ensures gives { Gives (start_failed_move generation now self.old.chart) self.new.chart result }
+        ensures agrees { KeepsAgreeing now result.events.items self.old self.new }
+    {
+        let out = self.chart.start_failed(generation, now);
+        self.status.tell_all(out.events.as_slice(), now);
+        out
+    }
+
+    /// `run` of this generation wrote these bytes to its notification descriptor: mark `U` at its first newline. Stale unless it was
+    /// up. Page `notifywhenup`.
+    pub fn notify(&mut self, generation: u64, bytes: &[u8], now: At) -> Out
+        ensures gives { Gives (notified_move generation bytes.now now self.old.chart) self.new.chart result }
+        ensures agrees { KeepsAgreeing now result.events.items self.old self.new }
+    {
+        let out = self.chart.notify(generation, bytes, now);
+        self.status.tell_all(out.events.as_slice(), now);
+        out
     }
 
     /// `run` of this generation died: mark `d`, then `finish`, or mark `D` and what comes next. Stale unless it was up. Page
     /// `s6-supervise`, "Detailed operation".
     pub fn death(&mut self, generation: u64, exit: Exit, now: At) -> Out
         requires { self.old.chart.generation + 1 < 2 ^ 64 }
-        ensures { Gives (death_move generation exit now self.old.chart) self.new.chart result }
+        ensures gives { Gives (death_move generation exit now self.old.chart) self.new.chart result }
+        ensures agrees { KeepsAgreeing now result.events.items self.old self.new }
     {
-        self.chart.death(generation, exit, now)
+        let out = self.chart.death(generation, exit, now);
+        self.status.tell_all(out.events.as_slice(), now);
+        out
+    }
+
+    /// `finish` of this generation ended: mark `D` and what comes next, after the exit code 125 mark `O` first. Stale unless it was
+    /// there. Pages `servicedir`, "finish", and `s6-supervise`, "Events".
+    pub fn finish_ended(&mut self, generation: u64, exit: Exit, now: At) -> Out
+        requires { self.old.chart.generation + 1 < 2 ^ 64 }
+        ensures gives { Gives (finish_ended_move generation exit now self.old.chart) self.new.chart result }
+        ensures agrees { KeepsAgreeing now result.events.items self.old self.new }
+    {
+        let out = self.chart.finish_ended(generation, exit, now);
+        self.status.tell_all(out.events.as_slice(), now);
+        out
+    }
+
+    /// A user sent these letters; they are done in the order written. Once the supervisor has ended no letter does anything. Page
+    /// `s6-svc`.
+    pub fn control(&mut self, letters: &Letters, now: At) -> Out
+        requires { self.old.chart.generation + 1 < 2 ^ 64 }
+        ensures gives { Gives (control_move letters.now.items now self.old.chart) self.new.chart result }
+        ensures agrees { KeepsAgreeing now result.events.items self.old self.new }
+    {
+        let out = self.chart.control(letters, now);
+        self.status.tell_all(out.events.as_slice(), now);
+        out
     }
 
     /// Its timer goes off where its moment has come: a start, a SIGKILL or a new supervisor. Page `s6-supervise`.
     pub fn fire(&mut self, now: At) -> Out
         requires { self.old.chart.generation + 1 < 2 ^ 64 }
-        ensures { Gives (fire_move now self.old.chart) self.new.chart result }
+        ensures gives { Gives (fire_move now self.old.chart) self.new.chart result }
+        ensures agrees { KeepsAgreeing now result.events.items self.old self.new }
     {
-        self.chart.fire(now)
+        let out = self.chart.fire(now);
+        self.status.tell_all(out.events.as_slice(), now);
+        out
+    }
+
+    /// Takes any of the changes.
+    pub fn change(&mut self, change: &Change, now: At) -> Out
+        requires { self.old.chart.generation + 1 < 2 ^ 64 }
+        ensures gives { Gives (changed_by change.now now self.old.chart) self.new.chart result }
+        ensures agrees { KeepsAgreeing now result.events.items self.old self.new }
+    {
+        let out = self.chart.change(change, now);
+        self.status.tell_all(out.events.as_slice(), now);
+        out
     }
 
     /// Its directory is listed, or no longer listed. Page `s6-svscan`.
     pub fn set_active(&mut self, active: bool, now: At)
-        ensures { self.new.chart ≡ with_activity active now self.old.chart }
+        ensures chart { self.new.chart ≡ with_activity active now self.old.chart }
+        ensures agrees { (history : List Moment) → AgreesWith self.old history → AgreesWith self.new history }
     {
         self.chart.set_active(active, now)
+    }
+
+    /// Its directory was read again, and says this now; the number of deaths that are kept stays as it was. Page `servicedir`.
+    pub fn set_config(&mut self, config: Config)
+        ensures chart { self.new.chart ≡ with_config config self.old.chart }
+        ensures agrees { (history : List Moment) → AgreesWith self.old history → AgreesWith self.new history }
+    {
+        self.chart.set_config(config)
     }
 }

@@ -22,6 +22,7 @@ impl ChartState {
     pub fn fire(&mut self, now: At) -> Out
         requires { self.old.generation + 1 < 2 ^ 64 }
         ensures gives { Gives (fire_move now self.old) self.new result }
+        ensures sid { self.new.sid ≡ self.old.sid }
         ensures few { length result.orders.items ≤ 1 }
         ensures fresh { result.stale ≡ false }
     {

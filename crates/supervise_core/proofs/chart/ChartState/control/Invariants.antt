@@ -7,6 +7,7 @@ use Rattle.supervise_core.proofs.chart.ChartState.control.Given as goal
 abbrev pub invariant-loop-letter : goal.invariant-loop-letter
 invariant-loop-letter l = record {
   gives : Gives (control_move (take l.letter-index l.letters.items) l.now l.fn.self) l.self l.out;
+  sid : l.self.sid ≡ l.fn.self.sid;
   few : length l.out.orders.items ≤ 2 * l.letter-index;
   marks : length l.out.events.items + marks_left l.self.phase ≤ 1;
   runs : l.self.generation + runs_left l.self.phase ≤ l.fn.self.generation + 1;
