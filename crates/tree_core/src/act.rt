@@ -1,5 +1,6 @@
 ghost use Rattle.std.specs.Prelude.{◌≡◌, ◌+◌, ◌<◌, ◌≤◌, ◌^◌, ◌==◌, length, All, IfOk, IsOk, false};
 ghost use Rattle.std.specs.List.{list_any};
+ghost use Rattle.supervise_core.specs.Gives.{most_orders};
 ghost use Rattle.tree_core.specs.Acts.{nothing_done, report_reply as reply_to_report, reported, scanned, listed_to, acted};
 ghost use Rattle.tree_core.specs.Listing.{in_byte_order};
 ghost use Rattle.tree_core.specs.Plan.{at_work, IsFew};
@@ -74,6 +75,7 @@ fn report<A: Allocator + Copy>(
     charts: ArrayVec<ChartState, 64>,
     next_sid: u64,
 ) -> Result<Draft<A>, NoMemory>
+    requires report { most_orders change.now ≤ 2 }
     requires generations { All (λ c. c.generation + 1 < 2 ^ 64) charts.items }
     ensures draft { IfOk result (λ d. drafted d ≡ reported sid change.now (at_work false now charts.items next_sid)) }
     ensures places { IfOk result (λ d. length d.charts.items ≤ 64) }

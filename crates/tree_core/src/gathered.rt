@@ -1,6 +1,7 @@
 ghost use Rattle.std.specs.Prelude.{◌≡◌, ◌+◌, ◌*◌, ◌<◌, ◌≤◌, ◌^◌, [], ◌∷◌, ◌++◌, map, length, All, IsOk, OnOk, IfOk, false, ◌||◌, ◌==◌};
 ghost use Rattle.std.specs.List.{list_any};
 ghost use Rattle.supervise_core.specs.Chart.{is_due, fire};
+ghost use Rattle.supervise_core.specs.Gives.{most_orders};
 ghost use Rattle.tree_core.specs.Acts.{changed_at};
 ghost use Rattle.tree_core.specs.Moves.{event, services_after, events_after, orders_after};
 
@@ -142,6 +143,7 @@ pub fn change_at<A: Allocator + Copy>(
     now: At,
     gathered: &mut Gathered<A>,
 ) -> Result<ArrayVec<ChartState, 64>, NoMemory>
+    requires report { most_orders change.now ≤ 2 }
     requires few { length charts.now ≤ 64 }
     requires orders { length gathered.old.orders.items + 2 * length charts.now ≤ 256 }
     requires generations { All (λ c. c.generation + 1 < 2 ^ 64) charts.now }
@@ -168,6 +170,7 @@ fn change_one<A: Allocator + Copy>(
     now: At,
     gathered: &mut Gathered<A>,
 ) -> Result<ChartState, NoMemory>
+    requires report { most_orders change.now ≤ 2 }
     requires orders { length gathered.old.orders.items + 2 ≤ 256 }
     requires next { chart.now.generation + 1 < 2 ^ 64 }
     ensures chart { IfOk result (λ next. next ≡ (changed_at sid change.now now chart.now).chart) }
