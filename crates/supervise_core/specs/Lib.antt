@@ -3,6 +3,7 @@ pub mod Moves
 pub mod Reports
 pub mod ControlLetters
 pub mod LetterBounds
+pub mod EventGrammar
 pub mod Timer
 pub mod Listed
 pub mod Chart

@@ -4,6 +4,8 @@ ghost use Rattle.supervise_core.specs.ChartState.{new_service};
 ghost use Rattle.supervise_core.specs.Moves.{begin_supervisor};
 ghost use Rattle.supervise_core.specs.Chart.{started as started_move, start_failed as start_failed_move, notified as notified_move, death as death_move, finish_ended as finish_ended_move, control as control_move, fire as fire_move, set_active as with_activity, set_config as with_config, changed_by};
 ghost use Rattle.supervise_core.specs.Gives.{Gives};
+ghost use Rattle.supervise_core.specs.EventGrammar.{LeadsTo};
+ghost use Rattle.s6_events.specs.declared.mark.Mark.{Mark};
 ghost use Rattle.supervise_core.specs.Status.{events_of, nothing_told};
 ghost use Rattle.supervise_core.specs.Service.{AgreesWith, KeepsAgreeing};
 ghost use Rattle.supervise_core.specs.StatusRow.{status_row};
@@ -45,6 +47,7 @@ impl Service {
         _now: At,
     ) -> Result<(Service, Out), NoMemory>
         ensures gives { IfOk result (λ made. Gives (begin_supervisor (new_service sid name config)) made.0.chart made.1) }
+        ensures grammar { IfOk result (λ made. LeadsTo made.1.events.items made.0.chart) }
         ensures agrees { (history : List Moment) → IfOk result (λ made. AgreesWith made.0 (history ++ events_of sid made.1.events.items)) }
     {
         let (chart, out) = ChartState::begin(sid, name, config);
@@ -157,10 +160,12 @@ impl Service {
         out
     }
 
-    /// Takes any of the changes.
+    /// Takes any of the changes. Whatever marks led to where it stood, they lead to where it stands with those of the change: they
+    /// are the beginning of a word of (`s` (`u` `U`? `d` `O`? `D`)* `x`)*. Page `s6-supervise`, "Events".
     pub fn change(&mut self, change: &Change, now: At) -> Out
         requires { self.old.chart.generation + 1 < 2 ^ 64 }
         ensures gives { Gives (changed_by change.now now self.old.chart) self.new.chart result }
+        ensures grammar { (marks : List Mark) → LeadsTo marks self.old.chart → LeadsTo (marks ++ result.events.items) self.new.chart }
         ensures agrees { KeepsAgreeing now result.events.items self.old self.new }
     {
         let out = self.chart.change(change, now);

@@ -1,3 +1,5 @@
+mod rows;
+
 use super::*;
 use s6_events::{At, Exit, Mark, Name, Order, Sid};
 use servicedir::Config;
