@@ -1,0 +1,8 @@
+-- What a contract sees of the deadlines.
+use Rattle.std.specs.Prelude.{ℕ, List}
+use Rattle.deadlines.specs.declared.timer.Timer.{Timer}
+
+-- the timers that are set, in rising serial, and how many more fit with no growth
+pub record Armed : Type 0 where
+  pub timers : List Timer
+  pub room : ℕ

@@ -1,0 +1,13 @@
+-- How deadlines are stored.
+use Rattle.std.specs.Prelude.{◌≡◌, ◌-◌, true, vec_len, vec_capacity}
+use Rattle.deadlines.specs.Timers.{rises}
+use Rattle.deadlines.specs.Deadlines.{Armed}
+use Rattle.deadlines.specs.declared.deadlines.Deadlines.TheInside.{Inside}
+
+-- the timers, and the room that is left
+abbrev pub armed : {A : Type 0} → Inside A → Armed
+armed d = record { timers = d.timers.items; room = vec_capacity d.timers - vec_len d.timers }
+
+-- they stand in rising serial
+abbrev pub IsInOrder : {A : Type 0} → Inside A → Type 0
+IsInOrder d = rises d.timers.items ≡ true

@@ -1,0 +1,3 @@
+pub mod Timers
+pub mod Deadlines
+pub mod DeadlinesFields

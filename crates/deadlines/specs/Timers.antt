@@ -1,0 +1,48 @@
+-- Which services have a timer set, and which of the timers are due.
+use Rattle.std.specs.Prelude.{ℕ, List, [], ◌∷◌, ◌++◌, map, filter, fold, Bool, true, false, ◌&&◌, ◌==◌, nat_lt, nat_le, Option, None, Some}
+use Rattle.std.specs.List.{list_all}
+use Rattle.deadlines.specs.declared.timer.Timer.{Timer}
+use Rattle.deadlines.specs.declared.timer.TimerChange.{TimerChange}
+use Rattle.deadlines.specs.declared.timer.TimerChange.TheVariants.{Set, Clear}
+
+-- the timers in rising serial, one for a service at most
+abbrev pub rises : List Timer → Bool
+rises [] = true
+rises (timer ∷ later) = list_all (λ t. nat_lt timer.sid t.sid) later && rises later
+
+-- the timers of the services below this one, and above it
+abbrev pub below : ℕ → List Timer → List Timer
+below sid timers = filter (λ t. nat_lt t.sid sid) timers
+
+abbrev pub above : ℕ → List Timer → List Timer
+above sid timers = filter (λ t. nat_lt sid t.sid) timers
+
+-- there is a timer, and it is that of this service
+abbrev pub is_of : ℕ → Option Timer → Bool
+is_of sid None = false
+is_of sid (Some timer) = timer.sid == sid
+
+-- the timer of a service is set to a moment, in place of the one that it had
+abbrev pub set_to : ℕ → ℕ → List Timer → List Timer
+set_to sid at timers = below sid timers ++ record { sid = sid; at = at } ∷ above sid timers
+
+-- the timer of a service is cleared, where it had one
+abbrev pub cleared : ℕ → List Timer → List Timer
+cleared sid timers = below sid timers ++ above sid timers
+
+-- one change, and the changes of a step in their order
+abbrev pub changed : List Timer → TimerChange → List Timer
+changed timers (Set sid at) = set_to sid at timers
+changed timers (Clear sid) = cleared sid timers
+
+abbrev pub changed_all : List TimerChange → List Timer → List Timer
+changed_all changes timers = fold changed timers changes
+
+-- the services whose timers are set to a moment at most now
+abbrev pub due_by : ℕ → List Timer → List ℕ
+due_by now timers = map (λ t. t.sid) (filter (λ t. nat_le t.at now) timers)
+
+-- the numbers rise
+abbrev pub is_rising : List ℕ → Bool
+is_rising [] = true
+is_rising (n ∷ later) = list_all (λ m. nat_lt n m) later && is_rising later

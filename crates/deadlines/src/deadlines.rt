@@ -1,0 +1,168 @@
+ghost use Rattle.std.specs.Prelude.{◌≡◌, ◌+◌, ◌<◌, ◌≤◌, [], length, IsOk, IfOk, OnOk, OnErr, IfSome, nat_lt, take, slice_get, true, false};
+ghost use Rattle.std.specs.List.{list_all};
+ghost use Rattle.deadlines.specs.Timers.{set_to, cleared, changed, changed_all, due_by, is_rising, is_of};
+
+use crate::timer::{Timer, TimerChange};
+use s6_events::{At, NoMemory, Sid};
+use std::alloc::Allocator;
+use std::marker::Model;
+
+/// The timers that are set, at most one for a service. This project's own.
+#[derive(Drop)]
+pub struct Deadlines<A: Allocator> {
+    timers: Vec<Timer, A>,
+}
+
+impl<A: Allocator> Model for Deadlines<A> {
+    ghost use Rattle.deadlines.specs.Deadlines.{Armed};
+
+    ghost Value = { Armed };
+
+    ghost use Rattle.deadlines.specs.DeadlinesFields.{armed, IsInOrder};
+
+    ghost view = { armed };
+
+    ghost invariant = { IsInOrder };
+}
+
+/// The changes of one step, for which the deadlines have made room.
+#[derive(Drop)]
+pub struct Plan<A: Allocator> {
+    changes: Vec<TimerChange, A>,
+}
+
+impl<A: Allocator> Model for Plan<A> {
+    ghost use Rattle.std.specs.Prelude.{List};
+    ghost use Rattle.deadlines.specs.declared.timer.TimerChange.{TimerChange};
+
+    ghost Value = { List TimerChange };
+
+    ghost view = { λ p. p.changes.items };
+}
+
+// The first place of a timer whose serial is not below this one, or the end.
+fn place_of(timers: &[Timer], sid: Sid) -> usize
+    ensures bound { result ≤ length timers.now }
+    ensures before { list_all (λ t. nat_lt t.sid sid) (take result timers.now) ≡ true }
+    ensures stop { IfSome (slice_get timers.now result) (λ t. nat_lt t.sid sid ≡ false) }
+{
+    let mut place = 0;
+    for timer in timers {
+        if timer.sid.0 >= sid.0 {
+            return place;
+        }
+        place += 1;
+    }
+    place
+}
+
+// The timer at this place is that of the service.
+fn is_at(timers: &[Timer], place: usize, sid: Sid) -> bool
+    ensures { result ≡ is_of sid (slice_get timers.now place) }
+{
+    timers
+        .get(place)
+        .is_some_and(|timer| timer.sid.0 == sid.0)
+}
+
+impl<A: Allocator + Copy> Deadlines<A> {
+    /// No timer is set. It takes no memory yet, and keeps the allocator.
+    pub fn new(alloc: A) -> Deadlines<A>
+        ensures { result.timers ≡ [] }
+    {
+        Deadlines {
+            timers: Vec::new(alloc),
+        }
+    }
+
+    /// Sets the timer of a service to a moment, in place of the one that it had. `NoMemory` where the growth was refused; nothing
+    /// has changed then.
+    pub fn set(&mut self, sid: Sid, at: At) -> Result<(), NoMemory>
+        ensures ok { OnOk result (self.new.timers ≡ set_to sid at self.old.timers) }
+        ensures err { OnErr result (self.new.timers ≡ self.old.timers) }
+        ensures succeeds { 0 < self.old.room → IsOk result }
+    {
+        self.timers.reserve(1)?;
+        self.put(sid, at);
+        Ok(())
+    }
+
+    // Sets a timer for which there is room.
+    fn put(&mut self, sid: Sid, at: At)
+        requires { 0 < self.old.room }
+        ensures timers { self.new.timers ≡ set_to sid at self.old.timers }
+        ensures room { self.old.room ≤ self.new.room + 1 }
+    {
+        let place = place_of(&self.timers, sid);
+        let timer = Timer { sid, at };
+        if is_at(&self.timers, place, sid) {
+            self.timers[place] = timer;
+        } else {
+            self.timers.insert(place, timer).unwrap();
+        }
+    }
+
+    /// Clears the timer of a service, where it was set. Takes no memory.
+    pub fn clear(&mut self, sid: Sid)
+        ensures timers { self.new.timers ≡ cleared sid self.old.timers }
+        ensures room { self.old.room ≤ self.new.room }
+    {
+        let place = place_of(&self.timers, sid);
+        if is_at(&self.timers, place, sid) {
+            self.timers.remove(place);
+        }
+    }
+
+    /// The services whose timers are set to a moment at most `now`, in rising serial. `NoMemory` where a growth was refused; none is
+    /// asked for where no timer is due.
+    pub fn due<B: Allocator + Copy>(&self, alloc: B, now: At) -> Result<Vec<Sid, B>, NoMemory>
+        ensures due { IfOk result (λ sids. sids.items ≡ due_by now self.now.timers) }
+        ensures rising { IfOk result (λ sids. is_rising sids.items ≡ true) }
+        ensures quiet { due_by now self.now.timers ≡ [] → IsOk result }
+    {
+        let mut sids = Vec::new(alloc);
+        for timer in &self.timers {
+            if timer.at.millis() <= now.millis() {
+                sids.push(timer.sid)?;
+            }
+        }
+        Ok(sids)
+    }
+
+    /// Makes room for these changes, and changes nothing else. `NoMemory` where a growth was refused; none is asked for where there
+    /// is nothing to change.
+    pub fn prepare(&mut self, changes: &[TimerChange]) -> Result<Plan<A>, NoMemory>
+        ensures ok { IfOk result (λ plan. plan ≡ changes.now) }
+        ensures room { OnOk result (length changes.now ≤ self.new.room) }
+        ensures timers { self.new.timers ≡ self.old.timers }
+        ensures quiet { changes.now ≡ [] → IsOk result }
+    {
+        let mut planned = Vec::new(*self.timers.allocator());
+        planned.reserve(changes.len())?;
+        self.timers.reserve(changes.len())?;
+        planned.extend_from_slice(changes).unwrap();
+        Ok(Plan { changes: planned })
+    }
+
+    /// Makes the changes of a plan that these deadlines made, where nothing changed in between. Takes no memory.
+    pub fn commit(&mut self, plan: Plan<A>)
+        requires { length plan ≤ self.old.room }
+        ensures { self.new.timers ≡ changed_all plan self.old.timers }
+    {
+        for change in &plan.changes {
+            self.make(change);
+        }
+    }
+
+    // One change, for which there is room.
+    fn make(&mut self, change: &TimerChange)
+        requires { 0 < self.old.room }
+        ensures timers { self.new.timers ≡ changed self.old.timers change.now }
+        ensures room { self.old.room ≤ self.new.room + 1 }
+    {
+        match change {
+            TimerChange::Set(sid, at) => self.put(*sid, *at),
+            TimerChange::Clear(sid) => self.clear(*sid),
+        }
+    }
+}

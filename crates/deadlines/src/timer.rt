@@ -1,0 +1,17 @@
+use s6_events::{At, Sid};
+
+/// The timer of a service, set to a moment. This project's own.
+#[derive(Clone, Copy, PartialEq, Eq, Debug)]
+pub struct Timer {
+    pub sid: Sid,
+    pub at: At,
+}
+
+/// What a step does to the timer of a service. This project's own.
+#[derive(Clone, Copy, PartialEq, Eq, Debug)]
+pub enum TimerChange {
+    /// It is set to this moment, in place of the one that it had.
+    Set(Sid, At),
+    /// It is cleared, where it was set.
+    Clear(Sid),
+}
