@@ -67,12 +67,14 @@ impl<A: Allocator + Copy> History<A> {
         self.len() == 0
     }
 
-    /// Adds a moment at the end. `NoMemory` where the growth was refused; nothing has changed then.
+    /// Adds a moment at the end. `NoMemory` where the growth was refused; nothing has changed then. None is asked for where there is
+    /// still room.
     pub fn push(&mut self, moment: Moment) -> Result<(), NoMemory>
         requires { end_of self.old + 1 < 2 ^ 63 }
         ensures ok { OnOk result (self.new.kept ≡ self.old.kept ++ moment ∷ []) }
         ensures err { OnErr result (self.new.kept ≡ self.old.kept) }
         ensures forgotten { self.new.forgotten ≡ self.old.forgotten }
+        ensures succeeds { 0 < self.old.room → IsOk result }
     {
         self.moments.push(moment)?;
         Ok(())

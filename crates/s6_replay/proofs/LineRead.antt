@@ -1,5 +1,5 @@
 -- What reading a line says of an input, and an effect of its answer.
-use Rattle.std.proofs.Common.{◌≡◌, ℕ, ◌<◌, ◌≤◌, ◌^◌, List, [], ◌∷◌, ◌++◌, length, take, refl, sym, ap, ◌∙◌, subst, arith}
+use Rattle.std.proofs.Common.{◌≡◌, ℕ, ◌≤◌, List, [], ◌∷◌, ◌++◌, length, take, refl, sym, ap, ◌∙◌, subst, arith}
 use Rattle.std.specs.Prelude.{Option}
 use Rattle.std.specs.Io.KnownBytes.{Consumes, Appends}
 use Rattle.std.proofs.Math.Seq.{take-append_seam}
@@ -27,6 +27,9 @@ is_no_spelling A line plain within none before = spells_nothing line (record { p
 
 pub has_line : {A : Type 0} (line : List ℕ) (i : Input A) → Spells line i → length line ≤ 65535 → HasLine i
 has_line line i s within = record { spelt = s.spelt; within = omega (arith, length-append (spelling i) (10 ∷ []), ap length s.text_is) }
+
+pub plain_spelling : {A : Type 0} (line : List ℕ) (i : Input A) → Spells line i → HasNoNewline line → HasNoNewline (spelling i)
+plain_spelling line i s plain = subst HasNoNewline s.text_is plain
 
 pub line_read : {A : Type 0} (a b : Option (List ℕ)) (line : List ℕ) (i : Input A) → Spells line i → Consumes a b (line ++ 10 ∷ []) → Consumes a b (input_line i)
 line_read a b line i s read = subst (λ (text : List ℕ). Consumes a b (text ++ 10 ∷ [])) s.text_is read

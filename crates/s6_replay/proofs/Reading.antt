@@ -1,7 +1,7 @@
 -- What is spelled is read.
-use Rattle.std.proofs.Common.{◌≡◌, ℕ, ◌+◌, ◌%◌, ◌/◌, ◌^◌, ◌<◌, ◌≤◌, List, [], ◌∷◌, ◌++◌, refl, ap, sym, ◌∙◌, arith, drop, filter}
-use Rattle.std.specs.Prelude.{Bool, true, false, cond, ◌==◌, ◌&&◌, not, decimal, codes, IsTrue, slice_index_or}
-use Rattle.std.specs.List.{join_with_byte, slice_split, list_all}
+use Rattle.std.proofs.Common.{◌≡◌, ℕ, ◌+◌, ◌%◌, ◌^◌, ◌<◌, ◌≤◌, List, [], ◌∷◌, refl, ap, ◌∙◌, arith, drop, filter}
+use Rattle.std.specs.Prelude.{Bool, true, false, cond, ◌==◌, decimal, slice_index_or}
+use Rattle.std.specs.List.{slice_split, list_all}
 use Rattle.std.proofs.lemmas.Bool.{and_parts}
 use Rattle.std.proofs.lemmas.Bool.Decides.{nat_tests}
 use Rattle.std.proofs.lemmas.Fmt.{decimal_by_steps}
@@ -13,7 +13,7 @@ use Rattle.tree_core.specs.declared.input.Act.{Act}
 use Rattle.tree_core.specs.declared.input.Act.TheVariants.{Scan, Started, Death, Tick}
 use Rattle.tree_core.specs.declared.input.Input.{Input}
 use Rattle.s6_replay.specs.declared.parse.Verb.{Verb}
-use Rattle.s6_replay.specs.declared.parse.Verb.TheVariants.{Scan as ScanVerb, Started as StartedVerb, Death as DeathVerb, Tick as TickVerb}
+use Rattle.s6_replay.specs.declared.parse.Verb.TheVariants.{Scan as ScanVerb}
 use Rattle.s6_replay.specs.Spelling.{IsSpelt, IsExit, IsAct, exit_words, act_words, input_words, spelling}
 use Rattle.s6_replay.specs.Verb.{verb_word, verb_of_act, details}
 use Rattle.s6_replay.proofs.Joined.{is_no_space, has_no_space, split_joined}

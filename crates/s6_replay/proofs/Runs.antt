@@ -1,24 +1,24 @@
 -- A run that goes on by one input, stops or ends.
-use Rattle.std.proofs.Common.{◌≡◌, ℕ, ◌+◌, ◌*◌, ◌^◌, ◌<◌, ◌≤◌, List, [], ◌∷◌, ◌++◌, length, refl, sym, ap, ◌∙◌, subst, append_assoc, append-nil, arith, inl, inr}
+use Rattle.std.proofs.Common.{◌≡◌, ℕ, ◌+◌, ◌*◌, ◌^◌, ◌<◌, ◌≤◌, List, [], ◌∷◌, ◌++◌, length, refl, sym, ap, ◌∙◌, subst, append_assoc, append-nil, arith, rules, inl, inr}
 use Rattle.std.specs.Prelude.{Option}
 use Rattle.std.specs.List.{flat_map, AllByRecursion}
 use Rattle.std.specs.Io.KnownBytes.{Consumes, Appends, IsAtEnd}
 use Rattle.std.proofs.KnownBytes.{Consumes-trans, Appends-trans, Appends-nil}
-use Rattle.std.proofs.Math.Seq.{take-append-add}
 use Rattle.std.proofs.lemmas.List.{length-append}
 use Rattle.tree_core.specs.declared.input.Input.{Input}
 use Rattle.tree_core.specs.Machine.{Machine, Outcome, new_machine}
 use Rattle.tree_core.specs.Run.{after, outcome, outcomes, after_all}
 use Rattle.tree_core.specs.StandsFor.{Stored, StandsFor}
-use Rattle.s6_replay.specs.Lines.{AppendsFront}
-use Rattle.s6_replay.specs.Replay.{HasLine, Written, IsWhole, CountsOf, Reached, Stops, IsNoInputLine, head_line, input_limit, input_line, script, transcript}
+use Rattle.s6_replay.specs.Lines.{HasNoNewline, AppendsFront}
+use Rattle.s6_replay.specs.Replay.{HasLine, Written, IsWhole, CountsOf, ReadsOn, Stops, head_line, input_line, script, transcript}
 use Rattle.s6_replay.specs.Replay.IsNoInputLine.{too_many}
+use Rattle.s6_replay.specs.Spelling.{spelling}
 use Rattle.s6_replay.specs.Transcript.{block, blocks}
 use Rattle.s6_replay.specs.Turn.{Answers, AnswerStops, ReadingStops, Turns, TurnStops, EndStops}
 use Rattle.s6_replay.specs.declared.counts.Counts.{Counts}
 use Rattle.s6_replay.specs.declared.fault.ReplayFault.{ReplayFault}
 use Rattle.s6_replay.specs.declared.fault.ReplayFault.TheVariants.{Head, Line, Pattern, Truncated, Read, Write, NoMemory}
-use Rattle.s6_replay.specs.declared.turn.Turn.TheVariants.{Done, End}
+use Rattle.s6_replay.specs.declared.turn.Turn.TheVariants.{Done}
 
 -- the run has come so far: these inputs were read, done, printed and counted
 pub record RunsTo {A : Type 0} (left left' held held' : Option (List ℕ)) (tree : Stored) (done : ℕ) (counts : Counts) (inputs : List (Input A)) : Type 0 where
@@ -101,18 +101,9 @@ goes_on A a b c x y z tree new events orders number counts more inputs done t e0
       },
     )
 
-front_more : (t b : List ℕ) (x y z : Option (List ℕ)) → Appends x y t → AppendsFront y z b → AppendsFront x z (t ++ b)
-front_more t b x y z first front =
-    (length t + front.0, subst (Appends x z) (sym (take-append-add t b front.0)) (Appends-trans x y z t _ first front.1))
-
-reached : {A : Type 0} (inputs : List (Input A)) (a b c : Option (List ℕ)) (part : List ℕ)
-    → Consumes a b (script inputs) → Consumes b c part → Reached inputs a c
-reached [] a b c part p q = tt
-reached (i ∷ is) a b c part p q = (part, Consumes-trans a b c (script (i ∷ is)) part p q)
-
-reached_all : {A : Type 0} (inputs : List (Input A)) (a c : Option (List ℕ)) → Consumes a c (script inputs) → Reached inputs a c
-reached_all [] a c p = tt
-reached_all (i ∷ is) a c p = ([], subst (Consumes a c) (sym (append-nil (script (i ∷ is)))) p)
+reads_on : {A : Type 0} (inputs : List (Input A)) (a b c : Option (List ℕ)) (bytes : List ℕ)
+    → Consumes a b (script inputs) → Consumes b c bytes → ReadsOn inputs bytes a c
+reads_on inputs a b c bytes p q = Consumes-trans a b c (script inputs) bytes p q
 
 -- what stands written where a turn wrote nothing
 kept : {A : Type 0} (a b x y z : Option (List ℕ)) (tree : Stored) (number : ℕ) (counts : Counts) (inputs : List (Input A))
@@ -142,29 +133,40 @@ unread A Truncated a b c x y z tree number counts inputs done few t same = (
   (t.1.0, t.1.1, t.1.2, Consumes-trans a b c _ _ done.read t.1.3),
 )
 unread A Read a b c x y z tree number counts inputs done few t same =
-    (inputs, kept a b x y z tree number counts inputs done (omega arith) same, reached inputs a b c t.0 done.read t.1)
+    inl (inputs, kept a b x y z tree number counts inputs done (omega arith) same, (t.0, t.1, reads_on inputs a b c t.0 done.read t.2))
 unread A NoMemory a b c x y z tree number counts inputs done few t same =
-    (inputs, kept a b x y z tree number counts inputs done (omega arith) same, reached inputs a b c t.0 done.read t.1)
+    (inputs, kept a b x y z tree number counts inputs done (omega arith) same, (t.0, t.1, reads_on inputs a b c t.0 done.read t.2))
 unread A Write a b c x y z tree number counts inputs done few t same = absurd t
 
 -- where an input was read and not answered, the run so far is left, at a failed write with some of one more block
 unanswered : (A : Type 0) (fault : ReplayFault) (a b c x y z : Option (List ℕ)) (tree : Stored) (number : ℕ) (counts : Counts) (inputs : List (Input A))
     → RunsTo a b x y tree number counts inputs → number < 1000000
-    → (i : Input A) → HasLine i → Consumes b c (input_line i) → AnswerStops fault (number + 1) tree i y z → Stops A fault a c x z
-unanswered A Head a b c x y z tree number counts inputs done few i h read t = absurd t
-unanswered A (Line n) a b c x y z tree number counts inputs done few i h read t = absurd t
-unanswered A (Pattern n) a b c x y z tree number counts inputs done few i h read t = absurd t
-unanswered A Truncated a b c x y z tree number counts inputs done few i h read t = absurd t
-unanswered A Read a b c x y z tree number counts inputs done few i h read t = absurd t
-unanswered A NoMemory a b c x y z tree number counts inputs done few i h read t =
-    (inputs, kept a b x y z tree number counts inputs done (omega arith) t, reached inputs a b c (input_line i) done.read read)
-unanswered A Write a b c x y z tree number counts inputs done few i h read t =
-    let place : number + 1 ≡ 1 + length inputs = omega (arith, done.many) in (
-      inputs ++ i ∷ [],
-      all_more inputs i done.lines h,
-      subst (AppendsFront x z) (sym (blocks_more 1 new_machine inputs i (number + 1) place))
-          (front_more _ _ x y z done.written (t (after_all new_machine inputs) done.stands)),
-      reached_all (inputs ++ i ∷ []) a c (subst (Consumes a c) (sym (script_more inputs i)) (Consumes-trans a b c _ _ done.read read)),
+    → (i : Input A) → HasLine i → HasNoNewline (spelling i) → Consumes b c (input_line i) → AnswerStops fault (number + 1) tree i y z → Stops A fault a c x z
+unanswered A Head a b c x y z tree number counts inputs done few i h plain read t = absurd t
+unanswered A (Line n) a b c x y z tree number counts inputs done few i h plain read t = absurd t
+unanswered A (Pattern n) a b c x y z tree number counts inputs done few i h plain read t = absurd t
+unanswered A Truncated a b c x y z tree number counts inputs done few i h plain read t = absurd t
+unanswered A Read a b c x y z tree number counts inputs done few i h plain read t = absurd t
+unanswered A NoMemory a b c x y z tree number counts inputs done few i h plain read t = (
+  inputs,
+  kept a b x y z tree number counts inputs done (omega arith) t,
+  (input_line i, inr (spelling i, plain, refl), reads_on inputs a b c (input_line i) done.read read),
+)
+unanswered A Write a b c x y z tree number counts inputs done few i h plain read t =
+    let place : number + 1 ≡ length inputs + 1 = omega (arith, done.many) in (
+      inputs,
+      (
+        i,
+        (
+          y,
+          record {
+            whole = kept a b x y y tree number counts inputs done (omega arith) refl;
+            line = h;
+            some = subst (λ (k : ℕ). AppendsFront y z (block k (outcome (after_all new_machine inputs) i))) place (t (after_all new_machine inputs) done.stands);
+          },
+        ),
+        reads_on inputs a b c (input_line i) done.read read,
+      ),
     )
 
 -- a turn that stopped
@@ -173,7 +175,7 @@ pub stops_after : (A : Type 0) (fault : ReplayFault) (a b c x y z : Option (List
 stops_after A fault a b c x y z tree number counts inputs done few (inl t) =
     unread A fault a b c x y z tree number counts inputs done few t.0 t.1
 stops_after A fault a b c x y z tree number counts inputs done few (inr t) =
-    unanswered A fault a b c x y z tree number counts inputs done few t.0 t.1 t.2 t.3
+    unanswered A fault a b c x y z tree number counts inputs done few t.0 t.1 t.2 t.3 t.4
 
 -- the end came
 pub ends_after : (A : Type 0) (a b c x y z : Option (List ℕ)) (tree : Stored) (number : ℕ) (counts : Counts) (inputs : List (Input A))
@@ -202,7 +204,7 @@ stops_at_end A (Line n) a b c x y tree number counts inputs done last t = (
 stops_at_end A (Pattern n) a b c x y tree number counts inputs done last t = absurd t
 stops_at_end A Truncated a b c x y tree number counts inputs done last t = absurd t
 stops_at_end A Read a b c x y tree number counts inputs done last t =
-    (inputs, kept a b x y y tree number counts inputs done (omega arith) refl, reached inputs a b c [] done.read t)
+    inl (inputs, kept a b x y y tree number counts inputs done (omega arith) refl, ([], record { plain = search rules; within = omega arith }, reads_on inputs a b c [] done.read t))
 stops_at_end A NoMemory a b c x y tree number counts inputs done last t = absurd t
 stops_at_end A Write a b c x y tree number counts inputs done last t = absurd t
 

@@ -1,5 +1,5 @@
 -- What reading a line takes from a reader, and writing gives to a writer.
-use Rattle.std.specs.Prelude.{◌≡◌, ◌≢◌, ℕ, ◌≤◌, List, [], ◌∷◌, ◌++◌, All, length, take, Option}
+use Rattle.std.specs.Prelude.{◌≡◌, ◌≢◌, ℕ, ◌≤◌, List, [], ◌∷◌, ◌++◌, All, length, take, Option, ◌⊎◌}
 use Rattle.std.specs.Io.KnownBytes.{Consumes, Appends, IsAtEnd}
 use Rattle.s6_replay.specs.declared.line.Ended.{Ended}
 use Rattle.s6_replay.specs.declared.line.Ended.TheVariants.{Newline, End, TooLong}
@@ -7,6 +7,15 @@ use Rattle.s6_replay.specs.declared.line.Ended.TheVariants.{Newline, End, TooLon
 -- no byte is a newline
 abbrev pub HasNoNewline : List ℕ → Type 0
 HasNoNewline line = All (λ b. b ≢ 10) line
+
+-- some of a line: no newline has come, and it is within the limit
+pub record IsPart (line : List ℕ) : Type 0 where
+  pub plain : HasNoNewline line
+  pub within : length line ≤ 65536
+
+-- at most one line: its newline has not come, or is the last byte
+abbrev pub IsWithinLine : List ℕ → Type 0
+IsWithinLine bytes = IsPart bytes ⊎ ((line : List ℕ) × HasNoNewline line × (bytes ≡ line ++ 10 ∷ []))
 
 -- how a line ended: by its newline, within the limit; by the end of the input; or it went on beyond the limit
 abbrev pub EndsAs : Ended → Option (List ℕ) → Option (List ℕ) → List ℕ → Type 0

@@ -1,13 +1,13 @@
 -- Scripts, their transcripts, and where reading one stops.
-use Rattle.std.specs.Prelude.{◌≡◌, ◌≢◌, ℕ, ◌+◌, ◌<◌, ◌≤◌, List, [], ◌∷◌, ◌++◌, length, take, codes, Option, Some}
+use Rattle.std.specs.Prelude.{◌≡◌, ◌≢◌, ℕ, ◌+◌, ◌<◌, ◌≤◌, List, [], ◌∷◌, ◌++◌, length, take, codes, Option, Some, ◌⊎◌}
 use Rattle.std.specs.List.{flat_map, AllByRecursion}
 use Rattle.std.specs.Io.KnownBytes.{Consumes, Appends, IsAtEnd}
 use Rattle.tree_core.specs.declared.input.Input.{Input}
 use Rattle.tree_core.specs.Machine.{new_machine}
-use Rattle.tree_core.specs.Run.{outcomes}
-use Rattle.s6_replay.specs.Lines.{HasNoNewline, AppendsFront}
+use Rattle.tree_core.specs.Run.{outcome, outcomes, after_all}
+use Rattle.s6_replay.specs.Lines.{HasNoNewline, IsPart, IsWithinLine, AppendsFront}
 use Rattle.s6_replay.specs.Spelling.{IsSpelt, Spells, spelling}
-use Rattle.s6_replay.specs.Transcript.{blocks}
+use Rattle.s6_replay.specs.Transcript.{block, blocks}
 use Rattle.s6_replay.specs.declared.counts.Counts.{Counts}
 use Rattle.s6_replay.specs.declared.fault.ReplayFault.{ReplayFault}
 use Rattle.s6_replay.specs.declared.fault.ReplayFault.TheVariants.{Head, Line, Pattern, Truncated, Read, Write, NoMemory}
@@ -56,11 +56,6 @@ pub record IsWhole {A : Type 0} (inputs : List (Input A)) (counts : Counts) (lef
   pub ended : IsAtEnd left'
   pub counted : CountsOf inputs counts
 
--- some of a line: no newline has come, and it is within the limit
-pub record IsPart (line : List ℕ) : Type 0 where
-  pub plain : HasNoNewline line
-  pub within : length line ≤ 65536
-
 -- a line, within the limit, that spells no input
 pub record SpellsNothing (A : Type 0) (line : List ℕ) : Type 0 where
   pub plain : HasNoNewline line
@@ -73,12 +68,22 @@ pub data IsNoInputLine (A : Type 0) (before : ℕ) (bytes : List ℕ) : Type 0 w
   too_long : HasNoNewline (take 65536 bytes) → length bytes ≡ 65537 → IsNoInputLine A before bytes
   too_many : before ≡ input_limit → length bytes ≡ 1 → IsNoInputLine A before bytes
 
--- the inputs, if there were any, stood at the beginning of what was read
-abbrev pub Reached : {A : Type 0} → List (Input A) → Option (List ℕ) → Option (List ℕ) → Type 0
-Reached [] left left' = Unit {0}
-Reached (i ∷ is) left left' = (part : List ℕ) × Consumes left left' (script (i ∷ is) ++ part)
+-- the script of the inputs was read, and then these bytes
+abbrev pub ReadsOn : {A : Type 0} → List (Input A) → List ℕ → Option (List ℕ) → Option (List ℕ) → Type 0
+ReadsOn inputs bytes left left' = Consumes left left' (script inputs ++ bytes)
 
--- where a script stopped, and the transcript of the inputs before it; at a failed write some of a transcript
+-- some of the head line was read, from the front on, and nothing else
+abbrev pub ReadsHead : Option (List ℕ) → Option (List ℕ) → Type 0
+ReadsHead left left' = (n : ℕ) × Consumes left left' (take n head_line)
+
+-- the transcript of the inputs was written, and some of the block of one more
+pub record WritesInto {A : Type 0} (inputs : List (Input A)) (last : Input A) (held between held' : Option (List ℕ)) : Type 0 where
+  pub whole : Written inputs held between
+  pub line : HasLine last
+  pub some : AppendsFront between held' (block (length inputs + 1) (outcome (after_all new_machine inputs) last))
+
+-- where a script stopped, and the transcript of the inputs before it: no more than some of one line was read behind these, for
+-- want of memory perhaps all of it; at a failed write there is one input more, and some of its block was written
 abbrev pub Stops : (A : Type 0) → ReplayFault → (left left' held held' : Option (List ℕ)) → Type 0
 Stops A Head left left' held held' = ((rest : List ℕ) → left ≢ Some (head_line ++ rest)) × (held' ≡ held)
 Stops A (Line n) left left' held held' =
@@ -88,7 +93,11 @@ Stops A (Pattern n) left left' held held' = ⊥
 Stops A Truncated left left' held held' =
     (inputs : List (Input A)) × Written inputs held held' × (length inputs < input_limit) × IsAtEnd left'
     × ((line : List ℕ) × IsPart line × (line ≢ []) × Consumes left left' (script inputs ++ line))
-Stops A Read left left' held held' = (inputs : List (Input A)) × Written inputs held held' × Reached inputs left left'
-Stops A NoMemory left left' held held' = (inputs : List (Input A)) × Written inputs held held' × Reached inputs left left'
+Stops A Read left left' held held' =
+    ((inputs : List (Input A)) × Written inputs held held' × ((part : List ℕ) × IsPart part × ReadsOn inputs part left left'))
+    ⊎ (ReadsHead left left' × (held' ≡ held))
+Stops A NoMemory left left' held held' =
+    (inputs : List (Input A)) × Written inputs held held' × ((bytes : List ℕ) × IsWithinLine bytes × ReadsOn inputs bytes left left')
 Stops A Write left left' held held' =
-    (inputs : List (Input A)) × AllByRecursion HasLine inputs × AppendsFront held held' (transcript inputs) × Reached inputs left left'
+    (inputs : List (Input A)) × ((last : Input A) × ((between : Option (List ℕ)) × WritesInto inputs last held between held')
+    × ReadsOn inputs (input_line last) left left')

@@ -5,13 +5,14 @@ use Rattle.tree_core.specs.declared.input.Input.{Input}
 use Rattle.tree_core.specs.Machine.{Machine, Outcome}
 use Rattle.tree_core.specs.Run.{after, outcome}
 use Rattle.tree_core.specs.StandsFor.{Stored, StandsFor}
-use Rattle.s6_replay.specs.Lines.{AppendsFront}
-use Rattle.s6_replay.specs.Replay.{HasLine, IsPart, IsNoInputLine, input_line, input_limit, head_line}
+use Rattle.s6_replay.specs.Lines.{HasNoNewline, IsPart, IsWithinLine, AppendsFront}
+use Rattle.s6_replay.specs.Replay.{HasLine, IsNoInputLine, ReadsHead, input_line, input_limit, head_line}
+use Rattle.s6_replay.specs.Spelling.{spelling}
 use Rattle.s6_replay.specs.Transcript.{block}
 use Rattle.s6_replay.specs.declared.turn.Turn.{Turn}
 use Rattle.s6_replay.specs.declared.turn.Turn.TheVariants.{Done, End}
 use Rattle.s6_replay.specs.declared.fault.ReplayFault.{ReplayFault}
-use Rattle.s6_replay.specs.declared.fault.ReplayFault.TheVariants.{Head, Line, Pattern, Truncated, Read, Write, NoMemory}
+use Rattle.s6_replay.specs.declared.fault.ReplayFault.TheVariants.{Head, Line, Truncated, Read, Write, NoMemory}
 
 -- what an input gave was written under the number and counted, and the tree goes on as the machine does
 pub record Answers {A : Type 0} (events orders number : ℕ) (tree : Stored) (held held' : Option (List ℕ)) (given : Outcome A) (m : Machine) : Type 0 where
@@ -34,7 +35,7 @@ AnswerStops fault number tree input held held' = ⊥
 
 -- an input was read, or there was none
 abbrev pub WasRead : {A : Type 0} → Option (Input A) → Option (List ℕ) → Option (List ℕ) → Type 0
-WasRead (Some input) left left' = HasLine input × Consumes left left' (input_line input)
+WasRead (Some input) left left' = HasLine input × HasNoNewline (spelling input) × Consumes left left' (input_line input)
 WasRead None left left' = Consumes left left' [] × IsAtEnd left'
 
 -- why no input was read
@@ -42,8 +43,8 @@ abbrev pub ReadingStops : (A : Type 0) → ReplayFault → ℕ → Option (List 
 ReadingStops A (Line n) number left left' =
     (n ≡ number + 1) × ((bytes : List ℕ) × ((before : ℕ) → IsNoInputLine A before bytes) × Consumes left left' bytes)
 ReadingStops A Truncated number left left' = IsAtEnd left' × ((line : List ℕ) × IsPart line × (line ≢ []) × Consumes left left' line)
-ReadingStops A Read number left left' = (part : List ℕ) × Consumes left left' part
-ReadingStops A NoMemory number left left' = (part : List ℕ) × Consumes left left' part
+ReadingStops A Read number left left' = (part : List ℕ) × IsPart part × Consumes left left' part
+ReadingStops A NoMemory number left left' = (bytes : List ℕ) × IsWithinLine bytes × Consumes left left' bytes
 ReadingStops A fault number left left' = ⊥
 
 -- a turn: an input was read and answered, or there was none
@@ -56,13 +57,13 @@ Turns A End number tree tree' left left' held held' = Consumes left left' [] × 
 abbrev pub TurnStops : (A : Type 0) → ReplayFault → ℕ → Stored → Option (List ℕ) → Option (List ℕ) → Option (List ℕ) → Option (List ℕ) → Type 0
 TurnStops A fault number tree left left' held held' =
     (ReadingStops A fault number left left' × (held' ≡ held))
-    ⊎ ((input : Input A) × HasLine input × Consumes left left' (input_line input) × AnswerStops fault number tree input held held')
+    ⊎ ((input : Input A) × HasLine input × HasNoNewline (spelling input) × Consumes left left' (input_line input) × AnswerStops fault number tree input held held')
 
--- why the head line was not read: the input begins otherwise, or the reader failed
-abbrev pub HeadStops : ReplayFault → Option (List ℕ) → Type 0
-HeadStops Head left = (rest : List ℕ) → left ≢ Some (head_line ++ rest)
-HeadStops Read left = Unit {0}
-HeadStops fault left = ⊥
+-- why the head line was not read: the input begins otherwise, or the reader failed in it
+abbrev pub HeadStops : ReplayFault → Option (List ℕ) → Option (List ℕ) → Type 0
+HeadStops Head left left' = (rest : List ℕ) → left ≢ Some (head_line ++ rest)
+HeadStops Read left left' = ReadsHead left left'
+HeadStops fault left left' = ⊥
 
 -- why the script did not end after its last input: there is one line too many, or the reader failed
 abbrev pub EndStops : ReplayFault → Option (List ℕ) → Option (List ℕ) → Type 0

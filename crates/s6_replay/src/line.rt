@@ -1,7 +1,7 @@
 //! Reading one line.
 ghost use Rattle.std.specs.Prelude.{IfOk, OnErr};
 ghost use Rattle.std.specs.Io.KnownBytes.{Consumes};
-ghost use Rattle.s6_replay.specs.Lines.{EndsAs};
+ghost use Rattle.s6_replay.specs.Lines.{EndsAs, IsPart};
 
 use std::alloc::Allocator;
 use std::io::{BufRead, Read};
@@ -34,6 +34,7 @@ pub fn read_line<A: Allocator + Copy, R: BufRead>(
 ) -> Result<Ended, ReadFault>
     ensures ok { IfOk result (λ ended. EndsAs ended (R.remaining reader.old) (R.remaining reader.new) line.new.items) }
     ensures err { OnErr result (Consumes (R.remaining reader.old) (R.remaining reader.new) line.new.items) }
+    ensures part { OnErr result (IsPart line.new.items) }
 {
     line.clear();
     let mut byte = [0; 1];

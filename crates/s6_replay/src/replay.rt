@@ -18,7 +18,7 @@ const INPUT_LIMIT: u64 = 1_000_000;
 // Reads the head line.
 fn read_head<R: BufRead>(reader: &mut R) -> Result<(), ReplayFault>
     ensures ok { OnOk result (Consumes (R.remaining reader.old) (R.remaining reader.new) head_line) }
-    ensures fault { IfErr result (λ fault. HeadStops fault (R.remaining reader.old)) }
+    ensures fault { IfErr result (λ fault. HeadStops fault (R.remaining reader.old) (R.remaining reader.new)) }
 {
     let mut byte = [0; 1];
     for want in b"s6-script 1\n" {
@@ -53,8 +53,9 @@ fn read_end<R: BufRead>(reader: &mut R) -> Result<(), ReplayFault>
 ///
 /// An input line has at most 65,536 bytes with its newline, and a script at most 1,000,000 of them. These limits are looked at before
 /// what a line holds, and before its end. `Head` comes where the input does not begin with the head line, however long that is;
-/// `Line`, `Truncated`, `Read` and `NoMemory` after the transcript of all inputs before; `Write` after the beginning of a transcript.
-/// `Pattern` is not answered today.
+/// `Line`, `Truncated`, `Read` and `NoMemory` after the transcript of all inputs before, with no more than some of one line read behind
+/// them, or at `NoMemory` all of it; `Write` after that transcript and some of the block of one input more. `Pattern` is not answered
+/// today.
 pub fn run<A: Allocator + Copy, R: BufRead, W: Write>(
     alloc: A,
     reader: &mut R,

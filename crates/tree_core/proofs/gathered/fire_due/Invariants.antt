@@ -6,11 +6,10 @@ use Rattle.tree_core.proofs.gathered.fire_due.Given as goal
 
 abbrev pub invariant-loop-chart : goal.invariant-loop-chart
 invariant-loop-chart g l = record {
-  services : l.after.items ≡ services_after (fire l.now) (take l.chart-index l.charts);
+  services : l.fired.items ≡ services_after (fire l.now) (take l.chart-index l.charts);
   events : l.gathered.events.items ≡ l.fn.gathered.events.items ++ events_after (fire l.now) (take l.chart-index l.charts);
   orders : l.gathered.orders.items ≡ l.fn.gathered.orders.items ++ orders_after (fire l.now) (take l.chart-index l.charts);
   count : length l.gathered.orders.items ≤ length l.fn.gathered.orders.items + l.chart-index;
   few : length l.gathered.events.items ≤ length l.fn.gathered.events.items + 4 * l.chart-index;
-  stale : l.gathered.stale ≡ l.fn.gathered.stale;
   quiet : list_any (λ c. is_due l.now c.timer) (take l.chart-index l.charts) ≡ false → l.gathered.events.items ≡ l.fn.gathered.events.items;
 }
