@@ -10,7 +10,7 @@ use Rattle.s6_events.specs.declared.exit.Exit.{Exit}
 use Rattle.s6_events.specs.declared.exit.Exit.TheVariants.{Code, Killed}
 use Rattle.s6_events.specs.Name.{is_name, is_name_byte}
 use Rattle.tree_core.specs.declared.input.Act.{Act}
-use Rattle.tree_core.specs.declared.input.Act.TheVariants.{Scan, Started, Death, Tick}
+use Rattle.tree_core.specs.declared.input.Act.TheVariants.{Scan, Started, StartFailed, Death, FinishEnded, Tick}
 use Rattle.tree_core.specs.declared.input.Input.{Input}
 use Rattle.s6_replay.specs.declared.parse.Verb.{Verb}
 use Rattle.s6_replay.specs.declared.parse.Verb.TheVariants.{Scan as ScanVerb}
@@ -36,12 +36,16 @@ pub scan_read : {A : Type 0} (texts listing : List (List ℕ)) → listing ≡ f
     → (act : Act A) → IsAct act → ScanVerb ≡ verb_of_act act → texts ≡ details act → Scan listing ≡ act
 scan_read texts listing e (Scan names) h v d = ap Scan (e ∙ ap (filter is_name) d ∙ filter_all is_name names h)
 scan_read texts listing e (Started sid generation pid) h v d = cc
+scan_read texts listing e (StartFailed sid generation) h v d = cc
+scan_read texts listing e (FinishEnded sid generation exit) h v d = cc
 scan_read texts listing e (Death sid generation exit) h v d = cc
 scan_read texts listing e Tick h v d = cc
 
 act_begins : {A : Type 0} (act : Act A) → act_words act ≡ verb_word (verb_of_act act) ∷ details act
 act_begins (Scan names) = refl
 act_begins (Started sid generation pid) = refl
+act_begins (StartFailed sid generation) = refl
+act_begins (FinishEnded sid generation exit) = refl
 act_begins (Death sid generation exit) = refl
 act_begins Tick = refl
 
@@ -83,6 +87,8 @@ act_plain : {A : Type 0} (act : Act A) → IsAct act → list_all has_no_space (
 act_plain (Scan names) h = names_plain names h
 act_plain (Started sid generation pid) h =
     rw (digits_plain sid h.0, digits_plain generation h.1, digits_plain pid (omega arith)) refl
+act_plain (StartFailed sid generation) h = rw (digits_plain sid h.0, digits_plain generation h.1) refl
+act_plain (FinishEnded sid generation exit) h = rw (digits_plain sid h.0, digits_plain generation h.1) (exit_plain exit h.2)
 act_plain (Death sid generation exit) h = rw (digits_plain sid h.0, digits_plain generation h.1) (exit_plain exit h.2)
 act_plain Tick h = refl
 

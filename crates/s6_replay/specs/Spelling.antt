@@ -6,7 +6,7 @@ use Rattle.s6_events.specs.declared.exit.Exit.TheVariants.{Code, Killed}
 use Rattle.s6_events.specs.At.{last_moment}
 use Rattle.s6_events.specs.Name.{is_name}
 use Rattle.tree_core.specs.declared.input.Act.{Act}
-use Rattle.tree_core.specs.declared.input.Act.TheVariants.{Scan, Started, Death, Tick}
+use Rattle.tree_core.specs.declared.input.Act.TheVariants.{Scan, Started, StartFailed, Death, FinishEnded, Tick}
 use Rattle.tree_core.specs.declared.input.Input.{Input}
 
 -- the words of an exit
@@ -18,7 +18,9 @@ exit_words (Killed n) = codes "signal" ∷ decimal n ∷ []
 abbrev pub act_words : {A : Type 0} → Act A → List (List ℕ)
 act_words (Scan names) = codes "scan" ∷ names
 act_words (Started sid generation pid) = codes "started" ∷ decimal sid ∷ decimal generation ∷ decimal pid ∷ []
+act_words (StartFailed sid generation) = codes "startfailed" ∷ decimal sid ∷ decimal generation ∷ []
 act_words (Death sid generation exit) = codes "death" ∷ decimal sid ∷ decimal generation ∷ exit_words exit
+act_words (FinishEnded sid generation exit) = codes "finished" ∷ decimal sid ∷ decimal generation ∷ exit_words exit
 act_words Tick = codes "tick" ∷ []
 
 -- the words of an input: its moment, its actor, its act
@@ -38,7 +40,9 @@ IsExit (Killed n) = n ≤ 64
 abbrev pub IsAct : {A : Type 0} → Act A → Type 0
 IsAct (Scan names) = IsTrue (list_all is_name names)
 IsAct (Started sid generation pid) = (sid < 2 ^ 64) × (generation < 2 ^ 64) × (1 ≤ pid) × (pid ≤ 2147483647)
+IsAct (StartFailed sid generation) = (sid < 2 ^ 64) × (generation < 2 ^ 64)
 IsAct (Death sid generation exit) = (sid < 2 ^ 64) × (generation < 2 ^ 64) × IsExit exit
+IsAct (FinishEnded sid generation exit) = (sid < 2 ^ 64) × (generation < 2 ^ 64) × IsExit exit
 IsAct Tick = Unit {0}
 
 -- the input has a spelling

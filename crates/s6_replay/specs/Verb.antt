@@ -1,28 +1,34 @@
 -- The verb of an act, and the words behind it.
 use Rattle.std.specs.Prelude.{ℕ, List, [], ◌∷◌, codes, decimal}
 use Rattle.tree_core.specs.declared.input.Act.{Act}
-use Rattle.tree_core.specs.declared.input.Act.TheVariants.{Scan, Started, Death, Tick}
+use Rattle.tree_core.specs.declared.input.Act.TheVariants.{Scan, Started, StartFailed, Death, FinishEnded, Tick}
 use Rattle.s6_replay.specs.declared.parse.Verb.{Verb}
-use Rattle.s6_replay.specs.declared.parse.Verb.TheVariants.{Scan as ScanVerb, Started as StartedVerb, Death as DeathVerb, Tick as TickVerb}
+use Rattle.s6_replay.specs.declared.parse.Verb.TheVariants.{Scan as ScanVerb, Started as StartedVerb, StartFailed as StartFailedVerb, Death as DeathVerb, Finished as FinishedVerb, Tick as TickVerb}
 use Rattle.s6_replay.specs.Spelling.{exit_words}
 
 -- the word of a verb
 abbrev pub verb_word : Verb → List ℕ
 verb_word ScanVerb = codes "scan"
 verb_word StartedVerb = codes "started"
+verb_word StartFailedVerb = codes "startfailed"
 verb_word DeathVerb = codes "death"
+verb_word FinishedVerb = codes "finished"
 verb_word TickVerb = codes "tick"
 
 -- the verb of an act
 abbrev pub verb_of_act : {A : Type 0} → Act A → Verb
 verb_of_act (Scan names) = ScanVerb
 verb_of_act (Started sid generation pid) = StartedVerb
+verb_of_act (StartFailed sid generation) = StartFailedVerb
 verb_of_act (Death sid generation exit) = DeathVerb
+verb_of_act (FinishEnded sid generation exit) = FinishedVerb
 verb_of_act Tick = TickVerb
 
 -- the words of an act behind its verb
 abbrev pub details : {A : Type 0} → Act A → List (List ℕ)
 details (Scan names) = names
 details (Started sid generation pid) = decimal sid ∷ decimal generation ∷ decimal pid ∷ []
+details (StartFailed sid generation) = decimal sid ∷ decimal generation ∷ []
 details (Death sid generation exit) = decimal sid ∷ decimal generation ∷ exit_words exit
+details (FinishEnded sid generation exit) = decimal sid ∷ decimal generation ∷ exit_words exit
 details Tick = []

@@ -32,7 +32,9 @@ pub enum LineFault {
 pub enum Verb {
     Scan,
     Started,
+    StartFailed,
     Death,
+    Finished,
     Tick,
 }
 
@@ -117,8 +119,12 @@ fn verb_of(word: &[u8]) -> Verb
         Verb::Scan
     } else if is_word(word, b"started") {
         Verb::Started
+    } else if is_word(word, b"startfailed") {
+        Verb::StartFailed
     } else if is_word(word, b"death") {
         Verb::Death
+    } else if is_word(word, b"finished") {
+        Verb::Finished
     } else {
         Verb::Tick
     }
@@ -146,11 +152,22 @@ fn act_of<A: Allocator + Copy>(alloc: A, verb: Verb, words: &[&[u8]]) -> Result<
             let generation = number(word_at(words, 1), u64::MAX);
             Ok(Act::Started(sid, generation, process_of(word_at(words, 2))))
         }
+        Verb::StartFailed => {
+            let sid = Sid(number(word_at(words, 0), u64::MAX));
+            let generation = number(word_at(words, 1), u64::MAX);
+            Ok(Act::StartFailed(sid, generation))
+        }
         Verb::Death => {
             let sid = Sid(number(word_at(words, 0), u64::MAX));
             let generation = number(word_at(words, 1), u64::MAX);
             let exit = exit_of(word_at(words, 2), word_at(words, 3));
             Ok(Act::Death(sid, generation, exit))
+        }
+        Verb::Finished => {
+            let sid = Sid(number(word_at(words, 0), u64::MAX));
+            let generation = number(word_at(words, 1), u64::MAX);
+            let exit = exit_of(word_at(words, 2), word_at(words, 3));
+            Ok(Act::FinishEnded(sid, generation, exit))
         }
         Verb::Tick => Ok(Act::Tick),
     }

@@ -42,10 +42,21 @@ fn act_text<A: Allocator + Copy>(alloc: A, act: &Act<A>) -> Result<Vec<u8, A>, A
             let text = format!(in alloc; "started {sid} {generation} {pid}")?;
             Ok(text.into_bytes())
         }
+        Act::StartFailed(sid, generation) => {
+            let sid = sid.0;
+            let text = format!(in alloc; "startfailed {sid} {generation}")?;
+            Ok(text.into_bytes())
+        }
         Act::Death(sid, generation, exit) => {
             let sid = sid.0;
             let exit = exit_text(alloc, *exit)?;
             let text = format!(in alloc; "death {sid} {generation} {exit}")?;
+            Ok(text.into_bytes())
+        }
+        Act::FinishEnded(sid, generation, exit) => {
+            let sid = sid.0;
+            let exit = exit_text(alloc, *exit)?;
+            let text = format!(in alloc; "finished {sid} {generation} {exit}")?;
             Ok(text.into_bytes())
         }
         Act::Tick => b"tick".to_vec(alloc),

@@ -4,12 +4,12 @@ use Rattle.std.specs.List.{list_any}
 use Rattle.s6_events.specs.declared.order.Order.{Order}
 use Rattle.supervise_core.specs.declared.chart.ChartState.{ChartState}
 use Rattle.supervise_core.specs.declared.change.Change.{Change}
-use Rattle.supervise_core.specs.declared.change.Change.TheVariants.{Started as StartedReport, Death as DeathReport}
+use Rattle.supervise_core.specs.declared.change.Change.TheVariants.{Started as StartedReport, StartFailed as StartFailedReport, Death as DeathReport, FinishEnded as FinishEndedReport}
 use Rattle.supervise_core.specs.ChartState.{Moved, still}
 use Rattle.supervise_core.specs.Chart.{changed_by}
 use Rattle.tree_core.specs.declared.effect.Event.{Event}
 use Rattle.tree_core.specs.declared.input.Act.{Act}
-use Rattle.tree_core.specs.declared.input.Act.TheVariants.{Scan, Started, Death, Tick}
+use Rattle.tree_core.specs.declared.input.Act.TheVariants.{Scan, Started, StartFailed, Death, FinishEnded, Tick}
 use Rattle.tree_core.specs.declared.reply.Refusal.TheVariants.{NoService, Stale, Closing, Repeated}
 use Rattle.tree_core.specs.declared.reply.Reply.{Reply}
 use Rattle.tree_core.specs.declared.reply.Reply.TheVariants.{Done, Refused, Scanned}
@@ -77,7 +77,9 @@ listed_to listing m =
 abbrev pub acted : {A : Type 0} → Act A → Machine → Acted A
 acted (Scan listing) m = listed_to listing m
 acted (Started sid generation pid) m = reported sid (StartedReport generation pid) m
+acted (StartFailed sid generation) m = reported sid (StartFailedReport generation) m
 acted (Death sid generation exit) m = reported sid (DeathReport generation exit) m
+acted (FinishEnded sid generation exit) m = reported sid (FinishEndedReport generation exit) m
 acted Tick m = only_replied Done m
 
 -- the deaths that an act reports

@@ -187,8 +187,16 @@ pub fn act<A: Allocator + Copy>(
             let change = Change::Started(*generation, *pid);
             report(alloc, *sid, &change, now, charts, next_sid)
         }
+        Act::StartFailed(sid, generation) => {
+            let change = Change::StartFailed(*generation);
+            report(alloc, *sid, &change, now, charts, next_sid)
+        }
         Act::Death(sid, generation, exit) => {
             let change = Change::Death(*generation, *exit);
+            report(alloc, *sid, &change, now, charts, next_sid)
+        }
+        Act::FinishEnded(sid, generation, exit) => {
+            let change = Change::FinishEnded(*generation, *exit);
             report(alloc, *sid, &change, now, charts, next_sid)
         }
         Act::Tick => Ok(reply_only(alloc, Reply::Done, charts, next_sid)),

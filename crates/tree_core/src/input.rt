@@ -41,8 +41,12 @@ pub enum Act<A: Allocator> {
     Scan(Listing<A>),
     /// `run` of this service and generation was spawned, with this process number.
     Started(Sid, u64, u32),
+    /// `run`, or `finish`, of this service and generation could not be spawned.
+    StartFailed(Sid, u64),
     /// `run` of this service and generation died.
     Death(Sid, u64, Exit),
+    /// `finish` of this service and generation ended.
+    FinishEnded(Sid, u64, Exit),
     /// Nothing but the clock.
     Tick,
 }

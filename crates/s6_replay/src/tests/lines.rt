@@ -36,6 +36,9 @@ fn lines_that_spell_no_input(rt: HostRuntime) {
         b"0 1 started 1 1 2147483648",
         b"0 1 started 1 18446744073709551616 5",
         b"0 1 started 1 1 5 6",
+        b"0 1 startfailed 1",
+        b"0 1 startfailed 1 1 1",
+        b"0 1 finished 1 1 signal 65",
         b"0 1 death 1 1",
         b"0 1 death 1 1 code",
         b"0 1 death 1 1 code 256",
@@ -66,6 +69,10 @@ fn lines_that_spell_an_input(rt: HostRuntime) -> Result<(), Fail> {
     assert!(rt; matches!(input.act, Act::Death(Sid(2), 3, Exit::Code(255))));
     let input = parse_line(rt.alloc(), b"7 1 death 2 3 signal 64").map_err(|_| "signal")?;
     assert!(rt; matches!(input.act, Act::Death(Sid(2), 3, Exit::Killed(64))));
+    let input = parse_line(rt.alloc(), b"7 1 startfailed 2 3").map_err(|_| "startfailed")?;
+    assert!(rt; matches!(input.act, Act::StartFailed(Sid(2), 3)));
+    let input = parse_line(rt.alloc(), b"7 1 finished 2 3 code 125").map_err(|_| "finished")?;
+    assert!(rt; matches!(input.act, Act::FinishEnded(Sid(2), 3, Exit::Code(125))));
     let input = parse_line(rt.alloc(), b"0 1 scan").map_err(|_| "no name")?;
     assert!(rt; matches!(&input.act, Act::Scan(listing) if listing.names().is_empty()));
     let input = parse_line(rt.alloc(), b"0 1 scan web @-_.9 web").map_err(|_| "names")?;

@@ -13,7 +13,7 @@ struct Row {
     counts: (u64, u128, u128),
 }
 
-const ROWS: [Row; 13] = [
+const ROWS: [Row; 15] = [
     Row {
         name: "restart-after-pause",
         script: "s6-script 1\n0 1 scan web\n0 1 started 1 1 500\n300 1 death 1 1 code 1\n1299 1 tick\n1300 1 tick\n",
@@ -125,6 +125,20 @@ const ROWS: [Row; 13] = [
         7 refused Stale\n",
         fault: None,
         counts: (7, 5, 2),
+    },
+    Row {
+        name: "failed-spawn-is-tried-after-a-minute",
+        script: "s6-script 1\n0 1 scan web\n0 1 startfailed 1 1\n59999 1 tick\n60000 1 tick\n",
+        transcript: "1 scanned +1:web\ne 1 s\no run 1 1\n2 done\n3 done\n4 done\no run 1 2\n",
+        fault: None,
+        counts: (4, 1, 2),
+    },
+    Row {
+        name: "end of a finish that was not started",
+        script: "s6-script 1\n0 1 scan web\n0 1 finished 1 1 code 125\n0 1 finished 2 1 signal 9\n",
+        transcript: "1 scanned +1:web\ne 1 s\no run 1 1\n2 refused Stale\n3 refused NoService\n",
+        fault: None,
+        counts: (3, 1, 1),
     },
 ];
 

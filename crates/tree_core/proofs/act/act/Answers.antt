@@ -6,3 +6,9 @@ returns-in-Started-clause-draft g c = rw c.in-Started.is c.report.ensures.draft
 
 pub returns-in-Death-clause-draft : goal.returns-in-Death-clause-draft
 returns-in-Death-clause-draft g c = rw c.in-Death.is c.report-in-Death.ensures.draft
+
+pub returns-in-StartFailed-clause-draft : goal.returns-in-StartFailed-clause-draft
+returns-in-StartFailed-clause-draft g c = rw c.in-StartFailed.is c.report-in-StartFailed.ensures.draft
+
+pub returns-in-FinishEnded-clause-draft : goal.returns-in-FinishEnded-clause-draft
+returns-in-FinishEnded-clause-draft g c = rw c.in-FinishEnded.is c.report-in-FinishEnded.ensures.draft
