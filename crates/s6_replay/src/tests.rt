@@ -1,5 +1,6 @@
 use super::*;
 use std::alloc::{AllocError, Allocator};
+use std::process::Abort;
 
 mod cut;
 mod fakes;
@@ -46,4 +47,17 @@ fn first_blocks<A: Allocator + Copy>(alloc: A, count: usize) -> Result<Vec<u8, A
 // How many newlines there are.
 fn newlines(text: &[u8]) -> usize {
     text.iter().filter(|b| **b == b'\n').count()
+}
+
+// A replay stopped with this fault, or with none, and has written these bytes.
+fn stops(
+    rt: &impl Abort,
+    place: usize,
+    fault: Option<ReplayFault>,
+    wanted: Option<ReplayFault>,
+    written: &[u8],
+    blocks: &[u8],
+) {
+    assert_eq!(rt; fault, wanted, "at {place}");
+    assert_eq!(rt; written, blocks, "at {place}");
 }

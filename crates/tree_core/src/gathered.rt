@@ -57,6 +57,7 @@ impl<A: Allocator + Copy> Gathered<A> {
         requires { length self.old.orders.items + length later.now.orders.items ≤ 256 }
         ensures events { OnOk result (self.new.events.items ≡ self.old.events.items ++ later.now.events.items) }
         ensures orders { OnOk result (self.new.orders.items ≡ self.old.orders.items ++ later.now.orders.items) }
+        ensures stale { self.new.stale ≡ self.old.stale }
         ensures quiet { later.now.events.items ≡ [] → IsOk result }
     {
         if self

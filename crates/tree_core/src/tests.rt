@@ -104,22 +104,77 @@ fn lines<A: Allocator>(alloc: Global, effect: &Effect<A>) -> Result<String, Allo
     Ok(text)
 }
 
-#[test]
-fn applies_the_rows_with_ample_memory(rt: HostRuntime) -> Result<(), Fail> {
-    let alloc = rt.alloc();
-    let mut tree = Tree::new(alloc);
-    assert_eq!(rt; tree.now().millis(), 0);
-    for (at, deed, block) in RESTART {
-        let effect = tree.apply(input(alloc, at, deed)?).ok().ok_or("memory")?;
-        let text = lines(alloc, &effect)?;
-        assert_eq!(rt; text.as_str(), block);
-    }
-    assert_eq!(rt; tree.now().millis(), 1400);
-    assert_eq!(rt; tree.steps(), 7);
+// The effect has these lines.
+fn is_block<A: Allocator>(
+    rt: &impl Abort,
+    alloc: Global,
+    effect: &Effect<A>,
+    block: &str,
+) -> Result<(), Fail> {
+    let text = lines(alloc, effect)?;
+    assert_eq!(rt; text.as_str(), block);
     Ok(())
 }
 
-// One row on a heap that has so many bytes left until a refusal gives it ample ones; how many refusals there were.
+// The tree takes the input, and the effect has these lines.
+fn applies<A: Allocator + Copy>(
+    rt: &impl Abort,
+    alloc: Global,
+    tree: &mut Tree<A>,
+    input: Input<A>,
+    block: &str,
+) -> Result<(), Fail> {
+    let effect = tree.apply(input).ok().ok_or("memory")?;
+    is_block(rt, alloc, &effect, block)
+}
+
+// A new tree takes the rows; its clock and its steps after them.
+fn after_rows(
+    rt: &impl Abort,
+    alloc: Global,
+    rows: &[(u64, Deed, &str)],
+) -> Result<(u64, u64), Fail> {
+    let mut tree = Tree::new(alloc);
+    assert_eq!(rt; tree.now().millis(), 0);
+    for (at, deed, block) in rows {
+        applies(rt, alloc, &mut tree, input(alloc, *at, *deed)?, *block)?;
+    }
+    Ok((tree.now().millis(), tree.steps()))
+}
+
+#[test]
+fn applies_the_rows_with_ample_memory(rt: HostRuntime) -> Result<(), Fail> {
+    let ended = after_rows(&rt, rt.alloc(), &RESTART)?;
+    assert_eq!(rt; ended, (1400, 7));
+    Ok(())
+}
+
+// The tree takes the input, at once or, where a growth was refused, once more without the filler; whether one was refused. A refused
+// step has changed nothing.
+fn applies_at_last<A: Allocator + Copy>(
+    rt: &impl Abort,
+    alloc: Global,
+    tree: &mut Tree<A>,
+    input: Input<A>,
+    filler: Option<Vec<u8, A>>,
+    block: &str,
+) -> Result<bool, Fail> {
+    let steps = tree.steps();
+    match tree.apply(input) {
+        Ok(effect) => {
+            is_block(rt, alloc, &effect, block)?;
+            Ok(false)
+        }
+        Err((back, NoMemory)) => {
+            assert_eq!(rt; tree.steps(), steps);
+            drop(filler);
+            applies(rt, alloc, tree, back, block)?;
+            Ok(true)
+        }
+    }
+}
+
+// The rows on a heap that has so many bytes left until a refusal gives it ample ones; how many refusals there were.
 fn apply_with_little(rt: &impl Abort, alloc: Global, left: usize) -> Result<u32, Fail> {
     let heap = LocalHeap::new(alloc, 65_536)?;
     let mut refused = 0u32;
@@ -128,18 +183,9 @@ fn apply_with_little(rt: &impl Abort, alloc: Global, left: usize) -> Result<u32,
         let input = input(&heap, at, deed)?;
         let free = 65_536usize.saturating_sub(heap.used());
         let filler = Vec::<u8, _>::with_capacity(&heap, free.saturating_sub(left)).ok();
-        let before = tree.steps();
-        let effect = match tree.apply(input) {
-            Ok(effect) => effect,
-            Err((back, NoMemory)) => {
-                refused = refused.saturating_add(1);
-                assert_eq!(rt; tree.steps(), before);
-                drop(filler);
-                tree.apply(back).ok().ok_or("memory")?
-            }
-        };
-        let text = lines(alloc, &effect)?;
-        assert_eq!(rt; text.as_str(), block);
+        if applies_at_last(rt, alloc, &mut tree, input, filler, block)? {
+            refused = refused.saturating_add(1);
+        }
     }
     Ok(refused)
 }
@@ -160,26 +206,21 @@ fn a_refused_step_hands_its_input_back_and_can_be_taken_again(rt: HostRuntime) -
     Ok(())
 }
 
+const SCANS: [(u64, Deed, &str); 5] = [
+    (5, Deed::Scan(&[b"b", b"a", b"b"]), "refused Repeated"),
+    (
+        5,
+        Deed::Scan(&[b"b", b"a", b"B"]),
+        "scanned +1:B +2:a +3:b|e 1 s|e 2 s|e 3 s|o run 1 1|o run 2 1|o run 3 1",
+    ),
+    (4, Deed::Scan(&[b"a"]), "scanned"),
+    (6, Deed::Death(9, 1, Exit::Code(0)), "refused NoService"),
+    (6, Deed::Death(1, 1, Exit::Code(0)), "refused Stale"),
+];
+
 #[test]
 fn scans_in_the_order_of_the_bytes_and_refuses_a_name_twice(rt: HostRuntime) -> Result<(), Fail> {
-    let alloc = rt.alloc();
-    let mut tree = Tree::new(alloc);
-    let rows: [(u64, Deed, &str); 5] = [
-        (5, Deed::Scan(&[b"b", b"a", b"b"]), "refused Repeated"),
-        (
-            5,
-            Deed::Scan(&[b"b", b"a", b"B"]),
-            "scanned +1:B +2:a +3:b|e 1 s|e 2 s|e 3 s|o run 1 1|o run 2 1|o run 3 1",
-        ),
-        (4, Deed::Scan(&[b"a"]), "scanned"),
-        (6, Deed::Death(9, 1, Exit::Code(0)), "refused NoService"),
-        (6, Deed::Death(1, 1, Exit::Code(0)), "refused Stale"),
-    ];
-    for (at, deed, block) in rows {
-        let effect = tree.apply(input(alloc, at, deed)?).ok().ok_or("memory")?;
-        let text = lines(alloc, &effect)?;
-        assert_eq!(rt; text.as_str(), block);
-    }
-    assert_eq!(rt; tree.now().millis(), 6);
+    let ended = after_rows(&rt, rt.alloc(), &SCANS)?;
+    assert_eq!(rt; ended, (6, 5));
     Ok(())
 }

@@ -1,6 +1,6 @@
 //! The first row cut at each byte, and with a reader or a writer that fails at each byte.
 use super::fakes::{FailingReader, FailingWriter};
-use super::{SCRIPT, first_blocks, newlines, replayed};
+use super::{SCRIPT, first_blocks, newlines, replayed, stops};
 use crate::{Counts, ReplayFault, run};
 use std::io::BufReader;
 use std::test::Fail;
@@ -13,14 +13,21 @@ fn a_script_that_is_cut_at_each_byte(rt: HostRuntime) -> Result<(), Fail> {
         let lines = newlines(part);
         let (answer, written) = replayed(rt.alloc(), part)?;
         let whole = first_blocks(rt.alloc(), lines.saturating_sub(1))?;
-        assert_eq!(rt; written.as_slice(), whole.as_slice(), "cut at {cut}");
-        if lines == 0 {
-            assert_eq!(rt; answer, Err(ReplayFault::Head), "cut at {cut}");
+        let fault = if lines == 0 {
+            Some(ReplayFault::Head)
         } else if part.ends_with(b"\n") {
-            assert!(rt; answer.is_ok(), "cut at {cut}");
+            None
         } else {
-            assert_eq!(rt; answer, Err(ReplayFault::Truncated), "cut at {cut}");
-        }
+            Some(ReplayFault::Truncated)
+        };
+        stops(
+            &rt,
+            cut,
+            answer.err(),
+            fault,
+            written.as_slice(),
+            whole.as_slice(),
+        );
     }
     Ok(())
 }
@@ -37,8 +44,15 @@ fn each_read_fails_in_turn(rt: HostRuntime) -> Result<(), Fail> {
         let mut written = Vec::new(rt.alloc());
         let answer = run(rt.alloc(), &mut reader, &mut written);
         let whole = first_blocks(rt.alloc(), newlines(&script[..good]).saturating_sub(1))?;
-        assert_eq!(rt; answer, Err(ReplayFault::Read), "after {good}");
-        assert_eq!(rt; written.as_slice(), whole.as_slice(), "after {good}");
+        let fault = Some(ReplayFault::Read);
+        stops(
+            &rt,
+            good,
+            answer.err(),
+            fault,
+            written.as_slice(),
+            whole.as_slice(),
+        );
     }
     Ok(())
 }
@@ -55,11 +69,14 @@ fn each_write_fails_in_turn(rt: HostRuntime) -> Result<(), Fail> {
                 fails,
             };
             let answer = run(rt.alloc(), &mut reader, &mut writer);
-            assert_eq!(rt; answer, Err(ReplayFault::Write), "after {room}");
-            assert_eq!(rt;
+            let fault = Some(ReplayFault::Write);
+            stops(
+                &rt,
+                room,
+                answer.err(),
+                fault,
                 writer.taken.as_slice(),
                 &transcript[..room],
-                "after {room}"
             );
         }
     }

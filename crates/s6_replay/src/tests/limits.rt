@@ -1,5 +1,5 @@
 //! The limits of a line.
-use super::replayed;
+use super::{replayed, stops};
 use crate::ReplayFault;
 use std::test::Fail;
 
@@ -28,8 +28,14 @@ fn lines_at_and_beyond_their_limit(rt: HostRuntime) -> Result<(), Fail> {
     for (count, end, fault) in rows {
         let script = long_line(count, end, &rt)?;
         let (answer, written) = replayed(rt.alloc(), script.as_slice())?;
-        assert_eq!(rt; answer, Err(fault), "{count}");
-        assert!(rt; written.is_empty(), "{count}");
+        stops(
+            &rt,
+            count,
+            answer.err(),
+            Some(fault),
+            written.as_slice(),
+            b"",
+        );
     }
     Ok(())
 }
@@ -50,13 +56,19 @@ fn the_longest_line_is_an_input(rt: HostRuntime) -> Result<(), Fail> {
         }
         script.push(b'\n')?;
         let (answer, written) = replayed(rt.alloc(), script.as_slice())?;
-        if more {
-            assert_eq!(rt; answer, Err(ReplayFault::Line(2)));
-            assert!(rt; written.is_empty());
+        let (fault, block) = if more {
+            (Some(ReplayFault::Line(2)), b"".as_slice())
         } else {
-            assert!(rt; answer.is_ok());
-            assert_eq!(rt; written.as_slice(), b"1 refused Repeated\n".as_slice());
-        }
+            (None, b"1 refused Repeated\n".as_slice())
+        };
+        stops(
+            &rt,
+            script.len(),
+            answer.err(),
+            fault,
+            written.as_slice(),
+            block,
+        );
     }
     Ok(())
 }

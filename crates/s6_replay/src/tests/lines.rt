@@ -1,6 +1,7 @@
 //! Which lines are inputs, and which input they are.
 use crate::{LineFault, ReplayFault, parse_line};
-use s6_events::{Exit, Sid};
+use s6_events::Exit;
+use std::alloc::Allocator;
 use std::test::Fail;
 use tree_core::Act;
 
@@ -55,27 +56,71 @@ fn lines_that_spell_no_input(rt: HostRuntime) {
     }
 }
 
+// The numbers of an act: which one, and how many names it has, or the serial, generation and process number, code or signal.
+fn numbers<A: Allocator>(act: &Act<A>) -> (u8, u64, u64, u32) {
+    match act {
+        Act::Scan(listing) => (0, listing.names().len() as u64, 0, 0),
+        Act::Started(sid, generation, pid) => (1, sid.0, *generation, *pid),
+        Act::Death(sid, generation, Exit::Code(code)) => (2, sid.0, *generation, u32::from(*code)),
+        Act::Death(sid, generation, Exit::Killed(signal)) => (
+            3,
+            sid.0,
+            *generation,
+            u32::from(*signal),
+        ),
+        Act::Tick => (4, 0, 0, 0),
+        Act::StartFailed(sid, generation) => (5, sid.0, *generation, 0),
+        Act::FinishEnded(sid, generation, Exit::Code(code)) => (
+            6,
+            sid.0,
+            *generation,
+            u32::from(*code),
+        ),
+        Act::FinishEnded(sid, generation, Exit::Killed(signal)) => (
+            7,
+            sid.0,
+            *generation,
+            u32::from(*signal),
+        ),
+    }
+}
+
 #[test]
 fn lines_that_spell_an_input(rt: HostRuntime) -> Result<(), Fail> {
-    let input = parse_line(rt.alloc(), b"1000000000000000 15 tick").map_err(|_| "tick")?;
-    assert_eq!(rt; input.at.millis(), 1_000_000_000_000_000);
-    assert_eq!(rt; input.actor.number(), 15);
-    assert!(rt; matches!(input.act, Act::Tick));
-    let input = parse_line(rt.alloc(), b"0 0 started 18446744073709551615 0 2147483647").map_err(
-        |_| "started",
-    )?;
-    assert!(rt; matches!(input.act, Act::Started(Sid(u64::MAX), 0, 2_147_483_647)));
-    let input = parse_line(rt.alloc(), b"7 1 death 2 3 code 255").map_err(|_| "code")?;
-    assert!(rt; matches!(input.act, Act::Death(Sid(2), 3, Exit::Code(255))));
-    let input = parse_line(rt.alloc(), b"7 1 death 2 3 signal 64").map_err(|_| "signal")?;
-    assert!(rt; matches!(input.act, Act::Death(Sid(2), 3, Exit::Killed(64))));
-    let input = parse_line(rt.alloc(), b"7 1 startfailed 2 3").map_err(|_| "startfailed")?;
-    assert!(rt; matches!(input.act, Act::StartFailed(Sid(2), 3)));
-    let input = parse_line(rt.alloc(), b"7 1 finished 2 3 code 125").map_err(|_| "finished")?;
-    assert!(rt; matches!(input.act, Act::FinishEnded(Sid(2), 3, Exit::Code(125))));
-    let input = parse_line(rt.alloc(), b"0 1 scan").map_err(|_| "no name")?;
-    assert!(rt; matches!(&input.act, Act::Scan(listing) if listing.names().is_empty()));
-    let input = parse_line(rt.alloc(), b"0 1 scan web @-_.9 web").map_err(|_| "names")?;
+    let rows = [
+        (
+            b"1000000000000000 15 tick".as_slice(),
+            1_000_000_000_000_000,
+            15,
+            (4, 0, 0, 0),
+        ),
+        (
+            b"0 0 started 18446744073709551615 0 2147483647",
+            0,
+            0,
+            (1, u64::MAX, 0, 2_147_483_647),
+        ),
+        (b"7 1 death 2 3 code 255", 7, 1, (2, 2, 3, 255)),
+        (b"7 1 death 2 3 signal 64", 7, 1, (3, 2, 3, 64)),
+        (b"7 1 startfailed 2 3", 7, 1, (5, 2, 3, 0)),
+        (b"7 1 finished 2 3 code 125", 7, 1, (6, 2, 3, 125)),
+        (b"7 1 finished 2 3 signal 0", 7, 1, (7, 2, 3, 0)),
+        (b"0 1 scan", 0, 1, (0, 0, 0, 0)),
+        (b"0 1 scan web @-_.9 web", 0, 1, (0, 3, 0, 0)),
+    ];
+    for (line, at, actor, act) in rows {
+        let input = parse_line(rt.alloc(), line).ok().ok_or("an input")?;
+        let read = (input.at.millis(), input.actor.number(), numbers(&input.act));
+        assert_eq!(rt; read, (at, actor, act), "{line:?}");
+    }
+    Ok(())
+}
+
+#[test]
+fn a_line_has_its_names(rt: HostRuntime) -> Result<(), Fail> {
+    let input = parse_line(rt.alloc(), b"0 1 scan web @-_.9 web")
+        .ok()
+        .ok_or("an input")?;
     let Act::Scan(listing) = &input.act else {
         return Err("a scan".into());
     };
@@ -83,6 +128,7 @@ fn lines_that_spell_an_input(rt: HostRuntime) -> Result<(), Fail> {
     assert_eq!(rt; names.len(), 3);
     assert_eq!(rt; names[0].as_bytes(), b"web".as_slice());
     assert_eq!(rt; names[1].as_bytes(), b"@-_.9".as_slice());
+    assert_eq!(rt; names[2].as_bytes(), b"web".as_slice());
     Ok(())
 }
 

@@ -4,6 +4,7 @@ use crate::{WriteFault, write_effect};
 use arrayvec::ArrayVec;
 use s6_events::{Letter, Mark, Name, Order, Sid, SubId, WaitId};
 use std::alloc::Global;
+use std::process::Abort;
 use std::test::Fail;
 use tree_core::{Effect, Event, Hit, Match, Refusal, Release, Reply, Verdict};
 
@@ -69,12 +70,16 @@ fn effect(rt: &HostRuntime) -> Result<Effect<Global>, Fail> {
     Ok(made)
 }
 
+// The block of the effect under this number is this text.
+fn is_printed(rt: &impl Abort, alloc: Global, number: u64, effect: &Effect<Global>, text: &str) {
+    let mut written = Vec::new(alloc);
+    assert_eq!(rt; write_effect(alloc, number, effect, &mut written), Ok(()));
+    assert_eq!(rt; written.as_slice(), text.as_bytes());
+}
+
 #[test]
 fn a_block_has_lines_of_each_kind(rt: HostRuntime) -> Result<(), Fail> {
-    let made = effect(&rt)?;
-    let mut written = Vec::new(rt.alloc());
-    assert_eq!(rt; write_effect(rt.alloc(), 12, &made, &mut written), Ok(()));
-    assert_eq!(rt; written.as_slice(), TEXT.as_bytes());
+    is_printed(&rt, rt.alloc(), 12, &effect(&rt)?, TEXT);
     Ok(())
 }
 
@@ -117,9 +122,7 @@ fn refusals_have_their_names(rt: HostRuntime) -> Result<(), Fail> {
             matched: Vec::new(rt.alloc()),
             released: Vec::new(rt.alloc()),
         };
-        let mut written = Vec::new(rt.alloc());
-        assert_eq!(rt; write_effect(rt.alloc(), 1, &made, &mut written), Ok(()));
-        assert_eq!(rt; written.as_slice(), text.as_bytes());
+        is_printed(&rt, rt.alloc(), 1, &made, text);
     }
     Ok(())
 }

@@ -1,36 +1,55 @@
 //! Growths that are refused.
 use super::{SCRIPT, first_blocks};
-use crate::{LineFault, ReplayFault, parse_line, run};
+use crate::{Counts, LineFault, ReplayFault, parse_line, run};
 use linked_list_allocator::LocalHeap;
+use std::alloc::Global;
 use std::test::Fail;
+
+// How many of the blocks were written, where that is a number of whole ones.
+fn whole_blocks(alloc: Global, written: &[u8]) -> Result<Option<usize>, Fail> {
+    for count in 0..6usize {
+        if written == first_blocks(alloc, count)?.as_slice() {
+            return Ok(Some(count));
+        }
+    }
+    Ok(None)
+}
+
+// What a replay on a heap of so many bytes answers, and how many whole blocks it writes.
+fn replay_with(
+    alloc: Global,
+    bytes: usize,
+) -> Result<(Result<Counts, ReplayFault>, Option<usize>), Fail> {
+    let heap = LocalHeap::new(alloc, bytes)?;
+    let mut reader = SCRIPT.as_bytes();
+    let mut written = Vec::new(alloc);
+    let answer = run(&heap, &mut reader, &mut written);
+    Ok((answer, whole_blocks(alloc, written.as_slice())?))
+}
 
 // On heaps of a growing size each growth is the first one refused.
 #[test]
 fn each_growth_is_refused_in_turn(rt: HostRuntime) -> Result<(), Fail> {
-    let mut stopped = [0u32; 6];
+    let mut stopped = 0u32;
     let mut done = 0u32;
     for step in 0..400usize {
-        let heap = LocalHeap::new(rt.alloc(), 16 * step)?;
-        let mut reader = SCRIPT.as_bytes();
-        let mut written = Vec::new(rt.alloc());
-        let answer = run(&heap, &mut reader, &mut written);
-        if answer.is_ok() {
-            done = done.saturating_add(1);
-            assert_eq!(rt; written.as_slice(), first_blocks(rt.alloc(), 5)?.as_slice());
-            continue;
-        }
-        assert_eq!(rt; answer, Err(ReplayFault::NoMemory), "at {step}");
-        let mut found = false;
-        for count in 0..6usize {
-            if written.as_slice() == first_blocks(rt.alloc(), count)?.as_slice() {
-                found = true;
-                stopped[count] = stopped[count].saturating_add(1);
+        let (answer, blocks) = replay_with(rt.alloc(), 16 * step)?;
+        assert!(rt; blocks.is_some(), "at {step}");
+        match answer {
+            Ok(_) => {
+                done = done.saturating_add(1);
+                assert_eq!(rt; blocks, Some(5));
+            }
+            Err(fault) => {
+                assert_eq!(rt; fault, ReplayFault::NoMemory, "at {step}");
+                if blocks == Some(0) {
+                    stopped = stopped.saturating_add(1);
+                }
             }
         }
-        assert!(rt; found, "at {step}");
     }
     assert!(rt; done > 2);
-    assert!(rt; stopped[0] > 2);
+    assert!(rt; stopped > 2);
     Ok(())
 }
 

@@ -1,6 +1,6 @@
 //! The worked rows: scripts with their whole transcripts and faults.
 use super::replayed;
-use crate::ReplayFault;
+use crate::{Counts, ReplayFault};
 use std::test::Fail;
 
 // A script, all that it writes, its fault, and of a script without fault how many inputs, events and orders it has.
@@ -148,14 +148,18 @@ fn the_worked_rows(rt: HostRuntime) -> Result<(), Fail> {
         let name = row.name;
         let (answer, written) = replayed(rt.alloc(), row.script.as_bytes())?;
         assert_eq!(rt; written.as_slice(), row.transcript.as_bytes(), "{name}");
-        match (answer, row.fault) {
-            (Ok(counts), None) => {
-                let found = (counts.inputs, counts.events, counts.orders);
-                assert_eq!(rt; found, row.counts, "{name}");
+        let wanted = match row.fault {
+            None => {
+                let (inputs, events, orders) = row.counts;
+                Ok(Counts {
+                    inputs,
+                    events,
+                    orders,
+                })
             }
-            (Err(found), Some(fault)) => assert_eq!(rt; found, fault, "{name}"),
-            _ => assert!(rt; false, "{name}"),
-        }
+            Some(fault) => Err(fault),
+        };
+        assert_eq!(rt; answer, wanted, "{name}");
     }
     Ok(())
 }
