@@ -1,1 +1,5 @@
 pub mod ControlLetter
+pub mod FirstFault
+pub mod LetterWords
+pub mod ReadWords
+pub mod LetterCommands
