@@ -1,1 +1,3 @@
 pub mod Words
+pub mod Parses
+pub mod NameWords

@@ -3,11 +3,18 @@
 
 mod control_letter;
 mod letter_words;
+mod matches;
+mod names;
 mod svc;
 mod svscanctl;
+mod svstat;
+mod svwait;
 mod usage_fault;
 
 pub use control_letter::{ControlLetter, Letters};
+pub use names::Names;
 pub use svc::{SvcCommand, compile_svc};
 pub use svscanctl::{ScanCommand, ScanLetter, ScanLetters, compile_svscanctl};
+pub use svstat::StatCommand;
+pub use svwait::{WaitCommand, compile_svwait};
 pub use usage_fault::UsageFault;

@@ -5,6 +5,7 @@ ghost use Rattle.svc_commands.specs.ReadWords.{IsRead, IsRefused, AddsName};
 
 use crate::control_letter::{ControlLetter, Letters};
 use crate::letter_words::run_of;
+use crate::names::name_of;
 use crate::usage_fault::UsageFault;
 use s6_events::Name;
 
@@ -50,7 +51,7 @@ fn read_word(letters: &mut Letters, name: &mut Option<Name>, word: &[u8]) -> Res
 fn only_name(before: Option<Name>, word: &[u8]) -> Result<Name, UsageFault>
     ensures { MatchResult result (λ name. (name ≡ word.now) × (name_fault (is_some before) word.now ≡ None)) (λ fault. name_fault (is_some before) word.now ≡ Some fault) }
 {
-    let name = Name::new(word).ok_or(UsageFault::BadName)?;
+    let name = name_of(word)?;
     match before {
         Some(_) => Err(UsageFault::TooMany),
         None => Ok(name),
