@@ -1,5 +1,5 @@
 -- Words that are names, and the fault of some names.
-use Rattle.std.proofs.Common.{rules, ◌≡◌, ◌<◌, ◌≤◌, ◌&&◌, ℕ, List, [], ◌∷◌, Bool, true, false, Some, None, Bor, length, map, get_or, nat_lt, ap, refl, arith, sym, ◌∙◌}
+use Rattle.std.proofs.Common.{rules, ◌≡◌, ◌<◌, ◌≤◌, ◌&&◌, ℕ, List, [], ◌∷◌, true, false, Some, None, Bor, length, nat_lt, ap, refl, sym, ◌∙◌}
 use Rattle.std.proofs.lemmas.List.Folds.{list_all_at}
 use Rattle.std.specs.List.{list_all}
 use Rattle.s6_events.specs.Name.{is_name}

@@ -15,13 +15,13 @@ pub record IsWordAt (words : List (Bor (List ℕ))) (i : ℕ) (word : List ℕ) 
 abbrev pub texts_of : List (Bor (List ℕ)) → List (List ℕ)
 texts_of words = map (λ w. w.now) words
 
-is_text : (words : List (Bor (List ℕ))) (i : ℕ) (word : List ℕ) → IsWordAt words i word → get_or (texts_of words) i [] ≡ word
+pub is_text : (words : List (Bor (List ℕ))) (i : ℕ) (word : List ℕ) → IsWordAt words i word → get_or (texts_of words) i [] ≡ word
 is_text words i word at = get_or-map (λ (w : Bor (List ℕ)). w.now) words i (record { ref_ptr = (0, 0); now = [] }) ∙ sym at.is
 
 pub length_texts : (words : List (Bor (List ℕ))) → length (texts_of words) ≡ length words
 length_texts words = rw length-map refl
 
-within_texts : (words : List (Bor (List ℕ))) (i : ℕ) → i < length words → i < length (texts_of words)
+pub within_texts : (words : List (Bor (List ℕ))) (i : ℕ) → i < length words → i < length (texts_of words)
 within_texts words i h = rw length-map h
 
 -- the words from this one on

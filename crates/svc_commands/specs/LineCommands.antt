@@ -1,5 +1,5 @@
 -- What a contract sees of what svwait, svlisten and svstat were told.
-use Rattle.std.specs.Prelude.{◌≡◌, List, ◌∷◌, Some, Option, option_map}
+use Rattle.std.specs.Prelude.{◌≡◌, List, Some, option_map}
 use Rattle.clap.specs.Words.{Row}
 use Rattle.svc_commands.specs.Matches.{condition_of, mode_of, timeout_of, names_of, fields_in, list_given, name_given}
 use Rattle.svc_commands.specs.declared.svstat.StatCommand.{StatCommand}

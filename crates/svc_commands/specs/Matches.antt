@@ -1,5 +1,5 @@
 -- The command lines of svwait, svlisten and svstat: what clap is told of them, and what is read from its matches.
-use Rattle.std.specs.Prelude.{ℕ, List, [], ◌∷◌, ◌+◌, ◌==◌, ◌&&◌, Bool, true, false, not, Option, Some, None, codes, length, drop, take_while, filter_map, nat_lt, is_none, option_and_then, unwrap_or, if◌then◌else◌}
+use Rattle.std.specs.Prelude.{ℕ, List, [], ◌+◌, ◌==◌, ◌&&◌, Bool, true, false, Option, Some, None, codes, length, drop, take, position, filter_map, nat_lt, is_none, option_and_then, unwrap_or, if◌then◌else◌}
 use Rattle.std.specs.List.{list_any, slice_split}
 use Rattle.std.specs.Str.{bytes_eq}
 use Rattle.clap.specs.Words.{App, Rule, Row, Text, Kinds, new_app, new_rule, with_rule, count_of, first_of, all_of, matches_of, fault_of, is_simple, is_simple_and_free}
@@ -131,9 +131,13 @@ is_bad_list (Some text) = list_any (λ item. is_none (field_named item)) (items_
 abbrev pub fields_in : Text → List Field
 fields_in text = filter_map field_named (items_in text)
 
--- the words before the first two dashes, and those after it
+-- the place of the first two dashes, or the end
+abbrev pub cut_of : List Text → ℕ
+cut_of words = unwrap_or (position (λ word. bytes_eq word (codes "--")) words) (length words)
+
+-- the words before it, and those after it
 abbrev pub own_words : List Text → List Text
-own_words words = take_while (λ word. not (bytes_eq word (codes "--"))) words
+own_words words = take (cut_of words) words
 
 abbrev pub program_words : List Text → List Text
-program_words words = drop (length (own_words words) + 1) words
+program_words words = drop (cut_of words + 1) words

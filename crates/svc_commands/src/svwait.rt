@@ -32,7 +32,9 @@ pub fn compile_svwait<'a>(alloc: Global, words: &'a [&'a str]) -> Result<WaitCom
         let kinds = kinds_for wait_app texts in
         MatchResult result (λ command. IsTaken kinds (wait_fault false rows) × IsWaitCommand rows command) (IsRefusal kinds (wait_fault false rows)) }
 {
-    let command = svwait_command(alloc).map_err(|_| UsageFault::NoMemory)?;
+    let Ok(command) = svwait_command(alloc) else {
+        return Err(UsageFault::NoMemory);
+    };
     let matches = matches_in(command, words)?;
     wait_command(&matches, false)
 }

@@ -1,5 +1,5 @@
 -- Bad names come first, then too many of them.
-use Rattle.std.proofs.Common.{rules, ◌≡◌, ◌<◌, ◌≤◌, ◌∙◌, ◌+◌, ◌++◌, ◌∷◌, [], true, false, length, take, ap, sym, arith, Some}
+use Rattle.std.proofs.Common.{rules, ◌≡◌, ◌≤◌, ◌∙◌, ◌++◌, ◌∷◌, [], true, false, length, take, ap, sym, arith, Some}
 use Rattle.std.proofs.lemmas.List.{length-take-le, take_all}
 use Rattle.std.specs.List.{list_all}
 use Rattle.s6_events.specs.Name.{is_name}
