@@ -7,11 +7,6 @@ use Rattle.svc_commands.specs.Matches.{condition_count, mode_count, is_empty, is
 use Rattle.svc_commands.specs.declared.usage_fault.UsageFault.{UsageFault}
 use Rattle.svc_commands.specs.declared.usage_fault.UsageFault.TheVariants.{Unknown, Missing, TooMany, BadNumber, BadList, BadName, NoMemory}
 
--- the first where there is one, else the later
-abbrev pub first_told : Option UsageFault → Option UsageFault → Option UsageFault
-first_told (Some fault) later = Some fault
-first_told None later = later
-
 -- the first fault of the table whose test holds
 abbrev pub first_that_holds : List (Bool × UsageFault) → Option UsageFault
 first_that_holds [] = None

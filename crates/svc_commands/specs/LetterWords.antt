@@ -2,7 +2,6 @@
 use Rattle.std.specs.Prelude.{ℕ, List, [], ◌∷◌, ◌+◌, ◌==◌, ◌&&◌, ◌||◌, Bool, true, false, not, Option, Some, None, length, drop, filter, flat_map, option_to_list, slice_index, nat_le, nat_lt, if◌then◌else◌}
 use Rattle.s6_events.specs.Name.{is_name}
 use Rattle.svc_commands.specs.ControlLetter.{letter_of_byte}
-use Rattle.svc_commands.specs.FirstFault.{first_told}
 use Rattle.svc_commands.specs.declared.control_letter.ControlLetter.{ControlLetter}
 use Rattle.svc_commands.specs.declared.control_letter.ControlLetter.TheVariants.{Up, Once}
 use Rattle.svc_commands.specs.declared.svscanctl.ScanLetter.{ScanLetter}
@@ -21,6 +20,11 @@ letters_in meaning words = flat_map (λ word. flat_map meaning (drop 1 word)) (f
 -- the words that are no runs
 abbrev pub names_in : List (List ℕ) → List (List ℕ)
 names_in words = filter (λ word. not (is_run word)) words
+
+-- the first where there is one, else the later
+abbrev pub first_told : Option UsageFault → Option UsageFault → Option UsageFault
+first_told (Some fault) later = Some fault
+first_told None later = later
 
 -- n letters stand before a byte: one with no meaning is unknown, and a 64th letter is too much
 abbrev pub letter_fault : {L : Type 0} → ℕ → List L → Option UsageFault

@@ -10,6 +10,8 @@ mod svlisten;
 mod svscanctl;
 mod svstat;
 mod svwait;
+#[cfg(test)]
+mod tests;
 mod usage_fault;
 
 pub use control_letter::{ControlLetter, Letters};
