@@ -13,7 +13,8 @@ pub type Names = ArrayVec<Name, 16>;
 
 // The name that a word is.
 pub(crate) fn name_of(word: &[u8]) -> Result<Name, UsageFault>
-    ensures { MatchResult result (λ name. (name ≡ word.now) × (is_name word.now ≡ true)) (λ fault. (is_name word.now ≡ false) × (fault ≡ UsageFault.BadName)) }
+    ensures { MatchResult result (λ name. (name ≡ word.now) × (is_name word.now ≡ true))
+        (λ fault. (is_name word.now ≡ false) × (fault ≡ UsageFault.BadName)) }
 {
     Name::new(word).ok_or(UsageFault::BadName)
 }

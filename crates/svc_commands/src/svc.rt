@@ -49,7 +49,8 @@ fn read_word(letters: &mut Letters, name: &mut Option<Name>, word: &[u8]) -> Res
 
 // The name that a word is, where none came before it.
 fn only_name(before: Option<Name>, word: &[u8]) -> Result<Name, UsageFault>
-    ensures { MatchResult result (λ name. (name ≡ word.now) × (name_fault (is_some before) word.now ≡ None)) (λ fault. name_fault (is_some before) word.now ≡ Some fault) }
+    ensures { MatchResult result (λ name. (name ≡ word.now) × (name_fault (is_some before) word.now ≡ None))
+        (λ fault. name_fault (is_some before) word.now ≡ Some fault) }
 {
     let name = name_of(word)?;
     match before {

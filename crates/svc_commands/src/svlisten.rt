@@ -30,7 +30,8 @@ pub fn compile_svlisten<'a>(
         let rows = rows_for listen_app (own_words texts) in
         let kinds = kinds_for listen_app (own_words texts) in
         let told = wait_fault (is_empty (program_words texts)) rows in
-        MatchResult result (λ command. IsTaken kinds told × IsWaitCommand rows command.wait × (map (λ w. w.now) command.program.now ≡ program_words texts)) (IsRefusal kinds told) }
+        MatchResult result (λ command. IsTaken kinds told × IsWaitCommand rows command.wait
+        × (map (λ w. w.now) command.program.now ≡ program_words texts)) (IsRefusal kinds told) }
 {
     let Ok(command) = svlisten_command(alloc) else {
         return Err(UsageFault::NoMemory);

@@ -43,7 +43,8 @@ pub fn compile_svstat<'a>(alloc: Global, words: &'a [&'a str]) -> Result<StatCom
     ensures { let texts = map (λ w. w.now) words.entry.now in
         let rows = rows_for stat_app texts in
         let kinds = kinds_for stat_app texts in
-        MatchResult result (λ command. IsTaken kinds (stat_fault rows) × IsStatCommand rows command) (IsRefusal kinds (stat_fault rows)) }
+        MatchResult result (λ command. IsTaken kinds (stat_fault rows) × IsStatCommand rows command)
+        (IsRefusal kinds (stat_fault rows)) }
 {
     let Ok(command) = svstat_command(alloc) else {
         return Err(UsageFault::NoMemory);

@@ -2,7 +2,8 @@ ghost use Rattle.std.specs.Prelude.{◌≡◌, true, false, None, Some, IfOk, Ma
 ghost use Rattle.clap.specs.Words.{app_of, rows_of, found_of};
 ghost use Rattle.svc_commands.specs.FirstFault.{wait_fault, IsTaken, IsRefusal};
 ghost use Rattle.svc_commands.specs.LineCommands.{IsWaitCommand};
-ghost use Rattle.svc_commands.specs.Matches.{wait_app, rows_for, kinds_for, condition_count, condition_of, mode_count, mode_of, timeout_given, timeout_of, is_bad_number};
+ghost use Rattle.svc_commands.specs.Matches.{wait_app, rows_for, kinds_for, condition_count, condition_of, mode_count, mode_of};
+ghost use Rattle.svc_commands.specs.Matches.{timeout_given, timeout_of, is_bad_number};
 
 use crate::matches::{matches_in, name_words, plain, text_of, with_names, with_wait_options};
 use crate::names::{Names, names_in};
@@ -30,7 +31,8 @@ pub fn compile_svwait<'a>(alloc: Global, words: &'a [&'a str]) -> Result<WaitCom
     ensures { let texts = map (λ w. w.now) words.entry.now in
         let rows = rows_for wait_app texts in
         let kinds = kinds_for wait_app texts in
-        MatchResult result (λ command. IsTaken kinds (wait_fault false rows) × IsWaitCommand rows command) (IsRefusal kinds (wait_fault false rows)) }
+        MatchResult result (λ command. IsTaken kinds (wait_fault false rows) × IsWaitCommand rows command)
+        (IsRefusal kinds (wait_fault false rows)) }
 {
     let Ok(command) = svwait_command(alloc) else {
         return Err(UsageFault::NoMemory);
@@ -55,7 +57,8 @@ pub(crate) fn wait_command(
     lacks_program: bool,
 ) -> Result<WaitCommand, UsageFault>
     ensures { let rows = rows_of (found_of matches.now) in
-        MatchResult result (λ command. (wait_fault lacks_program rows ≡ None) × IsWaitCommand rows command) (λ fault. wait_fault lacks_program rows ≡ Some fault) }
+        MatchResult result (λ command. (wait_fault lacks_program rows ≡ None) × IsWaitCommand rows command)
+        (λ fault. wait_fault lacks_program rows ≡ Some fault) }
 {
     if conditions(matches) > 1 || modes(matches) > 1 {
         return Err(UsageFault::TooMany);
