@@ -2,7 +2,9 @@
 #![tactic(auto)]
 
 mod at;
+mod condition;
 mod exit;
+mod field;
 mod history;
 mod ids;
 mod mark;
@@ -14,7 +16,9 @@ mod order;
 mod tests;
 
 pub use at::At;
+pub use condition::{Condition, Mode};
 pub use exit::Exit;
+pub use field::Field;
 pub use history::{History, Plan};
 pub use ids::{Actor, Sid, SubId, WaitId};
 pub use mark::{Letter, Mark};

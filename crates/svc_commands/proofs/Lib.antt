@@ -1,0 +1,5 @@
+pub mod Words
+pub mod Parses
+pub mod NameWords
+pub mod Cuts
+pub mod Items

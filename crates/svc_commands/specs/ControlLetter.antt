@@ -1,5 +1,5 @@
 -- The control letters of a service: the byte of each, and the signal that it stands for.
-use Rattle.std.specs.Prelude.{ℕ, Option, None, Some}
+use Rattle.std.specs.Prelude.{ℕ, List, [], ◌∷◌, ◌==◌, Option, None, Some, find}
 use Rattle.svc_commands.specs.declared.control_letter.ControlLetter.{ControlLetter}
 use Rattle.svc_commands.specs.declared.control_letter.ControlLetter.TheVariants.{Alarm, Abort, Quit, Hangup, Kill, Interrupt, Terminate, User1, User2, Pause, Continue, WindowChange, Up, Down, Once, Restart, Exit}
 
@@ -22,6 +22,16 @@ byte_of Down = 100
 byte_of Once = 79
 byte_of Restart = 114
 byte_of Exit = 120
+
+-- all of them
+abbrev pub control_letters : List ControlLetter
+control_letters =
+    Alarm ∷ Abort ∷ Quit ∷ Hangup ∷ Kill ∷ Interrupt ∷ Terminate ∷ User1 ∷ User2 ∷ Pause ∷ Continue ∷ WindowChange ∷ Up ∷ Down
+    ∷ Once ∷ Restart ∷ Exit ∷ []
+
+-- the letter whose byte it is
+unfoldable pub letter_of_byte : ℕ → Option ControlLetter
+letter_of_byte b = find (λ letter. byte_of letter == b) control_letters
 
 -- the number of the signal that the letter stands for, by Linux on x86-64
 abbrev pub signal_of : ControlLetter → Option ℕ

@@ -1,1 +1,9 @@
 pub mod ControlLetter
+pub mod LetterWords
+pub mod ReadWords
+pub mod LetterCommands
+pub mod Fields
+pub mod Kinds
+pub mod Matches
+pub mod FirstFault
+pub mod LineCommands

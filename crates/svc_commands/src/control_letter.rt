@@ -1,5 +1,5 @@
-ghost use Rattle.std.specs.Prelude.{◌≡◌};
-ghost use Rattle.svc_commands.specs.ControlLetter.{byte_of, signal_of};
+ghost use Rattle.std.specs.Prelude.{◌≡◌, ◌==◌, find};
+ghost use Rattle.svc_commands.specs.ControlLetter.{byte_of, letter_of_byte, signal_of};
 
 use arrayvec::ArrayVec;
 
@@ -47,7 +47,36 @@ pub enum ControlLetter {
 /// The letters of one call, in the order written: at most 63. Page `s6-svc`; the number is this project's own rule.
 pub type Letters = ArrayVec<ControlLetter, 63>;
 
+/// All control letters.
+const ALL: [ControlLetter; 17] = [
+    ControlLetter::Alarm,
+    ControlLetter::Abort,
+    ControlLetter::Quit,
+    ControlLetter::Hangup,
+    ControlLetter::Kill,
+    ControlLetter::Interrupt,
+    ControlLetter::Terminate,
+    ControlLetter::User1,
+    ControlLetter::User2,
+    ControlLetter::Pause,
+    ControlLetter::Continue,
+    ControlLetter::WindowChange,
+    ControlLetter::Up,
+    ControlLetter::Down,
+    ControlLetter::Once,
+    ControlLetter::Restart,
+    ControlLetter::Exit,
+];
+
 impl ControlLetter {
+    /// The letter that is written as this byte, or None where it is none. Takes no memory.
+    #[tactic(auto, unfolding(crate::specs::ControlLetter::letter_of_byte))]
+    pub fn of_byte(byte: u8) -> Option<ControlLetter>
+        ensures { result ≡ letter_of_byte byte }
+    {
+        among(ALL.as_slice(), byte)
+    }
+
     /// The byte that is written for it.
     pub fn byte(self) -> u8
         ensures { result ≡ byte_of self }
@@ -97,4 +126,11 @@ impl ControlLetter {
             | ControlLetter::Exit => None,
         }
     }
+}
+
+// The first of some letters that is written as this byte.
+fn among(letters: &[ControlLetter], byte: u8) -> Option<ControlLetter>
+    ensures { result ≡ find (λ letter. byte_of letter == byte) letters.now }
+{
+    letters.iter().copied().find(|letter| letter.byte() == byte)
 }

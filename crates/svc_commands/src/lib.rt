@@ -2,5 +2,23 @@
 #![tactic(auto)]
 
 mod control_letter;
+mod letter_words;
+mod matches;
+mod names;
+mod svc;
+mod svlisten;
+mod svscanctl;
+mod svstat;
+mod svwait;
+#[cfg(test)]
+mod tests;
+mod usage_fault;
 
 pub use control_letter::{ControlLetter, Letters};
+pub use names::Names;
+pub use svc::{SvcCommand, compile_svc};
+pub use svlisten::{ListenCommand, compile_svlisten};
+pub use svscanctl::{ScanCommand, ScanLetter, ScanLetters, compile_svscanctl};
+pub use svstat::{StatCommand, compile_svstat};
+pub use svwait::{WaitCommand, compile_svwait};
+pub use usage_fault::UsageFault;

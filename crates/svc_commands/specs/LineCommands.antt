@@ -1,0 +1,18 @@
+-- What a contract sees of what svwait, svlisten and svstat were told.
+use Rattle.std.specs.Prelude.{◌≡◌, List, Some, option_map}
+use Rattle.clap.specs.Words.{Row}
+use Rattle.svc_commands.specs.Matches.{condition_of, mode_of, timeout_of, names_of, fields_in, list_given, name_given}
+use Rattle.svc_commands.specs.declared.svstat.StatCommand.{StatCommand}
+use Rattle.svc_commands.specs.declared.svwait.WaitCommand.{WaitCommand}
+
+-- the command is what the matches say
+pub record IsWaitCommand (rows : List Row) (command : WaitCommand) : Type 0 where
+  pub condition : command.condition ≡ condition_of rows
+  pub mode : command.mode ≡ mode_of rows
+  pub timeout : command.timeout ≡ timeout_of rows
+  pub names : command.names.items ≡ names_of rows
+
+-- the command is what the matches say
+pub record IsStatCommand (rows : List Row) (command : StatCommand) : Type 0 where
+  pub name : name_given rows ≡ Some command.name
+  pub fields : option_map fields_in (list_given rows) ≡ Some command.fields.items

@@ -1,0 +1,114 @@
+//! What svwait, svlisten and svstat have in common: a simple command of `clap`, and its matches.
+ghost use Rattle.std.specs.Prelude.{◌≡◌, [], true, IfOk, MatchResult, map, codes, option_map};
+ghost use Rattle.clap.specs.Words.{app_of, with_rule, rows_of, found_of, first_of, all_of};
+ghost use Rattle.svc_commands.specs.Matches.{flag_rule, option_rule, names_rule, name_rule, plain_app, with_wait_rules, is_simple_app, rows_for, kinds_for};
+ghost use Rattle.svc_commands.specs.Kinds.{usage_of, IsUsageFault};
+
+use crate::usage_fault::UsageFault;
+use clap::error::ErrorKind;
+use clap::{Arg, ArgAction, ArgMatches, Command};
+use std::alloc::{AllocError, Global};
+
+// A command with no option, and with no help of its own.
+pub fn plain<'a>(alloc: Global, name: &'a str) -> Command<'a>
+    ensures { app_of result ≡ plain_app name.entry.now }
+{
+    Command::new(alloc, name)
+        .no_binary_name(true)
+        .disable_help_flag(true)
+}
+
+// The command with a letter that is counted.
+pub fn with_flag<'a>(
+    alloc: Global,
+    command: Command<'a>,
+    id: &'a str,
+    letter: char,
+) -> Result<Command<'a>, AllocError>
+    ensures { IfOk result (λ r. app_of r ≡ with_rule (app_of command.entry) (flag_rule id.entry.now letter)) }
+{
+    let flag = Arg::new(alloc, id).short(letter).action(ArgAction::Count);
+    command.arg(flag)
+}
+
+// The command with a letter that has a value.
+pub fn with_option<'a>(
+    alloc: Global,
+    command: Command<'a>,
+    id: &'a str,
+    letter: char,
+) -> Result<Command<'a>, AllocError>
+    ensures { IfOk result (λ r. app_of r ≡ with_rule (app_of command.entry) (option_rule id.entry.now letter)) }
+{
+    let option = Arg::new(alloc, id).short(letter).action(ArgAction::Set);
+    command.arg(option)
+}
+
+// The command with any number of names.
+pub fn with_names<'a>(alloc: Global, command: Command<'a>) -> Result<Command<'a>, AllocError>
+    ensures { IfOk result (λ r. app_of r ≡ with_rule (app_of command.entry) names_rule) }
+{
+    let names = Arg::new(alloc, "names").action(ArgAction::Append);
+    command.arg(names)
+}
+
+// The command with one name.
+pub fn with_name<'a>(alloc: Global, command: Command<'a>) -> Result<Command<'a>, AllocError>
+    ensures { IfOk result (λ r. app_of r ≡ with_rule (app_of command.entry) name_rule) }
+{
+    let name = Arg::new(alloc, "name").action(ArgAction::Set);
+    command.arg(name)
+}
+
+// The command with the options that svwait and svlisten have in common.
+pub fn with_wait_options<'a>(alloc: Global, command: Command<'a>) -> Result<Command<'a>, AllocError>
+    ensures { IfOk result (λ r. app_of r ≡ with_wait_rules (app_of command.entry)) }
+{
+    let command = with_flag(alloc, command, "u", 'u')?;
+    let command = with_flag(alloc, command, "U", 'U')?;
+    let command = with_flag(alloc, command, "d", 'd')?;
+    let command = with_flag(alloc, command, "D", 'D')?;
+    let command = with_flag(alloc, command, "a", 'a')?;
+    let command = with_flag(alloc, command, "o", 'o')?;
+    with_option(alloc, command, "t", 't')
+}
+
+// What an error of `clap` is here.
+fn usage(kind: ErrorKind) -> UsageFault
+    ensures { result ≡ usage_of kind }
+{
+    match kind {
+        ErrorKind::OutOfMemory => UsageFault::NoMemory,
+        _ => UsageFault::Unknown,
+    }
+}
+
+// What `clap` finds in the words.
+pub fn matches_in<'a>(
+    command: Command<'a>,
+    words: &'a [&'a str],
+) -> Result<ArgMatches<'a>, UsageFault>
+    requires { is_simple_app (app_of command) ≡ true }
+    ensures rows { IfOk result (λ m. rows_of (found_of m) ≡ rows_for (app_of command.entry) (map (λ w. w.now) words.entry.now)) }
+    ensures kinds { MatchResult result (λ _. kinds_for (app_of command.entry) (map (λ w. w.now) words.entry.now) ≡ [])
+        (IsUsageFault (kinds_for (app_of command.entry) (map (λ w. w.now) words.entry.now))) }
+{
+    match command.try_get_matches_from(words) {
+        Ok(matches) => Ok(matches),
+        Err(error) => Err(usage(error.kind())),
+    }
+}
+
+// The text behind an option, or the one name.
+pub fn text_of<'a>(matches: &ArgMatches<'a>, id: &str) -> Option<&'a str>
+    ensures { option_map (λ s. s.now) result ≡ first_of id.now (rows_of (found_of matches.now)) }
+{
+    matches.get_str(id)
+}
+
+// The names.
+pub fn name_words<'m, 'a>(matches: &'m ArgMatches<'a>) -> Option<&'m [&'a str]>
+    ensures { option_map (λ s. map (λ v. v.now) s.now) result ≡ all_of (codes "names") (rows_of (found_of matches.entry.now)) }
+{
+    matches.get_strs("names")
+}

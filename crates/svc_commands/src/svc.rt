@@ -1,0 +1,97 @@
+ghost use Rattle.std.specs.Prelude.{◌≡◌, ◌<◌, ◌≤◌, ◌++◌, ◌∷◌, [], None, Some, length, map, flat_map, is_some, MatchResult};
+ghost use Rattle.svc_commands.specs.LetterWords.{letter_fault, run_fault, name_fault, svc_letters, svc_fault};
+ghost use Rattle.svc_commands.specs.LetterCommands.{IsSvcCommand};
+ghost use Rattle.svc_commands.specs.ReadWords.{IsRead, IsRefused, AddsName};
+
+use crate::control_letter::{ControlLetter, Letters};
+use crate::letter_words::run_of;
+use crate::names::name_of;
+use crate::usage_fault::UsageFault;
+use s6_events::Name;
+
+/// What a service is told: `letters`, in their order, in one step.
+#[derive(Debug, Drop)]
+pub struct SvcCommand {
+    pub name: Name,
+    pub letters: Letters,
+}
+
+/// Reads the words behind `svc`: runs of letters, each behind a dash, and one name, in any order; `o` is `u` and `O`. The first
+/// fault in the order of writing is told: Unknown for a dash alone or a letter that is none, TooMany for a 64th letter or a
+/// second name, BadName for another word that is no name; after all words Missing, where no letter or no name was there. Takes
+/// no memory. Page `s6-svc`; the limit and the faults are this project's own rule.
+pub fn compile_svc(words: &[&str]) -> Result<SvcCommand, UsageFault>
+    ensures { MatchResult result (IsSvcCommand (map (λ w. w.now) words.now)) (λ fault. svc_fault (map (λ w. w.now) words.now) ≡ Some fault) }
+{
+    let mut letters = Letters::new();
+    let mut name = None;
+    for word in words {
+        read_word(&mut letters, &mut name, word.as_bytes())?;
+    }
+    match name {
+        Some(name) if !letters.is_empty() => Ok(SvcCommand { name, letters }),
+        _ => Err(UsageFault::Missing),
+    }
+}
+
+// Adds the letters of a run, or takes the name.
+fn read_word(letters: &mut Letters, name: &mut Option<Name>, word: &[u8]) -> Result<(), UsageFault>
+    ensures { MatchResult result (λ _. AddsName word.now name.old name.new
+        × IsRead svc_letters name_fault word.now letters.old.items (is_some name.old) letters.new.items (is_some name.new))
+        (λ fault. IsRefused svc_letters name_fault word.now letters.old.items (is_some name.old) fault) }
+{
+    if let Some(run) = run_of(word) {
+        return add_run(letters, run);
+    }
+    *name = Some(only_name(*name, word)?);
+    Ok(())
+}
+
+// The name that a word is, where none came before it.
+fn only_name(before: Option<Name>, word: &[u8]) -> Result<Name, UsageFault>
+    ensures { MatchResult result (λ name. (name ≡ word.now) × (name_fault (is_some before) word.now ≡ None))
+        (λ fault. name_fault (is_some before) word.now ≡ Some fault) }
+{
+    let name = name_of(word)?;
+    match before {
+        Some(_) => Err(UsageFault::TooMany),
+        None => Ok(name),
+    }
+}
+
+// Adds the letters of a run.
+fn add_run(letters: &mut Letters, run: &[u8]) -> Result<(), UsageFault>
+    ensures { MatchResult result (λ _. (run_fault svc_letters (length letters.old.items) run.now ≡ None)
+        × (letters.new.items ≡ letters.old.items ++ flat_map svc_letters run.now))
+        (λ fault. run_fault svc_letters (length letters.old.items) run.now ≡ Some fault) }
+{
+    if run.is_empty() {
+        return Err(UsageFault::Unknown);
+    }
+    for byte in run {
+        add_byte(letters, *byte)?;
+    }
+    Ok(())
+}
+
+// Adds what one byte means.
+#[tactic(auto, unfolding(crate::specs::LetterWords::svc_letters))]
+fn add_byte(letters: &mut Letters, byte: u8) -> Result<(), UsageFault>
+    ensures { MatchResult result (λ _. (letter_fault (length letters.old.items) (svc_letters byte) ≡ None)
+        × (letters.new.items ≡ letters.old.items ++ svc_letters byte))
+        (λ fault. letter_fault (length letters.old.items) (svc_letters byte) ≡ Some fault) }
+{
+    if byte == b'o' {
+        add_letter(letters, ControlLetter::Up)?;
+        return add_letter(letters, ControlLetter::Once);
+    }
+    let letter = ControlLetter::of_byte(byte).ok_or(UsageFault::Unknown)?;
+    add_letter(letters, letter)
+}
+
+fn add_letter(letters: &mut Letters, letter: ControlLetter) -> Result<(), UsageFault>
+    ensures { MatchResult result (λ _. (length letters.old.items < 63) × (letters.new.items ≡ letters.old.items ++ letter ∷ []))
+        (λ fault. (63 ≤ length letters.old.items) × (fault ≡ UsageFault.TooMany)) }
+{
+    letters.try_push(letter).map_err(|_| UsageFault::TooMany)
+}

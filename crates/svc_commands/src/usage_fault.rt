@@ -1,0 +1,29 @@
+use thiserror::Error;
+
+/// Why the words of a command were not read, the first cause that is met. What a command was told then does not happen at all.
+/// The seven and their order are this project's own rule.
+#[derive(Clone, Copy, Debug, PartialEq, Eq, Error)]
+pub enum UsageFault {
+    /// An option or a letter that the command has not, an option without its value or given twice, a dash with no letter, or a
+    /// word where none is taken.
+    #[error("an option or a word is not known here: leave it out, or spell it as the command's page does")]
+    Unknown = 1,
+    /// What the command cannot do without is not there: a letter, a name, the fields, or the program.
+    #[error("a letter, a name, the fields or the program is missing: add it")]
+    Missing = 2,
+    /// More than 63 letters, a second name where one is taken, more than 16 names, two conditions or two modes.
+    #[error("there are too many letters, names, conditions or modes: leave some out")]
+    TooMany = 3,
+    /// The timeout is no number from 0 to 4294967295, in digits.
+    #[error("the timeout is no number: write milliseconds in digits, at most 4294967295")]
+    BadNumber = 4,
+    /// A field of the list is none of the ten, or is empty.
+    #[error("the list names no field that is known: write known fields, with one comma between two")]
+    BadList = 5,
+    /// A word in the place of a name is no `Name`.
+    #[error("a name is no name of a service: write 1 to 64 of A-Z a-z 0-9 . _ - @, with no dot in front")]
+    BadName = 6,
+    /// A growth was refused.
+    #[error("out of memory: try again when there is more")]
+    NoMemory = 7,
+}
