@@ -69,7 +69,8 @@ impl Service {
     pub fn chart(&self) -> ChartState
         ensures { result ≡ self.now.chart }
     {
-        self.chart
+        let Service { chart, .. } = self;
+        *chart
     }
 
     /// Its status row: that of each history which agrees with what it stores. Takes no memory. Page `s6-svstat`.
