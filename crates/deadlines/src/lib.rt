@@ -2,9 +2,9 @@
 #![tactic(auto)]
 
 mod deadlines;
-mod timer;
 #[cfg(test)]
 mod tests;
+mod timer;
 
 pub use deadlines::{Deadlines, Plan};
 pub use timer::{Timer, TimerChange};

@@ -13,7 +13,10 @@ fn a_timer_is_due_from_its_moment_on(rt: HostRuntime) -> Result<(), Fail> {
     let mut deadlines = Deadlines::new(rt.alloc());
     deadlines.set(Sid(1), at(1300)?)?;
     assert!(rt; deadlines.due(rt.alloc(), at(1299)?)?.is_empty());
-    assert_eq!(rt; deadlines.due(rt.alloc(), at(1300)?)?.as_slice(), [Sid(1)].as_slice());
+    assert_eq!(rt;
+        deadlines.due(rt.alloc(), at(1300)?)?.as_slice(),
+        [Sid(1)].as_slice()
+    );
     Ok(())
 }
 
@@ -61,7 +64,10 @@ fn a_refused_growth_changes_nothing(rt: HostRuntime) -> Result<(), Fail> {
                 done = done.saturating_add(1);
                 deadlines.commit(plan);
                 let due = deadlines.due(rt.alloc(), at(9)?)?;
-                assert_eq!(rt; due.as_slice(), [Sid(2), Sid(4), Sid(5), Sid(6), Sid(7)].as_slice());
+                assert_eq!(rt;
+                    due.as_slice(),
+                    [Sid(2), Sid(4), Sid(5), Sid(6), Sid(7)].as_slice()
+                );
                 if deadlines.due(&heap, at(9)?).is_err() {
                     refused = refused.saturating_add(1);
                 }

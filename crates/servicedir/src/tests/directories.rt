@@ -61,7 +61,14 @@ fn refuses(
 fn a_directory_with_and_without_run(rt: HostRuntime) -> Result<(), Fail> {
     let mut config = Config::plain();
     config.timeout_kill = 500;
-    says(&rt, rt.alloc(), ServiceFile::TimeoutKill, b"500\n", config, None)?;
+    says(
+        &rt,
+        rt.alloc(),
+        ServiceFile::TimeoutKill,
+        b"500\n",
+        config,
+        None,
+    )?;
     let plain = Config {
         down: false,
         finish: false,
@@ -73,7 +80,13 @@ fn a_directory_with_and_without_run(rt: HostRuntime) -> Result<(), Fail> {
     };
     let bare = [(ServiceFile::Run, b"".as_slice())];
     let found = read_these(rt.alloc(), &bare)?;
-    assert_eq!(rt; found, Found { config: plain, note: None });
+    assert_eq!(rt;
+        found,
+        Found {
+            config: plain,
+            note: None
+        }
+    );
     let without = [(ServiceFile::TimeoutKill, b"500\n".as_slice())];
     refuses(&rt, rt.alloc(), &without, DirFault::NoRun)?;
     refuses(&rt, rt.alloc(), &[], DirFault::NoRun)
@@ -107,7 +120,14 @@ const OTHER_TYPES: [&[u8]; 9] = [
 #[test]
 fn a_type_is_longrun_or_refused(rt: HostRuntime) -> Result<(), Fail> {
     for text in [b"longrun".as_slice(), b"longrun\n"] {
-        says(&rt, rt.alloc(), ServiceFile::Kind, text, Config::plain(), None)?;
+        says(
+            &rt,
+            rt.alloc(),
+            ServiceFile::Kind,
+            text,
+            Config::plain(),
+            None,
+        )?;
     }
     for text in OTHER_TYPES {
         let kind = (ServiceFile::Kind, text);
@@ -119,6 +139,7 @@ fn a_type_is_longrun_or_refused(rt: HostRuntime) -> Result<(), Fail> {
 }
 
 const NOTED: Option<DirFault> = Some(DirFault::NotifyFd);
+
 const DESCRIPTORS: [(&[u8], Option<u8>, Option<DirFault>); 16] = [
     (b"1\n", Some(1), None),
     (b"3", Some(3), None),
@@ -143,7 +164,14 @@ fn a_descriptor_that_is_not_served_is_noted(rt: HostRuntime) -> Result<(), Fail>
     for (text, descriptor, note) in DESCRIPTORS {
         let mut config = Config::plain();
         config.notification_fd = descriptor;
-        says(&rt, rt.alloc(), ServiceFile::NotificationFd, text, config, note)?;
+        says(
+            &rt,
+            rt.alloc(),
+            ServiceFile::NotificationFd,
+            text,
+            config,
+            note,
+        )?;
     }
     Ok(())
 }
@@ -169,7 +197,14 @@ fn reads_the_timeouts(rt: HostRuntime) -> Result<(), Fail> {
         says(&rt, rt.alloc(), ServiceFile::TimeoutKill, text, kill, None)?;
         let mut finish = Config::plain();
         finish.timeout_finish = number.unwrap_or(5000);
-        says(&rt, rt.alloc(), ServiceFile::TimeoutFinish, text, finish, None)?;
+        says(
+            &rt,
+            rt.alloc(),
+            ServiceFile::TimeoutFinish,
+            text,
+            finish,
+            None,
+        )?;
     }
     Ok(())
 }
@@ -196,7 +231,14 @@ fn keeps_no_more_than_4096_deaths(rt: HostRuntime) -> Result<(), Fail> {
     for (text, deaths) in DEATHS {
         let mut config = Config::plain();
         config.max_death_tally = deaths;
-        says(&rt, rt.alloc(), ServiceFile::MaxDeathTally, text, config, None)?;
+        says(
+            &rt,
+            rt.alloc(),
+            ServiceFile::MaxDeathTally,
+            text,
+            config,
+            None,
+        )?;
     }
     Ok(())
 }
@@ -292,9 +334,17 @@ fn a_failed_reading_is_answered_unless_a_fault_came_before(rt: HostRuntime) -> R
     for (place, file) in IN_ORDER.iter().enumerate() {
         let was_read = fails_at(&rt, rt.alloc(), &[run, longrun], *file, DirFault::Io)?;
         assert!(rt; was_read, "{file:?}");
-        let fault = if place < 2 { DirFault::Io } else { DirFault::NotLongrun };
+        let fault = if place < 2 {
+            DirFault::Io
+        } else {
+            DirFault::NotLongrun
+        };
         fails_at(&rt, rt.alloc(), &[run, oneshot], *file, fault)?;
-        let fault = if place < 1 { DirFault::Io } else { DirFault::NoRun };
+        let fault = if place < 1 {
+            DirFault::Io
+        } else {
+            DirFault::NoRun
+        };
         fails_at(&rt, rt.alloc(), &[oneshot], *file, fault)?;
     }
     Ok(())
@@ -322,7 +372,11 @@ fn a_refused_growth_is_answered(rt: HostRuntime) -> Result<(), Fail> {
             Ok(found) => {
                 done = done.saturating_add(1);
                 let config = found.config;
-                let read = (config.timeout_kill, config.timeout_finish, config.down_signal);
+                let read = (
+                    config.timeout_kill,
+                    config.timeout_finish,
+                    config.down_signal,
+                );
                 assert_eq!(rt; read, (500, 0, 15));
             }
             Err(fault) => {

@@ -93,7 +93,11 @@ fn reads_signals(rt: HostRuntime) {
     for (text, signal) in rows {
         is_signal(&rt, text, parse_signal(text), signal);
     }
-    for (word, signal) in [(b"SIGKILL".as_slice(), Some(9)), (b"KILL\n", None), (b"9", None)] {
+    for (word, signal) in [
+        (b"SIGKILL".as_slice(), Some(9)),
+        (b"KILL\n", None),
+        (b"9", None),
+    ] {
         is_signal(&rt, word, signal_named(word), signal);
     }
 }

@@ -64,9 +64,30 @@ fn ready_service_restarts_at_once(rt: HostRuntime) -> Result<(), Fail> {
     };
     let again = [Order::Run(Sid(1), 2, web()?, Some(3))];
     let mut service = begin(&rt, rt.alloc(), config)?;
-    step(&rt, &mut service, 0, &Change::Started(1, 500), &[Mark::Spawned], &[])?;
-    step(&rt, &mut service, 100, &notify(b"a\n\n")?, &[Mark::Ready], &[])?;
-    step(&rt, &mut service, 1101, &Change::Death(1, Exit::Code(0)), &[Mark::Died, Mark::FinishDone], &again)?;
+    step(
+        &rt,
+        &mut service,
+        0,
+        &Change::Started(1, 500),
+        &[Mark::Spawned],
+        &[],
+    )?;
+    step(
+        &rt,
+        &mut service,
+        100,
+        &notify(b"a\n\n")?,
+        &[Mark::Ready],
+        &[],
+    )?;
+    step(
+        &rt,
+        &mut service,
+        1101,
+        &Change::Death(1, Exit::Code(0)),
+        &[Mark::Died, Mark::FinishDone],
+        &again,
+    )?;
     Ok(())
 }
 
@@ -78,9 +99,30 @@ fn ready_for_exactly_a_second_pauses(rt: HostRuntime) -> Result<(), Fail> {
     };
     let again = [Order::Run(Sid(1), 2, web()?, Some(3))];
     let mut service = begin(&rt, rt.alloc(), config)?;
-    step(&rt, &mut service, 0, &Change::Started(1, 500), &[Mark::Spawned], &[])?;
-    step(&rt, &mut service, 100, &notify(b"a\n\n")?, &[Mark::Ready], &[])?;
-    step(&rt, &mut service, 1100, &Change::Death(1, Exit::Code(0)), &[Mark::Died, Mark::FinishDone], &[])?;
+    step(
+        &rt,
+        &mut service,
+        0,
+        &Change::Started(1, 500),
+        &[Mark::Spawned],
+        &[],
+    )?;
+    step(
+        &rt,
+        &mut service,
+        100,
+        &notify(b"a\n\n")?,
+        &[Mark::Ready],
+        &[],
+    )?;
+    step(
+        &rt,
+        &mut service,
+        1100,
+        &Change::Death(1, Exit::Code(0)),
+        &[Mark::Died, Mark::FinishDone],
+        &[],
+    )?;
     step(&rt, &mut service, 2099, &Change::Fire, &[], &[])?;
     step(&rt, &mut service, 2100, &Change::Fire, &[], &again)?;
     Ok(())
@@ -96,10 +138,38 @@ fn finish_of_125_is_permanent_failure(rt: HostRuntime) -> Result<(), Fail> {
     let failed = [Mark::PermanentFailure, Mark::FinishDone];
     let again = [Order::Run(Sid(1), 2, web()?, None)];
     let mut service = begin(&rt, rt.alloc(), config)?;
-    step(&rt, &mut service, 0, &Change::Started(1, 500), &[Mark::Spawned], &[])?;
-    step(&rt, &mut service, 10, &Change::Death(1, Exit::Killed(9)), &[Mark::Died], &finish)?;
-    step(&rt, &mut service, 20, &Change::FinishEnded(1, Exit::Code(125)), &failed, &[])?;
-    step(&rt, &mut service, 30, &control(&[ControlLetter::Up])?, &[], &again)?;
+    step(
+        &rt,
+        &mut service,
+        0,
+        &Change::Started(1, 500),
+        &[Mark::Spawned],
+        &[],
+    )?;
+    step(
+        &rt,
+        &mut service,
+        10,
+        &Change::Death(1, Exit::Killed(9)),
+        &[Mark::Died],
+        &finish,
+    )?;
+    step(
+        &rt,
+        &mut service,
+        20,
+        &Change::FinishEnded(1, Exit::Code(125)),
+        &failed,
+        &[],
+    )?;
+    step(
+        &rt,
+        &mut service,
+        30,
+        &control(&[ControlLetter::Up])?,
+        &[],
+        &again,
+    )?;
     Ok(())
 }
 
@@ -111,9 +181,30 @@ fn once_letters_and_row_after_death(rt: HostRuntime) -> Result<(), Fail> {
     };
     let run = [Order::Run(Sid(1), 1, web()?, None)];
     let mut service = begin(&rt, rt.alloc(), config)?;
-    step(&rt, &mut service, 1, &control(&[ControlLetter::Up, ControlLetter::Once])?, &[], &run)?;
-    step(&rt, &mut service, 2, &Change::Started(1, 500), &[Mark::Spawned], &[])?;
-    step(&rt, &mut service, 5000, &Change::Death(1, Exit::Code(0)), &[Mark::Died, Mark::FinishDone], &[])?;
+    step(
+        &rt,
+        &mut service,
+        1,
+        &control(&[ControlLetter::Up, ControlLetter::Once])?,
+        &[],
+        &run,
+    )?;
+    step(
+        &rt,
+        &mut service,
+        2,
+        &Change::Started(1, 500),
+        &[Mark::Spawned],
+        &[],
+    )?;
+    step(
+        &rt,
+        &mut service,
+        5000,
+        &Change::Death(1, Exit::Code(0)),
+        &[Mark::Died, Mark::FinishDone],
+        &[],
+    )?;
     let row = Row {
         sid: Sid(1),
         name: web()?,
@@ -134,8 +225,22 @@ fn once_letters_and_row_after_death(rt: HostRuntime) -> Result<(), Fail> {
 #[test]
 fn down_before_the_spawn_waits_for_it(rt: HostRuntime) -> Result<(), Fail> {
     let mut service = begin(&rt, rt.alloc(), Config::plain())?;
-    step(&rt, &mut service, 5, &control(&[ControlLetter::Down])?, &[], &[])?;
-    step(&rt, &mut service, 8, &Change::Started(1, 500), &[Mark::Spawned], &DOWN_SIGNAL)?;
+    step(
+        &rt,
+        &mut service,
+        5,
+        &control(&[ControlLetter::Down])?,
+        &[],
+        &[],
+    )?;
+    step(
+        &rt,
+        &mut service,
+        8,
+        &Change::Started(1, 500),
+        &[Mark::Spawned],
+        &DOWN_SIGNAL,
+    )?;
     Ok(())
 }
 
@@ -146,11 +251,39 @@ fn kill_timer_is_not_set_later(rt: HostRuntime) -> Result<(), Fail> {
         ..Config::plain()
     };
     let mut service = begin(&rt, rt.alloc(), config)?;
-    step(&rt, &mut service, 0, &Change::Started(1, 500), &[Mark::Spawned], &[])?;
-    step(&rt, &mut service, 100, &control(&[ControlLetter::Down])?, &[], &DOWN_SIGNAL)?;
-    step(&rt, &mut service, 300, &control(&[ControlLetter::Down])?, &[], &DOWN_SIGNAL)?;
+    step(
+        &rt,
+        &mut service,
+        0,
+        &Change::Started(1, 500),
+        &[Mark::Spawned],
+        &[],
+    )?;
+    step(
+        &rt,
+        &mut service,
+        100,
+        &control(&[ControlLetter::Down])?,
+        &[],
+        &DOWN_SIGNAL,
+    )?;
+    step(
+        &rt,
+        &mut service,
+        300,
+        &control(&[ControlLetter::Down])?,
+        &[],
+        &DOWN_SIGNAL,
+    )?;
     step(&rt, &mut service, 599, &Change::Fire, &[], &[])?;
-    step(&rt, &mut service, 600, &Change::Fire, &[], &[Order::Signal(Sid(1), 1, 9)])?;
+    step(
+        &rt,
+        &mut service,
+        600,
+        &Change::Fire,
+        &[],
+        &[Order::Signal(Sid(1), 1, 9)],
+    )?;
     Ok(())
 }
 
@@ -163,11 +296,39 @@ fn finish_is_killed_at_its_timeout(rt: HostRuntime) -> Result<(), Fail> {
     let finish = [Order::Finish(Sid(1), 1, web()?, 0, 0)];
     let again = [Order::Run(Sid(1), 2, web()?, None)];
     let mut service = begin(&rt, rt.alloc(), config)?;
-    step(&rt, &mut service, 0, &Change::Started(1, 5), &[Mark::Spawned], &[])?;
-    step(&rt, &mut service, 10, &Change::Death(1, Exit::Code(0)), &[Mark::Died], &finish)?;
+    step(
+        &rt,
+        &mut service,
+        0,
+        &Change::Started(1, 5),
+        &[Mark::Spawned],
+        &[],
+    )?;
+    step(
+        &rt,
+        &mut service,
+        10,
+        &Change::Death(1, Exit::Code(0)),
+        &[Mark::Died],
+        &finish,
+    )?;
     step(&rt, &mut service, 5009, &Change::Fire, &[], &[])?;
-    step(&rt, &mut service, 5010, &Change::Fire, &[], &[Order::KillFinish(Sid(1), 1)])?;
-    step(&rt, &mut service, 5011, &Change::FinishEnded(1, Exit::Killed(9)), &[Mark::FinishDone], &again)?;
+    step(
+        &rt,
+        &mut service,
+        5010,
+        &Change::Fire,
+        &[],
+        &[Order::KillFinish(Sid(1), 1)],
+    )?;
+    step(
+        &rt,
+        &mut service,
+        5011,
+        &Change::FinishEnded(1, Exit::Killed(9)),
+        &[Mark::FinishDone],
+        &again,
+    )?;
     Ok(())
 }
 
@@ -185,7 +346,14 @@ fn failed_spawn_is_tried_after_a_minute(rt: HostRuntime) -> Result<(), Fail> {
 #[test]
 fn status_of_a_running_service(rt: HostRuntime) -> Result<(), Fail> {
     let mut service = begin(&rt, rt.alloc(), Config::plain())?;
-    step(&rt, &mut service, 100, &Change::Started(1, 7), &[Mark::Spawned], &[])?;
+    step(
+        &rt,
+        &mut service,
+        100,
+        &Change::Started(1, 7),
+        &[Mark::Spawned],
+        &[],
+    )?;
     let row = Row {
         sid: Sid(1),
         name: web()?,
