@@ -3,3 +3,4 @@ pub mod Joined
 pub mod LineRead
 pub mod Reading
 pub mod Runs
+pub mod Letters

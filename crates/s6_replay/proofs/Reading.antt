@@ -1,5 +1,5 @@
 -- What is spelled is read.
-use Rattle.std.proofs.Common.{◌≡◌, ℕ, ◌+◌, ◌%◌, ◌^◌, ◌<◌, ◌≤◌, List, [], ◌∷◌, refl, ap, ◌∙◌, arith, drop, filter}
+use Rattle.std.proofs.Common.{◌≡◌, ℕ, ◌+◌, ◌%◌, ◌^◌, ◌<◌, ◌≤◌, List, [], ◌∷◌, refl, ap, ◌∙◌, arith, drop, filter, map, rules}
 use Rattle.std.specs.Prelude.{Bool, true, false, cond, ◌==◌, decimal, slice_index_or}
 use Rattle.std.specs.List.{slice_split, list_all}
 use Rattle.std.proofs.lemmas.Bool.{and_parts}
@@ -10,12 +10,14 @@ use Rattle.s6_events.specs.declared.exit.Exit.{Exit}
 use Rattle.s6_events.specs.declared.exit.Exit.TheVariants.{Code, Killed}
 use Rattle.s6_events.specs.Name.{is_name, is_name_byte}
 use Rattle.tree_core.specs.declared.input.Act.{Act}
-use Rattle.tree_core.specs.declared.input.Act.TheVariants.{Scan, Started, StartFailed, Death, FinishEnded, Tick}
+use Rattle.tree_core.specs.declared.input.Act.TheVariants.{Scan, Svc, Started, StartFailed, Death, FinishEnded, Tick}
 use Rattle.tree_core.specs.declared.input.Input.{Input}
 use Rattle.s6_replay.specs.declared.parse.Verb.{Verb}
 use Rattle.s6_replay.specs.declared.parse.Verb.TheVariants.{Scan as ScanVerb}
 use Rattle.s6_replay.specs.Spelling.{IsSpelt, IsExit, IsAct, exit_words, act_words, input_words, spelling}
 use Rattle.s6_replay.specs.Verb.{verb_word, verb_of_act, details}
+use Rattle.svc_commands.specs.ControlLetter.{byte_of}
+use Rattle.svc_commands.specs.declared.control_letter.ControlLetter.{ControlLetter}
 use Rattle.s6_replay.proofs.Joined.{is_no_space, has_no_space, split_joined}
 
 -- where all pass, none is filtered out
@@ -35,6 +37,7 @@ all_filtered p (x ∷ xs) =
 pub scan_read : {A : Type 0} (texts listing : List (List ℕ)) → listing ≡ filter is_name texts
     → (act : Act A) → IsAct act → ScanVerb ≡ verb_of_act act → texts ≡ details act → Scan listing ≡ act
 scan_read texts listing e (Scan names) h v d = ap Scan (e ∙ ap (filter is_name) d ∙ filter_all is_name names h)
+scan_read texts listing e (Svc name letters) h v d = cc
 scan_read texts listing e (Started sid generation pid) h v d = cc
 scan_read texts listing e (StartFailed sid generation) h v d = cc
 scan_read texts listing e (FinishEnded sid generation exit) h v d = cc
@@ -43,6 +46,7 @@ scan_read texts listing e Tick h v d = cc
 
 act_begins : {A : Type 0} (act : Act A) → act_words act ≡ verb_word (verb_of_act act) ∷ details act
 act_begins (Scan names) = refl
+act_begins (Svc name letters) = refl
 act_begins (Started sid generation pid) = refl
 act_begins (StartFailed sid generation) = refl
 act_begins (FinishEnded sid generation exit) = refl
@@ -83,8 +87,16 @@ exit_plain : (e : Exit) → IsExit e → list_all has_no_space (exit_words e) �
 exit_plain (Code n) h = rw (digits_plain n (omega arith)) refl
 exit_plain (Killed n) h = rw (digits_plain n (omega arith)) refl
 
+letter_plain : (l : ControlLetter) → is_no_space (byte_of l) ≡ true
+letter_plain l = search rules
+
+letters_plain : (ls : List ControlLetter) → has_no_space (map byte_of ls) ≡ true
+letters_plain [] = refl
+letters_plain (l ∷ ls) = rw (letter_plain l) (letters_plain ls)
+
 act_plain : {A : Type 0} (act : Act A) → IsAct act → list_all has_no_space (act_words act) ≡ true
 act_plain (Scan names) h = names_plain names h
+act_plain (Svc name letters) h = rw (name_plain name h.0, letters_plain letters.items) refl
 act_plain (Started sid generation pid) h =
     rw (digits_plain sid h.0, digits_plain generation h.1, digits_plain pid (omega arith)) refl
 act_plain (StartFailed sid generation) h = rw (digits_plain sid h.0, digits_plain generation h.1) refl

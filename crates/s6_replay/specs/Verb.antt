@@ -1,14 +1,16 @@
 -- The verb of an act, and the words behind it.
-use Rattle.std.specs.Prelude.{ℕ, List, [], ◌∷◌, codes, decimal}
+use Rattle.std.specs.Prelude.{ℕ, List, [], ◌∷◌, codes, decimal, map}
+use Rattle.svc_commands.specs.ControlLetter.{byte_of}
 use Rattle.tree_core.specs.declared.input.Act.{Act}
-use Rattle.tree_core.specs.declared.input.Act.TheVariants.{Scan, Started, StartFailed, Death, FinishEnded, Tick}
+use Rattle.tree_core.specs.declared.input.Act.TheVariants.{Scan, Svc, Started, StartFailed, Death, FinishEnded, Tick}
 use Rattle.s6_replay.specs.declared.parse.Verb.{Verb}
-use Rattle.s6_replay.specs.declared.parse.Verb.TheVariants.{Scan as ScanVerb, Started as StartedVerb, StartFailed as StartFailedVerb, Death as DeathVerb, Finished as FinishedVerb, Tick as TickVerb}
+use Rattle.s6_replay.specs.declared.parse.Verb.TheVariants.{Scan as ScanVerb, Svc as SvcVerb, Started as StartedVerb, StartFailed as StartFailedVerb, Death as DeathVerb, Finished as FinishedVerb, Tick as TickVerb}
 use Rattle.s6_replay.specs.Spelling.{exit_words}
 
 -- the word of a verb
 abbrev pub verb_word : Verb → List ℕ
 verb_word ScanVerb = codes "scan"
+verb_word SvcVerb = codes "svc"
 verb_word StartedVerb = codes "started"
 verb_word StartFailedVerb = codes "startfailed"
 verb_word DeathVerb = codes "death"
@@ -18,6 +20,7 @@ verb_word TickVerb = codes "tick"
 -- the verb of an act
 abbrev pub verb_of_act : {A : Type 0} → Act A → Verb
 verb_of_act (Scan names) = ScanVerb
+verb_of_act (Svc name letters) = SvcVerb
 verb_of_act (Started sid generation pid) = StartedVerb
 verb_of_act (StartFailed sid generation) = StartFailedVerb
 verb_of_act (Death sid generation exit) = DeathVerb
@@ -27,6 +30,7 @@ verb_of_act Tick = TickVerb
 -- the words of an act behind its verb
 abbrev pub details : {A : Type 0} → Act A → List (List ℕ)
 details (Scan names) = names
+details (Svc name letters) = name ∷ map byte_of letters.items ∷ []
 details (Started sid generation pid) = decimal sid ∷ decimal generation ∷ decimal pid ∷ []
 details (StartFailed sid generation) = decimal sid ∷ decimal generation ∷ []
 details (Death sid generation exit) = decimal sid ∷ decimal generation ∷ exit_words exit

@@ -1,15 +1,18 @@
 //! Reading an input line. A line is first read as the input that it comes closest to; that input is spelled again, and only
 //! where this gives the line it is answered. So each form that is no input of the page is refused with no case of its own.
-ghost use Rattle.std.specs.Prelude.{◌≡◌, ◌≢◌, ℕ, ◌≤◌, ◌∷◌, [], List, Bool, Err, IfOk, decimal, map, filter, bytes_eq, drop, slice_index_or, ◌==◌};
+ghost use Rattle.std.specs.Prelude.{◌≡◌, ◌≢◌, ℕ, ◌≤◌, ◌<◌, ◌∷◌, ◌++◌, [], List, Bool, Err, IfOk, decimal, map, filter, bytes_eq, drop, slice_index_or, ◌==◌, length, true};
 ghost use Rattle.std.specs.List.{slice_split};
 ghost use Rattle.s6_events.specs.Name.{is_name};
 ghost use Rattle.s6_replay.specs.Spelling.{IsSpelt, IsExit, IsAct, Spells, exit_words, input_words};
+ghost use Rattle.svc_commands.specs.ControlLetter.{byte_of};
+ghost use Rattle.svc_commands.specs.declared.control_letter.ControlLetter.{ControlLetter};
 ghost use Rattle.s6_replay.specs.Verb.{verb_word, verb_of_act, details};
 
 use super::spelling::spell;
 use s6_events::{Actor, At, Exit, Name, Sid};
 use std::alloc::{AllocError, Allocator};
 use std::str;
+use svc_commands::{ControlLetter, Letters};
 use thiserror::Error;
 use tree_core::{Act, Input, Listing};
 
@@ -31,6 +34,7 @@ pub enum LineFault {
 #[derive(Clone, Copy, Debug, PartialEq, Eq)]
 pub enum Verb {
     Scan,
+    Svc,
     Started,
     StartFailed,
     Death,
@@ -117,6 +121,8 @@ fn verb_of(word: &[u8]) -> Verb
 {
     if is_word(word, b"scan") {
         Verb::Scan
+    } else if is_word(word, b"svc") {
+        Verb::Svc
     } else if is_word(word, b"started") {
         Verb::Started
     } else if is_word(word, b"startfailed") {
@@ -139,6 +145,44 @@ fn process_of(word: &[u8]) -> u32
     number(word, 2_147_483_647).max(1) as u32
 }
 
+// The name that a word is, or another one.
+fn name_of(word: &[u8]) -> Name
+    ensures spelled { is_name word.now ≡ true → result ≡ word.now }
+    ensures fits { is_name result ≡ true }
+{
+    Name::new(word).unwrap_or_default()
+}
+
+// Adds the letter that is written as this byte, where there is one and it has room.
+fn add_letter(letters: &mut Letters, byte: u8)
+    requires { length letters.old.items ≤ 63 }
+    ensures spelled { (letter : ControlLetter) → length letters.old.items < 63 → byte ≡ byte_of letter → letters.new.items ≡ letters.old.items ++ letter ∷ [] }
+    ensures few { length letters.new.items ≤ 63 }
+{
+    if letters.len() == 63 {
+        return;
+    }
+    if let Some(letter) = ControlLetter::of_byte(byte) {
+        letters.push(letter);
+    }
+}
+
+// The letters that a word spells, or other ones.
+fn letters_of(word: &[u8]) -> Letters
+    ensures spelled { (letters : List ControlLetter) → 1 ≤ length letters → length letters ≤ 63 → word.now ≡ map byte_of letters → result.items ≡ letters }
+    ensures some { 1 ≤ length result.items }
+    ensures few { length result.items ≤ 63 }
+{
+    let mut letters = Letters::new();
+    for byte in word {
+        add_letter(&mut letters, *byte);
+    }
+    if letters.is_empty() {
+        letters.push(ControlLetter::Up);
+    }
+    letters
+}
+
 // The act that a verb and the words after it spell, or another one.
 fn act_of<A: Allocator + Copy>(alloc: A, verb: Verb, words: &[&[u8]]) -> Result<Act<A>, AllocError>
     ensures spelled { IfOk result (λ found. (act : Act A) → IsAct act → verb ≡ verb_of_act act
@@ -147,6 +191,10 @@ fn act_of<A: Allocator + Copy>(alloc: A, verb: Verb, words: &[&[u8]]) -> Result<
 {
     match verb {
         Verb::Scan => Ok(Act::Scan(Listing::new(names_of(alloc, words)?))),
+        Verb::Svc => {
+            let name = name_of(word_at(words, 0));
+            Ok(Act::Svc(name, letters_of(word_at(words, 1))))
+        }
         Verb::Started => {
             let sid = Sid(number(word_at(words, 0), u64::MAX));
             let generation = number(word_at(words, 1), u64::MAX);

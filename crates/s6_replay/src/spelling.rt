@@ -1,10 +1,12 @@
 //! The spelling of an input.
-ghost use Rattle.std.specs.Prelude.{◌≡◌, ◌++◌, ◌∷◌, string_bytes, IfOk, OnOk};
+ghost use Rattle.std.specs.Prelude.{◌≡◌, ◌++◌, ◌∷◌, map, string_bytes, IfOk, OnOk};
 ghost use Rattle.std.specs.List.{join_with_byte, flat_map};
+ghost use Rattle.svc_commands.specs.ControlLetter.{byte_of};
 ghost use Rattle.s6_replay.specs.Spelling.{exit_words, act_words, spelling};
 
 use s6_events::{Exit, Name};
 use std::alloc::{AllocError, Allocator};
+use svc_commands::ControlLetter;
 use tree_core::{Act, Input};
 
 // Adds each name's bytes behind a space.
@@ -14,6 +16,19 @@ fn push_names<A: Allocator + Copy>(text: &mut Vec<u8, A>, names: &[Name]) -> Res
     for name in names {
         text.push(b' ')?;
         text.extend_from_slice(name.as_bytes())?;
+    }
+    Ok(())
+}
+
+// Adds the byte of each letter.
+fn push_letters<A: Allocator + Copy>(
+    text: &mut Vec<u8, A>,
+    letters: &[ControlLetter],
+) -> Result<(), AllocError>
+    ensures { OnOk result (text.new.items ≡ text.old.items ++ map byte_of letters.now) }
+{
+    for letter in letters {
+        text.push(letter.byte())?;
     }
     Ok(())
 }
@@ -35,6 +50,13 @@ fn act_text<A: Allocator + Copy>(alloc: A, act: &Act<A>) -> Result<Vec<u8, A>, A
         Act::Scan(listing) => {
             let mut text = b"scan".to_vec(alloc)?;
             push_names(&mut text, listing.names())?;
+            Ok(text)
+        }
+        Act::Svc(name, letters) => {
+            let mut text = b"svc ".to_vec(alloc)?;
+            text.extend_from_slice(name.as_bytes())?;
+            text.push(b' ')?;
+            push_letters(&mut text, letters.as_slice())?;
             Ok(text)
         }
         Act::Started(sid, generation, pid) => {

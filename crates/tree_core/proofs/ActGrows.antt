@@ -1,20 +1,20 @@
 -- An act orders at most one run of each service.
-use Rattle.std.proofs.Common.{ℕ, ◌+◌, ◌≤◌, arith, List, [], ◌∷◌, get_or, Bool, true, false, cond}
+use Rattle.std.proofs.Common.{ℕ, ◌+◌, ◌≤◌, arith, List, [], ◌∷◌, get_or, Bool, true, false, cond, not}
 use Rattle.std.specs.Prelude.{All, nat_lt, length}
 use Rattle.std.proofs.lemmas.List.Elements.{All-map, All-filter, All-push}
 use Rattle.supervise_core.specs.declared.chart.ChartState.{ChartState}
-use Rattle.supervise_core.specs.declared.change.Change.TheVariants.{Started as StartedReport, StartFailed as StartFailedReport, Death as DeathReport, FinishEnded as FinishEndedReport}
+use Rattle.supervise_core.specs.declared.change.Change.TheVariants.{Started as StartedReport, StartFailed as StartFailedReport, Death as DeathReport, FinishEnded as FinishEndedReport, Control as Letters}
 use Rattle.supervise_core.specs.ChartState.{new_service, is_gone}
 use Rattle.supervise_core.specs.Moves.{begin_supervisor}
 use Rattle.supervise_core.specs.Chart.{set_active}
 use Rattle.servicedir.specs.Config.{plain_config}
 use Rattle.tree_core.specs.declared.input.Act.{Act}
-use Rattle.tree_core.specs.declared.input.Act.TheVariants.{Scan, Started, StartFailed, Death, FinishEnded, Tick}
-use Rattle.tree_core.specs.Acts.{Acted, acted}
+use Rattle.tree_core.specs.declared.input.Act.TheVariants.{Scan, Svc, Started, StartFailed, Death, FinishEnded, Tick}
+use Rattle.tree_core.specs.Acts.{Acted, acted, has_ended}
 use Rattle.tree_core.specs.Listing.{lists, repeats, in_byte_order}
 use Rattle.tree_core.specs.Machine.{Machine}
 use Rattle.tree_core.specs.Scan.{Grown, looked_up, stays, stands, service_limit, with_service, with_name, with_names}
-use Rattle.tree_core.proofs.Generations.{all_changed}
+use Rattle.tree_core.proofs.Generations.{all_changed, all_told}
 
 -- no generation is above n
 abbrev Below : ℕ → List ChartState → Type 0
@@ -54,6 +54,9 @@ act_grows (Scan listing) m n h =
     either_acted (n + 1) m.closing _ _ (more n m.services h)
     (either_acted (n + 1) (repeats listing) _ _ (more n m.services h)
     (all_named n _ (in_byte_order listing) (more n _ (All-filter stays (λ c. c.generation ≤ n) _ (looked listing m.clock n m.services h)))))
+act_grows (Svc name letters) m n h =
+    either_acted (n + 1) (not (stands name m.services)) _ _ (more n m.services h)
+    (either_acted (n + 1) (has_ended name m.services) _ _ (more n m.services h) (all_told name (Letters letters) m.clock n m.services h))
 act_grows (Started sid generation pid) m n h = all_changed sid (StartedReport generation pid) m.clock n m.services h
 act_grows (StartFailed sid generation) m n h = all_changed sid (StartFailedReport generation) m.clock n m.services h
 act_grows (FinishEnded sid generation exit) m n h = all_changed sid (FinishEndedReport generation exit) m.clock n m.services h

@@ -6,3 +6,4 @@ pub mod Generations
 pub mod ActGrows
 pub mod PlanMakes
 pub mod Quiet
+pub mod Names

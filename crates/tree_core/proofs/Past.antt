@@ -5,7 +5,7 @@ use Rattle.s6_events.specs.declared.moment.Moment.{Moment}
 use Rattle.supervise_core.specs.declared.chart.ChartState.{ChartState}
 use Rattle.supervise_core.specs.Chart.{fire}
 use Rattle.tree_core.specs.declared.input.Act.{Act}
-use Rattle.tree_core.specs.declared.input.Act.TheVariants.{Scan, Started, StartFailed, Death, FinishEnded, Tick}
+use Rattle.tree_core.specs.declared.input.Act.TheVariants.{Scan, Svc, Started, StartFailed, Death, FinishEnded, Tick}
 use Rattle.tree_core.specs.declared.input.Input.{Input}
 use Rattle.tree_core.specs.Acts.{acted, Acted}
 use Rattle.tree_core.specs.Machine.{Machine, DeathOf, Outcome}
@@ -17,6 +17,7 @@ use Rattle.tree_core.specs.Step.{Stepped, step, spent, timed, clocked, step_limi
 pub same_act : {A : Type 0} (act : Act A) (clock steps : ℕ) (closing : Bool) (services : List ChartState) (next_sid : ℕ) (history : List Moment) (deaths : List DeathOf)
     → acted act (record { clock = clock; steps = steps; closing = closing; services = services; next_sid = next_sid; history = history; deaths = deaths }) ≡ acted act (at_work closing clock services next_sid)
 same_act (Scan listing) clock steps closing services next_sid history deaths = refl
+same_act (Svc name letters) clock steps closing services next_sid history deaths = refl
 same_act (Started sid generation pid) clock steps closing services next_sid history deaths = refl
 same_act (StartFailed sid generation) clock steps closing services next_sid history deaths = refl
 same_act (FinishEnded sid generation exit) clock steps closing services next_sid history deaths = refl

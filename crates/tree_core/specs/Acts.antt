@@ -1,22 +1,22 @@
 -- What each act does, and why it is refused.
-use Rattle.std.specs.Prelude.{ℕ, List, [], map, filter, Bool, not, ◌==◌, if◌then◌else◌}
+use Rattle.std.specs.Prelude.{ℕ, List, [], map, filter, Bool, not, ◌==◌, ◌&&◌, if◌then◌else◌, bytes_eq}
 use Rattle.std.specs.List.{list_any}
 use Rattle.s6_events.specs.declared.order.Order.{Order}
 use Rattle.supervise_core.specs.declared.chart.ChartState.{ChartState}
 use Rattle.supervise_core.specs.declared.change.Change.{Change}
-use Rattle.supervise_core.specs.declared.change.Change.TheVariants.{Started as StartedReport, StartFailed as StartFailedReport, Death as DeathReport, FinishEnded as FinishEndedReport}
-use Rattle.supervise_core.specs.ChartState.{Moved, still}
+use Rattle.supervise_core.specs.declared.change.Change.TheVariants.{Started as StartedReport, StartFailed as StartFailedReport, Death as DeathReport, FinishEnded as FinishEndedReport, Control as Letters}
+use Rattle.supervise_core.specs.ChartState.{Moved, still, is_gone}
 use Rattle.supervise_core.specs.Chart.{changed_by}
 use Rattle.tree_core.specs.declared.effect.Event.{Event}
 use Rattle.tree_core.specs.declared.input.Act.{Act}
-use Rattle.tree_core.specs.declared.input.Act.TheVariants.{Scan, Started, StartFailed, Death, FinishEnded, Tick}
-use Rattle.tree_core.specs.declared.reply.Refusal.TheVariants.{NoService, Stale, Closing, Repeated}
+use Rattle.tree_core.specs.declared.input.Act.TheVariants.{Scan, Svc, Started, StartFailed, Death, FinishEnded, Tick}
+use Rattle.tree_core.specs.declared.reply.Refusal.TheVariants.{NoService, Stale, Closing, Repeated, Ended}
 use Rattle.tree_core.specs.declared.reply.Reply.{Reply}
 use Rattle.tree_core.specs.declared.reply.Reply.TheVariants.{Done, Refused, Scanned}
 use Rattle.tree_core.specs.Listing.{repeats, in_byte_order}
 use Rattle.tree_core.specs.Machine.{Machine, DeathOf}
 use Rattle.tree_core.specs.Moves.{services_after, events_after, orders_after, deaths_after}
-use Rattle.tree_core.specs.Scan.{Grown, looked_up, stays, leaves, grown_from}
+use Rattle.tree_core.specs.Scan.{stands, Grown, looked_up, stays, leaves, grown_from}
 
 -- what an act leaves and gives
 pub record Acted (A : Type 0) : Type 0 where
@@ -51,6 +51,31 @@ reported sid change m = record {
   orders = orders_after (changed_at sid change m.clock) m.services;
 }
 
+-- the service of the name takes the change, and every other one stays
+abbrev pub changed_named : List ℕ → Change → ℕ → ChartState → Moved
+changed_named name change now c = if bytes_eq name c.name then changed_by change now c else still c
+
+-- the supervisor of the service of the name has ended
+abbrev pub has_ended : List ℕ → List ChartState → Bool
+has_ended name services = list_any (λ c. bytes_eq name c.name && is_gone c.phase) services
+
+-- the letters are done
+abbrev pub controlled : {A : Type 0} → List ℕ → Change → Machine → Acted A
+controlled name change m = record {
+  reply = Done;
+  services = services_after (changed_named name change m.clock) m.services;
+  next_sid = m.next_sid;
+  events = events_after (changed_named name change m.clock) m.services;
+  orders = orders_after (changed_named name change m.clock) m.services;
+}
+
+-- letters are refused where no service has the name, and where its supervisor has ended
+abbrev pub told : {A : Type 0} → List ℕ → Change → Machine → Acted A
+told name change m =
+    if not (stands name m.services) then only_replied (Refused NoService) m
+    else if has_ended name m.services then only_replied (Refused Ended) m
+    else controlled name change m
+
 -- what a scan leaves and gives, from the services that were looked up
 abbrev pub scanned_to : {A : Type 0} → List ChartState → Grown → Acted A
 scanned_to looked g = record {
@@ -76,6 +101,7 @@ listed_to listing m =
 -- each act
 abbrev pub acted : {A : Type 0} → Act A → Machine → Acted A
 acted (Scan listing) m = listed_to listing m
+acted (Svc name letters) m = told name (Letters letters) m
 acted (Started sid generation pid) m = reported sid (StartedReport generation pid) m
 acted (StartFailed sid generation) m = reported sid (StartFailedReport generation) m
 acted (Death sid generation exit) m = reported sid (DeathReport generation exit) m

@@ -1,13 +1,19 @@
 -- What is true of every tree.
-use Rattle.std.specs.Prelude.{◌≡◌, ℕ, ◌+◌, ◌*◌, ◌≤◌, List, length, All}
+use Rattle.std.specs.Prelude.{◌≡◌, ℕ, ◌+◌, ◌*◌, ◌≤◌, List, length, All, map, false}
 use Rattle.s6_events.specs.Clock.{clock_of}
 use Rattle.s6_events.specs.declared.moment.Moment.{Moment}
+use Rattle.tree_core.specs.Listing.{repeats}
 use Rattle.supervise_core.specs.declared.chart.ChartState.{ChartState}
 
--- few services, and no serial or generation that outruns the steps
+-- the names of services
+abbrev pub names_of : List ChartState → List (List ℕ)
+names_of services = map (λ c. c.name) services
+
+-- few services, no name twice, and no serial or generation that outruns the steps
 pub record IsSound (taken next : ℕ) (services : List ChartState) : Type 0 where
   pub steps : taken ≤ 281474976710656
   pub few : length services ≤ 64
+  pub names : repeats (names_of services) ≡ false
   pub serials : next ≤ 64 * taken + 1
   pub generations : All (λ c. c.generation ≤ 2 * taken) services
 

@@ -1,12 +1,14 @@
 ghost use Rattle.std.specs.Prelude.{◌≡◌, ◌+◌, ◌<◌, ◌≤◌, ◌^◌, ◌==◌, length, All, IfOk, IsOk, false};
 ghost use Rattle.std.specs.List.{list_any};
 ghost use Rattle.supervise_core.specs.Gives.{most_orders};
-ghost use Rattle.tree_core.specs.Acts.{nothing_done, report_reply as reply_to_report, reported, scanned, listed_to, acted};
-ghost use Rattle.tree_core.specs.Listing.{in_byte_order};
+ghost use Rattle.tree_core.specs.Acts.{nothing_done, report_reply as reply_to_report, reported, told, has_ended as is_ended, scanned, listed_to, acted};
+ghost use Rattle.tree_core.specs.Listing.{in_byte_order, repeats};
+ghost use Rattle.tree_core.specs.Scan.{stands};
+ghost use Rattle.tree_core.specs.Sound.{names_of};
 ghost use Rattle.tree_core.specs.Plan.{at_work, IsFew};
 ghost use Rattle.tree_core.specs.Views.{drafted};
 
-use super::gathered::{Gathered, change_at};
+use super::gathered::{Gathered, change_at, change_named};
 use super::input::Act;
 use super::listing::sort_listing;
 use super::reply::{Refusal, Reply, ScanReport};
@@ -14,7 +16,8 @@ use super::scan::{Growing, leaving, look_up, staying};
 use arrayvec::ArrayVec;
 use s6_events::{At, Name, NoMemory, Sid};
 use std::alloc::Allocator;
-use supervise_core::{Change, ChartState};
+use supervise_core::{Change, ChartState, Phase};
+use svc_commands::Letters;
 
 /// What an act leaves and gives, before anything is changed.
 #[derive(Drop)]
@@ -89,6 +92,68 @@ fn report<A: Allocator + Copy>(
     let reply = report_reply(is_known, gathered.stale);
     Ok(Draft {
         reply,
+        charts: after,
+        next_sid,
+        gathered,
+    })
+}
+
+// Whether a service has the name.
+fn has_name(charts: &[ChartState], name: Name) -> bool
+    ensures { result ≡ stands name charts.now }
+{
+    charts.iter().any(|chart| chart.name == name)
+}
+
+// Whether the supervisor of the service of the name has ended.
+fn has_ended(charts: &[ChartState], name: Name) -> bool
+    ensures { result ≡ is_ended name charts.now }
+{
+    charts
+        .iter()
+        .any(|chart| chart.name == name && chart.phase == Phase::Gone)
+}
+
+// The same letters.
+fn copy_of(letters: &Letters) -> Letters
+    ensures { result ≡ letters.now }
+{
+    let mut copy = Letters::new();
+    if copy.try_extend_from_slice(letters.as_slice()).is_err() {
+        unreachable!()
+    }
+    copy
+}
+
+// Letters for the service of a name.
+fn tell<A: Allocator + Copy>(
+    alloc: A,
+    name: Name,
+    change: &Change,
+    now: At,
+    charts: ArrayVec<ChartState, 64>,
+    next_sid: u64,
+) -> Result<Draft<A>, NoMemory>
+    requires places { length charts.items ≤ 64 }
+    requires names { repeats (names_of charts.items) ≡ false }
+    requires generations { All (λ c. c.generation + 1 < 2 ^ 64) charts.items }
+    ensures draft { IfOk result (λ d. drafted d ≡ told name change.now (at_work false now charts.items next_sid)) }
+    ensures places { IfOk result (λ d. length d.charts.items ≤ 64) }
+    ensures next { IfOk result (λ d. d.next_sid ≡ next_sid) }
+    ensures few { IfOk result (λ d. IsFew d.gathered.events.items d.gathered.orders.items) }
+{
+    if !has_name(charts.as_slice(), name) {
+        let reply = Reply::Refused(Refusal::NoService);
+        return Ok(reply_only(alloc, reply, charts, next_sid));
+    }
+    if has_ended(charts.as_slice(), name) {
+        let reply = Reply::Refused(Refusal::Ended);
+        return Ok(reply_only(alloc, reply, charts, next_sid));
+    }
+    let mut gathered = Gathered::new(alloc);
+    let after = change_named(charts.as_slice(), name, change, now, &mut gathered)?;
+    Ok(Draft {
+        reply: Reply::Done,
         charts: after,
         next_sid,
         gathered,
@@ -173,6 +238,7 @@ pub fn act<A: Allocator + Copy>(
     next_sid: u64,
 ) -> Result<Draft<A>, NoMemory>
     requires places { length charts.items ≤ 64 }
+    requires names { repeats (names_of charts.items) ≡ false }
     requires generations { All (λ c. c.generation + 1 < 2 ^ 64) charts.items }
     requires next { next_sid + 65 < 2 ^ 64 }
     ensures draft { IfOk result (λ d. drafted d ≡ acted act.now (at_work closing now charts.items next_sid)) }
@@ -183,6 +249,10 @@ pub fn act<A: Allocator + Copy>(
 {
     match act {
         Act::Scan(listing) => take_listing(alloc, listing.names(), closing, now, charts, next_sid),
+        Act::Svc(name, letters) => {
+            let change = Change::Control(copy_of(letters));
+            tell(alloc, *name, &change, now, charts, next_sid)
+        }
         Act::Started(sid, generation, pid) => {
             let change = Change::Started(*generation, *pid);
             report(alloc, *sid, &change, now, charts, next_sid)

@@ -1,13 +1,16 @@
-ghost use Rattle.std.specs.Prelude.{◌≡◌, ◌+◌, ◌*◌, ◌<◌, ◌≤◌, ◌^◌, [], ◌∷◌, ◌++◌, map, length, All, IsOk, OnOk, IfOk, false, ◌||◌, ◌==◌};
+ghost use Rattle.std.specs.Prelude.{◌≡◌, ◌+◌, ◌*◌, ◌<◌, ◌≤◌, ◌^◌, [], ◌∷◌, ◌++◌, map, length, All, IsOk, OnOk, IfOk, false, true, ◌||◌, ◌==◌, bytes_eq};
 ghost use Rattle.std.specs.List.{list_any};
 ghost use Rattle.supervise_core.specs.Chart.{is_due, fire};
 ghost use Rattle.supervise_core.specs.Gives.{most_orders};
-ghost use Rattle.tree_core.specs.Acts.{changed_at};
+ghost use Rattle.tree_core.specs.Acts.{changed_at, changed_named};
+ghost use Rattle.tree_core.specs.Listing.{repeats};
+ghost use Rattle.tree_core.specs.Scan.{stands};
+ghost use Rattle.tree_core.specs.Sound.{names_of};
 ghost use Rattle.tree_core.specs.Moves.{event, services_after, events_after, orders_after};
 
 use super::effect::Event;
 use arrayvec::ArrayVec;
-use s6_events::{At, Mark, NoMemory, Order, Sid};
+use s6_events::{At, Mark, Name, NoMemory, Order, Sid};
 use std::alloc::Allocator;
 use supervise_core::{Change, ChartState, Out};
 
@@ -181,6 +184,57 @@ fn change_one<A: Allocator + Copy>(
 {
     let mut next = *chart;
     if chart.sid.0 == sid.0 {
+        let out = next.change(change, now);
+        gathered.add(chart.sid, &out)?;
+    }
+    Ok(next)
+}
+
+/// The service of the name takes the change, and every other one stays.
+pub fn change_named<A: Allocator + Copy>(
+    charts: &[ChartState],
+    name: Name,
+    change: &Change,
+    now: At,
+    gathered: &mut Gathered<A>,
+) -> Result<ArrayVec<ChartState, 64>, NoMemory>
+    requires few { length charts.now ≤ 64 }
+    requires orders { length gathered.old.orders.items + 126 ≤ 256 }
+    requires names { repeats (names_of charts.now) ≡ false }
+    requires generations { All (λ c. c.generation + 1 < 2 ^ 64) charts.now }
+    ensures services { IfOk result (λ after. after.items ≡ services_after (changed_named name change.now now) charts.now) }
+    ensures events { OnOk result (gathered.new.events.items ≡ gathered.old.events.items ++ events_after (changed_named name change.now now) charts.now) }
+    ensures orders { OnOk result (gathered.new.orders.items ≡ gathered.old.orders.items ++ orders_after (changed_named name change.now now) charts.now) }
+    ensures places { IfOk result (λ after. length after.items ≤ 64) }
+    ensures count { OnOk result (length gathered.new.orders.items ≤ length gathered.old.orders.items + 126) }
+    ensures few { OnOk result (length gathered.new.events.items ≤ length gathered.old.events.items + 4 * length charts.now) }
+{
+    let mut after = ArrayVec::new();
+    for chart in charts {
+        after.push(change_if_named(chart, name, change, now, gathered)?);
+    }
+    Ok(after)
+}
+
+// A service takes the change where the name is its own.
+fn change_if_named<A: Allocator + Copy>(
+    chart: &ChartState,
+    name: Name,
+    change: &Change,
+    now: At,
+    gathered: &mut Gathered<A>,
+) -> Result<ChartState, NoMemory>
+    requires orders { bytes_eq name chart.now.name ≡ true → length gathered.old.orders.items + 126 ≤ 256 }
+    requires next { chart.now.generation + 1 < 2 ^ 64 }
+    ensures chart { IfOk result (λ next. next ≡ (changed_named name change.now now chart.now).chart) }
+    ensures events { OnOk result (gathered.new.events.items ≡ gathered.old.events.items ++ map (event chart.now.sid) (changed_named name change.now now chart.now).marks) }
+    ensures orders { OnOk result (gathered.new.orders.items ≡ gathered.old.orders.items ++ (changed_named name change.now now chart.now).orders) }
+    ensures count { OnOk result (length gathered.new.orders.items ≤ length gathered.old.orders.items + 126) }
+    ensures other { bytes_eq name chart.now.name ≡ false → OnOk result (length gathered.new.orders.items ≤ length gathered.old.orders.items) }
+    ensures few { OnOk result (length gathered.new.events.items ≤ length gathered.old.events.items + 4) }
+{
+    let mut next = *chart;
+    if chart.name == name {
         let out = next.change(change, now);
         gathered.add(chart.sid, &out)?;
     }

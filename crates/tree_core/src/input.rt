@@ -3,6 +3,7 @@ ghost use Rattle.std.specs.Prelude.{◌≡◌};
 use s6_events::{Actor, At, Exit, Name, Sid};
 use std::alloc::Allocator;
 use std::marker::Model;
+use svc_commands::Letters;
 
 /// The names that a look at the scan directory found, in the order in which they came.
 #[derive(Drop)]
@@ -39,6 +40,8 @@ impl<A: Allocator> Listing<A> {
 pub enum Act<A: Allocator> {
     /// The scan directory was listed. Page `s6-svscanctl`, `-a`.
     Scan(Listing<A>),
+    /// A user sent the service of this name these letters, 1 to 63. Page `s6-svc`.
+    Svc(Name, Letters),
     /// `run` of this service and generation was spawned, with this process number.
     Started(Sid, u64, u32),
     /// `run`, or `finish`, of this service and generation could not be spawned.

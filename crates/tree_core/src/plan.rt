@@ -1,7 +1,8 @@
-ghost use Rattle.std.specs.Prelude.{◌≡◌, ◌+◌, ◌*◌, ◌<◌, ◌≤◌, ◌^◌, ◌++◌, [], map, max, length, All, IfOk, IsOkAnd};
+ghost use Rattle.std.specs.Prelude.{◌≡◌, ◌+◌, ◌*◌, ◌<◌, ◌≤◌, ◌^◌, ◌++◌, [], map, max, length, All, IfOk, IsOkAnd, false};
 ghost use Rattle.tree_core.specs.Moves.{moment_of};
 ghost use Rattle.tree_core.specs.Plan.{pastless, Plans, IsQuiet};
-ghost use Rattle.tree_core.specs.Sound.{IsSound};
+ghost use Rattle.tree_core.specs.Listing.{repeats};
+ghost use Rattle.tree_core.specs.Sound.{IsSound, names_of};
 ghost use Rattle.tree_core.specs.Step.{clock_moments, step_limit};
 
 use super::act::act;
@@ -75,6 +76,7 @@ pub fn plan_step<A: Allocator + Copy>(
 ) -> Result<Plan<A>, NoMemory>
     requires left { steps < step_limit }
     requires few { length services.now ≤ 64 }
+    requires names { repeats (names_of (map (λ s. s.chart) services.now)) ≡ false }
     requires serials { next_sid ≤ 64 * steps + 1 }
     requires generations { All (λ c. c.generation ≤ 2 * steps) (map (λ s. s.chart) services.now) }
     ensures sound { IfOk result (λ plan. IsSound (steps + 1) plan.next_sid plan.charts.items) }

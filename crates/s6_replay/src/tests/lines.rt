@@ -46,7 +46,11 @@ fn lines_that_spell_no_input(rt: HostRuntime) {
         b"0 1 death 1 1 signal 65",
         b"0 1 death 1 1 exit 0",
         b"0 1 death 01 1 code 0",
-        b"0 1 svc web u",
+        b"0 1 svc web",
+        b"0 1 svc web ",
+        b"0 1 svc .web u",
+        b"0 1 svc web z",
+        b"0 1 svc web u d",
         b"0 1 status web",
         b"\xff 1 tick",
     ];
@@ -69,6 +73,7 @@ fn numbers<A: Allocator>(act: &Act<A>) -> (u8, u64, u64, u32) {
             u32::from(*signal),
         ),
         Act::Tick => (4, 0, 0, 0),
+        Act::Svc(_, letters) => (8, letters.len() as u64, 0, 0),
         Act::StartFailed(sid, generation) => (5, sid.0, *generation, 0),
         Act::FinishEnded(sid, generation, Exit::Code(code)) => (
             6,
@@ -105,6 +110,7 @@ fn lines_that_spell_an_input(rt: HostRuntime) -> Result<(), Fail> {
         (b"7 1 startfailed 2 3", 7, 1, (5, 2, 3, 0)),
         (b"7 1 finished 2 3 code 125", 7, 1, (6, 2, 3, 125)),
         (b"7 1 finished 2 3 signal 0", 7, 1, (7, 2, 3, 0)),
+        (b"0 1 svc web abqhkti12pcyudOrx", 0, 1, (8, 17, 0, 0)),
         (b"0 1 scan", 0, 1, (0, 0, 0, 0)),
         (b"0 1 scan web @-_.9 web", 0, 1, (0, 3, 0, 0)),
     ];

@@ -13,7 +13,7 @@ struct Row {
     counts: (u64, u128, u128),
 }
 
-const ROWS: [Row; 15] = [
+const ROWS: [Row; 16] = [
     Row {
         name: "restart-after-pause",
         script: "s6-script 1\n0 1 scan web\n0 1 started 1 1 500\n300 1 death 1 1 code 1\n1299 1 tick\n1300 1 tick\n",
@@ -125,6 +125,13 @@ const ROWS: [Row; 15] = [
         7 refused Stale\n",
         fault: None,
         counts: (7, 5, 2),
+    },
+    Row {
+        name: "down-before-the-spawn-waits-for-it",
+        script: "s6-script 1\n0 1 scan web\n5 1 svc web d\n8 1 started 1 1 500\n",
+        transcript: "1 scanned +1:web\ne 1 s\no run 1 1\n2 done\n3 done\ne 1 u\no signal 1 1 15\no signal 1 1 18\n",
+        fault: None,
+        counts: (3, 2, 3),
     },
     Row {
         name: "failed-spawn-is-tried-after-a-minute",

@@ -1,4 +1,5 @@
 -- A report doesn't look at whether the tree is closing.
+use Rattle.std.proofs.Common.{sym}
 use Rattle.tree_core.proofs.act.act.Goals as goal
 
 pub returns-in-Started-clause-draft : goal.returns-in-Started-clause-draft
@@ -12,3 +13,6 @@ returns-in-StartFailed-clause-draft g c = rw c.in-StartFailed.is c.report-in-Sta
 
 pub returns-in-FinishEnded-clause-draft : goal.returns-in-FinishEnded-clause-draft
 returns-in-FinishEnded-clause-draft g c = rw c.in-FinishEnded.is c.report-in-FinishEnded.ensures.draft
+
+pub returns-in-Svc-clause-draft : goal.returns-in-Svc-clause-draft
+returns-in-Svc-clause-draft g c = rw c.in-Svc.is (rw (sym c.copy_of.ensures) c.tell.ensures.draft)

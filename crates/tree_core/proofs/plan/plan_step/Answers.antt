@@ -5,6 +5,9 @@ use Rattle.supervise_core.specs.Chart.{fire}
 use Rattle.supervise_core.specs.declared.chart.ChartState.{ChartState}
 use Rattle.tree_core.proofs.ActGrows.{act_grows}
 use Rattle.tree_core.proofs.Generations.{all_fire}
+use Rattle.tree_core.specs.Listing.{repeats}
+use Rattle.tree_core.specs.Sound.{names_of}
+use Rattle.tree_core.proofs.Names.{act_names, names_fired}
 use Rattle.tree_core.proofs.PlanMakes.{plan_makes}
 use Rattle.tree_core.proofs.Quiet.{tick_events, tick_services, clock_stays, no_events, length-services_after}
 use Rattle.tree_core.proofs.plan.plan_step.Goals as goal
@@ -21,6 +24,12 @@ act-requires-clause-generations g c =
     (rw (c.as_slice.ensures.value, c.charts_of-charts.ensures)
     (λ k d lt. let small : c.args.steps < 281474976710656 = c.requires.left in let here : _ = all_fire c.later-now.result (2 * c.args.steps) _ c.requires.generations k d lt in omega arith))
 
+pub act-requires-clause-names : goal.act-requires-clause-names
+act-requires-clause-names g c =
+    ap (λ cs. repeats (names_of cs)) c.in_ok-fired.ensures.services
+    ∙ (ap repeats (names_fired c.later-now.result c.as_slice.result.now)
+    ∙ (ap (λ cs. repeats (names_of cs)) (c.as_slice.ensures.value ∙ c.charts_of-charts.ensures) ∙ c.requires.names))
+
 pub returns-in_err-moments-clause-quiet : goal.returns-in_err-moments-clause-quiet
 returns-in_err-moments-clause-quiet g c = λ q.
     let late = clock_stays c.later-now.result c.args.clock c.args.input.now.at c.later-now.ensures q.early in
@@ -33,6 +42,12 @@ pub returns-clause-sound : goal.returns-clause-sound
 returns-clause-sound g c = record {
   steps = let left : c.args.steps < 281474976710656 = c.requires.left in omega arith;
   few = omega (arith, c.in_ok-draft.ensures.places);
+  names =
+      ap (λ a. repeats (names_of a.services)) c.in_ok-draft.ensures.draft
+      ∙ act_names c.args.input.now.act _
+      (ap (λ cs. repeats (names_of cs)) c.in_ok-fired.ensures.services
+      ∙ (ap repeats (names_fired c.later-now.result c.as_slice.result.now)
+      ∙ (ap (λ cs. repeats (names_of cs)) (c.as_slice.ensures.value ∙ c.charts_of-charts.ensures) ∙ c.requires.names)));
   serials = omega (arith, c.in_ok-draft.ensures.next);
   generations = λ k d lt.
       let after : All (λ x. x.generation ≤ 2 * c.args.steps + 1 + 1) c.in_ok-draft.draft.charts.items =

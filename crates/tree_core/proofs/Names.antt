@@ -1,0 +1,139 @@
+-- No two services have one name, before a step and after it.
+use Rattle.std.proofs.Common.{◌≡◌, ℕ, List, [], ◌∷◌, ◌++◌, Bool, true, false, ◌||◌, ◌==◌, cond, not, refl, sym, ◌∙◌, ap, map, filter, rules, arith, get_or, take, suc}
+use Rattle.std.specs.Prelude.{bytes_eq, nat_lt, length, fold, zero, ◌<◌}
+use Rattle.std.specs.Cmp.Lexicographic.{bytes_decides, nat_list_eq_equiv}
+use Rattle.std.specs.List.{list_any}
+use Rattle.std.proofs.lemmas.List.{map-append}
+use Rattle.supervise_core.specs.declared.chart.ChartState.{ChartState}
+use Rattle.supervise_core.specs.declared.change.Change.{Change}
+use Rattle.supervise_core.specs.declared.change.Change.TheVariants.{Started as StartedReport, StartFailed as StartFailedReport, Death as DeathReport, FinishEnded as FinishEndedReport, Control as Letters}
+use Rattle.supervise_core.specs.ChartState.{Moved, new_service}
+use Rattle.supervise_core.specs.Moves.{begin_supervisor}
+use Rattle.supervise_core.specs.Chart.{fire, set_active, changed_by}
+use Rattle.supervise_core.proofs.Identity.{KeepsName, keeps_fire, keeps_changed, keeps_active, keeps_begin}
+use Rattle.servicedir.specs.Config.{plain_config}
+use Rattle.tree_core.specs.declared.input.Act.{Act}
+use Rattle.tree_core.specs.declared.input.Act.TheVariants.{Scan, Svc, Started, StartFailed, Death, FinishEnded, Tick}
+use Rattle.tree_core.specs.Acts.{Acted, acted, changed_at, changed_named, has_ended}
+use Rattle.tree_core.specs.Listing.{lists, repeats, in_byte_order}
+use Rattle.tree_core.specs.Machine.{Machine}
+use Rattle.tree_core.specs.Moves.{services_after}
+use Rattle.tree_core.specs.Scan.{Grown, looked_up, stays, stands, service_limit, with_service, with_name, with_names}
+use Rattle.tree_core.specs.Sound.{names_of}
+use Rattle.tree_core.proofs.ListingOrder.{repeats_last}
+
+-- a move that keeps each name keeps the names
+pub names_moved : (move : ChartState → Moved) → ((c : ChartState) → KeepsName c (move c)) → (cs : List ChartState) → names_of (services_after move cs) ≡ names_of cs
+names_moved move keeps [] = refl
+names_moved move keeps (c ∷ cs) = λ i. keeps c i ∷ names_moved move keeps cs i
+
+pub names_fired : (now : ℕ) (cs : List ChartState) → names_of (services_after (fire now) cs) ≡ names_of cs
+names_fired now cs = names_moved (fire now) (keeps_fire now) cs
+
+keeps_either : (b : Bool) (c : ChartState) (x y : Moved) → KeepsName c x → KeepsName c y → KeepsName c (cond b x y)
+keeps_either true c x y hx hy = hx
+keeps_either false c x y hx hy = hy
+
+names_reported : (sid : ℕ) (change : Change) (now : ℕ) (cs : List ChartState) → names_of (services_after (changed_at sid change now) cs) ≡ names_of cs
+names_reported sid change now cs = names_moved (changed_at sid change now) (λ c. keeps_either (c.sid == sid) c _ _ (keeps_changed change now c) refl) cs
+
+names_told : (name : List ℕ) (change : Change) (now : ℕ) (cs : List ChartState) → names_of (services_after (changed_named name change now) cs) ≡ names_of cs
+names_told name change now cs = names_moved (changed_named name change now) (λ c. keeps_either (bytes_eq name c.name) c _ _ (keeps_changed change now c) refl) cs
+
+names_looked : (now : ℕ) (listing : List (List ℕ)) (cs : List ChartState) → names_of (looked_up now listing cs) ≡ names_of cs
+names_looked now listing [] = refl
+names_looked now listing (c ∷ cs) = λ i. keeps_active (lists listing c.name) now c i ∷ names_looked now listing cs i
+
+-- both are false where one or the other is
+pub neither_left : (a b : Bool) → (a || b) ≡ false → a ≡ false
+neither_left true b h = h
+neither_left false b h = refl
+
+pub neither_right : (a b : Bool) → (a || b) ≡ false → b ≡ false
+neither_right true b h = search rules
+neither_right false b h = h
+
+neither_of : (a b : Bool) → a ≡ false → b ≡ false → (a || b) ≡ false
+neither_of true b h k = h
+neither_of false b h k = k
+
+-- fewer services have fewer names
+unlisted_filtered : (p : ChartState → Bool) (q : List ℕ) (cs : List ChartState) → lists (names_of cs) q ≡ false → lists (names_of (filter p cs)) q ≡ false
+unlisted_filtered p q [] h = refl
+unlisted_filtered p q (c ∷ cs) h = by (p c) (unlisted_filtered p q cs (neither_right (bytes_eq q c.name) _ h))
+  where
+    by : (b : Bool) → lists (names_of (filter p cs)) q ≡ false → lists (names_of (cond b (c ∷ filter p cs) (filter p cs))) q ≡ false
+    by true rest = neither_of (bytes_eq q c.name) _ (neither_left (bytes_eq q c.name) _ h) rest
+    by false rest = rest
+
+once_filtered : (p : ChartState → Bool) (cs : List ChartState) → repeats (names_of cs) ≡ false → repeats (names_of (filter p cs)) ≡ false
+once_filtered p [] h = refl
+once_filtered p (c ∷ cs) h = by (p c) (once_filtered p cs (neither_right (lists (names_of cs) c.name) _ h))
+  where
+    by : (b : Bool) → repeats (names_of (filter p cs)) ≡ false → repeats (names_of (cond b (c ∷ filter p cs) (filter p cs))) ≡ false
+    by true rest = neither_of (lists (names_of (filter p cs)) c.name) _ (unlisted_filtered p c.name cs (neither_left (lists (names_of cs) c.name) _ h)) rest
+    by false rest = rest
+
+-- a name stands where it is among the names
+stands_listed : (name : List ℕ) (cs : List ChartState) → lists (names_of cs) name ≡ stands name cs
+stands_listed name [] = refl
+stands_listed name (c ∷ cs) = ap (λ b. bytes_eq name c.name || b) (stands_listed name cs)
+
+either_grown : (b : Bool) (x y : Grown) → repeats (names_of x.services) ≡ false → repeats (names_of y.services) ≡ false → repeats (names_of (cond b x y).services) ≡ false
+either_grown true x y hx hy = hx
+either_grown false x y hx hy = hy
+
+once_added : (g : Grown) (name : List ℕ) → repeats (names_of g.services) ≡ false → stands name g.services ≡ false → repeats (names_of (with_service g name).services) ≡ false
+once_added g name h new =
+    ap repeats (map-append (λ (c : ChartState). c.name) g.services ((begin_supervisor (new_service g.next_sid name plain_config)).chart ∷ []))
+    ∙ (ap (λ n. repeats (names_of g.services ++ n ∷ [])) (keeps_begin g.next_sid name plain_config)
+    ∙ (repeats_last (names_of g.services) name
+    ∙ neither_of (repeats (names_of g.services)) _ h (stands_listed name g.services ∙ new)))
+
+once_named : (g : Grown) (name : List ℕ) → repeats (names_of g.services) ≡ false → repeats (names_of (with_name g name).services) ≡ false
+once_named g name h = by (stands name g.services) refl _ h
+  where
+    by : (b : Bool) → stands name g.services ≡ b → (full : Grown) → repeats (names_of full.services) ≡ false
+        → repeats (names_of (cond b g (cond (nat_lt (length g.services) service_limit) (with_service g name) full)).services) ≡ false
+    by true e full hf = h
+    by false e full hf = either_grown (nat_lt (length g.services) service_limit) (with_service g name) full (once_added g name h e) hf
+
+all_once : (g : Grown) (names : List (List ℕ)) → repeats (names_of g.services) ≡ false → repeats (names_of (with_names g names).services) ≡ false
+all_once g [] h = h
+all_once g (name ∷ names) h = all_once (with_name g name) names (once_named g name h)
+
+either_acted : {A : Type 0} (b : Bool) (x y : Acted A) → repeats (names_of x.services) ≡ false → repeats (names_of y.services) ≡ false → repeats (names_of (cond b x y).services) ≡ false
+either_acted true x y hx hy = hx
+either_acted false x y hx hy = hy
+
+-- an act leaves no name twice
+pub act_names : {A : Type 0} (act : Act A) (m : Machine) → repeats (names_of m.services) ≡ false → repeats (names_of (acted act m).services) ≡ false
+act_names (Scan listing) m h =
+    either_acted m.closing _ _ h
+    (either_acted (repeats listing) _ _ h
+    (all_once _ (in_byte_order listing) (once_filtered stays (looked_up m.clock listing m.services) (ap repeats (names_looked m.clock listing m.services) ∙ h))))
+act_names (Svc name letters) m h =
+    either_acted (not (stands name m.services)) _ _ h
+    (either_acted (has_ended name m.services) _ _ h (ap repeats (names_told name (Letters letters) m.clock m.services) ∙ h))
+act_names (Started sid generation pid) m h = ap repeats (names_reported sid (StartedReport generation pid) m.clock m.services) ∙ h
+act_names (StartFailed sid generation) m h = ap repeats (names_reported sid (StartFailedReport generation) m.clock m.services) ∙ h
+act_names (Death sid generation exit) m h = ap repeats (names_reported sid (DeathReport generation exit) m.clock m.services) ∙ h
+act_names (FinishEnded sid generation exit) m h = ap repeats (names_reported sid (FinishEndedReport generation exit) m.clock m.services) ∙ h
+act_names Tick m h = h
+
+unlisted_at : (q : List ℕ) (i : ℕ) (cs : List ChartState) (d : ChartState) → lists (names_of cs) q ≡ false → i < length cs → bytes_eq q (get_or cs i d).name ≡ false
+unlisted_at q i [] d h l = absurd (omega (arith, l))
+unlisted_at q zero (c ∷ cs) d h l = neither_left (bytes_eq q c.name) _ h
+unlisted_at q (suc i) (c ∷ cs) d h l = unlisted_at q i cs d (neither_right (bytes_eq q c.name) _ h) (omega (arith, l))
+
+-- where a service has the name, none before it has
+pub unnamed_before : (name : List ℕ) (i : ℕ) (cs : List ChartState) (d : ChartState) → repeats (names_of cs) ≡ false → i < length cs
+    → bytes_eq name (get_or cs i d).name ≡ true → list_any (λ c. bytes_eq name c.name) (take i cs) ≡ false
+unnamed_before name i [] d r l e = absurd (omega (arith, l))
+unnamed_before name zero (c ∷ cs) d r l e = refl
+unnamed_before name (suc i) (c ∷ cs) d r l e =
+    neither_of (bytes_eq name c.name) _
+    (nat_list_eq_equiv.symm name c.name
+    ∙ (ap (λ n. bytes_eq c.name n) ((bytes_decides name (get_or cs i d).name).0 e)
+    ∙ unlisted_at c.name i cs d (neither_left (lists (names_of cs) c.name) _ r) (omega (arith, l))))
+    (unnamed_before name i cs d (neither_right (lists (names_of cs) c.name) _ r) (omega (arith, l)) e)
