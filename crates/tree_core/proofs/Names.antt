@@ -1,19 +1,19 @@
 -- No two services have one name, before a step and after it.
-use Rattle.std.proofs.Common.{◌≡◌, ℕ, List, [], ◌∷◌, ◌++◌, Bool, true, false, ◌||◌, ◌==◌, cond, not, refl, sym, ◌∙◌, ap, map, filter, rules, arith, get_or, take, suc}
-use Rattle.std.specs.Prelude.{bytes_eq, nat_lt, length, fold, zero, ◌<◌}
+use Rattle.std.proofs.Common.{◌≡◌, ℕ, List, [], ◌∷◌, ◌++◌, Bool, true, false, ◌||◌, ◌==◌, cond, not, refl, ◌∙◌, ap, filter, rules, arith, get_or, take, suc}
+use Rattle.std.specs.Prelude.{bytes_eq, nat_lt, length, zero, ◌<◌}
 use Rattle.std.specs.Cmp.Lexicographic.{bytes_decides, nat_list_eq_equiv}
 use Rattle.std.specs.List.{list_any}
 use Rattle.std.proofs.lemmas.List.{map-append}
 use Rattle.supervise_core.specs.declared.chart.ChartState.{ChartState}
 use Rattle.supervise_core.specs.declared.change.Change.{Change}
-use Rattle.supervise_core.specs.declared.change.Change.TheVariants.{Started as StartedReport, StartFailed as StartFailedReport, Death as DeathReport, FinishEnded as FinishEndedReport, Control as Letters}
+use Rattle.supervise_core.specs.declared.change.Change.TheVariants.{Started as StartedReport, StartFailed as StartFailedReport, Notify as NotifyReport, Death as DeathReport, FinishEnded as FinishEndedReport, Control as Letters}
 use Rattle.supervise_core.specs.ChartState.{Moved, new_service}
 use Rattle.supervise_core.specs.Moves.{begin_supervisor}
-use Rattle.supervise_core.specs.Chart.{fire, set_active, changed_by}
+use Rattle.supervise_core.specs.Chart.{fire}
 use Rattle.supervise_core.proofs.Identity.{KeepsName, keeps_fire, keeps_changed, keeps_active, keeps_begin}
 use Rattle.servicedir.specs.Config.{plain_config}
 use Rattle.tree_core.specs.declared.input.Act.{Act}
-use Rattle.tree_core.specs.declared.input.Act.TheVariants.{Scan, Svc, Started, StartFailed, Death, FinishEnded, Tick}
+use Rattle.tree_core.specs.declared.input.Act.TheVariants.{Scan, Svc, Started, StartFailed, Notify, Death, FinishEnded, Tick}
 use Rattle.tree_core.specs.Acts.{Acted, acted, changed_at, changed_named, has_ended}
 use Rattle.tree_core.specs.Listing.{lists, repeats, in_byte_order}
 use Rattle.tree_core.specs.Machine.{Machine}
@@ -117,6 +117,7 @@ act_names (Svc name letters) m h =
     (either_acted (has_ended name m.services) _ _ h (ap repeats (names_told name (Letters letters) m.clock m.services) ∙ h))
 act_names (Started sid generation pid) m h = ap repeats (names_reported sid (StartedReport generation pid) m.clock m.services) ∙ h
 act_names (StartFailed sid generation) m h = ap repeats (names_reported sid (StartFailedReport generation) m.clock m.services) ∙ h
+act_names (Notify sid generation bytes) m h = ap repeats (names_reported sid (NotifyReport generation bytes) m.clock m.services) ∙ h
 act_names (Death sid generation exit) m h = ap repeats (names_reported sid (DeathReport generation exit) m.clock m.services) ∙ h
 act_names (FinishEnded sid generation exit) m h = ap repeats (names_reported sid (FinishEndedReport generation exit) m.clock m.services) ∙ h
 act_names Tick m h = h

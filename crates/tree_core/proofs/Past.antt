@@ -5,7 +5,7 @@ use Rattle.s6_events.specs.declared.moment.Moment.{Moment}
 use Rattle.supervise_core.specs.declared.chart.ChartState.{ChartState}
 use Rattle.supervise_core.specs.Chart.{fire}
 use Rattle.tree_core.specs.declared.input.Act.{Act}
-use Rattle.tree_core.specs.declared.input.Act.TheVariants.{Scan, Svc, Started, StartFailed, Death, FinishEnded, Tick}
+use Rattle.tree_core.specs.declared.input.Act.TheVariants.{Scan, Svc, Started, StartFailed, Notify, Death, FinishEnded, Tick}
 use Rattle.tree_core.specs.declared.input.Input.{Input}
 use Rattle.tree_core.specs.Acts.{acted, Acted}
 use Rattle.tree_core.specs.Machine.{Machine, DeathOf, Outcome}
@@ -20,6 +20,7 @@ same_act (Scan listing) clock steps closing services next_sid history deaths = r
 same_act (Svc name letters) clock steps closing services next_sid history deaths = refl
 same_act (Started sid generation pid) clock steps closing services next_sid history deaths = refl
 same_act (StartFailed sid generation) clock steps closing services next_sid history deaths = refl
+same_act (Notify sid generation bytes) clock steps closing services next_sid history deaths = refl
 same_act (FinishEnded sid generation exit) clock steps closing services next_sid history deaths = refl
 same_act (Death sid generation exit) clock steps closing services next_sid history deaths = refl
 same_act Tick clock steps closing services next_sid history deaths = refl

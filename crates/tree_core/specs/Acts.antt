@@ -4,12 +4,12 @@ use Rattle.std.specs.List.{list_any}
 use Rattle.s6_events.specs.declared.order.Order.{Order}
 use Rattle.supervise_core.specs.declared.chart.ChartState.{ChartState}
 use Rattle.supervise_core.specs.declared.change.Change.{Change}
-use Rattle.supervise_core.specs.declared.change.Change.TheVariants.{Started as StartedReport, StartFailed as StartFailedReport, Death as DeathReport, FinishEnded as FinishEndedReport, Control as Letters}
+use Rattle.supervise_core.specs.declared.change.Change.TheVariants.{Started as StartedReport, StartFailed as StartFailedReport, Notify as NotifyReport, Death as DeathReport, FinishEnded as FinishEndedReport, Control as Letters}
 use Rattle.supervise_core.specs.ChartState.{Moved, still, is_gone}
 use Rattle.supervise_core.specs.Chart.{changed_by}
 use Rattle.tree_core.specs.declared.effect.Event.{Event}
 use Rattle.tree_core.specs.declared.input.Act.{Act}
-use Rattle.tree_core.specs.declared.input.Act.TheVariants.{Scan, Svc, Started, StartFailed, Death, FinishEnded, Tick}
+use Rattle.tree_core.specs.declared.input.Act.TheVariants.{Scan, Svc, Started, StartFailed, Notify, Death, FinishEnded, Tick}
 use Rattle.tree_core.specs.declared.reply.Refusal.TheVariants.{NoService, Stale, Closing, Repeated, Ended}
 use Rattle.tree_core.specs.declared.reply.Reply.{Reply}
 use Rattle.tree_core.specs.declared.reply.Reply.TheVariants.{Done, Refused, Scanned}
@@ -104,6 +104,7 @@ acted (Scan listing) m = listed_to listing m
 acted (Svc name letters) m = told name (Letters letters) m
 acted (Started sid generation pid) m = reported sid (StartedReport generation pid) m
 acted (StartFailed sid generation) m = reported sid (StartFailedReport generation) m
+acted (Notify sid generation bytes) m = reported sid (NotifyReport generation bytes) m
 acted (Death sid generation exit) m = reported sid (DeathReport generation exit) m
 acted (FinishEnded sid generation exit) m = reported sid (FinishEndedReport generation exit) m
 acted Tick m = only_replied Done m

@@ -17,7 +17,6 @@ use arrayvec::ArrayVec;
 use s6_events::{At, Name, NoMemory, Sid};
 use std::alloc::Allocator;
 use supervise_core::{Change, ChartState, Phase};
-use svc_commands::Letters;
 
 /// What an act leaves and gives, before anything is changed.
 #[derive(Drop)]
@@ -114,12 +113,12 @@ fn has_ended(charts: &[ChartState], name: Name) -> bool
         .any(|chart| chart.name == name && chart.phase == Phase::Gone)
 }
 
-// The same letters.
-fn copy_of(letters: &Letters) -> Letters
-    ensures { result ≡ letters.now }
+// The same list.
+fn copy_of<T: Copy + Default, const N: usize>(list: &ArrayVec<T, N>) -> ArrayVec<T, N>
+    ensures { result ≡ list.now }
 {
-    let mut copy = Letters::new();
-    if copy.try_extend_from_slice(letters.as_slice()).is_err() {
+    let mut copy = ArrayVec::new();
+    if copy.try_extend_from_slice(list.as_slice()).is_err() {
         unreachable!()
     }
     copy
@@ -259,6 +258,10 @@ pub fn act<A: Allocator + Copy>(
         }
         Act::StartFailed(sid, generation) => {
             let change = Change::StartFailed(*generation);
+            report(alloc, *sid, &change, now, charts, next_sid)
+        }
+        Act::Notify(sid, generation, bytes) => {
+            let change = Change::Notify(*generation, copy_of(bytes));
             report(alloc, *sid, &change, now, charts, next_sid)
         }
         Act::Death(sid, generation, exit) => {

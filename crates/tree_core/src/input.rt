@@ -1,5 +1,6 @@
 ghost use Rattle.std.specs.Prelude.{◌≡◌};
 
+use arrayvec::ArrayVec;
 use s6_events::{Actor, At, Exit, Name, Sid};
 use std::alloc::Allocator;
 use std::marker::Model;
@@ -46,6 +47,8 @@ pub enum Act<A: Allocator> {
     Started(Sid, u64, u32),
     /// `run`, or `finish`, of this service and generation could not be spawned.
     StartFailed(Sid, u64),
+    /// `run` of this service and generation wrote these bytes, 1 to 64, to its notification descriptor. Page `notifywhenup`.
+    Notify(Sid, u64, ArrayVec<u8, 64>),
     /// `run` of this service and generation died.
     Death(Sid, u64, Exit),
     /// `finish` of this service and generation ended.

@@ -16,3 +16,6 @@ returns-in-FinishEnded-clause-draft g c = rw c.in-FinishEnded.is c.report-in-Fin
 
 pub returns-in-Svc-clause-draft : goal.returns-in-Svc-clause-draft
 returns-in-Svc-clause-draft g c = rw c.in-Svc.is (rw (sym c.copy_of.ensures) c.tell.ensures.draft)
+
+pub returns-in-Notify-clause-draft : goal.returns-in-Notify-clause-draft
+returns-in-Notify-clause-draft g c = rw c.in-Notify.is (rw (sym c.copy_of-in-Notify.ensures) c.report-in-Notify.ensures.draft)
