@@ -9,11 +9,12 @@ use Rattle.supervise_core.specs.ChartState.{Moved, still, is_gone}
 use Rattle.supervise_core.specs.Chart.{changed_by}
 use Rattle.tree_core.specs.declared.effect.Event.{Event}
 use Rattle.tree_core.specs.declared.input.Act.{Act}
+use Rattle.tree_core.specs.declared.input.Entry.{Entry}
 use Rattle.tree_core.specs.declared.input.Act.TheVariants.{Scan, Svc, Started, StartFailed, Notify, Death, FinishEnded, Tick}
 use Rattle.tree_core.specs.declared.reply.Refusal.TheVariants.{NoService, Stale, Closing, Repeated, Ended}
 use Rattle.tree_core.specs.declared.reply.Reply.{Reply}
 use Rattle.tree_core.specs.declared.reply.Reply.TheVariants.{Done, Refused, Scanned}
-use Rattle.tree_core.specs.Listing.{repeats, in_byte_order}
+use Rattle.tree_core.specs.Listing.{names_in, repeats, in_byte_order}
 use Rattle.tree_core.specs.Machine.{Machine, DeathOf}
 use Rattle.tree_core.specs.Moves.{services_after, events_after, orders_after, deaths_after}
 use Rattle.tree_core.specs.Scan.{stands, Grown, looked_up, stays, leaves, grown_from}
@@ -87,15 +88,16 @@ scanned_to looked g = record {
 }
 
 -- a scan: activity, drops, and additions in the order of the names' bytes
-abbrev pub scanned : {A : Type 0} → List (List ℕ) → Machine → Acted A
+abbrev pub scanned : {A : Type 0} → List Entry → Machine → Acted A
 scanned listing m =
-    scanned_to (looked_up m.clock listing m.services) (grown_from (filter stays (looked_up m.clock listing m.services)) m.next_sid (in_byte_order listing))
+    scanned_to (looked_up m.clock listing m.services)
+    (grown_from listing (filter stays (looked_up m.clock listing m.services)) m.next_sid (in_byte_order (names_in listing)))
 
 -- a listing is refused while the tree is closing, then where a name stands in it twice
-abbrev pub listed_to : {A : Type 0} → List (List ℕ) → Machine → Acted A
+abbrev pub listed_to : {A : Type 0} → List Entry → Machine → Acted A
 listed_to listing m =
     if m.closing then only_replied (Refused Closing) m
-    else if repeats listing then only_replied (Refused Repeated) m
+    else if repeats (names_in listing) then only_replied (Refused Repeated) m
     else scanned listing m
 
 -- each act

@@ -2,14 +2,14 @@ ghost use Rattle.std.specs.Prelude.{◌≡◌, ◌+◌, ◌<◌, ◌≤◌, ◌^
 ghost use Rattle.std.specs.List.{list_any};
 ghost use Rattle.supervise_core.specs.Gives.{most_orders};
 ghost use Rattle.tree_core.specs.Acts.{nothing_done, report_reply as reply_to_report, reported, told, has_ended as is_ended, scanned, listed_to, acted};
-ghost use Rattle.tree_core.specs.Listing.{in_byte_order, repeats};
+ghost use Rattle.tree_core.specs.Listing.{names_in, in_byte_order, repeats};
 ghost use Rattle.tree_core.specs.Scan.{stands};
 ghost use Rattle.tree_core.specs.Sound.{names_of};
 ghost use Rattle.tree_core.specs.Plan.{at_work, IsFew};
 ghost use Rattle.tree_core.specs.Views.{drafted};
 
 use super::gathered::{Gathered, change_at, change_named};
-use super::input::Act;
+use super::input::{Act, Entry};
 use super::listing::sort_listing;
 use super::reply::{Refusal, Reply, ScanReport};
 use super::scan::{Growing, leaving, look_up, staying};
@@ -162,14 +162,14 @@ fn tell<A: Allocator + Copy>(
 // A scan: activity, drops, and additions in the order of the names' bytes.
 fn scan<A: Allocator + Copy>(
     alloc: A,
-    listing: &[Name],
+    listing: &[Entry],
     sorted: &[Name],
     now: At,
     charts: ArrayVec<ChartState, 64>,
     next_sid: u64,
 ) -> Result<Draft<A>, NoMemory>
     requires next { next_sid + 65 < 2 ^ 64 }
-    requires sorted { sorted.now ≡ in_byte_order listing.now }
+    requires sorted { sorted.now ≡ in_byte_order (names_in listing.now) }
     ensures draft { IfOk result (λ d. drafted d ≡ scanned listing.now (at_work false now charts.items next_sid)) }
     ensures places { IfOk result (λ d. length d.charts.items ≤ 64) }
     ensures next { IfOk result (λ d. d.next_sid ≤ next_sid + 64) }
@@ -183,7 +183,7 @@ fn scan<A: Allocator + Copy>(
         listed: Vec::new(alloc),
         gathered: Gathered::new(alloc),
     };
-    growing.take_all(sorted)?;
+    growing.take_all(sorted, listing)?;
     Ok(Draft {
         reply: Reply::Scanned(ScanReport::new(dropped, growing.listed)),
         charts: growing.charts,
@@ -195,7 +195,7 @@ fn scan<A: Allocator + Copy>(
 // A listing is refused while the tree is closing, and where a name stands in it twice; else it is scanned.
 fn take_listing<A: Allocator + Copy>(
     alloc: A,
-    listing: &[Name],
+    listing: &[Entry],
     closing: bool,
     now: At,
     charts: ArrayVec<ChartState, 64>,
@@ -247,7 +247,9 @@ pub fn act<A: Allocator + Copy>(
     ensures quiet { act.now ≡ Act.Tick → IsOk result }
 {
     match act {
-        Act::Scan(listing) => take_listing(alloc, listing.names(), closing, now, charts, next_sid),
+        Act::Scan(listing) => {
+            take_listing(alloc, listing.entries(), closing, now, charts, next_sid)
+        }
         Act::Svc(name, letters) => {
             let change = Change::Control(copy_of(letters));
             tell(alloc, *name, &change, now, charts, next_sid)

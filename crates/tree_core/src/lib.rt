@@ -17,7 +17,7 @@ mod verdict;
 
 pub use effect::{Effect, Event, Match, Release};
 pub use hit::Hit;
-pub use input::{Act, Input, Listing};
+pub use input::{Act, Entry, Input, Listing};
 pub use reply::{Listed, Refusal, Reply, ScanReport};
 pub use tree::Tree;
 pub use verdict::Verdict;
