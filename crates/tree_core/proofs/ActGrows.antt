@@ -1,19 +1,19 @@
 -- An act orders at most one run of each service.
-use Rattle.std.proofs.Common.{ℕ, ◌+◌, ◌≤◌, arith, List, [], ◌∷◌, get_or, Bool, true, false, cond, not}
-use Rattle.std.specs.Prelude.{All, nat_lt, length}
+use Rattle.std.proofs.Common.{ℕ, ◌+◌, ◌≤◌, arith, List, [], ◌∷◌, get_or, Bool, true, false, cond, not, rules}
+use Rattle.std.specs.Prelude.{All, nat_lt, length, Option, Some, None}
 use Rattle.std.proofs.lemmas.List.Elements.{All-map, All-filter, All-push}
 use Rattle.supervise_core.specs.declared.chart.ChartState.{ChartState}
-use Rattle.supervise_core.specs.declared.change.Change.TheVariants.{Started as StartedReport, StartFailed as StartFailedReport, Death as DeathReport, FinishEnded as FinishEndedReport, Control as Letters}
+use Rattle.supervise_core.specs.declared.change.Change.TheVariants.{Started as StartedReport, StartFailed as StartFailedReport, Notify as NotifyReport, Death as DeathReport, FinishEnded as FinishEndedReport, Control as Letters}
 use Rattle.supervise_core.specs.ChartState.{new_service, is_gone}
 use Rattle.supervise_core.specs.Moves.{begin_supervisor}
-use Rattle.supervise_core.specs.Chart.{set_active}
-use Rattle.servicedir.specs.Config.{plain_config}
+use Rattle.servicedir.specs.declared.config.Config.{Config}
 use Rattle.tree_core.specs.declared.input.Act.{Act}
-use Rattle.tree_core.specs.declared.input.Act.TheVariants.{Scan, Svc, Started, StartFailed, Death, FinishEnded, Tick}
+use Rattle.tree_core.specs.declared.input.Entry.{Entry}
+use Rattle.tree_core.specs.declared.input.Act.TheVariants.{Scan, Svc, Started, StartFailed, Notify, Death, FinishEnded, Status, Tick}
 use Rattle.tree_core.specs.Acts.{Acted, acted, has_ended}
-use Rattle.tree_core.specs.Listing.{lists, repeats, in_byte_order}
+use Rattle.tree_core.specs.Listing.{names_in, config_in, repeats, in_byte_order}
 use Rattle.tree_core.specs.Machine.{Machine}
-use Rattle.tree_core.specs.Scan.{Grown, looked_up, stays, stands, service_limit, with_service, with_name, with_names}
+use Rattle.tree_core.specs.Scan.{Grown, looked_at, looked_up, stays, stands, service_limit, config_for, with_service, with_name, with_names}
 use Rattle.tree_core.proofs.Generations.{all_changed, all_told}
 
 -- no generation is above n
@@ -31,19 +31,27 @@ either_grown : (n : ℕ) (b : Bool) (x y : Grown) → Below n x.services → Bel
 either_grown n true x y hx hy = hx
 either_grown n false x y hx hy = hy
 
-looked : (listing : List (List ℕ)) (now n : ℕ) (cs : List ChartState) → Below n cs → Below n (looked_up now listing cs)
-looked listing now n cs h = All-map (λ c. c.generation ≤ n) (λ c. set_active (lists listing c.name) now c) cs
-    (λ k d lt. either n (is_gone (get_or cs k d).phase) _ _ (h k d lt) (h k d lt))
+one_look : (n : ℕ) (found : Option Config) (now : ℕ) (c : ChartState) → c.generation ≤ n → (looked_at found now c).generation ≤ n
+one_look n None now c h = either n (is_gone c.phase) _ _ h h
+one_look n (Some config) now c h = either n (is_gone c.phase) _ _ h h
 
-named : (n : ℕ) (g : Grown) (name : List ℕ) → Below (n + 1) g.services → Below (n + 1) (with_name g name).services
-named n g name h =
+looked : (listing : List Entry) (now n : ℕ) (cs : List ChartState) → Below n cs → Below n (looked_up now listing cs)
+looked listing now n cs h = All-map (λ c. c.generation ≤ n) (λ c. looked_at (config_in listing c.name) now c) cs
+    (λ k d lt. one_look n (config_in listing (get_or cs k d).name) now (get_or cs k d) (h k d lt))
+
+first_run : (sid : ℕ) (name : List ℕ) (config : Config) → (begin_supervisor (new_service sid name config)).chart.generation ≤ 1
+first_run sid name config = search rules
+
+named : (listing : List Entry) (n : ℕ) (g : Grown) (name : List ℕ) → Below (n + 1) g.services → Below (n + 1) (with_name listing g name).services
+named listing n g name h =
     either_grown (n + 1) (stands name g.services) g _ h
-    (either_grown (n + 1) (nat_lt (length g.services) service_limit) (with_service g name) _
-    (All-push (λ c. c.generation ≤ n + 1) g.services (begin_supervisor (new_service g.next_sid name plain_config)).chart h (omega arith)) h)
+    (either_grown (n + 1) (nat_lt (length g.services) service_limit) (with_service listing g name) _
+    (All-push (λ c. c.generation ≤ n + 1) g.services (begin_supervisor (new_service g.next_sid name (config_for listing name))).chart h
+    (omega (arith, first_run g.next_sid name (config_for listing name)))) h)
 
-all_named : (n : ℕ) (g : Grown) (names : List (List ℕ)) → Below (n + 1) g.services → Below (n + 1) (with_names g names).services
-all_named n g [] h = h
-all_named n g (name ∷ names) h = all_named n (with_name g name) names (named n g name h)
+all_named : (listing : List Entry) (n : ℕ) (g : Grown) (names : List (List ℕ)) → Below (n + 1) g.services → Below (n + 1) (with_names listing g names).services
+all_named listing n g [] h = h
+all_named listing n g (name ∷ names) h = all_named listing n (with_name listing g name) names (named listing n g name h)
 
 either_acted : {A : Type 0} (n : ℕ) (b : Bool) (x y : Acted A) → Below n x.services → Below n y.services → Below n (cond b x y).services
 either_acted n true x y hx hy = hx
@@ -52,13 +60,15 @@ either_acted n false x y hx hy = hy
 pub act_grows : {A : Type 0} (act : Act A) (m : Machine) (n : ℕ) → Below n m.services → Below (n + 1) (acted act m).services
 act_grows (Scan listing) m n h =
     either_acted (n + 1) m.closing _ _ (more n m.services h)
-    (either_acted (n + 1) (repeats listing) _ _ (more n m.services h)
-    (all_named n _ (in_byte_order listing) (more n _ (All-filter stays (λ c. c.generation ≤ n) _ (looked listing m.clock n m.services h)))))
+    (either_acted (n + 1) (repeats (names_in listing)) _ _ (more n m.services h)
+    (all_named listing n _ (in_byte_order (names_in listing)) (more n _ (All-filter stays (λ c. c.generation ≤ n) _ (looked listing m.clock n m.services h)))))
 act_grows (Svc name letters) m n h =
     either_acted (n + 1) (not (stands name m.services)) _ _ (more n m.services h)
     (either_acted (n + 1) (has_ended name m.services) _ _ (more n m.services h) (all_told name (Letters letters) m.clock n m.services h))
 act_grows (Started sid generation pid) m n h = all_changed sid (StartedReport generation pid) m.clock n m.services h
 act_grows (StartFailed sid generation) m n h = all_changed sid (StartFailedReport generation) m.clock n m.services h
+act_grows (Notify sid generation bytes) m n h = all_changed sid (NotifyReport generation bytes) m.clock n m.services h
 act_grows (FinishEnded sid generation exit) m n h = all_changed sid (FinishEndedReport generation exit) m.clock n m.services h
 act_grows (Death sid generation exit) m n h = all_changed sid (DeathReport generation exit) m.clock n m.services h
+act_grows (Status name) m n h = more n m.services h
 act_grows Tick m n h = more n m.services h

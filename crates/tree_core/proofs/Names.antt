@@ -1,48 +1,57 @@
 -- No two services have one name, before a step and after it.
-use Rattle.std.proofs.Common.{◌≡◌, ℕ, List, [], ◌∷◌, ◌++◌, Bool, true, false, ◌||◌, ◌==◌, cond, not, refl, sym, ◌∙◌, ap, map, filter, rules, arith, get_or, take, suc}
-use Rattle.std.specs.Prelude.{bytes_eq, nat_lt, length, fold, zero, ◌<◌}
+use Rattle.std.proofs.Common.{◌≡◌, ℕ, List, [], ◌∷◌, ◌++◌, Bool, true, false, ◌||◌, ◌==◌, cond, not, refl, ◌∙◌, ap, filter, rules, arith, get_or, take, suc}
+use Rattle.std.specs.Prelude.{bytes_eq, nat_lt, length, zero, ◌<◌, Option, Some, None}
 use Rattle.std.specs.Cmp.Lexicographic.{bytes_decides, nat_list_eq_equiv}
 use Rattle.std.specs.List.{list_any}
 use Rattle.std.proofs.lemmas.List.{map-append}
 use Rattle.supervise_core.specs.declared.chart.ChartState.{ChartState}
 use Rattle.supervise_core.specs.declared.change.Change.{Change}
-use Rattle.supervise_core.specs.declared.change.Change.TheVariants.{Started as StartedReport, StartFailed as StartFailedReport, Death as DeathReport, FinishEnded as FinishEndedReport, Control as Letters}
+use Rattle.supervise_core.specs.declared.change.Change.TheVariants.{Started as StartedReport, StartFailed as StartFailedReport, Notify as NotifyReport, Death as DeathReport, FinishEnded as FinishEndedReport, Control as Letters}
 use Rattle.supervise_core.specs.ChartState.{Moved, new_service}
 use Rattle.supervise_core.specs.Moves.{begin_supervisor}
-use Rattle.supervise_core.specs.Chart.{fire, set_active, changed_by}
-use Rattle.supervise_core.proofs.Identity.{KeepsName, keeps_fire, keeps_changed, keeps_active, keeps_begin}
-use Rattle.servicedir.specs.Config.{plain_config}
+use Rattle.supervise_core.specs.Chart.{fire}
+use Rattle.supervise_core.proofs.Identity.{IsSame, KeepsIdentity, keeps_fire, keeps_changed, keeps_active, keeps_begin}
+use Rattle.servicedir.specs.declared.config.Config.{Config}
 use Rattle.tree_core.specs.declared.input.Act.{Act}
-use Rattle.tree_core.specs.declared.input.Act.TheVariants.{Scan, Svc, Started, StartFailed, Death, FinishEnded, Tick}
+use Rattle.tree_core.specs.declared.input.Entry.{Entry}
+use Rattle.tree_core.specs.declared.input.Act.TheVariants.{Scan, Svc, Started, StartFailed, Notify, Death, FinishEnded, Status, Tick}
 use Rattle.tree_core.specs.Acts.{Acted, acted, changed_at, changed_named, has_ended}
-use Rattle.tree_core.specs.Listing.{lists, repeats, in_byte_order}
+use Rattle.tree_core.specs.Listing.{lists, repeats, in_byte_order, names_in, config_in}
 use Rattle.tree_core.specs.Machine.{Machine}
 use Rattle.tree_core.specs.Moves.{services_after}
-use Rattle.tree_core.specs.Scan.{Grown, looked_up, stays, stands, service_limit, with_service, with_name, with_names}
+use Rattle.tree_core.specs.Scan.{Grown, looked_at, looked_up, stays, stands, service_limit, config_for, with_service, with_name, with_names}
 use Rattle.tree_core.specs.Sound.{names_of}
 use Rattle.tree_core.proofs.ListingOrder.{repeats_last}
 
 -- a move that keeps each name keeps the names
-pub names_moved : (move : ChartState → Moved) → ((c : ChartState) → KeepsName c (move c)) → (cs : List ChartState) → names_of (services_after move cs) ≡ names_of cs
+pub names_moved : (move : ChartState → Moved) → ((c : ChartState) → KeepsIdentity c (move c)) → (cs : List ChartState) → names_of (services_after move cs) ≡ names_of cs
 names_moved move keeps [] = refl
-names_moved move keeps (c ∷ cs) = λ i. keeps c i ∷ names_moved move keeps cs i
+names_moved move keeps (c ∷ cs) = λ i. (keeps c).name i ∷ names_moved move keeps cs i
 
 pub names_fired : (now : ℕ) (cs : List ChartState) → names_of (services_after (fire now) cs) ≡ names_of cs
 names_fired now cs = names_moved (fire now) (keeps_fire now) cs
 
-keeps_either : (b : Bool) (c : ChartState) (x y : Moved) → KeepsName c x → KeepsName c y → KeepsName c (cond b x y)
+pub keeps_either : (b : Bool) (c : ChartState) (x y : Moved) → KeepsIdentity c x → KeepsIdentity c y → KeepsIdentity c (cond b x y)
 keeps_either true c x y hx hy = hx
 keeps_either false c x y hx hy = hy
 
+pub keeps_still : (c : ChartState) → IsSame c c
+keeps_still c = record { sid = refl; name = refl }
+
 names_reported : (sid : ℕ) (change : Change) (now : ℕ) (cs : List ChartState) → names_of (services_after (changed_at sid change now) cs) ≡ names_of cs
-names_reported sid change now cs = names_moved (changed_at sid change now) (λ c. keeps_either (c.sid == sid) c _ _ (keeps_changed change now c) refl) cs
+names_reported sid change now cs = names_moved (changed_at sid change now) (λ c. keeps_either (c.sid == sid) c _ _ (keeps_changed change now c) (keeps_still c)) cs
 
 names_told : (name : List ℕ) (change : Change) (now : ℕ) (cs : List ChartState) → names_of (services_after (changed_named name change now) cs) ≡ names_of cs
-names_told name change now cs = names_moved (changed_named name change now) (λ c. keeps_either (bytes_eq name c.name) c _ _ (keeps_changed change now c) refl) cs
+names_told name change now cs = names_moved (changed_named name change now) (λ c. keeps_either (bytes_eq name c.name) c _ _ (keeps_changed change now c) (keeps_still c)) cs
 
-names_looked : (now : ℕ) (listing : List (List ℕ)) (cs : List ChartState) → names_of (looked_up now listing cs) ≡ names_of cs
+pub keeps_look : (found : Option Config) (now : ℕ) (c : ChartState) → IsSame c (looked_at found now c)
+keeps_look None now c = keeps_active false now c
+keeps_look (Some config) now c =
+    let active = keeps_active true now c in record { sid = active.sid; name = active.name }
+
+names_looked : (now : ℕ) (listing : List Entry) (cs : List ChartState) → names_of (looked_up now listing cs) ≡ names_of cs
 names_looked now listing [] = refl
-names_looked now listing (c ∷ cs) = λ i. keeps_active (lists listing c.name) now c i ∷ names_looked now listing cs i
+names_looked now listing (c ∷ cs) = λ i. (keeps_look (config_in listing c.name) now c).name i ∷ names_looked now listing cs i
 
 -- both are false where one or the other is
 pub neither_left : (a b : Bool) → (a || b) ≡ false → a ≡ false
@@ -83,24 +92,25 @@ either_grown : (b : Bool) (x y : Grown) → repeats (names_of x.services) ≡ fa
 either_grown true x y hx hy = hx
 either_grown false x y hx hy = hy
 
-once_added : (g : Grown) (name : List ℕ) → repeats (names_of g.services) ≡ false → stands name g.services ≡ false → repeats (names_of (with_service g name).services) ≡ false
-once_added g name h new =
-    ap repeats (map-append (λ (c : ChartState). c.name) g.services ((begin_supervisor (new_service g.next_sid name plain_config)).chart ∷ []))
-    ∙ (ap (λ n. repeats (names_of g.services ++ n ∷ [])) (keeps_begin g.next_sid name plain_config)
+once_added : (listing : List Entry) (g : Grown) (name : List ℕ) → repeats (names_of g.services) ≡ false → stands name g.services ≡ false
+    → repeats (names_of (with_service listing g name).services) ≡ false
+once_added listing g name h new =
+    ap repeats (map-append (λ (c : ChartState). c.name) g.services ((begin_supervisor (new_service g.next_sid name (config_for listing name))).chart ∷ []))
+    ∙ (ap (λ n. repeats (names_of g.services ++ n ∷ [])) (keeps_begin g.next_sid name (config_for listing name)).name
     ∙ (repeats_last (names_of g.services) name
     ∙ neither_of (repeats (names_of g.services)) _ h (stands_listed name g.services ∙ new)))
 
-once_named : (g : Grown) (name : List ℕ) → repeats (names_of g.services) ≡ false → repeats (names_of (with_name g name).services) ≡ false
-once_named g name h = by (stands name g.services) refl _ h
+once_named : (listing : List Entry) (g : Grown) (name : List ℕ) → repeats (names_of g.services) ≡ false → repeats (names_of (with_name listing g name).services) ≡ false
+once_named listing g name h = by (stands name g.services) refl _ h
   where
     by : (b : Bool) → stands name g.services ≡ b → (full : Grown) → repeats (names_of full.services) ≡ false
-        → repeats (names_of (cond b g (cond (nat_lt (length g.services) service_limit) (with_service g name) full)).services) ≡ false
+        → repeats (names_of (cond b g (cond (nat_lt (length g.services) service_limit) (with_service listing g name) full)).services) ≡ false
     by true e full hf = h
-    by false e full hf = either_grown (nat_lt (length g.services) service_limit) (with_service g name) full (once_added g name h e) hf
+    by false e full hf = either_grown (nat_lt (length g.services) service_limit) (with_service listing g name) full (once_added listing g name h e) hf
 
-all_once : (g : Grown) (names : List (List ℕ)) → repeats (names_of g.services) ≡ false → repeats (names_of (with_names g names).services) ≡ false
-all_once g [] h = h
-all_once g (name ∷ names) h = all_once (with_name g name) names (once_named g name h)
+all_once : (listing : List Entry) (g : Grown) (names : List (List ℕ)) → repeats (names_of g.services) ≡ false → repeats (names_of (with_names listing g names).services) ≡ false
+all_once listing g [] h = h
+all_once listing g (name ∷ names) h = all_once listing (with_name listing g name) names (once_named listing g name h)
 
 either_acted : {A : Type 0} (b : Bool) (x y : Acted A) → repeats (names_of x.services) ≡ false → repeats (names_of y.services) ≡ false → repeats (names_of (cond b x y).services) ≡ false
 either_acted true x y hx hy = hx
@@ -110,15 +120,17 @@ either_acted false x y hx hy = hy
 pub act_names : {A : Type 0} (act : Act A) (m : Machine) → repeats (names_of m.services) ≡ false → repeats (names_of (acted act m).services) ≡ false
 act_names (Scan listing) m h =
     either_acted m.closing _ _ h
-    (either_acted (repeats listing) _ _ h
-    (all_once _ (in_byte_order listing) (once_filtered stays (looked_up m.clock listing m.services) (ap repeats (names_looked m.clock listing m.services) ∙ h))))
+    (either_acted (repeats (names_in listing)) _ _ h
+    (all_once listing _ (in_byte_order (names_in listing)) (once_filtered stays (looked_up m.clock listing m.services) (ap repeats (names_looked m.clock listing m.services) ∙ h))))
 act_names (Svc name letters) m h =
     either_acted (not (stands name m.services)) _ _ h
     (either_acted (has_ended name m.services) _ _ h (ap repeats (names_told name (Letters letters) m.clock m.services) ∙ h))
 act_names (Started sid generation pid) m h = ap repeats (names_reported sid (StartedReport generation pid) m.clock m.services) ∙ h
 act_names (StartFailed sid generation) m h = ap repeats (names_reported sid (StartFailedReport generation) m.clock m.services) ∙ h
+act_names (Notify sid generation bytes) m h = ap repeats (names_reported sid (NotifyReport generation bytes) m.clock m.services) ∙ h
 act_names (Death sid generation exit) m h = ap repeats (names_reported sid (DeathReport generation exit) m.clock m.services) ∙ h
 act_names (FinishEnded sid generation exit) m h = ap repeats (names_reported sid (FinishEndedReport generation exit) m.clock m.services) ∙ h
+act_names (Status name) m h = h
 act_names Tick m h = h
 
 unlisted_at : (q : List ℕ) (i : ℕ) (cs : List ChartState) (d : ChartState) → lists (names_of cs) q ≡ false → i < length cs → bytes_eq q (get_or cs i d).name ≡ false

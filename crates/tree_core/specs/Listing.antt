@@ -1,9 +1,19 @@
 -- What a listing of the scan directory says.
-use Rattle.std.specs.Prelude.{ℕ, List, [], ◌∷◌, Bool, false, ◌||◌, fold, bytes_eq}
+use Rattle.std.specs.Prelude.{ℕ, List, [], ◌∷◌, Bool, false, ◌||◌, fold, map, find, Option, option_map, bytes_eq}
 use Rattle.std.specs.List.{list_any}
 use Rattle.std.specs.Ordering.{nat_cmp}
 use Rattle.std.specs.Cmp.Lexicographic.{slice_cmp}
 use Rattle.std.specs.BTreeSet.{insert_key}
+use Rattle.servicedir.specs.declared.config.Config.{Config}
+use Rattle.tree_core.specs.declared.input.Entry.{Entry}
+
+-- the names of a listing
+abbrev pub names_in : List Entry → List (List ℕ)
+names_in listing = map (λ e. e.name) listing
+
+-- the configuration that a listing has for a name
+abbrev pub config_in : List Entry → List ℕ → Option Config
+config_in listing name = option_map (λ e. e.config) (find (λ e. bytes_eq name e.name) listing)
 
 -- the name is listed
 abbrev pub lists : List (List ℕ) → List ℕ → Bool

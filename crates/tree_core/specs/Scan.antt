@@ -1,25 +1,32 @@
 -- What a listing of the scan directory does to the services.
-use Rattle.std.specs.Prelude.{ℕ, ◌+◌, List, [], ◌∷◌, ◌++◌, map, fold, length, Bool, ◌||◌, not, nat_lt, if◌then◌else◌, bytes_eq}
+use Rattle.std.specs.Prelude.{ℕ, ◌+◌, List, [], ◌∷◌, ◌++◌, map, fold, length, Bool, true, false, ◌||◌, not, nat_lt, if◌then◌else◌, bytes_eq, Option, Some, None, unwrap_or}
 use Rattle.std.specs.List.{list_any}
 use Rattle.s6_events.specs.declared.order.Order.{Order}
 use Rattle.supervise_core.specs.declared.chart.ChartState.{ChartState}
 use Rattle.supervise_core.specs.ChartState.{new_service, is_gone}
 use Rattle.supervise_core.specs.Moves.{begin_supervisor}
-use Rattle.supervise_core.specs.Chart.{set_active}
+use Rattle.supervise_core.specs.Chart.{set_active, set_config}
 use Rattle.servicedir.specs.Config.{plain_config}
+use Rattle.servicedir.specs.declared.config.Config.{Config}
+use Rattle.tree_core.specs.declared.input.Entry.{Entry}
 use Rattle.tree_core.specs.declared.effect.Event.{Event}
 use Rattle.tree_core.specs.declared.reply.Listed.{Listed}
 use Rattle.tree_core.specs.declared.reply.Listed.TheVariants.{Added, Full}
-use Rattle.tree_core.specs.Listing.{lists}
+use Rattle.tree_core.specs.Listing.{config_in}
 use Rattle.tree_core.specs.Moves.{events_of}
 
 -- the most services that stand
 abbrev pub service_limit : ℕ
 service_limit = 64
 
--- activity: each standing service is active if its name is listed, else inactive
-abbrev pub looked_up : ℕ → List (List ℕ) → List ChartState → List ChartState
-looked_up now listing services = map (λ c. set_active (lists listing c.name) now c) services
+-- a look at the directory of a service: it is inactive where it is not listed, and else it takes the configuration found there
+abbrev pub looked_at : Option Config → ℕ → ChartState → ChartState
+looked_at None now c = set_active false now c
+looked_at (Some config) now c = set_config config (set_active true now c)
+
+-- activity: each standing service is looked at
+abbrev pub looked_up : ℕ → List Entry → List ChartState → List ChartState
+looked_up now listing services = map (λ c. looked_at (config_in listing c.name) now c) services
 
 -- drops: a service leaves whose directory and whose supervisor are both gone
 abbrev pub stays : ChartState → Bool
@@ -40,27 +47,31 @@ pub record Grown : Type 0 where
 abbrev pub stands : List ℕ → List ChartState → Bool
 stands name services = list_any (λ c. bytes_eq name c.name) services
 
--- the name gets a service of the next serial, whose supervisor starts
-abbrev pub with_service : Grown → List ℕ → Grown
-with_service g name = record {
-  services = g.services ++ (begin_supervisor (new_service g.next_sid name plain_config)).chart ∷ [];
+-- the configuration that a listing has for a name of its own
+abbrev pub config_for : List Entry → List ℕ → Config
+config_for listing name = unwrap_or (config_in listing name) plain_config
+
+-- the name gets a service of the next serial, whose supervisor starts with the configuration that the listing has for it
+abbrev pub with_service : List Entry → Grown → List ℕ → Grown
+with_service listing g name = record {
+  services = g.services ++ (begin_supervisor (new_service g.next_sid name (config_for listing name))).chart ∷ [];
   next_sid = g.next_sid + 1;
   listed = g.listed ++ Added g.next_sid name ∷ [];
-  events = g.events ++ events_of g.next_sid (begin_supervisor (new_service g.next_sid name plain_config));
-  orders = g.orders ++ (begin_supervisor (new_service g.next_sid name plain_config)).orders;
+  events = g.events ++ events_of g.next_sid (begin_supervisor (new_service g.next_sid name (config_for listing name)));
+  orders = g.orders ++ (begin_supervisor (new_service g.next_sid name (config_for listing name))).orders;
 }
 
 -- a name that stands is passed over; another one gets a service, unless the limit is reached
-abbrev pub with_name : Grown → List ℕ → Grown
-with_name g name =
+abbrev pub with_name : List Entry → Grown → List ℕ → Grown
+with_name listing g name =
     if stands name g.services then g
-    else if nat_lt (length g.services) service_limit then with_service g name
+    else if nat_lt (length g.services) service_limit then with_service listing g name
     else record g { listed = g.listed ++ Full name ∷ [] }
 
 -- one name after the other
-abbrev pub with_names : Grown → List (List ℕ) → Grown
-with_names g names = fold with_name g names
+abbrev pub with_names : List Entry → Grown → List (List ℕ) → Grown
+with_names listing g names = fold (with_name listing) g names
 
 -- from the services that stayed on
-abbrev pub grown_from : List ChartState → ℕ → List (List ℕ) → Grown
-grown_from services next_sid names = with_names (record { services = services; next_sid = next_sid; listed = []; events = []; orders = [] }) names
+abbrev pub grown_from : List Entry → List ChartState → ℕ → List (List ℕ) → Grown
+grown_from listing services next_sid names = with_names listing (record { services = services; next_sid = next_sid; listed = []; events = []; orders = [] }) names

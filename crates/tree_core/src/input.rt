@@ -1,37 +1,47 @@
 ghost use Rattle.std.specs.Prelude.{◌≡◌};
 
+use arrayvec::ArrayVec;
 use s6_events::{Actor, At, Exit, Name, Sid};
+use servicedir::Config;
 use std::alloc::Allocator;
 use std::marker::Model;
 use svc_commands::Letters;
 
-/// The names that a look at the scan directory found, in the order in which they came.
+/// A name that a look at the scan directory found, and what the files of its directory said. Page `s6-svscan`.
+#[derive(Clone, Copy, PartialEq, Eq, Debug)]
+pub struct Entry {
+    pub name: Name,
+    pub config: Config,
+}
+
+/// What a look at the scan directory found, in the order in which it came.
 #[derive(Drop)]
 pub struct Listing<A: Allocator> {
-    names: Vec<Name, A>,
+    entries: Vec<Entry, A>,
 }
 
 impl<A: Allocator> Model for Listing<A> {
-    ghost use Rattle.std.specs.Prelude.{ℕ, List};
+    ghost use Rattle.std.specs.Prelude.{List};
+    ghost use Rattle.tree_core.specs.declared.input.Entry.{Entry};
 
-    ghost Value = { List (List ℕ) };
+    ghost Value = { List Entry };
 
-    ghost view = { λ l. l.names.items };
+    ghost view = { λ l. l.entries.items };
 }
 
 impl<A: Allocator> Listing<A> {
-    /// The listing of these names.
-    pub fn new(names: Vec<Name, A>) -> Listing<A>
-        ensures { result ≡ names.items }
+    /// The listing of these entries.
+    pub fn new(entries: Vec<Entry, A>) -> Listing<A>
+        ensures { result ≡ entries.items }
     {
-        Listing { names }
+        Listing { entries }
     }
 
-    /// Its names, in the order in which they came.
-    pub fn names(&self) -> &[Name]
+    /// Its entries, in the order in which they came.
+    pub fn entries(&self) -> &[Entry]
         ensures { result.now ≡ self.now }
     {
-        self.names.as_slice()
+        self.entries.as_slice()
     }
 }
 
@@ -46,10 +56,14 @@ pub enum Act<A: Allocator> {
     Started(Sid, u64, u32),
     /// `run`, or `finish`, of this service and generation could not be spawned.
     StartFailed(Sid, u64),
+    /// `run` of this service and generation wrote these bytes, 1 to 64, to its notification descriptor. Page `notifywhenup`.
+    Notify(Sid, u64, ArrayVec<u8, 64>),
     /// `run` of this service and generation died.
     Death(Sid, u64, Exit),
     /// `finish` of this service and generation ended.
     FinishEnded(Sid, u64, Exit),
+    /// A user asked for the status row of the service of this name. Page `s6-svstat`.
+    Status(Name),
     /// Nothing but the clock.
     Tick,
 }

@@ -9,7 +9,9 @@ mod input;
 mod listing;
 mod plan;
 mod reply;
+mod rows;
 mod scan;
+mod standing;
 #[cfg(test)]
 mod tests;
 mod tree;
@@ -17,7 +19,7 @@ mod verdict;
 
 pub use effect::{Effect, Event, Match, Release};
 pub use hit::Hit;
-pub use input::{Act, Input, Listing};
+pub use input::{Act, Entry, Input, Listing};
 pub use reply::{Listed, Refusal, Reply, ScanReport};
 pub use tree::Tree;
 pub use verdict::Verdict;

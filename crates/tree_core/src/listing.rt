@@ -1,36 +1,41 @@
 ghost use Rattle.std.specs.Prelude.{◌≡◌, IfOk};
-ghost use Rattle.tree_core.specs.Listing.{lists, repeats as has_repeats, in_byte_order};
+ghost use Rattle.tree_core.specs.Listing.{names_in, config_in as config_of, repeats as has_repeats, in_byte_order};
 
+use super::input::Entry;
 use s6_events::{Name, NoMemory};
+use servicedir::Config;
 use std::alloc::{AllocError, Allocator};
 use std::collections::BTreeSet;
 
-/// A listing in the order of the names' bytes, and whether a name stood in it twice.
+/// The names of a listing in the order of their bytes, and whether a name stood in it twice.
 #[derive(Drop)]
 pub struct SortedListing<A: Allocator> {
     pub names: Vec<Name, A>,
     pub repeats: bool,
 }
 
-/// Whether the listing has the name.
-pub fn is_listed(listing: &[Name], name: &Name) -> bool
-    ensures { result ≡ lists listing.now name.now }
+/// The configuration that the listing has for the name.
+pub fn config_in(listing: &[Entry], name: &Name) -> Option<Config>
+    ensures { result ≡ config_of listing.now name.now }
 {
-    listing.iter().any(|other| name == other)
+    listing
+        .iter()
+        .find(|entry| *name == entry.name)
+        .map(|entry| entry.config)
 }
 
-/// The listing in the order of the names' bytes.
+/// The names of the listing in the order of their bytes.
 pub fn sort_listing<A: Allocator + Copy>(
     alloc: A,
-    listing: &[Name],
+    listing: &[Entry],
 ) -> Result<SortedListing<A>, NoMemory>
-    ensures names { IfOk result (λ sorted. sorted.names.items ≡ in_byte_order listing.now) }
-    ensures repeats { IfOk result (λ sorted. sorted.repeats ≡ has_repeats listing.now) }
+    ensures names { IfOk result (λ sorted. sorted.names.items ≡ in_byte_order (names_in listing.now)) }
+    ensures repeats { IfOk result (λ sorted. sorted.repeats ≡ has_repeats (names_in listing.now)) }
 {
     let mut set = BTreeSet::new(alloc);
     let mut repeats = false;
-    for name in listing {
-        repeats |= !set.insert(*name)?;
+    for entry in listing {
+        repeats |= !set.insert(entry.name)?;
     }
     Ok(SortedListing {
         names: names_of(alloc, &set)?,

@@ -1,12 +1,12 @@
 ghost use Rattle.std.specs.Prelude.{◌≡◌, ◌+◌, ◌*◌, ◌<◌, ◌≤◌, ◌^◌, ◌++◌, ◌∷◌, [], map, filter, length, IfOk, OnOk};
 ghost use Rattle.supervise_core.specs.ChartState.{new_service};
 ghost use Rattle.supervise_core.specs.Moves.{begin_supervisor};
-ghost use Rattle.servicedir.specs.Config.{plain_config};
-ghost use Rattle.tree_core.specs.Scan.{looked_up, stays, leaves, stands, with_service, with_name, with_names};
+ghost use Rattle.tree_core.specs.Scan.{looked_at, looked_up, stays, leaves, stands, config_for as has_for, with_service, with_name, with_names};
 ghost use Rattle.tree_core.specs.Views.{grown_of};
 
 use super::gathered::Gathered;
-use super::listing::is_listed;
+use super::input::Entry;
+use super::listing::config_in;
 use super::reply::Listed;
 use arrayvec::ArrayVec;
 use s6_events::{At, Name, NoMemory, Sid};
@@ -23,16 +23,29 @@ pub struct Growing<A: Allocator> {
     pub gathered: Gathered<A>,
 }
 
-/// Activity: each standing service is active if its name is listed, else inactive.
-pub fn look_up(charts: &[ChartState], listing: &[Name], now: At) -> ArrayVec<ChartState, 64>
+// A look at the directory of a service: where it is listed the service is active and takes the configuration that the directory
+// says; else it is inactive.
+fn look_at(chart: &ChartState, found: Option<Config>, now: At) -> ChartState
+    ensures { result ≡ looked_at found now chart.now }
+{
+    let mut next = *chart;
+    next.set_active(found.is_some(), now);
+    if let Some(config) = found {
+        next.set_config(config);
+    }
+    next
+}
+
+/// Activity: each standing service is active if its name is listed, else inactive; a listed one takes the configuration that the
+/// listing has for it.
+pub fn look_up(charts: &[ChartState], listing: &[Entry], now: At) -> ArrayVec<ChartState, 64>
     requires { length charts.now ≤ 64 }
     ensures { result.items ≡ looked_up now listing.now charts.now }
 {
     let mut after = ArrayVec::new();
     for chart in charts {
-        let mut next = *chart;
-        next.set_active(is_listed(listing, &chart.name), now);
-        after.push(next);
+        let found = config_in(listing, &chart.name);
+        after.push(look_at(chart, found, now));
     }
     after
 }
@@ -81,30 +94,38 @@ fn is_standing(name: &Name, charts: &[ChartState]) -> bool
     charts.iter().any(|chart| *name == chart.name)
 }
 
-// A new service at the end.
-fn begin_at_end(charts: &mut ArrayVec<ChartState, 64>, sid: Sid, name: &Name) -> Out
-    requires { length charts.old.items < 64 }
-    ensures charts { charts.new.items ≡ charts.old.items ++ (begin_supervisor (new_service sid name.now plain_config)).chart ∷ [] }
-    ensures events { result.events.items ≡ (begin_supervisor (new_service sid name.now plain_config)).marks }
-    ensures orders { result.orders.items ≡ (begin_supervisor (new_service sid name.now plain_config)).orders }
+// The configuration that the listing has for a name of its own.
+fn config_for(listing: &[Entry], name: &Name) -> Config
+    ensures { result ≡ has_for listing.now name.now }
 {
-    let (chart, out) = ChartState::begin(sid, *name, Config::plain());
+    config_in(listing, name).unwrap_or(Config::plain())
+}
+
+// A new service at the end.
+fn begin_at_end(charts: &mut ArrayVec<ChartState, 64>, sid: Sid, name: &Name, config: Config) -> Out
+    requires { length charts.old.items < 64 }
+    ensures charts { charts.new.items ≡ charts.old.items ++ (begin_supervisor (new_service sid name.now config)).chart ∷ [] }
+    ensures events { result.events.items ≡ (begin_supervisor (new_service sid name.now config)).marks }
+    ensures orders { result.orders.items ≡ (begin_supervisor (new_service sid name.now config)).orders }
+{
+    let (chart, out) = ChartState::begin(sid, *name, config);
     charts.push(chart);
     out
 }
 
 impl<A: Allocator + Copy> Growing<A> {
-    // The name gets a service of the next serial.
-    fn add(&mut self, name: &Name) -> Result<(), NoMemory>
+    // The name gets a service of the next serial, with the configuration that the listing has for it.
+    fn add(&mut self, name: &Name, listing: &[Entry]) -> Result<(), NoMemory>
         requires place { length self.old.charts.items < 64 }
         requires orders { length self.old.gathered.orders.items ≤ length self.old.charts.items }
         requires next { self.old.next_sid + 1 < 2 ^ 64 }
-        ensures grown { OnOk result (grown_of self.new ≡ with_service (grown_of self.old) name.now) }
+        ensures grown { OnOk result (grown_of self.new ≡ with_service listing.now (grown_of self.old) name.now) }
         ensures orders { OnOk result (length self.new.gathered.orders.items ≤ length self.old.gathered.orders.items + 1) }
         ensures events { OnOk result (length self.new.gathered.events.items ≤ length self.old.gathered.events.items + 4) }
     {
         let sid = Sid(self.next_sid);
-        let out = begin_at_end(&mut self.charts, sid, name);
+        let config = config_for(listing, name);
+        let out = begin_at_end(&mut self.charts, sid, name, config);
         self.gathered.add(sid, &out)?;
         self.listed.push(Listed::Added(sid, *name))?;
         self.next_sid += 1;
@@ -112,10 +133,10 @@ impl<A: Allocator + Copy> Growing<A> {
     }
 
     // A name that stands is passed over; another one gets a service, unless the limit is reached.
-    fn take(&mut self, name: &Name) -> Result<(), NoMemory>
+    fn take(&mut self, name: &Name, listing: &[Entry]) -> Result<(), NoMemory>
         requires orders { length self.old.gathered.orders.items ≤ length self.old.charts.items }
         requires next { self.old.next_sid + 1 < 2 ^ 64 }
-        ensures grown { OnOk result (grown_of self.new ≡ with_name (grown_of self.old) name.now) }
+        ensures grown { OnOk result (grown_of self.new ≡ with_name listing.now (grown_of self.old) name.now) }
         ensures orders { OnOk result (length self.new.gathered.orders.items ≤ length self.new.charts.items) }
         ensures events { OnOk result (length self.new.gathered.events.items + 4 * length self.old.charts.items ≤ length self.old.gathered.events.items + 4 * length self.new.charts.items) }
         ensures next { OnOk result (self.new.next_sid + length self.old.charts.items ≤ self.old.next_sid + length self.new.charts.items) }
@@ -128,22 +149,22 @@ impl<A: Allocator + Copy> Growing<A> {
             self.listed.push(Listed::Full(*name))?;
             return Ok(());
         }
-        self.add(name)
+        self.add(name, listing)
     }
 
     /// Additions: one name after the other.
-    pub fn take_all(&mut self, names: &[Name]) -> Result<(), NoMemory>
+    pub fn take_all(&mut self, names: &[Name], listing: &[Entry]) -> Result<(), NoMemory>
         requires places { length self.old.charts.items ≤ 64 }
         requires orders { length self.old.gathered.orders.items ≤ length self.old.charts.items }
         requires next { self.old.next_sid + 65 < 2 ^ 64 }
-        ensures grown { OnOk result (grown_of self.new ≡ with_names (grown_of self.old) names.now) }
+        ensures grown { OnOk result (grown_of self.new ≡ with_names listing.now (grown_of self.old) names.now) }
         ensures orders { OnOk result (length self.new.gathered.orders.items ≤ length self.new.charts.items) }
         ensures events { OnOk result (length self.new.gathered.events.items + 4 * length self.old.charts.items ≤ length self.old.gathered.events.items + 4 * length self.new.charts.items) }
         ensures next { OnOk result (self.new.next_sid + length self.old.charts.items ≤ self.old.next_sid + length self.new.charts.items) }
         ensures places { OnOk result (length self.new.charts.items ≤ 64) }
     {
         for name in names {
-            self.take(name)?;
+            self.take(name, listing)?;
         }
         Ok(())
     }

@@ -3,16 +3,22 @@
 use super::*;
 use linked_list_allocator::LocalHeap;
 use s6_events::{Actor, At, Exit, Name, NoMemory, Order, Sid};
+use servicedir::Config;
 use std::alloc::{AllocError, Allocator, Global};
 use std::fmt::Write;
 use std::process::Abort;
 use std::str;
 use std::test::Fail;
+use svc_commands::{ControlLetter, Letters};
 
 // What a step of the rows does, before it has memory of its own.
 #[derive(Clone, Copy, Debug)]
 enum Deed {
+    /// Names with nothing but `run` in their directories.
     Scan(&'static [&'static [u8]]),
+    /// One name, whether its directory has `down`, and whether it has `finish`.
+    Look(&'static [u8], bool, bool),
+    Tell(&'static [u8], ControlLetter),
     Started(u64, u64, u32),
     Death(u64, u64, Exit),
     Tick,
@@ -28,14 +34,34 @@ const RESTART: [(u64, Deed, &str); 7] = [
     (1400, Deed::Death(1, 1, Exit::Code(1)), "refused Stale"),
 ];
 
+fn entry(name: &[u8], config: Config) -> Result<Entry, Fail> {
+    Ok(Entry {
+        name: Name::new(name).ok_or("a name")?,
+        config,
+    })
+}
+
 fn input<A: Allocator + Copy>(alloc: A, at: u64, deed: Deed) -> Result<Input<A>, Fail> {
     let act = match deed {
         Deed::Scan(names) => {
             let mut listing = Vec::new(alloc);
             for name in names {
-                listing.push(Name::new(*name).ok_or("a name")?)?;
+                listing.push(entry(*name, Config::plain())?)?;
             }
             Act::Scan(Listing::new(listing))
+        }
+        Deed::Look(name, down, finish) => {
+            let config = Config {
+                down,
+                finish,
+                ..Config::plain()
+            };
+            Act::Scan(Listing::new(vec![in alloc; entry(name, config)?]?))
+        }
+        Deed::Tell(name, letter) => {
+            let mut letters = Letters::new();
+            letters.push(letter);
+            Act::Svc(Name::new(name).ok_or("a name")?, letters)
         }
         Deed::Started(sid, generation, pid) => Act::Started(Sid(sid), generation, pid),
         Deed::Death(sid, generation, exit) => Act::Death(Sid(sid), generation, exit),
@@ -56,6 +82,7 @@ fn write_reply<A: Allocator>(text: &mut String, reply: &Reply<A>) -> Result<(), 
     match reply {
         Reply::Done => write!(text, "done"),
         Reply::Refused(refusal) => write!(text, "refused {refusal:?}"),
+        Reply::Row(row) => write!(text, "{row:?}"),
         Reply::Scanned(report) => {
             write!(text, "scanned")?;
             for sid in report.dropped() {
@@ -94,6 +121,10 @@ fn lines<A: Allocator>(alloc: Global, effect: &Effect<A>) -> Result<String, Allo
             Order::Run(sid, generation, _, _) => {
                 let sid = sid.0;
                 write!(text, "|o run {sid} {generation}")?;
+            }
+            Order::Finish(sid, generation, _, code, signal) => {
+                let sid = sid.0;
+                write!(text, "|o finish {sid} {generation} {code} {signal}")?;
             }
             other => write!(text, "|{other:?}")?,
         }
@@ -222,5 +253,40 @@ const SCANS: [(u64, Deed, &str); 5] = [
 fn scans_in_the_order_of_the_bytes_and_refuses_a_name_twice(rt: HostRuntime) -> Result<(), Fail> {
     let ended = after_rows(&rt, rt.alloc(), &SCANS)?;
     assert_eq!(rt; ended, (6, 5));
+    Ok(())
+}
+
+// A service is opened with `down`, so that no run is ordered. Then its directory has no `down` any more, and its next supervisor
+// orders a run.
+const OPENED_DOWN: [(u64, Deed, &str); 5] = [
+    (0, Deed::Look(b"web", true, false), "scanned +1:web|e 1 s"),
+    (1, Deed::Look(b"web", false, false), "scanned"),
+    (2, Deed::Tell(b"web", ControlLetter::Exit), "done|e 1 x"),
+    (1001, Deed::Tick, "done"),
+    (1002, Deed::Tick, "done|e 1 s|o run 1 1"),
+];
+
+// A service stands whose directory gets a `finish`: the next death of its run is followed by a finish.
+const FINISH_ADDED: [(u64, Deed, &str); 4] = [
+    (
+        0,
+        Deed::Look(b"web", false, false),
+        "scanned +1:web|e 1 s|o run 1 1",
+    ),
+    (0, Deed::Started(1, 1, 500), "done|e 1 u"),
+    (1, Deed::Look(b"web", false, true), "scanned"),
+    (
+        2,
+        Deed::Death(1, 1, Exit::Code(1)),
+        "done|e 1 d|o finish 1 1 1 0",
+    ),
+];
+
+#[test]
+fn a_listed_service_takes_what_its_directory_says(rt: HostRuntime) -> Result<(), Fail> {
+    let opened = after_rows(&rt, rt.alloc(), &OPENED_DOWN)?;
+    assert_eq!(rt; opened, (1002, 5));
+    let added = after_rows(&rt, rt.alloc(), &FINISH_ADDED)?;
+    assert_eq!(rt; added, (2, 4));
     Ok(())
 }
