@@ -1,6 +1,6 @@
 -- How an input is spelled.
-use Rattle.std.specs.Prelude.{◌≡◌, ℕ, ◌^◌, ◌<◌, ◌≤◌, List, [], ◌∷◌, codes, decimal, IsTrue, map, length}
-use Rattle.std.specs.List.{join_with_byte, list_all}
+use Rattle.std.specs.Prelude.{◌≡◌, ℕ, ◌^◌, ◌<◌, ◌≤◌, List, [], ◌∷◌, codes, decimal, IsTrue, All, map, length}
+use Rattle.std.specs.List.{join_with_byte}
 use Rattle.hex.specs.Hex.{encode_lower, IsBytes}
 use Rattle.s6_events.specs.declared.exit.Exit.{Exit}
 use Rattle.s6_events.specs.declared.exit.Exit.TheVariants.{Code, Killed}
@@ -10,6 +10,7 @@ use Rattle.svc_commands.specs.ControlLetter.{byte_of}
 use Rattle.tree_core.specs.declared.input.Act.{Act}
 use Rattle.tree_core.specs.declared.input.Act.TheVariants.{Scan, Svc, Started, StartFailed, Notify, Death, FinishEnded, Tick}
 use Rattle.tree_core.specs.declared.input.Input.{Input}
+use Rattle.s6_replay.specs.Options.{entry_text, IsEntry}
 
 -- the words of an exit
 abbrev pub exit_words : Exit → List (List ℕ)
@@ -18,7 +19,7 @@ exit_words (Killed n) = codes "signal" ∷ decimal n ∷ []
 
 -- the words of an act
 abbrev pub act_words : {A : Type 0} → Act A → List (List ℕ)
-act_words (Scan names) = codes "scan" ∷ names
+act_words (Scan listing) = codes "scan" ∷ map entry_text listing
 act_words (Svc name letters) = codes "svc" ∷ name ∷ map byte_of letters.items ∷ []
 act_words (Started sid generation pid) = codes "started" ∷ decimal sid ∷ decimal generation ∷ decimal pid ∷ []
 act_words (StartFailed sid generation) = codes "startfailed" ∷ decimal sid ∷ decimal generation ∷ []
@@ -40,9 +41,9 @@ abbrev pub IsExit : Exit → Type 0
 IsExit (Code n) = n ≤ 255
 IsExit (Killed n) = n ≤ 64
 
--- names are names, letters are 1 to 63, bytes are 1 to 64, serials and generations have 64 bits, a process number is positive and has 31 bits
+-- entries are entries, a name is a name, letters are 1 to 63, bytes are 1 to 64, serials and generations have 64 bits, a process number is positive and has 31 bits
 abbrev pub IsAct : {A : Type 0} → Act A → Type 0
-IsAct (Scan names) = IsTrue (list_all is_name names)
+IsAct (Scan listing) = All IsEntry listing
 IsAct (Svc name letters) = IsTrue (is_name name) × (1 ≤ length letters.items) × (length letters.items ≤ 63)
 IsAct (Started sid generation pid) = (sid < 2 ^ 64) × (generation < 2 ^ 64) × (1 ≤ pid) × (pid ≤ 2147483647)
 IsAct (StartFailed sid generation) = (sid < 2 ^ 64) × (generation < 2 ^ 64)

@@ -6,6 +6,7 @@ use Rattle.tree_core.specs.declared.input.Act.{Act}
 use Rattle.tree_core.specs.declared.input.Act.TheVariants.{Scan, Svc, Started, StartFailed, Notify, Death, FinishEnded, Tick}
 use Rattle.s6_replay.specs.declared.parse.Verb.{Verb}
 use Rattle.s6_replay.specs.declared.parse.Verb.TheVariants.{Scan as ScanVerb, Svc as SvcVerb, Started as StartedVerb, StartFailed as StartFailedVerb, Notify as NotifyVerb, Death as DeathVerb, Finished as FinishedVerb, Tick as TickVerb}
+use Rattle.s6_replay.specs.Options.{entry_text}
 use Rattle.s6_replay.specs.Spelling.{exit_words}
 
 -- the word of a verb
@@ -21,7 +22,7 @@ verb_word TickVerb = codes "tick"
 
 -- the verb of an act
 abbrev pub verb_of_act : {A : Type 0} → Act A → Verb
-verb_of_act (Scan names) = ScanVerb
+verb_of_act (Scan listing) = ScanVerb
 verb_of_act (Svc name letters) = SvcVerb
 verb_of_act (Started sid generation pid) = StartedVerb
 verb_of_act (StartFailed sid generation) = StartFailedVerb
@@ -32,7 +33,7 @@ verb_of_act Tick = TickVerb
 
 -- the words of an act behind its verb
 abbrev pub details : {A : Type 0} → Act A → List (List ℕ)
-details (Scan names) = names
+details (Scan listing) = map entry_text listing
 details (Svc name letters) = name ∷ map byte_of letters.items ∷ []
 details (Started sid generation pid) = decimal sid ∷ decimal generation ∷ decimal pid ∷ []
 details (StartFailed sid generation) = decimal sid ∷ decimal generation ∷ []
