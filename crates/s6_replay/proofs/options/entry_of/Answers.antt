@@ -1,5 +1,3 @@
-use Rattle.std.proofs.Common.{◌∙◌, ap, map, drop}
-use Rattle.std.specs.Prelude.{slice_index_or, []}
 use Rattle.s6_replay.proofs.Entries.{entry_read}
 use Rattle.s6_replay.proofs.options.entry_of.Goals as goal
 
