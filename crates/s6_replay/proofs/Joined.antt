@@ -6,7 +6,7 @@ use Rattle.std.proofs.lemmas.List.Splits.{slice_split_none, slice_split_at}
 use Rattle.std.specs.List.{join_with_byte, flat_map, slice_split, list_all}
 use Rattle.std.proofs.lemmas.Bool.{and_parts}
 use Rattle.tree_core.specs.declared.input.Act.{Act}
-use Rattle.tree_core.specs.declared.input.Act.TheVariants.{Scan, Svc, Started, StartFailed, Notify, Death, FinishEnded, Tick}
+use Rattle.tree_core.specs.declared.input.Act.TheVariants.{Scan, Svc, Started, StartFailed, Notify, Death, FinishEnded, Status, Tick}
 use Rattle.tree_core.specs.declared.input.Entry.{Entry}
 use Rattle.s6_replay.specs.Options.{entry_text}
 use Rattle.s6_replay.specs.Spelling.{act_words}
@@ -23,6 +23,7 @@ join_act word (StartFailed sid generation) = refl
 join_act word (Notify sid generation bytes) = refl
 join_act word (FinishEnded sid generation exit) = refl
 join_act word (Death sid generation exit) = refl
+join_act word (Status name) = refl
 join_act word Tick = refl
 
 -- the byte is no space

@@ -5,7 +5,7 @@ use Rattle.std.specs.List.{slice_split, list_all}
 use Rattle.s6_events.specs.declared.exit.Exit.{Exit}
 use Rattle.s6_events.specs.declared.exit.Exit.TheVariants.{Code, Killed}
 use Rattle.tree_core.specs.declared.input.Act.{Act}
-use Rattle.tree_core.specs.declared.input.Act.TheVariants.{Scan, Svc, Started, StartFailed, Notify, Death, FinishEnded, Tick}
+use Rattle.tree_core.specs.declared.input.Act.TheVariants.{Scan, Svc, Started, StartFailed, Notify, Death, FinishEnded, Status, Tick}
 use Rattle.tree_core.specs.declared.input.Input.{Input}
 use Rattle.s6_replay.specs.declared.parse.Verb.{Verb}
 use Rattle.s6_replay.specs.declared.parse.Verb.TheVariants.{Scan as ScanVerb}
@@ -29,6 +29,7 @@ scan_read texts listing reads (StartFailed sid generation) h v d = cc
 scan_read texts listing reads (Notify sid generation bytes) h v d = cc
 scan_read texts listing reads (FinishEnded sid generation exit) h v d = cc
 scan_read texts listing reads (Death sid generation exit) h v d = cc
+scan_read texts listing reads (Status name) h v d = cc
 scan_read texts listing reads Tick h v d = cc
 
 act_begins : {A : Type 0} (act : Act A) → act_words act ≡ verb_word (verb_of_act act) ∷ details act
@@ -39,6 +40,7 @@ act_begins (StartFailed sid generation) = refl
 act_begins (Notify sid generation bytes) = refl
 act_begins (FinishEnded sid generation exit) = refl
 act_begins (Death sid generation exit) = refl
+act_begins (Status name) = refl
 act_begins Tick = refl
 
 -- decimal digits are no spaces
@@ -65,6 +67,7 @@ act_plain (StartFailed sid generation) h = rw (digits_no_space sid h.0, digits_n
 act_plain (Notify sid generation bytes) h = rw (digits_no_space sid h.0, digits_no_space generation h.1, hex_plain bytes.items) refl
 act_plain (FinishEnded sid generation exit) h = rw (digits_no_space sid h.0, digits_no_space generation h.1) (exit_plain exit h.2)
 act_plain (Death sid generation exit) h = rw (digits_no_space sid h.0, digits_no_space generation h.1) (exit_plain exit h.2)
+act_plain (Status name) h = rw (no_space_in name (name_plain name h)) refl
 act_plain Tick h = refl
 
 -- a spelling has the words of its input

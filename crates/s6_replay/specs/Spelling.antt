@@ -8,7 +8,7 @@ use Rattle.s6_events.specs.At.{last_moment}
 use Rattle.s6_events.specs.Name.{is_name}
 use Rattle.svc_commands.specs.ControlLetter.{byte_of}
 use Rattle.tree_core.specs.declared.input.Act.{Act}
-use Rattle.tree_core.specs.declared.input.Act.TheVariants.{Scan, Svc, Started, StartFailed, Notify, Death, FinishEnded, Tick}
+use Rattle.tree_core.specs.declared.input.Act.TheVariants.{Scan, Svc, Started, StartFailed, Notify, Death, FinishEnded, Status, Tick}
 use Rattle.tree_core.specs.declared.input.Input.{Input}
 use Rattle.s6_replay.specs.Options.{entry_text, IsEntry}
 
@@ -26,6 +26,7 @@ act_words (StartFailed sid generation) = codes "startfailed" ∷ decimal sid ∷
 act_words (Notify sid generation bytes) = codes "notify" ∷ decimal sid ∷ decimal generation ∷ encode_lower bytes.items ∷ []
 act_words (Death sid generation exit) = codes "death" ∷ decimal sid ∷ decimal generation ∷ exit_words exit
 act_words (FinishEnded sid generation exit) = codes "finished" ∷ decimal sid ∷ decimal generation ∷ exit_words exit
+act_words (Status name) = codes "status" ∷ name ∷ []
 act_words Tick = codes "tick" ∷ []
 
 -- the words of an input: its moment, its actor, its act
@@ -51,6 +52,7 @@ IsAct (Notify sid generation bytes) =
     (sid < 2 ^ 64) × (generation < 2 ^ 64) × (1 ≤ length bytes.items) × (length bytes.items ≤ 64) × IsBytes bytes.items
 IsAct (Death sid generation exit) = (sid < 2 ^ 64) × (generation < 2 ^ 64) × IsExit exit
 IsAct (FinishEnded sid generation exit) = (sid < 2 ^ 64) × (generation < 2 ^ 64) × IsExit exit
+IsAct (Status name) = IsTrue (is_name name)
 IsAct Tick = Unit {0}
 
 -- the input has a spelling

@@ -3,9 +3,9 @@ use Rattle.std.specs.Prelude.{ℕ, List, [], ◌∷◌, codes, decimal, map}
 use Rattle.hex.specs.Hex.{encode_lower}
 use Rattle.svc_commands.specs.ControlLetter.{byte_of}
 use Rattle.tree_core.specs.declared.input.Act.{Act}
-use Rattle.tree_core.specs.declared.input.Act.TheVariants.{Scan, Svc, Started, StartFailed, Notify, Death, FinishEnded, Tick}
+use Rattle.tree_core.specs.declared.input.Act.TheVariants.{Scan, Svc, Started, StartFailed, Notify, Death, FinishEnded, Status, Tick}
 use Rattle.s6_replay.specs.declared.parse.Verb.{Verb}
-use Rattle.s6_replay.specs.declared.parse.Verb.TheVariants.{Scan as ScanVerb, Svc as SvcVerb, Started as StartedVerb, StartFailed as StartFailedVerb, Notify as NotifyVerb, Death as DeathVerb, Finished as FinishedVerb, Tick as TickVerb}
+use Rattle.s6_replay.specs.declared.parse.Verb.TheVariants.{Scan as ScanVerb, Svc as SvcVerb, Started as StartedVerb, StartFailed as StartFailedVerb, Notify as NotifyVerb, Death as DeathVerb, Finished as FinishedVerb, Status as StatusVerb, Tick as TickVerb}
 use Rattle.s6_replay.specs.Options.{entry_text}
 use Rattle.s6_replay.specs.Spelling.{exit_words}
 
@@ -18,6 +18,7 @@ verb_word StartFailedVerb = codes "startfailed"
 verb_word NotifyVerb = codes "notify"
 verb_word DeathVerb = codes "death"
 verb_word FinishedVerb = codes "finished"
+verb_word StatusVerb = codes "status"
 verb_word TickVerb = codes "tick"
 
 -- the verb of an act
@@ -29,6 +30,7 @@ verb_of_act (StartFailed sid generation) = StartFailedVerb
 verb_of_act (Notify sid generation bytes) = NotifyVerb
 verb_of_act (Death sid generation exit) = DeathVerb
 verb_of_act (FinishEnded sid generation exit) = FinishedVerb
+verb_of_act (Status name) = StatusVerb
 verb_of_act Tick = TickVerb
 
 -- the words of an act behind its verb
@@ -40,4 +42,5 @@ details (StartFailed sid generation) = decimal sid ∷ decimal generation ∷ []
 details (Notify sid generation bytes) = decimal sid ∷ decimal generation ∷ encode_lower bytes.items ∷ []
 details (Death sid generation exit) = decimal sid ∷ decimal generation ∷ exit_words exit
 details (FinishEnded sid generation exit) = decimal sid ∷ decimal generation ∷ exit_words exit
+details (Status name) = name ∷ []
 details Tick = []

@@ -41,6 +41,7 @@ pub enum Verb {
     Notify,
     Death,
     Finished,
+    Status,
     Tick,
 }
 
@@ -74,6 +75,8 @@ fn verb_of(word: &[u8]) -> Verb
         Verb::Death
     } else if is_word(word, b"finished") {
         Verb::Finished
+    } else if is_word(word, b"status") {
+        Verb::Status
     } else {
         Verb::Tick
     }
@@ -147,21 +150,20 @@ fn act_of<A: Allocator + Copy>(alloc: A, verb: Verb, words: &[&[u8]]) -> Result<
         → map (λ w. w.now) words.now ≡ details act → found ≡ act) }
     ensures fits { IfOk result IsAct }
 {
+    let name = name_of(word_at(words, 0));
     let sid = Sid(number(word_at(words, 0), u64::MAX));
     let generation = number(word_at(words, 1), u64::MAX);
     let third = word_at(words, 2);
     let exit = exit_of(third, word_at(words, 3));
     match verb {
         Verb::Scan => Ok(Act::Scan(Listing::new(entries_of(alloc, words)?))),
-        Verb::Svc => {
-            let name = name_of(word_at(words, 0));
-            Ok(Act::Svc(name, letters_of(word_at(words, 1))))
-        }
+        Verb::Svc => Ok(Act::Svc(name, letters_of(word_at(words, 1)))),
         Verb::Started => Ok(Act::Started(sid, generation, process_of(third))),
         Verb::StartFailed => Ok(Act::StartFailed(sid, generation)),
         Verb::Notify => Ok(Act::Notify(sid, generation, bytes_of(third))),
         Verb::Death => Ok(Act::Death(sid, generation, exit)),
         Verb::Finished => Ok(Act::FinishEnded(sid, generation, exit)),
+        Verb::Status => Ok(Act::Status(name)),
         Verb::Tick => Ok(Act::Tick),
     }
 }

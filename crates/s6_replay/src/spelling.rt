@@ -77,6 +77,11 @@ fn act_text<A: Allocator + Copy>(alloc: A, act: &Act<A>) -> Result<Vec<u8, A>, A
             let text = format!(in alloc; "finished {sid} {generation} {exit}")?;
             Ok(text.into_bytes())
         }
+        Act::Status(name) => {
+            let mut text = b"status ".to_vec(alloc)?;
+            text.extend_from_slice(name.as_bytes())?;
+            Ok(text)
+        }
         Act::Tick => b"tick".to_vec(alloc),
     }
 }

@@ -9,7 +9,7 @@ use Rattle.supervise_core.specs.Moves.{begin_supervisor}
 use Rattle.servicedir.specs.declared.config.Config.{Config}
 use Rattle.tree_core.specs.declared.input.Act.{Act}
 use Rattle.tree_core.specs.declared.input.Entry.{Entry}
-use Rattle.tree_core.specs.declared.input.Act.TheVariants.{Scan, Svc, Started, StartFailed, Notify, Death, FinishEnded, Tick}
+use Rattle.tree_core.specs.declared.input.Act.TheVariants.{Scan, Svc, Started, StartFailed, Notify, Death, FinishEnded, Status, Tick}
 use Rattle.tree_core.specs.Acts.{Acted, acted, has_ended}
 use Rattle.tree_core.specs.Listing.{names_in, config_in, repeats, in_byte_order}
 use Rattle.tree_core.specs.Machine.{Machine}
@@ -70,4 +70,5 @@ act_grows (StartFailed sid generation) m n h = all_changed sid (StartFailedRepor
 act_grows (Notify sid generation bytes) m n h = all_changed sid (NotifyReport generation bytes) m.clock n m.services h
 act_grows (FinishEnded sid generation exit) m n h = all_changed sid (FinishEndedReport generation exit) m.clock n m.services h
 act_grows (Death sid generation exit) m n h = all_changed sid (DeathReport generation exit) m.clock n m.services h
+act_grows (Status name) m n h = more n m.services h
 act_grows Tick m n h = more n m.services h

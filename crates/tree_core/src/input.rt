@@ -62,6 +62,8 @@ pub enum Act<A: Allocator> {
     Death(Sid, u64, Exit),
     /// `finish` of this service and generation ended.
     FinishEnded(Sid, u64, Exit),
+    /// A user asked for the status row of the service of this name. Page `s6-svstat`.
+    Status(Name),
     /// Nothing but the clock.
     Tick,
 }
