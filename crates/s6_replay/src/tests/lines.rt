@@ -89,7 +89,9 @@ fn lines_that_spell_no_input(rt: HostRuntime) {
         b"0 1 svc .web u",
         b"0 1 svc web z",
         b"0 1 svc web u d",
-        b"0 1 status web",
+        b"0 1 status",
+        b"0 1 status .web",
+        b"0 1 status web log",
         b"\xff 1 tick",
     ];
     for line in lines {
@@ -113,6 +115,7 @@ fn numbers<A: Allocator>(act: &Act<A>) -> (u8, u64, u64, u32) {
         Act::Tick => (4, 0, 0, 0),
         Act::Svc(_, letters) => (8, letters.len() as u64, 0, 0),
         Act::StartFailed(sid, generation) => (5, sid.0, *generation, 0),
+        Act::Status(name) => (10, name.as_bytes().len() as u64, 0, 0),
         Act::Notify(_, _, bytes) => (9, bytes.len() as u64, 0, 0),
         Act::FinishEnded(sid, generation, Exit::Code(code)) => (
             6,
@@ -157,6 +160,7 @@ fn lines_that_spell_an_input(rt: HostRuntime) -> Result<(), Fail> {
         (b"7 1 finished 2 3 code 125", 7, 1, (6, 2, 3, 125)),
         (b"7 1 finished 2 3 signal 0", 7, 1, (7, 2, 3, 0)),
         (b"0 1 svc web abqhkti12pcyudOrx", 0, 1, (8, 17, 0, 0)),
+        (b"0 1 status web", 0, 1, (10, 3, 0, 0)),
         (b"0 1 scan", 0, 1, (0, 0, 0, 0)),
         (
             b"0 1 scan web:down,finish,notify=3,kill=1,fintime=0,tally=0,signal=64",

@@ -13,7 +13,7 @@ struct Row {
     counts: (u64, u128, u128),
 }
 
-const ROWS: [Row; 24] = [
+const ROWS: [Row; 25] = [
     Row {
         name: "restart-after-pause",
         script: "s6-script 1\n0 1 scan web\n0 1 started 1 1 500\n300 1 death 1 1 code 1\n1299 1 tick\n1300 1 tick\n",
@@ -174,6 +174,13 @@ const ROWS: [Row; 24] = [
         counts: (4, 3, 0),
     },
     Row {
+        name: "once-letters-and-row-after-death",
+        script: "s6-script 1\n0 1 scan web:down\n1 1 svc web uO\n2 1 started 1 1 500\n5000 1 death 1 1 code 0\n9000 1 status web\n",
+        transcript: "1 scanned +1:web\ne 1 s\n2 done\no run 1 1\n3 done\ne 1 u\n4 done\ne 1 d\ne 1 D\n5 row 1 web false false false true false -1 0 -1 4 4\n",
+        fault: None,
+        counts: (5, 4, 1),
+    },
+    Row {
         name: "report-of-an-old-life-is-stale",
         script: "s6-script 1\n0 1 scan web\n0 1 started 1 1 500\n300 1 death 1 1 code 1\n1299 1 tick\n1300 1 tick\n\
         1350 1 started 1 2 501\n1400 1 death 1 1 code 1\n",
@@ -206,7 +213,7 @@ const ROWS: [Row; 24] = [
 ];
 
 // Scripts without fault, each with its name and what its transcript ends with, the newline before it included.
-const ENDS: [(&str, &str, &str); 4] = [
+const ENDS: [(&str, &str, &str); 5] = [
     (
         "ready-for-exactly-a-second-pauses",
         "s6-script 1\n0 1 scan web:notify=3\n0 1 started 1 1 500\n100 1 notify 1 1 610a0a\n1100 1 death 1 1 code 0\n2099 1 tick\n2100 1 tick\n",
@@ -226,6 +233,11 @@ const ENDS: [(&str, &str, &str); 4] = [
         "finish-is-killed-at-its-timeout",
         "s6-script 1\n0 1 scan web:finish\n0 1 started 1 1 5\n10 1 death 1 1 code 0\n5009 1 tick\n5010 1 tick\n5011 1 finished 1 1 signal 9\n",
         "\n4 done\n5 done\no killfinish 1 1\n6 done\ne 1 D\no run 1 2\n",
+    ),
+    (
+        "status-of-a-running-service",
+        "s6-script 1\n100 1 scan web\n50 1 started 1 1 7\n1100 1 status web\n",
+        "\n3 row 1 web true true true false false 7 -1 -1 1 -1\n",
     ),
 ];
 
