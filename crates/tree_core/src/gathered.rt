@@ -1,6 +1,6 @@
 ghost use Rattle.std.specs.Prelude.{◌≡◌, ◌+◌, ◌*◌, ◌<◌, ◌≤◌, ◌^◌, [], ◌∷◌, ◌++◌, map, length, All, IsOk, OnOk, IfOk, false, true, ◌||◌, ◌==◌, bytes_eq};
 ghost use Rattle.std.specs.List.{list_any};
-ghost use Rattle.supervise_core.specs.Chart.{is_due, fire};
+ghost use Rattle.supervise_core.specs.Chart.{is_due, fire, changed_by};
 ghost use Rattle.supervise_core.specs.Gives.{most_orders};
 ghost use Rattle.tree_core.specs.Acts.{changed_at, changed_named};
 ghost use Rattle.tree_core.specs.Listing.{repeats};
@@ -137,6 +137,28 @@ fn fire_one<A: Allocator + Copy>(
     Ok(next)
 }
 
+// A service takes the change.
+fn take_change<A: Allocator + Copy>(
+    chart: &ChartState,
+    change: &Change,
+    now: At,
+    gathered: &mut Gathered<A>,
+) -> Result<ChartState, NoMemory>
+    requires orders { length gathered.old.orders.items + most_orders change.now ≤ 256 }
+    requires next { chart.now.generation + 1 < 2 ^ 64 }
+    ensures chart { IfOk result (λ next. next ≡ (changed_by change.now now chart.now).chart) }
+    ensures events { OnOk result (gathered.new.events.items ≡ gathered.old.events.items ++ map (event chart.now.sid) (changed_by change.now now chart.now).marks) }
+    ensures orders { OnOk result (gathered.new.orders.items ≡ gathered.old.orders.items ++ (changed_by change.now now chart.now).orders) }
+    ensures count { OnOk result (length gathered.new.orders.items ≤ length gathered.old.orders.items + most_orders change.now) }
+    ensures few { OnOk result (length gathered.new.events.items ≤ length gathered.old.events.items + 4) }
+    ensures stale { gathered.new.stale ≡ (gathered.old.stale || (changed_by change.now now chart.now).stale) }
+{
+    let mut next = *chart;
+    let out = next.change(change, now);
+    gathered.add(chart.sid, &out)?;
+    Ok(next)
+}
+
 /// The service of the serial takes the change of a report, and every other one stays.
 pub fn change_at<A: Allocator + Copy>(
     charts: &[ChartState],
@@ -182,12 +204,11 @@ fn change_one<A: Allocator + Copy>(
     ensures few { OnOk result (length gathered.new.events.items ≤ length gathered.old.events.items + 4) }
     ensures stale { gathered.new.stale ≡ (gathered.old.stale || (changed_at sid change.now now chart.now).stale) }
 {
-    let mut next = *chart;
     if chart.sid.0 == sid.0 {
-        let out = next.change(change, now);
-        gathered.add(chart.sid, &out)?;
+        take_change(chart, change, now, gathered)
+    } else {
+        Ok(*chart)
     }
-    Ok(next)
 }
 
 /// The service of the name takes the change, and every other one stays.
@@ -233,10 +254,9 @@ fn change_if_named<A: Allocator + Copy>(
     ensures other { bytes_eq name chart.now.name ≡ false → OnOk result (length gathered.new.orders.items ≤ length gathered.old.orders.items) }
     ensures few { OnOk result (length gathered.new.events.items ≤ length gathered.old.events.items + 4) }
 {
-    let mut next = *chart;
     if chart.name == name {
-        let out = next.change(change, now);
-        gathered.add(chart.sid, &out)?;
+        take_change(chart, change, now, gathered)
+    } else {
+        Ok(*chart)
     }
-    Ok(next)
 }
