@@ -7,4 +7,6 @@ pub mod Generations
 pub mod ActGrows
 pub mod PlanMakes
 pub mod Quiet
+pub mod TimersAgree
+pub mod TimersDue
 pub mod Names

@@ -12,6 +12,7 @@ mod reply;
 mod scan;
 #[cfg(test)]
 mod tests;
+mod timers;
 mod tree;
 mod verdict;
 
