@@ -6,7 +6,7 @@ use Rattle.std.proofs.lemmas.List.Splits.{slice_split_none, slice_split_at}
 use Rattle.std.specs.List.{join_with_byte, flat_map, slice_split, list_all}
 use Rattle.std.proofs.lemmas.Bool.{and_parts}
 use Rattle.tree_core.specs.declared.input.Act.{Act}
-use Rattle.tree_core.specs.declared.input.Act.TheVariants.{Scan, Svc, Started, StartFailed, Death, FinishEnded, Tick}
+use Rattle.tree_core.specs.declared.input.Act.TheVariants.{Scan, Svc, Started, StartFailed, Notify, Death, FinishEnded, Tick}
 use Rattle.s6_replay.specs.Spelling.{act_words}
 
 pub join_names : (word : List ℕ) (names : List (List ℕ)) → join_with_byte 32 (word ∷ names) ≡ word ++ flat_map (λ name. 32 ∷ name) names
@@ -18,6 +18,7 @@ join_act word (Scan names) = refl
 join_act word (Svc name letters) = refl
 join_act word (Started sid generation pid) = refl
 join_act word (StartFailed sid generation) = refl
+join_act word (Notify sid generation bytes) = refl
 join_act word (FinishEnded sid generation exit) = refl
 join_act word (Death sid generation exit) = refl
 join_act word Tick = refl

@@ -1,4 +1,5 @@
 pub mod HeadRead
+pub mod Hexadecimal
 pub mod Joined
 pub mod LineRead
 pub mod Reading

@@ -10,7 +10,7 @@ use Rattle.s6_events.specs.declared.exit.Exit.{Exit}
 use Rattle.s6_events.specs.declared.exit.Exit.TheVariants.{Code, Killed}
 use Rattle.s6_events.specs.Name.{is_name, is_name_byte}
 use Rattle.tree_core.specs.declared.input.Act.{Act}
-use Rattle.tree_core.specs.declared.input.Act.TheVariants.{Scan, Svc, Started, StartFailed, Death, FinishEnded, Tick}
+use Rattle.tree_core.specs.declared.input.Act.TheVariants.{Scan, Svc, Started, StartFailed, Notify, Death, FinishEnded, Tick}
 use Rattle.tree_core.specs.declared.input.Input.{Input}
 use Rattle.s6_replay.specs.declared.parse.Verb.{Verb}
 use Rattle.s6_replay.specs.declared.parse.Verb.TheVariants.{Scan as ScanVerb}
@@ -18,6 +18,7 @@ use Rattle.s6_replay.specs.Spelling.{IsSpelt, IsExit, IsAct, exit_words, act_wor
 use Rattle.s6_replay.specs.Verb.{verb_word, verb_of_act, details}
 use Rattle.svc_commands.specs.ControlLetter.{byte_of}
 use Rattle.svc_commands.specs.declared.control_letter.ControlLetter.{ControlLetter}
+use Rattle.s6_replay.proofs.Hexadecimal.{hex_plain}
 use Rattle.s6_replay.proofs.Joined.{is_no_space, has_no_space, split_joined}
 
 -- where all pass, none is filtered out
@@ -40,6 +41,7 @@ scan_read texts listing e (Scan names) h v d = ap Scan (e ∙ ap (filter is_name
 scan_read texts listing e (Svc name letters) h v d = cc
 scan_read texts listing e (Started sid generation pid) h v d = cc
 scan_read texts listing e (StartFailed sid generation) h v d = cc
+scan_read texts listing e (Notify sid generation bytes) h v d = cc
 scan_read texts listing e (FinishEnded sid generation exit) h v d = cc
 scan_read texts listing e (Death sid generation exit) h v d = cc
 scan_read texts listing e Tick h v d = cc
@@ -49,6 +51,7 @@ act_begins (Scan names) = refl
 act_begins (Svc name letters) = refl
 act_begins (Started sid generation pid) = refl
 act_begins (StartFailed sid generation) = refl
+act_begins (Notify sid generation bytes) = refl
 act_begins (FinishEnded sid generation exit) = refl
 act_begins (Death sid generation exit) = refl
 act_begins Tick = refl
@@ -100,6 +103,7 @@ act_plain (Svc name letters) h = rw (name_plain name h.0, letters_plain letters.
 act_plain (Started sid generation pid) h =
     rw (digits_plain sid h.0, digits_plain generation h.1, digits_plain pid (omega arith)) refl
 act_plain (StartFailed sid generation) h = rw (digits_plain sid h.0, digits_plain generation h.1) refl
+act_plain (Notify sid generation bytes) h = rw (digits_plain sid h.0, digits_plain generation h.1, hex_plain bytes.items) refl
 act_plain (FinishEnded sid generation exit) h = rw (digits_plain sid h.0, digits_plain generation h.1) (exit_plain exit h.2)
 act_plain (Death sid generation exit) h = rw (digits_plain sid h.0, digits_plain generation h.1) (exit_plain exit h.2)
 act_plain Tick h = refl

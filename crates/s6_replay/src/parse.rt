@@ -2,6 +2,7 @@
 //! where this gives the line it is answered. So each form that is no input of the page is refused with no case of its own.
 ghost use Rattle.std.specs.Prelude.{◌≡◌, ◌≢◌, ℕ, ◌≤◌, ◌<◌, ◌∷◌, ◌++◌, [], List, Bool, Err, IfOk, decimal, map, filter, bytes_eq, drop, slice_index_or, ◌==◌, length, true};
 ghost use Rattle.std.specs.List.{slice_split};
+ghost use Rattle.hex.specs.Hex.{IsBytes, encode_lower};
 ghost use Rattle.s6_events.specs.Name.{is_name};
 ghost use Rattle.s6_replay.specs.Spelling.{IsSpelt, IsExit, IsAct, Spells, exit_words, input_words};
 ghost use Rattle.svc_commands.specs.ControlLetter.{byte_of};
@@ -9,6 +10,7 @@ ghost use Rattle.svc_commands.specs.declared.control_letter.ControlLetter.{Contr
 ghost use Rattle.s6_replay.specs.Verb.{verb_word, verb_of_act, details};
 
 use super::spelling::spell;
+use arrayvec::ArrayVec;
 use s6_events::{Actor, At, Exit, Name, Sid};
 use std::alloc::{AllocError, Allocator};
 use std::str;
@@ -37,6 +39,7 @@ pub enum Verb {
     Svc,
     Started,
     StartFailed,
+    Notify,
     Death,
     Finished,
     Tick,
@@ -127,6 +130,8 @@ fn verb_of(word: &[u8]) -> Verb
         Verb::Started
     } else if is_word(word, b"startfailed") {
         Verb::StartFailed
+    } else if is_word(word, b"notify") {
+        Verb::Notify
     } else if is_word(word, b"death") {
         Verb::Death
     } else if is_word(word, b"finished") {
@@ -183,40 +188,50 @@ fn letters_of(word: &[u8]) -> Letters
     letters
 }
 
+// The bytes that a word spells, or other ones.
+fn bytes_of(word: &[u8]) -> ArrayVec<u8, 64>
+    ensures spelled { (bytes : List ℕ) → 1 ≤ length bytes → length bytes ≤ 64 → IsBytes bytes → word.now ≡ encode_lower bytes → result.items ≡ bytes }
+    ensures some { 1 ≤ length result.items }
+    ensures few { length result.items ≤ 64 }
+    ensures fits { IsBytes result.items }
+{
+    let mut room = [0; 64];
+    let count = (word.len() / 2).min(64);
+    let part = &mut room[..count];
+    let places = part.len();
+    prove!(places == count);
+    let mut bytes = ArrayVec::new();
+    if count == 0 || hex::decode_to_slice(word, part).is_err() {
+        bytes.push(0);
+        return bytes;
+    }
+    if bytes.try_extend_from_slice(part).is_err() {
+        unreachable!()
+    }
+    bytes
+}
+
 // The act that a verb and the words after it spell, or another one.
 fn act_of<A: Allocator + Copy>(alloc: A, verb: Verb, words: &[&[u8]]) -> Result<Act<A>, AllocError>
     ensures spelled { IfOk result (λ found. (act : Act A) → IsAct act → verb ≡ verb_of_act act
         → map (λ w. w.now) words.now ≡ details act → found ≡ act) }
     ensures fits { IfOk result IsAct }
 {
+    let sid = Sid(number(word_at(words, 0), u64::MAX));
+    let generation = number(word_at(words, 1), u64::MAX);
+    let third = word_at(words, 2);
+    let exit = exit_of(third, word_at(words, 3));
     match verb {
         Verb::Scan => Ok(Act::Scan(Listing::new(names_of(alloc, words)?))),
         Verb::Svc => {
             let name = name_of(word_at(words, 0));
             Ok(Act::Svc(name, letters_of(word_at(words, 1))))
         }
-        Verb::Started => {
-            let sid = Sid(number(word_at(words, 0), u64::MAX));
-            let generation = number(word_at(words, 1), u64::MAX);
-            Ok(Act::Started(sid, generation, process_of(word_at(words, 2))))
-        }
-        Verb::StartFailed => {
-            let sid = Sid(number(word_at(words, 0), u64::MAX));
-            let generation = number(word_at(words, 1), u64::MAX);
-            Ok(Act::StartFailed(sid, generation))
-        }
-        Verb::Death => {
-            let sid = Sid(number(word_at(words, 0), u64::MAX));
-            let generation = number(word_at(words, 1), u64::MAX);
-            let exit = exit_of(word_at(words, 2), word_at(words, 3));
-            Ok(Act::Death(sid, generation, exit))
-        }
-        Verb::Finished => {
-            let sid = Sid(number(word_at(words, 0), u64::MAX));
-            let generation = number(word_at(words, 1), u64::MAX);
-            let exit = exit_of(word_at(words, 2), word_at(words, 3));
-            Ok(Act::FinishEnded(sid, generation, exit))
-        }
+        Verb::Started => Ok(Act::Started(sid, generation, process_of(third))),
+        Verb::StartFailed => Ok(Act::StartFailed(sid, generation)),
+        Verb::Notify => Ok(Act::Notify(sid, generation, bytes_of(third))),
+        Verb::Death => Ok(Act::Death(sid, generation, exit)),
+        Verb::Finished => Ok(Act::FinishEnded(sid, generation, exit)),
         Verb::Tick => Ok(Act::Tick),
     }
 }

@@ -69,6 +69,12 @@ fn act_text<A: Allocator + Copy>(alloc: A, act: &Act<A>) -> Result<Vec<u8, A>, A
             let text = format!(in alloc; "startfailed {sid} {generation}")?;
             Ok(text.into_bytes())
         }
+        Act::Notify(sid, generation, bytes) => {
+            let sid = sid.0;
+            let digits = hex::encode(alloc, bytes.as_slice())?;
+            let text = format!(in alloc; "notify {sid} {generation} {digits}")?;
+            Ok(text.into_bytes())
+        }
         Act::Death(sid, generation, exit) => {
             let sid = sid.0;
             let exit = exit_text(alloc, *exit)?;

@@ -1,15 +1,15 @@
 -- A history goes on agreeing with what a service stores, as its marks join.
 use Rattle.std.proofs.Common.{◌≡◌, refl, sym, ap, ◌∙◌, ℕ, List, [], ◌∷◌, ◌++◌, Bool, true, false, not, cond, Option, Some, rules, subst}
-use Rattle.std.specs.Prelude.{find}
+use Rattle.std.specs.Prelude.{find, ◌==◌}
 use Rattle.std.proofs.lemmas.List.{append_assoc, append-nil}
 use Rattle.std.proofs.lemmas.List.Sums.{fold-append}
 use Rattle.s6_events.specs.declared.mark.Mark.{Mark}
 use Rattle.s6_events.specs.declared.mark.Mark.TheVariants.{SupervisorStarted}
 use Rattle.s6_events.specs.declared.moment.Moment.{Moment}
-use Rattle.s6_events.specs.declared.moment.Moment.TheVariants.{Event}
+use Rattle.s6_events.specs.declared.moment.Moment.TheVariants.{Clock, Event}
 use Rattle.s6_events.specs.Clock.{clock_after, clock_of}
 use Rattle.s6_events.specs.CurrentLetter.{Dated, looking_back, is_start, tells_state, is_up_or_down, is_ready_or_done, mark_or_done, moment_of_mark}
-use Rattle.s6_events.proofs.Looking.{looking_back_mark}
+use Rattle.s6_events.proofs.Looking.{looking_back_mark, looking_back_other, looking_back_clock}
 use Rattle.supervise_core.specs.declared.status.Status.{Status}
 use Rattle.supervise_core.specs.declared.chart.ChartState.{ChartState}
 use Rattle.supervise_core.specs.Moves.{begin_supervisor}
@@ -82,6 +82,15 @@ pub agrees_after : (sid now : ℕ) (marks : List Mark) (s : Status) (h : List Mo
 agrees_after sid now marks s h a at =
     to_agrees sid (told_all now marks s) (h ++ events_of sid marks) (read_all sid now marks s h at (from_agrees sid s h a))
 
+-- a mark of another service, and a clock reading, leave what agrees
+pub agrees_other : (sid of : ℕ) (s : Status) (h : List Moment) (mark : Mark) → (of == sid) ≡ false → Agrees sid s h → Agrees sid s (h ++ Event of mark ∷ [])
+agrees_other sid of s h mark other a =
+    to_agrees sid s (h ++ Event of mark ∷ []) (from_agrees sid s h a ∙ ap read_from (sym (looking_back_other sid of h mark other)))
+
+pub agrees_clock : (sid at : ℕ) (s : Status) (h : List Moment) → Agrees sid s h → Agrees sid s (h ++ Clock at ∷ [])
+agrees_clock sid at s h a =
+    to_agrees sid s (h ++ Clock at ∷ []) (from_agrees sid s h a ∙ ap read_from (sym (looking_back_clock sid at h)))
+
 -- with s every history agrees that nothing was told since
 pub agrees_begun : (sid : ℕ) (h : List Moment) → Agrees sid nothing_told (h ++ Event sid SupervisorStarted ∷ [])
 agrees_begun sid h =
@@ -89,10 +98,10 @@ agrees_begun sid h =
     (sym (ap read_from (looking_back_mark sid h SupervisorStarted)))
 
 -- a supervisor that begins tells s and nothing more
-begins_with_start : (c : ChartState) → (begin_supervisor c).marks ≡ SupervisorStarted ∷ []
+pub begins_with_start : (c : ChartState) → (begin_supervisor c).marks ≡ SupervisorStarted ∷ []
 begins_with_start c = search rules
 
-begins_same_service : (c : ChartState) → (begin_supervisor c).chart.sid ≡ c.sid
+pub begins_same_service : (c : ChartState) → (begin_supervisor c).chart.sid ≡ c.sid
 begins_same_service c = search rules
 
 -- every history agrees with a service that has just begun

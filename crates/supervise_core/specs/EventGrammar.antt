@@ -6,7 +6,7 @@ use Rattle.supervise_core.specs.declared.chart.ChartState.{ChartState}
 use Rattle.supervise_core.specs.declared.phase.Phase.{Phase}
 use Rattle.supervise_core.specs.declared.phase.Phase.TheVariants.{Down, Starting, Up, Finish, Gone}
 
--- one run: whether it became ready, and whether it was the last one by a permanent failure
+-- one run: whether it became ready, and whether its finish told a permanent failure
 pub record Ran : Type 0 where
   pub became_ready : Bool
   pub failed_for_good : Bool

@@ -21,3 +21,4 @@ pub use out::Out;
 pub use phase::Phase;
 pub use row::Row;
 pub use service::Service;
+pub use status::Status;

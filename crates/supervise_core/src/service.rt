@@ -6,7 +6,7 @@ ghost use Rattle.supervise_core.specs.Chart.{started as started_move, start_fail
 ghost use Rattle.supervise_core.specs.Gives.{Gives};
 ghost use Rattle.supervise_core.specs.EventGrammar.{LeadsTo};
 ghost use Rattle.s6_events.specs.declared.mark.Mark.{Mark};
-ghost use Rattle.supervise_core.specs.Status.{events_of, nothing_told};
+ghost use Rattle.supervise_core.specs.Status.{events_of};
 ghost use Rattle.supervise_core.specs.Service.{AgreesWith, KeepsAgreeing};
 ghost use Rattle.supervise_core.specs.StatusRow.{status_row};
 
@@ -51,18 +51,16 @@ impl Service {
         ensures agrees { (history : List Moment) → IfOk result (λ made. AgreesWith made.0 (history ++ events_of sid made.1.events.items)) }
     {
         let (chart, out) = ChartState::begin(sid, name, config);
-        Ok((Service::holding(chart), out))
+        Ok((Service::holding(chart, Status::new()), out))
     }
 
-    /// A service in this state, of which no mark was told since its supervisor started. It takes no memory.
-    pub fn holding(chart: ChartState) -> Service
+    /// A service in this state, of whose marks this is stored: what it is after changes that were made to copies of both. Takes no
+    /// memory.
+    pub fn holding(chart: ChartState, status: Status) -> Service
         ensures chart { result.chart ≡ chart }
-        ensures status { result.status ≡ nothing_told }
+        ensures status { result.status ≡ status }
     {
-        Service {
-            chart,
-            status: Status::new(),
-        }
+        Service { chart, status }
     }
 
     /// Its state without its deaths, which takes the same changes.
@@ -71,6 +69,21 @@ impl Service {
     {
         let Service { chart, .. } = self;
         *chart
+    }
+
+    /// Its serial.
+    pub fn sid(&self) -> Sid
+        ensures { result ≡ self.now.chart.sid }
+    {
+        self.chart.sid
+    }
+
+    /// What it stores of its marks, for its status row.
+    pub fn status(&self) -> Status
+        ensures { result ≡ self.now.status }
+    {
+        let Service { status, .. } = self;
+        *status
     }
 
     /// Its status row: that of each history which agrees with what it stores. Takes no memory. Page `s6-svstat`.

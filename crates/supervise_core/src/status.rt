@@ -12,7 +12,8 @@ use s6_events::{At, Mark};
 /// The milliseconds of a second.
 const SECOND: u64 = 1000;
 
-/// What a service stores of its marks, for its status row.
+/// What a service stores of its marks, for its status row. It is copyable, so that the row of a service in the middle of a step is
+/// known before the step is made. This project's own.
 #[derive(Clone, Copy, Debug, PartialEq, Eq)]
 pub struct Status {
     /// The last of `u`, `U`, `d` and `D` since the last `s`, or `D`.
@@ -42,8 +43,8 @@ impl Status {
         }
     }
 
-    // A mark is told.
-    fn tell(&mut self, mark: Mark, now: At)
+    /// A mark of the service is told, at a moment.
+    pub fn tell(&mut self, mark: Mark, now: At)
         ensures { self.new ≡ told_at now self.old mark }
     {
         match mark {

@@ -3,13 +3,13 @@ use Rattle.std.proofs.Common.{ℕ, ◌+◌, ◌≤◌, arith, List, [], ◌∷�
 use Rattle.std.specs.Prelude.{All, nat_lt, length, Option, Some, None}
 use Rattle.std.proofs.lemmas.List.Elements.{All-map, All-filter, All-push}
 use Rattle.supervise_core.specs.declared.chart.ChartState.{ChartState}
-use Rattle.supervise_core.specs.declared.change.Change.TheVariants.{Started as StartedReport, StartFailed as StartFailedReport, Death as DeathReport, FinishEnded as FinishEndedReport, Control as Letters}
+use Rattle.supervise_core.specs.declared.change.Change.TheVariants.{Started as StartedReport, StartFailed as StartFailedReport, Notify as NotifyReport, Death as DeathReport, FinishEnded as FinishEndedReport, Control as Letters}
 use Rattle.supervise_core.specs.ChartState.{new_service, is_gone}
 use Rattle.supervise_core.specs.Moves.{begin_supervisor}
 use Rattle.servicedir.specs.declared.config.Config.{Config}
 use Rattle.tree_core.specs.declared.input.Act.{Act}
 use Rattle.tree_core.specs.declared.input.Entry.{Entry}
-use Rattle.tree_core.specs.declared.input.Act.TheVariants.{Scan, Svc, Started, StartFailed, Death, FinishEnded, Tick}
+use Rattle.tree_core.specs.declared.input.Act.TheVariants.{Scan, Svc, Started, StartFailed, Notify, Death, FinishEnded, Status, Tick}
 use Rattle.tree_core.specs.Acts.{Acted, acted, has_ended}
 use Rattle.tree_core.specs.Listing.{names_in, config_in, repeats, in_byte_order}
 use Rattle.tree_core.specs.Machine.{Machine}
@@ -67,6 +67,8 @@ act_grows (Svc name letters) m n h =
     (either_acted (n + 1) (has_ended name m.services) _ _ (more n m.services h) (all_told name (Letters letters) m.clock n m.services h))
 act_grows (Started sid generation pid) m n h = all_changed sid (StartedReport generation pid) m.clock n m.services h
 act_grows (StartFailed sid generation) m n h = all_changed sid (StartFailedReport generation) m.clock n m.services h
+act_grows (Notify sid generation bytes) m n h = all_changed sid (NotifyReport generation bytes) m.clock n m.services h
 act_grows (FinishEnded sid generation exit) m n h = all_changed sid (FinishEndedReport generation exit) m.clock n m.services h
 act_grows (Death sid generation exit) m n h = all_changed sid (DeathReport generation exit) m.clock n m.services h
+act_grows (Status name) m n h = more n m.services h
 act_grows Tick m n h = more n m.services h

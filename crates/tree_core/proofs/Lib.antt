@@ -2,6 +2,9 @@ pub mod ListingOrder
 pub mod Entries
 pub mod Past
 pub mod Reading
+pub mod Recall
+pub mod Known
+pub mod RowFound
 pub mod Stand
 pub mod Generations
 pub mod ActGrows

@@ -6,15 +6,15 @@ use Rattle.std.specs.List.{list_any}
 use Rattle.std.proofs.lemmas.List.{map-append}
 use Rattle.supervise_core.specs.declared.chart.ChartState.{ChartState}
 use Rattle.supervise_core.specs.declared.change.Change.{Change}
-use Rattle.supervise_core.specs.declared.change.Change.TheVariants.{Started as StartedReport, StartFailed as StartFailedReport, Death as DeathReport, FinishEnded as FinishEndedReport, Control as Letters}
+use Rattle.supervise_core.specs.declared.change.Change.TheVariants.{Started as StartedReport, StartFailed as StartFailedReport, Notify as NotifyReport, Death as DeathReport, FinishEnded as FinishEndedReport, Control as Letters}
 use Rattle.supervise_core.specs.ChartState.{Moved, new_service}
 use Rattle.supervise_core.specs.Moves.{begin_supervisor}
 use Rattle.supervise_core.specs.Chart.{fire}
-use Rattle.supervise_core.proofs.Identity.{KeepsName, keeps_fire, keeps_changed, keeps_active, keeps_begin}
+use Rattle.supervise_core.proofs.Identity.{IsSame, KeepsIdentity, keeps_fire, keeps_changed, keeps_active, keeps_begin}
 use Rattle.servicedir.specs.declared.config.Config.{Config}
 use Rattle.tree_core.specs.declared.input.Act.{Act}
 use Rattle.tree_core.specs.declared.input.Entry.{Entry}
-use Rattle.tree_core.specs.declared.input.Act.TheVariants.{Scan, Svc, Started, StartFailed, Death, FinishEnded, Tick}
+use Rattle.tree_core.specs.declared.input.Act.TheVariants.{Scan, Svc, Started, StartFailed, Notify, Death, FinishEnded, Status, Tick}
 use Rattle.tree_core.specs.Acts.{Acted, acted, changed_at, changed_named, has_ended}
 use Rattle.tree_core.specs.Listing.{lists, repeats, in_byte_order, names_in, config_in}
 use Rattle.tree_core.specs.Machine.{Machine}
@@ -24,30 +24,34 @@ use Rattle.tree_core.specs.Sound.{names_of}
 use Rattle.tree_core.proofs.ListingOrder.{repeats_last}
 
 -- a move that keeps each name keeps the names
-pub names_moved : (move : ChartState → Moved) → ((c : ChartState) → KeepsName c (move c)) → (cs : List ChartState) → names_of (services_after move cs) ≡ names_of cs
+pub names_moved : (move : ChartState → Moved) → ((c : ChartState) → KeepsIdentity c (move c)) → (cs : List ChartState) → names_of (services_after move cs) ≡ names_of cs
 names_moved move keeps [] = refl
-names_moved move keeps (c ∷ cs) = λ i. keeps c i ∷ names_moved move keeps cs i
+names_moved move keeps (c ∷ cs) = λ i. (keeps c).name i ∷ names_moved move keeps cs i
 
 pub names_fired : (now : ℕ) (cs : List ChartState) → names_of (services_after (fire now) cs) ≡ names_of cs
 names_fired now cs = names_moved (fire now) (keeps_fire now) cs
 
-keeps_either : (b : Bool) (c : ChartState) (x y : Moved) → KeepsName c x → KeepsName c y → KeepsName c (cond b x y)
+pub keeps_either : (b : Bool) (c : ChartState) (x y : Moved) → KeepsIdentity c x → KeepsIdentity c y → KeepsIdentity c (cond b x y)
 keeps_either true c x y hx hy = hx
 keeps_either false c x y hx hy = hy
 
+pub keeps_still : (c : ChartState) → IsSame c c
+keeps_still c = record { sid = refl; name = refl }
+
 names_reported : (sid : ℕ) (change : Change) (now : ℕ) (cs : List ChartState) → names_of (services_after (changed_at sid change now) cs) ≡ names_of cs
-names_reported sid change now cs = names_moved (changed_at sid change now) (λ c. keeps_either (c.sid == sid) c _ _ (keeps_changed change now c) refl) cs
+names_reported sid change now cs = names_moved (changed_at sid change now) (λ c. keeps_either (c.sid == sid) c _ _ (keeps_changed change now c) (keeps_still c)) cs
 
 names_told : (name : List ℕ) (change : Change) (now : ℕ) (cs : List ChartState) → names_of (services_after (changed_named name change now) cs) ≡ names_of cs
-names_told name change now cs = names_moved (changed_named name change now) (λ c. keeps_either (bytes_eq name c.name) c _ _ (keeps_changed change now c) refl) cs
+names_told name change now cs = names_moved (changed_named name change now) (λ c. keeps_either (bytes_eq name c.name) c _ _ (keeps_changed change now c) (keeps_still c)) cs
 
-keeps_look : (found : Option Config) (now : ℕ) (c : ChartState) → (looked_at found now c).name ≡ c.name
+pub keeps_look : (found : Option Config) (now : ℕ) (c : ChartState) → IsSame c (looked_at found now c)
 keeps_look None now c = keeps_active false now c
-keeps_look (Some config) now c = keeps_active true now c
+keeps_look (Some config) now c =
+    let active = keeps_active true now c in record { sid = active.sid; name = active.name }
 
 names_looked : (now : ℕ) (listing : List Entry) (cs : List ChartState) → names_of (looked_up now listing cs) ≡ names_of cs
 names_looked now listing [] = refl
-names_looked now listing (c ∷ cs) = λ i. keeps_look (config_in listing c.name) now c i ∷ names_looked now listing cs i
+names_looked now listing (c ∷ cs) = λ i. (keeps_look (config_in listing c.name) now c).name i ∷ names_looked now listing cs i
 
 -- both are false where one or the other is
 pub neither_left : (a b : Bool) → (a || b) ≡ false → a ≡ false
@@ -92,7 +96,7 @@ once_added : (listing : List Entry) (g : Grown) (name : List ℕ) → repeats (n
     → repeats (names_of (with_service listing g name).services) ≡ false
 once_added listing g name h new =
     ap repeats (map-append (λ (c : ChartState). c.name) g.services ((begin_supervisor (new_service g.next_sid name (config_for listing name))).chart ∷ []))
-    ∙ (ap (λ n. repeats (names_of g.services ++ n ∷ [])) (keeps_begin g.next_sid name (config_for listing name))
+    ∙ (ap (λ n. repeats (names_of g.services ++ n ∷ [])) (keeps_begin g.next_sid name (config_for listing name)).name
     ∙ (repeats_last (names_of g.services) name
     ∙ neither_of (repeats (names_of g.services)) _ h (stands_listed name g.services ∙ new)))
 
@@ -123,8 +127,10 @@ act_names (Svc name letters) m h =
     (either_acted (has_ended name m.services) _ _ h (ap repeats (names_told name (Letters letters) m.clock m.services) ∙ h))
 act_names (Started sid generation pid) m h = ap repeats (names_reported sid (StartedReport generation pid) m.clock m.services) ∙ h
 act_names (StartFailed sid generation) m h = ap repeats (names_reported sid (StartFailedReport generation) m.clock m.services) ∙ h
+act_names (Notify sid generation bytes) m h = ap repeats (names_reported sid (NotifyReport generation bytes) m.clock m.services) ∙ h
 act_names (Death sid generation exit) m h = ap repeats (names_reported sid (DeathReport generation exit) m.clock m.services) ∙ h
 act_names (FinishEnded sid generation exit) m h = ap repeats (names_reported sid (FinishEndedReport generation exit) m.clock m.services) ∙ h
+act_names (Status name) m h = h
 act_names Tick m h = h
 
 unlisted_at : (q : List ℕ) (i : ℕ) (cs : List ChartState) (d : ChartState) → lists (names_of cs) q ≡ false → i < length cs → bytes_eq q (get_or cs i d).name ≡ false

@@ -1,61 +1,121 @@
 -- A plan with the parts of a step is the step.
-use Rattle.std.proofs.Common.{◌≡◌, ℕ, ◌<◌, List, [], ◌++◌, Bool, false, sym, ◌∙◌, ap, map, max, arith, nat_eq, append_assoc}
+use Rattle.std.proofs.Common.{◌≡◌, ℕ, ◌<◌, List, [], ◌∷◌, ◌++◌, Bool, false, refl, sym, ◌∙◌, ap, map, max, subst, arith, nat_eq, append_assoc}
 use Rattle.std.proofs.lemmas.Bool.Decides.{nat_tests}
 use Rattle.std.proofs.lemmas.List.{map-append}
+use Rattle.s6_events.specs.Clock.{clock_of}
 use Rattle.s6_events.specs.declared.moment.Moment.{Moment}
 use Rattle.supervise_core.specs.declared.chart.ChartState.{ChartState}
 use Rattle.supervise_core.specs.Chart.{fire}
+use Rattle.supervise_core.specs.Service.{Supervised}
 use Rattle.tree_core.specs.declared.effect.Event.{Event}
 use Rattle.tree_core.specs.declared.input.Input.{Input}
 use Rattle.tree_core.specs.declared.plan.Plan.{Plan}
 use Rattle.tree_core.specs.Acts.{Acted, acted}
-use Rattle.tree_core.specs.Machine.{Machine}
+use Rattle.tree_core.specs.Machine.{Machine, DeathOf}
 use Rattle.tree_core.specs.Moves.{services_after, events_after, orders_after, moment_of}
-use Rattle.tree_core.specs.Plan.{pastless, at_work, Plans}
+use Rattle.tree_core.specs.Plan.{with_past, at_work, planned, Plans}
+use Rattle.tree_core.specs.StandsFor.{AllAgree}
 use Rattle.tree_core.specs.Step.{step, timed, clocked, step_limit, clock_moments}
+use Rattle.tree_core.specs.Told.{charts_of, all_with_status}
+use Rattle.tree_core.proofs.Known.{AllKnown, known_before, known_fired, known_act, known_with}
 use Rattle.tree_core.proofs.Past.{same_act}
+use Rattle.tree_core.proofs.Reading.{reading-clocked}
+use Rattle.tree_core.proofs.Recall.{all_clocked, recalled}
 
 -- a machine that is not spent takes the step
 opened : {A : Type 0} (m : Machine) (input : Input A) → m.steps < step_limit → step m input ≡ timed input.act (clocked input.at m)
 opened m input left = let open_step : nat_eq m.steps step_limit ≡ false = grind (arith, nat_tests) in rw open_step
 
--- the moments of a step, the clock reading and the marks of timers and act
-regrouped : (reading : List Moment) (timers acts : List Event) → reading ++ map moment_of (timers ++ acts) ≡ (([] ++ reading) ++ map moment_of timers) ++ map moment_of acts
-regrouped reading timers acts = ap (λ t. reading ++ t) (map-append moment_of timers acts) ∙ sym (append_assoc reading (map moment_of timers) (map moment_of acts))
+-- the moments of a step behind the history, the clock reading and the marks of timers and act
+regrouped : (history reading : List Moment) (timers acts : List Event)
+    → history ++ (reading ++ map moment_of (timers ++ acts)) ≡ ((history ++ reading) ++ map moment_of timers) ++ map moment_of acts
+regrouped history reading timers acts =
+    ap (λ t. history ++ (reading ++ t)) (map-append moment_of timers acts)
+    ∙ (sym (append_assoc history reading (map moment_of timers ++ map moment_of acts))
+    ∙ sym (append_assoc (history ++ reading) (map moment_of timers) (map moment_of acts)))
 
-pub plan_makes : {A : Type 0} (clock steps : ℕ) (closing : Bool) (services : List ChartState) (next_sid : ℕ) (input : Input A) (plan : Plan A) (fired : List ChartState) (a : Acted A)
+-- states keep what they are with what is stored of the marks
+pub charts_kept : (now : ℕ) (events : List Event) (services : List Supervised) (charts : List ChartState) → charts_of (all_with_status now events services charts) ≡ charts
+charts_kept now events services [] = refl
+charts_kept now events services (c ∷ rest) = ap (λ cs. c ∷ cs) (charts_kept now events services rest)
+
+-- after the timers, what is stored agrees
+fired_agrees : (clock at now : ℕ) (services : List Supervised) (timers : List Event) (fired : List ChartState) (history : List Moment)
+    → now ≡ max clock at → fired ≡ services_after (fire now) (charts_of services) → AllAgree services history → clock ≡ clock_of history
+    → AllAgree (all_with_status now timers services fired) ((history ++ clock_moments clock at) ++ map moment_of timers)
+fired_agrees clock at now services timers fired history is timed_by agrees reading =
+    recalled services timers fired now (history ++ clock_moments clock at) (sym (is ∙ reading-clocked history clock at reading)) (all_clocked services clock at history agrees)
+    (subst (λ (cs : List ChartState). AllKnown services timers cs) (sym timed_by) (known_fired services timers now (charts_of services) (known_before services timers)))
+
+-- what an act gives on every history that agrees after the timers, it gives on this one
+pub act_given : (clock at now : ℕ) (services : List Supervised) (timers : List Event) (fired : List ChartState) (Given : List Moment → Type 0) (history : List Moment)
+    → now ≡ max clock at → fired ≡ services_after (fire now) (charts_of services) → AllAgree services history → clock ≡ clock_of history
+    → ((h : List Moment) → AllAgree (all_with_status now timers services fired) h → Given h) → Given ((history ++ clock_moments clock at) ++ map moment_of timers)
+act_given clock at now services timers fired Given history is timed_by agrees reading gives =
+    gives ((history ++ clock_moments clock at) ++ map moment_of timers) (fired_agrees clock at now services timers fired history is timed_by agrees reading)
+
+-- after the act, what is stored agrees
+done_agrees : {A : Type 0} (clock now : ℕ) (services : List Supervised) (timers all : List Event) (fired : List ChartState) (history : List Moment) (input : Input A) (m : Machine) (a : Acted A)
+    → now ≡ max clock input.at → fired ≡ services_after (fire now) (charts_of services) → m.services ≡ fired → a ≡ acted input.act m → all ≡ timers ++ a.events
+    → AllAgree services history → clock ≡ clock_of history
+    → AllAgree (all_with_status now all services a.services) ((history ++ clock_moments clock input.at) ++ map moment_of all)
+done_agrees {A} clock now services timers all fired history input m a is timed_by there act_is gathered agrees reading =
+    recalled services all a.services now (history ++ clock_moments clock input.at) (sym (is ∙ reading-clocked history clock input.at reading)) (all_clocked services clock input.at history agrees)
+    (subst (λ (events : List Event). AllKnown services events a.services) (sym gathered)
+    (known_with services timers a.events a.services
+    (subst (λ (x : Acted A). AllKnown services x.events x.services) (sym act_is)
+    (known_act services input.act m
+    (subst (λ (cs : List ChartState). AllKnown services [] cs) (sym (there ∙ timed_by)) (known_fired services [] now (charts_of services) (known_before services [])))))))
+
+pub plan_makes : {A : Type 0} (clock steps : ℕ) (closing : Bool) (services : List Supervised) (next_sid : ℕ) (input : Input A) (plan : Plan A) (fired : List ChartState) (timers : List Event) (a : Acted A)
     → steps < step_limit → plan.now ≡ max clock input.at
-    → fired ≡ services_after (fire plan.now) services
-    → a ≡ acted input.act (at_work closing plan.now fired next_sid)
-    → plan.charts.items ≡ a.services → plan.next_sid ≡ a.next_sid → plan.effect.reply ≡ a.reply
-    → plan.effect.events.items ≡ events_after (fire plan.now) services ++ a.events
-    → plan.effect.orders.items ≡ orders_after (fire plan.now) services ++ a.orders
+    → fired ≡ services_after (fire plan.now) (charts_of services)
+    → timers ≡ events_after (fire plan.now) (charts_of services)
+    → ((history : List Moment) → AllAgree (all_with_status plan.now timers services fired) history → a ≡ acted input.act (at_work closing plan.now fired next_sid history))
+    → planned plan ≡ all_with_status plan.now plan.effect.events.items services a.services
+    → plan.next_sid ≡ a.next_sid → plan.effect.reply ≡ a.reply
+    → plan.effect.events.items ≡ timers ++ a.events
+    → plan.effect.orders.items ≡ orders_after (fire plan.now) (charts_of services) ++ a.orders
     → plan.effect.matched.items ≡ [] → plan.effect.released.items ≡ []
     → plan.moments.items ≡ clock_moments clock input.at ++ map moment_of plan.effect.events.items
-    → Plans (pastless clock steps closing services next_sid) input plan
-plan_makes clock steps closing services next_sid input plan fired a left now timed_by act_is charts next reply events orders matched released moments =
-    let t = opened (pastless clock steps closing services next_sid) input left in
-    let work : a ≡ acted input.act (at_work closing (max clock input.at) (services_after (fire (max clock input.at)) services) next_sid) =
-    act_is ∙ (λ i. acted input.act (at_work closing (now i) ((timed_by ∙ ap (λ n. services_after (fire n) services) now) i) next_sid)) in
-    let full = same_act input.act (max clock input.at) steps closing (services_after (fire (max clock input.at)) services) next_sid (([] ++ clock_moments clock input.at) ++ map moment_of (events_after (fire (max clock input.at)) services)) [] in
+    → (history : List Moment) (deaths : List DeathOf) → AllAgree services history → clock ≡ clock_of history
+    → Plans (with_past clock steps closing (charts_of services) next_sid history deaths) input plan
+plan_makes clock steps closing services next_sid input plan fired timers a left now timed_by told act_is standing next reply events orders matched released moments history deaths agrees reading =
+    let cs : List ChartState = charts_of services in
+    let before : List Moment = history ++ clock_moments clock input.at in
+    let t = opened (with_past clock steps closing cs next_sid history deaths) input left in
+    let was : a ≡ acted input.act (at_work closing plan.now fired next_sid (before ++ map moment_of timers)) =
+    act_is (before ++ map moment_of timers) (fired_agrees clock input.at plan.now services timers fired history now timed_by agrees reading) in
+    let fired_is : fired ≡ services_after (fire (max clock input.at)) cs = timed_by ∙ ap (λ n. services_after (fire n) cs) now in
+    let told_is : timers ≡ events_after (fire (max clock input.at)) cs = told ∙ ap (λ n. events_after (fire n) cs) now in
+    let work : a ≡ acted input.act (at_work closing (max clock input.at) (services_after (fire (max clock input.at)) cs) next_sid (before ++ map moment_of (events_after (fire (max clock input.at)) cs))) =
+    was ∙ (λ i. acted input.act (at_work closing (now i) (fired_is i) next_sid (before ++ map moment_of (told_is i)))) in
+    let full = same_act input.act (max clock input.at) steps closing (services_after (fire (max clock input.at)) cs) next_sid (before ++ map moment_of (events_after (fire (max clock input.at)) cs)) deaths in
     let done = work ∙ sym full in
-    let given : plan.effect.events.items ≡ _ = events ∙ (λ i. events_after (fire (now i)) services ++ (done i).events) in
+    let given : plan.effect.events.items ≡ _ = events ∙ (λ i. told_is i ++ (done i).events) in
     record {
       clock = now ∙ sym (ap (λ s. s.machine.clock) t);
-      services = charts ∙ (ap (λ x. x.services) done ∙ sym (ap (λ s. s.machine.services) t));
+      steps = sym (ap (λ s. s.machine.steps) t);
+      closing = sym (ap (λ s. s.machine.closing) t);
+      services = ap charts_of standing ∙ (charts_kept plan.now plan.effect.events.items services a.services ∙ (ap (λ x. x.services) done ∙ sym (ap (λ s. s.machine.services) t)));
       next_sid = next ∙ (ap (λ x. x.next_sid) done ∙ sym (ap (λ s. s.machine.next_sid) t));
-      moments =
-          moments
-          ∙ (ap (λ e. clock_moments clock input.at ++ map moment_of e) given
-          ∙ (regrouped (clock_moments clock input.at) (events_after (fire (max clock input.at)) services) _
-          ∙ sym (ap (λ s. s.machine.history) t)));
+      history =
+          ap (λ ms. history ++ ms) (moments ∙ ap (λ e. clock_moments clock input.at ++ map moment_of e) given)
+          ∙ (regrouped history (clock_moments clock input.at) (events_after (fire (max clock input.at)) cs) _
+          ∙ sym (ap (λ s. s.machine.history) t));
       effect =
           (λ i. record {
             reply = (reply ∙ ap (λ x. x.reply) done) i;
             events = given i;
-            orders = (orders ∙ (λ j. orders_after (fire (now j)) services ++ (done j).orders)) i;
+            orders = (orders ∙ (λ j. orders_after (fire (now j)) cs ++ (done j).orders)) i;
             matched = matched i;
             released = released i;
           })
           ∙ sym (ap (λ s. s.outcome) t);
+      agrees =
+          subst (λ (ss : List Supervised). AllAgree ss (history ++ plan.moments.items)) (sym standing)
+          (subst (λ (h : List Moment). AllAgree (all_with_status plan.now plan.effect.events.items services a.services) h)
+          (append_assoc history (clock_moments clock input.at) (map moment_of plan.effect.events.items) ∙ ap (λ ms. history ++ ms) (sym moments))
+          (done_agrees clock plan.now services timers plan.effect.events.items fired history input (at_work closing plan.now fired next_sid (before ++ map moment_of timers)) a
+          now timed_by refl was events agrees reading));
     }

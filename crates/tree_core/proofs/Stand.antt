@@ -1,64 +1,87 @@
 -- What makes the step of an input stands for the machine after it.
-use Rattle.std.proofs.Common.{◌≡◌, ◌+◌, ◌≤◌, ◌++◌, List, [], ℕ, arith, length, sym, ap, ◌∙◌, refl}
+use Rattle.std.proofs.Common.{◌≡◌, ◌+◌, ◌≤◌, ◌++◌, List, [], drop, ℕ, true, arith, length, sym, ap, ◌∙◌, refl, subst, nat_eq}
+use Rattle.std.proofs.lemmas.Bool.Decides.{nat_tests}
 use Rattle.std.proofs.lemmas.List.{length-append, drop-append-le}
 use Rattle.s6_events.specs.Clock.{clock_of}
 use Rattle.s6_events.specs.declared.moment.Moment.{Moment}
+use Rattle.supervise_core.specs.Service.{Supervised}
 use Rattle.tree_core.specs.declared.input.Input.{Input}
-use Rattle.tree_core.specs.Machine.{Machine, Outcome}
 use Rattle.tree_core.specs.declared.plan.Plan.{Plan}
-use Rattle.tree_core.specs.Plan.{Advances, Plans, present_of, pastless}
-use Rattle.tree_core.specs.Sound.{IsRecorded}
+use Rattle.tree_core.specs.Effect.{outcome_of}
+use Rattle.tree_core.specs.Machine.{Machine, DeathOf, Outcome}
+use Rattle.tree_core.specs.Plan.{Plans, with_past, planned}
 use Rattle.tree_core.specs.Run.{after, outcome}
-use Rattle.tree_core.specs.StandsFor.{Stored, StandsFor}
-use Rattle.tree_core.specs.Step.{step}
-use Rattle.tree_core.proofs.Past.{bare, follows}
+use Rattle.tree_core.specs.Sound.{IsRecorded}
+use Rattle.tree_core.specs.StandsFor.{Stored, StandsFor, AllAgree}
+use Rattle.tree_core.specs.Step.{step, step_limit, spent, spent_outcome}
+use Rattle.tree_core.specs.Told.{charts_of}
 use Rattle.tree_core.proofs.Reading.{step-reads}
 
--- the machine without its past is what the tree stores without its past
-same_present : (t : Stored) (m : Machine) → StandsFor t m → bare m ≡ present_of t
-same_present t m s = λ i. pastless (s.clock i) (s.steps i) (s.closing i) (s.services i) (s.next_sid i)
+-- what a tree stores, with a past
+abbrev machine_of : Stored → List Moment → List DeathOf → Machine
+machine_of t history deaths = with_past t.clock t.steps t.closing (charts_of t.services) t.next_sid history deaths
 
-pub same_outcome : {A : Type 0} (t new : Stored) (input : Input A) (given : Outcome A) → Advances t new input given → (m : Machine) → StandsFor t m → given ≡ outcome m input
-same_outcome t new input given a m s = a.outcome ∙ (sym (ap (λ p. (step p input).outcome) (same_present t m s)) ∙ sym (follows m input).outcome)
+-- a machine for which a tree stands is what it stores, with its past
+same_machine : (t : Stored) (m : Machine) → StandsFor t m → machine_of t m.history m.deaths ≡ m
+same_machine t m s = sym (λ i. with_past (s.clock i) (s.steps i) (s.closing i) (s.services i) (s.next_sid i) m.history m.deaths)
 
-pub stands_after : {A : Type 0} (t new : Stored) (input : Input A) (given : Outcome A) → Advances t new input given → (m : Machine) → StandsFor t m → StandsFor new (after m input)
-stands_after t new input given a m s =
-    let f = follows m input in
-    let p = same_present t m s in
-    record {
-      clock = f.clock ∙ (ap (λ n. (step n input).machine.clock) p ∙ sym a.clock);
-      steps = f.steps ∙ (ap (λ n. (step n input).machine.steps) p ∙ sym a.steps);
-      closing = f.closing ∙ (ap (λ n. (step n input).machine.closing) p ∙ sym a.closing);
-      services = f.services ∙ (ap (λ n. (step n input).machine.services) p ∙ sym a.services);
-      next_sid = f.next_sid ∙ (ap (λ n. (step n input).machine.next_sid) p ∙ sym a.next_sid);
-      forgotten = rw (a.forgotten, f.history) (omega (arith, length-append m.history (step (bare m) input).machine.history, s.forgotten));
-      kept =
-          rw (a.forgotten, a.kept, f.history)
-          (drop-append-le t.forgotten m.history (step (bare m) input).machine.history s.forgotten
-          ∙ (ap (λ h. h ++ (step (bare m) input).machine.history) s.kept
-          ∙ ap (λ n. t.kept ++ (step n input).machine.history) p));
-      reading = step-reads m input s.reading;
-    }
+-- a plan for every past that agrees with what a tree stores
+abbrev PlansAll : {A : Type 0} → Stored → Input A → Plan A → Type 0
+PlansAll t input plan = (history : List Moment) → (deaths : List DeathOf) → AllAgree t.services history → t.clock ≡ clock_of history
+    → Plans (machine_of t history deaths) input plan
+
+-- what a step leaves in a tree, by its plan
+pub record Installs {A : Type 0} (t new : Stored) (plan : Plan A) : Type 0 where
+  pub clock : new.clock ≡ plan.now
+  pub steps : new.steps ≡ t.steps + 1
+  pub closing : new.closing ≡ t.closing
+  pub services : new.services ≡ planned plan
+  pub next_sid : new.next_sid ≡ plan.next_sid
+  pub forgotten : new.forgotten ≡ t.forgotten
+  pub kept : new.kept ≡ t.kept ++ plan.moments.items
+
+pub stands_after : {A : Type 0} (t new : Stored) (input : Input A) (plan : Plan A) → PlansAll t input plan → Installs t new plan
+    → (m : Machine) → StandsFor t m → (outcome_of plan.effect ≡ outcome m input) × StandsFor new (after m input)
+stands_after {A} t new input plan plans n m s =
+    let p : Plans m input plan = subst (λ (x : Machine). Plans x input plan) (same_machine t m s) (plans m.history m.deaths s.agrees (sym s.clock ∙ s.reading)) in (
+      p.effect,
+      record {
+        clock = sym (n.clock ∙ p.clock);
+        steps = sym p.steps ∙ (ap (λ k. k + 1) s.steps ∙ sym n.steps);
+        closing = sym p.closing ∙ (s.closing ∙ sym n.closing);
+        services = sym p.services ∙ ap charts_of (sym n.services);
+        next_sid = sym (n.next_sid ∙ p.next_sid);
+        forgotten = omega (arith, n.forgotten, ap length p.history, length-append m.history plan.moments.items, s.forgotten);
+        kept =
+            rw (n.forgotten, n.kept)
+            (subst (λ (h : List Moment). drop t.forgotten h ≡ t.kept ++ plan.moments.items) p.history
+            (drop-append-le t.forgotten m.history plan.moments.items s.forgotten ∙ ap (λ h. h ++ plan.moments.items) s.kept));
+        agrees = subst (λ (ss : List Supervised). AllAgree ss (after m input).history) (sym n.services) (subst (AllAgree (planned plan)) p.history p.agrees);
+        reading = step-reads m input s.reading;
+      },
+    )
+
+-- a spent tree goes on standing for what it stands for
+pub stands_spent : {A : Type 0} (t : Stored) (input : Input A) (given : Outcome A) → t.steps ≡ step_limit → given ≡ spent_outcome
+    → (m : Machine) → StandsFor t m → (given ≡ outcome m input) × StandsFor t (after m input)
+stands_spent {A} t input given at_limit is m s =
+    let over : nat_eq m.steps step_limit ≡ true = grind (arith, nat_tests, at_limit, s.steps) in
+    let t' : step m input ≡ spent m = rw over refl in
+    (is ∙ sym (ap (λ x. x.outcome) t'), subst (StandsFor t) (sym (ap (λ x. x.machine) t')) s)
 
 -- a tree that has forgotten nothing stands for the machine whose history it keeps
-pub stands_itself : (t : Stored) → t.forgotten ≡ 0 → t.clock ≡ clock_of t.kept → (m : Machine) × StandsFor t m
-stands_itself t none reading = (
-  record { clock = t.clock; steps = t.steps; closing = t.closing; services = t.services; next_sid = t.next_sid; history = t.kept; deaths = [] },
-  record { clock = refl; steps = refl; closing = refl; services = refl; next_sid = refl; forgotten = rw none (omega arith); kept = rw none; reading = reading },
+pub stands_itself : (t : Stored) → t.forgotten ≡ 0 → t.clock ≡ clock_of t.kept → AllAgree t.services t.kept → (m : Machine) × StandsFor t m
+stands_itself t none reading agrees = (
+  machine_of t t.kept [],
+  record { clock = refl; steps = refl; closing = refl; services = refl; next_sid = refl; forgotten = rw none (omega arith); kept = rw none refl; agrees = agrees; reading = reading },
 )
-
--- the clock of a step is the last reading of the history that was kept, with what the step adds
-pub reads_on : {A : Type 0} (m : Machine) (input : Input A) → m.clock ≡ clock_of m.history → (step (bare m) input).machine.clock ≡ clock_of (m.history ++ (step (bare m) input).machine.history)
-reads_on m input reading = sym (follows m input).clock ∙ (step-reads m input reading ∙ ap clock_of (follows m input).history)
 
 -- the history with the moments of a planned step
 pub recorded_after : {A : Type 0} (t : Stored) (input : Input A) (plan : Plan A) (forgotten : ℕ) (kept : List Moment) → IsRecorded t.steps t.clock t.forgotten t.kept
-    → Plans (present_of t) input plan → length plan.moments.items ≤ 1024 → forgotten ≡ t.forgotten → kept ≡ t.kept ++ plan.moments.items
+    → Plans (machine_of t t.kept []) input plan → length plan.moments.items ≤ 1024 → forgotten ≡ t.forgotten → kept ≡ t.kept ++ plan.moments.items
     → IsRecorded (t.steps + 1) plan.now forgotten kept
-recorded_after t input plan forgotten kept r p few same more =
-    let m : Machine = record { clock = t.clock; steps = t.steps; closing = t.closing; services = t.services; next_sid = t.next_sid; history = t.kept; deaths = [] } in
-    record {
-      few = rw more (omega (arith, length-append t.kept plan.moments.items, r.few, few));
-      whole = same ∙ r.whole;
-      reading = p.clock ∙ (reads_on m input r.reading ∙ ap clock_of (ap (λ h. t.kept ++ h) (sym p.moments) ∙ sym more));
-    }
+recorded_after t input plan forgotten kept r p few same more = record {
+  few = rw more (omega (arith, length-append t.kept plan.moments.items, r.few, few));
+  whole = same ∙ r.whole;
+  reading = p.clock ∙ (step-reads (machine_of t t.kept []) input r.reading ∙ ap clock_of (sym p.history ∙ sym more));
+}

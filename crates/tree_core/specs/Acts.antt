@@ -1,22 +1,24 @@
 -- What each act does, and why it is refused.
-use Rattle.std.specs.Prelude.{ℕ, List, [], map, filter, Bool, not, ◌==◌, ◌&&◌, if◌then◌else◌, bytes_eq}
+use Rattle.std.specs.Prelude.{ℕ, List, [], map, filter, Bool, not, ◌==◌, ◌&&◌, if◌then◌else◌, bytes_eq, Option, None, Some}
 use Rattle.std.specs.List.{list_any}
 use Rattle.s6_events.specs.declared.order.Order.{Order}
 use Rattle.supervise_core.specs.declared.chart.ChartState.{ChartState}
 use Rattle.supervise_core.specs.declared.change.Change.{Change}
-use Rattle.supervise_core.specs.declared.change.Change.TheVariants.{Started as StartedReport, StartFailed as StartFailedReport, Death as DeathReport, FinishEnded as FinishEndedReport, Control as Letters}
+use Rattle.supervise_core.specs.declared.change.Change.TheVariants.{Started as StartedReport, StartFailed as StartFailedReport, Notify as NotifyReport, Death as DeathReport, FinishEnded as FinishEndedReport, Control as Letters}
+use Rattle.supervise_core.specs.declared.row.Row.{Row}
 use Rattle.supervise_core.specs.ChartState.{Moved, still, is_gone}
 use Rattle.supervise_core.specs.Chart.{changed_by}
 use Rattle.tree_core.specs.declared.effect.Event.{Event}
 use Rattle.tree_core.specs.declared.input.Act.{Act}
 use Rattle.tree_core.specs.declared.input.Entry.{Entry}
-use Rattle.tree_core.specs.declared.input.Act.TheVariants.{Scan, Svc, Started, StartFailed, Death, FinishEnded, Tick}
+use Rattle.tree_core.specs.declared.input.Act.TheVariants.{Scan, Svc, Started, StartFailed, Notify, Death, FinishEnded, Status, Tick}
 use Rattle.tree_core.specs.declared.reply.Refusal.TheVariants.{NoService, Stale, Closing, Repeated, Ended}
 use Rattle.tree_core.specs.declared.reply.Reply.{Reply}
-use Rattle.tree_core.specs.declared.reply.Reply.TheVariants.{Done, Refused, Scanned}
+use Rattle.tree_core.specs.declared.reply.Reply.TheVariants.{Done, Refused, Scanned, Row as RowReply}
 use Rattle.tree_core.specs.Listing.{names_in, repeats, in_byte_order}
 use Rattle.tree_core.specs.Machine.{Machine, DeathOf}
 use Rattle.tree_core.specs.Moves.{services_after, events_after, orders_after, deaths_after}
+use Rattle.tree_core.specs.Rows.{row_named}
 use Rattle.tree_core.specs.Scan.{stands, Grown, looked_up, stays, leaves, grown_from}
 
 -- what an act leaves and gives
@@ -77,6 +79,11 @@ told name change m =
     else if has_ended name m.services then only_replied (Refused Ended) m
     else controlled name change m
 
+-- a row is shown, and where no service has the name that is refused
+abbrev pub row_reply : {A : Type 0} → Option Row → Reply A
+row_reply None = Refused NoService
+row_reply (Some row) = RowReply row
+
 -- what a scan leaves and gives, from the services that were looked up
 abbrev pub scanned_to : {A : Type 0} → List ChartState → Grown → Acted A
 scanned_to looked g = record {
@@ -106,8 +113,10 @@ acted (Scan listing) m = listed_to listing m
 acted (Svc name letters) m = told name (Letters letters) m
 acted (Started sid generation pid) m = reported sid (StartedReport generation pid) m
 acted (StartFailed sid generation) m = reported sid (StartFailedReport generation) m
+acted (Notify sid generation bytes) m = reported sid (NotifyReport generation bytes) m
 acted (Death sid generation exit) m = reported sid (DeathReport generation exit) m
 acted (FinishEnded sid generation exit) m = reported sid (FinishEndedReport generation exit) m
+acted (Status name) m = only_replied (row_reply (row_named name m)) m
 acted Tick m = only_replied Done m
 
 -- the deaths that an act reports

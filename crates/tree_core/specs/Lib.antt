@@ -3,9 +3,11 @@ pub mod Machine
 pub mod Moves
 pub mod Listing
 pub mod Scan
+pub mod Rows
 pub mod Acts
 pub mod Step
 pub mod Run
+pub mod Told
 pub mod StandsFor
 pub mod Effect
 pub mod Views

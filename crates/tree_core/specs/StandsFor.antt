@@ -1,19 +1,25 @@
 -- Which machines a tree stands for.
-use Rattle.std.specs.Prelude.{◌≡◌, ℕ, ◌≤◌, List, length, drop, Bool}
+use Rattle.std.specs.Prelude.{◌≡◌, ℕ, ◌≤◌, List, length, drop, Bool, All}
 use Rattle.s6_events.specs.Clock.{clock_of}
 use Rattle.s6_events.specs.declared.moment.Moment.{Moment}
-use Rattle.supervise_core.specs.declared.chart.ChartState.{ChartState}
+use Rattle.supervise_core.specs.Service.{Supervised, AgreesWith}
 use Rattle.tree_core.specs.Machine.{Machine}
+use Rattle.tree_core.specs.Told.{charts_of}
 
--- what a tree stores: all that is there now, how many moments it forgot, and those after them
+-- what a tree stores: all that is there now, with what each service stores of its marks, how many moments it forgot, and those
+-- after them
 pub record Stored : Type 0 where
   pub clock : ℕ
   pub steps : ℕ
   pub closing : Bool
-  pub services : List ChartState
+  pub services : List Supervised
   pub next_sid : ℕ
   pub forgotten : ℕ
   pub kept : List Moment
+
+-- a history agrees with all that the services store of their marks
+abbrev pub AllAgree : List Supervised → List Moment → Type 0
+AllAgree services history = All (λ s. AgreesWith s history) services
 
 -- a tree stands for each machine with which it agrees in all that it stores, whatever it has forgotten, and whose clock is the
 -- last clock reading of its history
@@ -21,8 +27,9 @@ pub record StandsFor (t : Stored) (m : Machine) : Type 0 where
   pub clock : m.clock ≡ t.clock
   pub steps : m.steps ≡ t.steps
   pub closing : m.closing ≡ t.closing
-  pub services : m.services ≡ t.services
+  pub services : m.services ≡ charts_of t.services
   pub next_sid : m.next_sid ≡ t.next_sid
   pub forgotten : t.forgotten ≤ length m.history
   pub kept : drop t.forgotten m.history ≡ t.kept
+  pub agrees : AllAgree t.services m.history
   pub reading : m.clock ≡ clock_of m.history

@@ -1,21 +1,24 @@
 -- What a contract sees of a tree, and what is true of every tree.
-use Rattle.std.specs.Prelude.{map}
 use Rattle.tree_core.specs.declared.tree.Tree.TheInside.{Inside}
 use Rattle.tree_core.specs.Sound.{IsSound, IsRecorded}
-use Rattle.tree_core.specs.StandsFor.{Stored}
+use Rattle.tree_core.specs.StandsFor.{Stored, AllAgree}
+use Rattle.tree_core.specs.Told.{charts_of}
 
--- the states of its services stand for the services
+-- its services, its numbers and its history
 abbrev pub stored : {A : Type 0} → Inside A → Stored
 stored t = record {
   clock = t.clock;
   steps = t.steps;
   closing = t.closing;
-  services = map (λ s. s.chart) t.services.items;
+  services = t.services.items;
   next_sid = t.next_sid;
   forgotten = t.history.forgotten;
   kept = t.history.kept;
 }
 
--- its numbers don't outrun its steps, and its clock is the last reading of its history
+-- its numbers don't outrun its steps, its clock is the last reading of its history, and its history agrees with its services
 abbrev pub IsKept : {A : Type 0} → Inside A → Type 0
-IsKept t = IsSound t.steps t.next_sid (map (λ s. s.chart) t.services.items) × IsRecorded t.steps t.clock t.history.forgotten t.history.kept
+IsKept t =
+    IsSound t.steps t.next_sid (charts_of t.services.items)
+    × IsRecorded t.steps t.clock t.history.forgotten t.history.kept
+    × AllAgree t.services.items t.history.kept

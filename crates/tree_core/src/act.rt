@@ -1,23 +1,28 @@
-ghost use Rattle.std.specs.Prelude.{◌≡◌, ◌+◌, ◌<◌, ◌≤◌, ◌^◌, ◌==◌, length, All, IfOk, IsOk, false};
+ghost use Rattle.std.specs.Prelude.{◌≡◌, ◌+◌, ◌<◌, ◌≤◌, ◌^◌, ◌==◌, length, All, IfOk, IsOk, ℕ, Bool, List, [], true, false, find, bytes_eq, option_copied};
 ghost use Rattle.std.specs.List.{list_any};
+ghost use Rattle.s6_events.specs.declared.moment.Moment.{Moment};
 ghost use Rattle.supervise_core.specs.Gives.{most_orders};
-ghost use Rattle.tree_core.specs.Acts.{nothing_done, report_reply as reply_to_report, reported, told, has_ended as is_ended, scanned, listed_to, acted};
+ghost use Rattle.tree_core.specs.Acts.{nothing_done, report_reply as reply_to_report, reported, told, has_ended as is_ended, scanned, listed_to, row_reply as reply_of_row, only_replied, acted};
 ghost use Rattle.tree_core.specs.Listing.{names_in, in_byte_order, repeats};
 ghost use Rattle.tree_core.specs.Scan.{stands};
 ghost use Rattle.tree_core.specs.Sound.{names_of};
-ghost use Rattle.tree_core.specs.Plan.{at_work, IsFew};
+ghost use Rattle.tree_core.specs.Plan.{at_work, is_reading, IsFew};
+ghost use Rattle.tree_core.specs.Rows.{row_named};
+ghost use Rattle.tree_core.specs.StandsFor.{AllAgree};
+ghost use Rattle.tree_core.specs.Told.{all_with_status};
 ghost use Rattle.tree_core.specs.Views.{drafted};
 
+use super::effect::Event;
 use super::gathered::{Gathered, change_at, change_named};
 use super::input::{Act, Entry};
 use super::listing::sort_listing;
 use super::reply::{Refusal, Reply, ScanReport};
 use super::scan::{Growing, leaving, look_up, staying};
+use super::standing::status_once_told;
 use arrayvec::ArrayVec;
 use s6_events::{At, Name, NoMemory, Sid};
 use std::alloc::Allocator;
-use supervise_core::{Change, ChartState, Phase};
-use svc_commands::Letters;
+use supervise_core::{Change, ChartState, Phase, Service};
 
 /// What an act leaves and gives, before anything is changed.
 #[derive(Drop)]
@@ -80,7 +85,7 @@ fn report<A: Allocator + Copy>(
 ) -> Result<Draft<A>, NoMemory>
     requires report { most_orders change.now ≤ 2 }
     requires generations { All (λ c. c.generation + 1 < 2 ^ 64) charts.items }
-    ensures draft { IfOk result (λ d. drafted d ≡ reported sid change.now (at_work false now charts.items next_sid)) }
+    ensures draft { IfOk result (λ d. drafted d ≡ reported sid change.now (at_work false now charts.items next_sid [])) }
     ensures places { IfOk result (λ d. length d.charts.items ≤ 64) }
     ensures next { IfOk result (λ d. d.next_sid ≡ next_sid) }
     ensures few { IfOk result (λ d. IsFew d.gathered.events.items d.gathered.orders.items) }
@@ -114,12 +119,12 @@ fn has_ended(charts: &[ChartState], name: Name) -> bool
         .any(|chart| chart.name == name && chart.phase == Phase::Gone)
 }
 
-// The same letters.
-fn copy_of(letters: &Letters) -> Letters
-    ensures { result ≡ letters.now }
+// The same list.
+fn copy_of<T: Copy + Default, const N: usize>(list: &ArrayVec<T, N>) -> ArrayVec<T, N>
+    ensures { result ≡ list.now }
 {
-    let mut copy = Letters::new();
-    if copy.try_extend_from_slice(letters.as_slice()).is_err() {
+    let mut copy = ArrayVec::new();
+    if copy.try_extend_from_slice(list.as_slice()).is_err() {
         unreachable!()
     }
     copy
@@ -137,7 +142,7 @@ fn tell<A: Allocator + Copy>(
     requires places { length charts.items ≤ 64 }
     requires names { repeats (names_of charts.items) ≡ false }
     requires generations { All (λ c. c.generation + 1 < 2 ^ 64) charts.items }
-    ensures draft { IfOk result (λ d. drafted d ≡ told name change.now (at_work false now charts.items next_sid)) }
+    ensures draft { IfOk result (λ d. drafted d ≡ told name change.now (at_work false now charts.items next_sid [])) }
     ensures places { IfOk result (λ d. length d.charts.items ≤ 64) }
     ensures next { IfOk result (λ d. d.next_sid ≡ next_sid) }
     ensures few { IfOk result (λ d. IsFew d.gathered.events.items d.gathered.orders.items) }
@@ -171,7 +176,7 @@ fn scan<A: Allocator + Copy>(
 ) -> Result<Draft<A>, NoMemory>
     requires next { next_sid + 65 < 2 ^ 64 }
     requires sorted { sorted.now ≡ in_byte_order (names_in listing.now) }
-    ensures draft { IfOk result (λ d. drafted d ≡ scanned listing.now (at_work false now charts.items next_sid)) }
+    ensures draft { IfOk result (λ d. drafted d ≡ scanned listing.now (at_work false now charts.items next_sid [])) }
     ensures places { IfOk result (λ d. length d.charts.items ≤ 64) }
     ensures next { IfOk result (λ d. d.next_sid ≤ next_sid + 64) }
     ensures few { IfOk result (λ d. IsFew d.gathered.events.items d.gathered.orders.items) }
@@ -204,7 +209,7 @@ fn take_listing<A: Allocator + Copy>(
 ) -> Result<Draft<A>, NoMemory>
     requires places { length charts.items ≤ 64 }
     requires next { next_sid + 65 < 2 ^ 64 }
-    ensures draft { IfOk result (λ d. drafted d ≡ listed_to listing.now (at_work closing now charts.items next_sid)) }
+    ensures draft { IfOk result (λ d. drafted d ≡ listed_to listing.now (at_work closing now charts.items next_sid [])) }
     ensures places { IfOk result (λ d. length d.charts.items ≤ 64) }
     ensures next { IfOk result (λ d. d.next_sid ≤ next_sid + 64) }
     ensures few { IfOk result (λ d. IsFew d.gathered.events.items d.gathered.orders.items) }
@@ -228,6 +233,32 @@ fn take_listing<A: Allocator + Copy>(
     )
 }
 
+/// What an act looks at beside the states: what each service stored before the step, and the events of the step so far.
+#[derive(Clone, Copy)]
+pub struct Past<'a> {
+    pub services: &'a [Service],
+    pub events: &'a [Event],
+}
+
+// The service of the name.
+fn find_name(charts: &[ChartState], name: Name) -> Option<&ChartState>
+    ensures { option_copied result ≡ find (λ c. bytes_eq name c.name) charts.now }
+{
+    charts.iter().find(|chart| chart.name == name)
+}
+
+// The status row of the service of a name.
+fn show_row<A: Allocator>(name: Name, past: &Past, now: At, charts: &[ChartState]) -> Reply<A>
+    ensures { (closing : Bool) → (next_sid : ℕ) → (history : List Moment) → AllAgree (all_with_status now past.now.events.now past.now.services.now charts.now) history
+        → result ≡ reply_of_row (row_named name (at_work closing now charts.now next_sid history)) }
+{
+    let Some(chart) = find_name(charts, name) else {
+        return Reply::Refused(Refusal::NoService);
+    };
+    let status = status_once_told(past.services, past.events, chart.sid, now);
+    Reply::Row(status.row(chart, now))
+}
+
 /// The act itself.
 pub fn act<A: Allocator + Copy>(
     alloc: A,
@@ -236,16 +267,18 @@ pub fn act<A: Allocator + Copy>(
     now: At,
     charts: ArrayVec<ChartState, 64>,
     next_sid: u64,
+    past: &Past,
 ) -> Result<Draft<A>, NoMemory>
     requires places { length charts.items ≤ 64 }
     requires names { repeats (names_of charts.items) ≡ false }
     requires generations { All (λ c. c.generation + 1 < 2 ^ 64) charts.items }
     requires next { next_sid + 65 < 2 ^ 64 }
-    ensures draft { IfOk result (λ d. drafted d ≡ acted act.now (at_work closing now charts.items next_sid)) }
+    ensures draft { (history : List Moment) → AllAgree (all_with_status now past.now.events.now past.now.services.now charts.items) history
+        → IfOk result (λ d. drafted d ≡ acted act.now (at_work closing now charts.items next_sid history)) }
     ensures places { IfOk result (λ d. length d.charts.items ≤ 64) }
     ensures next { IfOk result (λ d. d.next_sid ≤ next_sid + 64) }
     ensures few { IfOk result (λ d. IsFew d.gathered.events.items d.gathered.orders.items) }
-    ensures quiet { act.now ≡ Act.Tick → IsOk result }
+    ensures quiet { is_reading act.now ≡ true → IsOk result }
 {
     match act {
         Act::Scan(listing) => {
@@ -263,6 +296,10 @@ pub fn act<A: Allocator + Copy>(
             let change = Change::StartFailed(*generation);
             report(alloc, *sid, &change, now, charts, next_sid)
         }
+        Act::Notify(sid, generation, bytes) => {
+            let change = Change::Notify(*generation, copy_of(bytes));
+            report(alloc, *sid, &change, now, charts, next_sid)
+        }
         Act::Death(sid, generation, exit) => {
             let change = Change::Death(*generation, *exit);
             report(alloc, *sid, &change, now, charts, next_sid)
@@ -270,6 +307,10 @@ pub fn act<A: Allocator + Copy>(
         Act::FinishEnded(sid, generation, exit) => {
             let change = Change::FinishEnded(*generation, *exit);
             report(alloc, *sid, &change, now, charts, next_sid)
+        }
+        Act::Status(name) => {
+            let reply = show_row(*name, past, now, charts.as_slice());
+            Ok(reply_only(alloc, reply, charts, next_sid))
         }
         Act::Tick => Ok(reply_only(alloc, Reply::Done, charts, next_sid)),
     }

@@ -1,5 +1,6 @@
 ghost use Rattle.std.specs.Prelude.{◌≡◌};
 
+use arrayvec::ArrayVec;
 use s6_events::{Actor, At, Exit, Name, Sid};
 use servicedir::Config;
 use std::alloc::Allocator;
@@ -55,10 +56,14 @@ pub enum Act<A: Allocator> {
     Started(Sid, u64, u32),
     /// `run`, or `finish`, of this service and generation could not be spawned.
     StartFailed(Sid, u64),
+    /// `run` of this service and generation wrote these bytes, 1 to 64, to its notification descriptor. Page `notifywhenup`.
+    Notify(Sid, u64, ArrayVec<u8, 64>),
     /// `run` of this service and generation died.
     Death(Sid, u64, Exit),
     /// `finish` of this service and generation ended.
     FinishEnded(Sid, u64, Exit),
+    /// A user asked for the status row of the service of this name. Page `s6-svstat`.
+    Status(Name),
     /// Nothing but the clock.
     Tick,
 }

@@ -9,7 +9,9 @@ mod input;
 mod listing;
 mod plan;
 mod reply;
+mod rows;
 mod scan;
+mod standing;
 #[cfg(test)]
 mod tests;
 mod timers;

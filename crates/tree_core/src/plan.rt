@@ -1,14 +1,20 @@
-ghost use Rattle.std.specs.Prelude.{◌≡◌, ◌+◌, ◌*◌, ◌<◌, ◌≤◌, ◌^◌, ◌++◌, [], map, max, length, All, IfOk, IsOkAnd, false};
+ghost use Rattle.std.specs.Prelude.{◌≡◌, ◌+◌, ◌*◌, ◌<◌, ◌≤◌, ◌^◌, ◌++◌, List, [], map, max, length, All, IfOk, IsOkAnd, false};
+ghost use Rattle.s6_events.specs.Clock.{clock_of};
+ghost use Rattle.s6_events.specs.declared.moment.Moment.{Moment};
+ghost use Rattle.tree_core.specs.Machine.{DeathOf};
 ghost use Rattle.tree_core.specs.Moves.{moment_of};
-ghost use Rattle.tree_core.specs.Plan.{pastless, Plans, IsQuiet};
+ghost use Rattle.tree_core.specs.Plan.{with_past, planned, Plans, IsQuiet};
+ghost use Rattle.tree_core.specs.StandsFor.{AllAgree};
+ghost use Rattle.tree_core.specs.Told.{charts_of as states_of};
 ghost use Rattle.tree_core.specs.Listing.{repeats};
 ghost use Rattle.tree_core.specs.Sound.{IsSound, names_of};
 ghost use Rattle.tree_core.specs.Step.{clock_moments, step_limit};
 
-use super::act::act;
+use super::act::{Past, act};
 use super::effect::{Effect, Event};
 use super::gathered::{Gathered, fire_due};
 use super::input::Input;
+use super::standing::{Standing, standing_after};
 use arrayvec::ArrayVec;
 use s6_events::{At, Moment, NoMemory};
 use std::alloc::Allocator;
@@ -18,7 +24,7 @@ use supervise_core::{ChartState, Service};
 #[derive(Drop)]
 pub struct Plan<A: Allocator> {
     pub now: At,
-    pub charts: ArrayVec<ChartState, 64>,
+    pub standing: ArrayVec<Standing, 64>,
     pub next_sid: u64,
     pub moments: Vec<Moment, A>,
     pub effect: Effect<A>,
@@ -34,7 +40,7 @@ fn later(a: At, b: At) -> At
 // The states of the services.
 fn charts_of(services: &[Service]) -> ArrayVec<ChartState, 64>
     requires { length services.now ≤ 64 }
-    ensures { result.items ≡ map (λ s. s.chart) services.now }
+    ensures { result.items ≡ states_of services.now }
 {
     let mut charts = ArrayVec::new();
     for service in services {
@@ -76,24 +82,32 @@ pub fn plan_step<A: Allocator + Copy>(
 ) -> Result<Plan<A>, NoMemory>
     requires left { steps < step_limit }
     requires few { length services.now ≤ 64 }
-    requires names { repeats (names_of (map (λ s. s.chart) services.now)) ≡ false }
+    requires names { repeats (names_of (states_of services.now)) ≡ false }
     requires serials { next_sid ≤ 64 * steps + 1 }
-    requires generations { All (λ c. c.generation ≤ 2 * steps) (map (λ s. s.chart) services.now) }
-    ensures sound { IfOk result (λ plan. IsSound (steps + 1) plan.next_sid plan.charts.items) }
+    requires generations { All (λ c. c.generation ≤ 2 * steps) (states_of services.now) }
+    ensures sound { (history : List Moment) → AllAgree services.now history → clock ≡ clock_of history
+        → IfOk result (λ plan. IsSound (steps + 1) plan.next_sid (states_of (planned plan))) }
     ensures count { IfOk result (λ plan. length plan.moments.items ≤ 1024) }
-    ensures step { IfOk result (Plans (pastless clock steps closing (map (λ s. s.chart) services.now) next_sid) input.now) }
-    ensures quiet { IsQuiet input.now clock (map (λ s. s.chart) services.now) → IsOkAnd result (λ plan. (plan.moments.items ≡ []) × (length plan.charts.items ≡ length services.now)) }
+    ensures step { IfOk result (λ plan. (history : List Moment) → (deaths : List DeathOf) → AllAgree services.now history → clock ≡ clock_of history
+        → Plans (with_past clock steps closing (states_of services.now) next_sid history deaths) input.now plan) }
+    ensures quiet { (history : List Moment) → AllAgree services.now history → clock ≡ clock_of history → IsQuiet input.now clock (states_of services.now) → IsOkAnd result (λ plan. (plan.moments.items ≡ []) × (length plan.standing.items ≡ length services.now)) }
 {
     let now = later(clock, input.at);
     let charts = charts_of(services);
     let mut gathered = Gathered::new(alloc);
     let fired = fire_due(charts.as_slice(), now, &mut gathered)?;
-    let draft = act(alloc, &input.act, closing, now, fired, next_sid)?;
+    let past = Past {
+        services,
+        events: gathered.events.as_slice(),
+    };
+    let draft = act(alloc, &input.act, closing, now, fired, next_sid, &past)?;
     gathered.append(&draft.gathered)?;
     let moments = moments_of(alloc, clock, input.at, gathered.events.as_slice())?;
+    let events = gathered.events.as_slice();
+    let standing = standing_after(services, events, draft.charts.as_slice(), now);
     Ok(Plan {
         now,
-        charts: draft.charts,
+        standing,
         next_sid: draft.next_sid,
         moments,
         effect: Effect {

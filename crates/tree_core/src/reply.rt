@@ -3,6 +3,7 @@ ghost use Rattle.std.specs.Prelude.{◌≡◌};
 use s6_events::{Name, Sid};
 use std::alloc::Allocator;
 use std::marker::Model;
+use supervise_core::Row;
 
 /// Why an act was refused. A refused act changes nothing itself; the clock and the timers of its step stand. The reasons are
 /// this project's own.
@@ -90,4 +91,6 @@ pub enum Reply<A: Allocator> {
     Refused(Refusal),
     /// The scan was done.
     Scanned(ScanReport<A>),
+    /// The status row that was asked for.
+    Row(Row),
 }

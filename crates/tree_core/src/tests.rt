@@ -82,6 +82,7 @@ fn write_reply<A: Allocator>(text: &mut String, reply: &Reply<A>) -> Result<(), 
     match reply {
         Reply::Done => write!(text, "done"),
         Reply::Refused(refusal) => write!(text, "refused {refusal:?}"),
+        Reply::Row(row) => write!(text, "{row:?}"),
         Reply::Scanned(report) => {
             write!(text, "scanned")?;
             for sid in report.dropped() {

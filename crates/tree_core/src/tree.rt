@@ -1,7 +1,9 @@
 ghost use Rattle.std.specs.Prelude.{◌≡◌, ◌+◌, ◌-◌, ◌≤◌, ◌++◌, map, length, vec_capacity, [], IfOk, IfErr, OnErr, IsOk};
 ghost use Rattle.tree_core.specs.Effect.{outcome_of};
 ghost use Rattle.tree_core.specs.Machine.{new_machine, Machine};
-ghost use Rattle.tree_core.specs.Plan.{Advances, IsQuiet};
+ghost use Rattle.tree_core.specs.Plan.{supervised_of, IsQuiet};
+ghost use Rattle.tree_core.specs.Rows.{row_named, rows_of as all_rows};
+ghost use Rattle.tree_core.specs.Told.{charts_of};
 ghost use Rattle.tree_core.specs.StandsFor.{StandsFor};
 ghost use Rattle.tree_core.specs.Run.{after, outcome};
 ghost use Rattle.tree_core.specs.Step.{step_limit, spent_outcome};
@@ -10,11 +12,13 @@ use super::effect::Effect;
 use super::input::Input;
 use super::plan::plan_step;
 use super::reply::{Refusal, Reply};
+use super::rows::{row_of, rows_of};
+use super::standing::Standing;
 use arrayvec::ArrayVec;
-use s6_events::{At, History, NoMemory};
+use s6_events::{At, History, Name, NoMemory};
 use std::alloc::Allocator;
 use std::marker::Model;
-use supervise_core::{ChartState, Service};
+use supervise_core::{Row, Service};
 
 /// The most steps of a tree: 2^48.
 const STEP_LIMIT: u64 = 281_474_976_710_656;
@@ -56,14 +60,14 @@ fn spent<A: Allocator + Copy>(alloc: A) -> Effect<A>
     }
 }
 
-// The services take over the states. There is room for them.
-fn install<A: Allocator>(services: &mut Vec<Service, A>, charts: &[ChartState])
-    requires { length charts.now ≤ vec_capacity services.old }
-    ensures { map (λ s. s.chart) services.new.items ≡ charts.now }
+// The services become these. There is room for them.
+fn install<A: Allocator>(services: &mut Vec<Service, A>, standing: &[Standing])
+    requires { length standing.now ≤ vec_capacity services.old }
+    ensures { services.new.items ≡ map supervised_of standing.now }
 {
     services.clear();
-    for chart in charts {
-        services.push_reserved(Service::holding(*chart));
+    for service in standing {
+        services.push_reserved(Service::holding(service.chart, service.status));
     }
 }
 
@@ -84,10 +88,11 @@ impl<A: Allocator + Copy> Tree<A> {
 
     // One step, as the definitions have it.
     fn take_step(&mut self, input: &Input<A>) -> Result<Effect<A>, NoMemory>
-        ensures ok { IfOk result (λ effect. Advances self.old self.new input.now (outcome_of effect)) }
+        ensures ok { IfOk result (λ effect. (m : Machine) → StandsFor self.old m →
+            (outcome_of effect ≡ outcome m input.now) × StandsFor self.new (after m input.now)) }
         ensures err { OnErr result (self.new ≡ self.old) }
         ensures spent { self.old.steps ≡ step_limit → IsOk result }
-        ensures quiet { IsQuiet input.now self.old.clock self.old.services → IsOk result }
+        ensures quiet { IsQuiet input.now self.old.clock (charts_of self.old.services) → IsOk result }
     {
         let alloc = *self.services.allocator();
         if self.steps == STEP_LIMIT {
@@ -104,24 +109,24 @@ impl<A: Allocator + Copy> Tree<A> {
         )?;
         let moments = self.history.prepare(plan.moments.as_slice())?;
         self.services
-            .reserve(plan.charts.len().saturating_sub(self.services.len()))?;
+            .reserve(plan.standing.len().saturating_sub(self.services.len()))?;
         self.clock = plan.now;
         self.steps += 1;
         self.next_sid = plan.next_sid;
-        install(&mut self.services, plan.charts.as_slice());
+        install(&mut self.services, plan.standing.as_slice());
         self.history.commit(moments);
         Ok(plan.effect)
     }
 
     /// Takes one input, whole: the clock first, then the due timers, then the act; and answers all that the step gives. A refused
     /// act is a step like any other. Where a growth was refused the same input comes back with `NoMemory`, and nothing has changed
-    /// at all. A spent tree, and a tick that moves no clock while no timer is due, ask for no memory.
+    /// at all. A spent tree asks for no memory, nor does a tick or a status at a moment that moves no clock while no timer is due.
     pub fn apply(&mut self, input: Input<A>) -> Result<Effect<A>, (Input<A>, NoMemory)>
         ensures step { IfOk result (λ effect. (m : Machine) → StandsFor self.old m →
             (outcome_of effect ≡ outcome m input) × StandsFor self.new (after m input)) }
         ensures unchanged { IfErr result (λ back. (back.0 ≡ input) × (self.new ≡ self.old)) }
         ensures spent { self.old.steps ≡ step_limit → IsOk result }
-        ensures quiet { IsQuiet input self.old.clock self.old.services → IsOk result }
+        ensures quiet { IsQuiet input self.old.clock (charts_of self.old.services) → IsOk result }
     {
         match self.take_step(&input) {
             Ok(effect) => Ok(effect),
@@ -135,6 +140,20 @@ impl<A: Allocator + Copy> Tree<A> {
         ensures there { (m : Machine) × StandsFor self.now m }
     {
         self.clock
+    }
+
+    /// The status row of the service of the name; None where there is none. Takes no memory. Page `s6-svstat`.
+    pub fn row(&self, name: Name) -> Option<Row>
+        ensures { (m : Machine) → StandsFor self.now m → result ≡ row_named name m }
+    {
+        row_of(self.services.as_slice(), name, self.clock)
+    }
+
+    /// The status rows of all services, in rising serial. Takes no memory. Page `s6-svstat`.
+    pub fn rows(&self) -> ArrayVec<Row, 64>
+        ensures { (m : Machine) → StandsFor self.now m → result.items ≡ all_rows m }
+    {
+        rows_of(self.services.as_slice(), self.clock)
     }
 
     /// How many steps it has taken, at most 2^48.

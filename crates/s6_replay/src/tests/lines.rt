@@ -46,6 +46,14 @@ fn lines_that_spell_no_input(rt: HostRuntime) {
         b"0 1 death 1 1 signal 65",
         b"0 1 death 1 1 exit 0",
         b"0 1 death 01 1 code 0",
+        b"0 1 notify 1 1",
+        b"0 1 notify 1 1 ",
+        b"0 1 notify 1 1 0A",
+        b"0 1 notify 1 1 0a0",
+        b"0 1 notify 1 1 0g",
+        b"0 1 notify 1 1 0a 0a",
+        b"0 1 notify 1 01 0a",
+        b"0 1 notify 1 1 0a0a0a0a0a0a0a0a0a0a0a0a0a0a0a0a0a0a0a0a0a0a0a0a0a0a0a0a0a0a0a0a0a0a0a0a0a0a0a0a0a0a0a0a0a0a0a0a0a0a0a0a0a0a0a0a0a0a0a0a0a0a0a0a0a",
         b"0 1 svc web",
         b"0 1 svc web ",
         b"0 1 svc .web u",
@@ -75,6 +83,7 @@ fn numbers<A: Allocator>(act: &Act<A>) -> (u8, u64, u64, u32) {
         Act::Tick => (4, 0, 0, 0),
         Act::Svc(_, letters) => (8, letters.len() as u64, 0, 0),
         Act::StartFailed(sid, generation) => (5, sid.0, *generation, 0),
+        Act::Notify(_, _, bytes) => (9, bytes.len() as u64, 0, 0),
         Act::FinishEnded(sid, generation, Exit::Code(code)) => (
             6,
             sid.0,
@@ -108,6 +117,13 @@ fn lines_that_spell_an_input(rt: HostRuntime) -> Result<(), Fail> {
         (b"7 1 death 2 3 code 255", 7, 1, (2, 2, 3, 255)),
         (b"7 1 death 2 3 signal 64", 7, 1, (3, 2, 3, 64)),
         (b"7 1 startfailed 2 3", 7, 1, (5, 2, 3, 0)),
+        (b"7 1 notify 2 3 0a", 7, 1, (9, 1, 0, 0)),
+        (
+            b"7 1 notify 2 3 0f0f0f0f0f0f0f0f0f0f0f0f0f0f0f0f0f0f0f0f0f0f0f0f0f0f0f0f0f0f0f0f0f0f0f0f0f0f0f0f0f0f0f0f0f0f0f0f0f0f0f0f0f0f0f0f0f0f0f0f0f0f0f0f",
+            7,
+            1,
+            (9, 64, 0, 0),
+        ),
         (b"7 1 finished 2 3 code 125", 7, 1, (6, 2, 3, 125)),
         (b"7 1 finished 2 3 signal 0", 7, 1, (7, 2, 3, 0)),
         (b"0 1 svc web abqhkti12pcyudOrx", 0, 1, (8, 17, 0, 0)),
@@ -135,6 +151,19 @@ fn a_line_has_its_names(rt: HostRuntime) -> Result<(), Fail> {
     assert_eq!(rt; names[0].as_bytes(), b"web".as_slice());
     assert_eq!(rt; names[1].as_bytes(), b"@-_.9".as_slice());
     assert_eq!(rt; names[2].as_bytes(), b"web".as_slice());
+    Ok(())
+}
+
+#[test]
+fn a_line_has_its_bytes(rt: HostRuntime) -> Result<(), Fail> {
+    let input = parse_line(rt.alloc(), b"0 1 notify 2 3 000a7f80ff")
+        .ok()
+        .ok_or("an input")?;
+    let Act::Notify(sid, generation, bytes) = &input.act else {
+        return Err("a notification".into());
+    };
+    assert_eq!(rt; (sid.0, *generation), (2, 3));
+    assert_eq!(rt; bytes.as_slice(), [0, 10, 127, 128, 255].as_slice());
     Ok(())
 }
 

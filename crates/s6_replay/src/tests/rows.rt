@@ -13,7 +13,7 @@ struct Row {
     counts: (u64, u128, u128),
 }
 
-const ROWS: [Row; 16] = [
+const ROWS: [Row; 18] = [
     Row {
         name: "restart-after-pause",
         script: "s6-script 1\n0 1 scan web\n0 1 started 1 1 500\n300 1 death 1 1 code 1\n1299 1 tick\n1300 1 tick\n",
@@ -113,6 +113,20 @@ const ROWS: [Row; 16] = [
     Row {
         name: "signal-over-sixty-four",
         script: "s6-script 1\n0 1 death 1 1 signal 65\n",
+        transcript: "",
+        fault: Some(ReplayFault::Line(2)),
+        counts: (0, 0, 0),
+    },
+    Row {
+        name: "letter-o-in-a-script",
+        script: "s6-script 1\n0 1 svc web o\n",
+        transcript: "",
+        fault: Some(ReplayFault::Line(2)),
+        counts: (0, 0, 0),
+    },
+    Row {
+        name: "upper-case-hex",
+        script: "s6-script 1\n0 1 notify 1 1 0A\n",
         transcript: "",
         fault: Some(ReplayFault::Line(2)),
         counts: (0, 0, 0),

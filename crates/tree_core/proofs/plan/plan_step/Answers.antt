@@ -1,19 +1,22 @@
-use Rattle.std.proofs.Common.{rules, arith, refl, subst, sym, ap, ◌∙◌, List, ◌≡◌, ◌+◌, ◌*◌, ◌≤◌, ◌<◌, length, true, false}
+use Rattle.std.proofs.Common.{arith, refl, subst, sym, ap, ◌∙◌, List, ◌++◌, ◌≡◌, ◌+◌, ◌*◌, ◌≤◌, ◌<◌, length, map, true, false}
 use Rattle.std.specs.Prelude.{All}
 use Rattle.std.proofs.lemmas.List.{length-map}
 use Rattle.supervise_core.specs.Chart.{fire}
 use Rattle.supervise_core.specs.declared.chart.ChartState.{ChartState}
-use Rattle.tree_core.proofs.ActGrows.{act_grows}
-use Rattle.tree_core.proofs.Generations.{all_fire}
 use Rattle.tree_core.specs.Listing.{repeats}
 use Rattle.tree_core.specs.Sound.{names_of}
+use Rattle.tree_core.specs.Moves.{services_after, events_after}
+use Rattle.tree_core.specs.Plan.{supervised_of}
+use Rattle.tree_core.specs.Told.{charts_of}
+use Rattle.tree_core.proofs.ActGrows.{act_grows}
+use Rattle.tree_core.proofs.Generations.{all_fire}
 use Rattle.tree_core.proofs.Names.{act_names, names_fired}
-use Rattle.tree_core.proofs.PlanMakes.{plan_makes}
-use Rattle.tree_core.proofs.Quiet.{tick_events, tick_services, clock_stays, no_events, length-services_after}
+use Rattle.tree_core.proofs.PlanMakes.{plan_makes, act_given, charts_kept}
+use Rattle.tree_core.proofs.Quiet.{no_act_events, same_services, clock_stays, no_events, length-services_after}
 use Rattle.tree_core.proofs.plan.plan_step.Goals as goal
 
 pub returns-in_err-fired-clause-quiet : goal.returns-in_err-fired-clause-quiet
-returns-in_err-fired-clause-quiet g c = λ q.
+returns-in_err-fired-clause-quiet g c = λ history agrees reading q.
     let late = clock_stays c.later-now.result c.args.clock c.args.input.now.at c.later-now.ensures q.early in
     let fails : false ≡ true = (c.in_err-fired.ensures.quiet (rw (late, c.as_slice.ensures.value, c.charts_of-charts.ensures) q.rest)).0 in
     cc fails
@@ -30,52 +33,79 @@ act-requires-clause-names g c =
     ∙ (ap repeats (names_fired c.later-now.result c.as_slice.result.now)
     ∙ (ap (λ cs. repeats (names_of cs)) (c.as_slice.ensures.value ∙ c.charts_of-charts.ensures) ∙ c.requires.names))
 
+pub returns-in_err-append-clause-quiet : goal.returns-in_err-append-clause-quiet
+returns-in_err-append-clause-quiet g c = λ history agrees reading q.
+    let draft = act_given c.args.clock c.args.input.now.at c.later-now.result c.args.services.now c.as_slice-2.result.now c.in_ok-fired.fired.items _ history c.later-now.ensures
+    (c.in_ok-fired.ensures.services ∙ ap (λ cs. services_after (fire c.later-now.result) cs) (c.as_slice.ensures.value ∙ c.charts_of-charts.ensures)) agrees reading c.in_ok-draft.ensures.draft in
+    let fails : false ≡ true = c.in_err-append.ensures.quiet (ap (λ a. a.events) draft ∙ no_act_events c.args.input.now.act _ q.reading) in
+    cc fails
+
 pub returns-in_err-moments-clause-quiet : goal.returns-in_err-moments-clause-quiet
-returns-in_err-moments-clause-quiet g c = λ q.
+returns-in_err-moments-clause-quiet g c = λ history agrees reading q.
     let late = clock_stays c.later-now.result c.args.clock c.args.input.now.at c.later-now.ensures q.early in
     let timers = (c.in_ok-fired.ensures.quiet (rw (late, c.as_slice.ensures.value, c.charts_of-charts.ensures) q.rest)).1 ∙ c.new-gathered.ensures.events in
+    let draft = act_given c.args.clock c.args.input.now.at c.later-now.result c.args.services.now c.as_slice-2.result.now c.in_ok-fired.fired.items _ history c.later-now.ensures
+    (c.in_ok-fired.ensures.services ∙ ap (λ cs. services_after (fire c.later-now.result) cs) (c.as_slice.ensures.value ∙ c.charts_of-charts.ensures)) agrees reading c.in_ok-draft.ensures.draft in
     absurd
     (c.in_err-moments.ensures.quiet q.early
-    (c.as_slice-2.ensures.value ∙ no_events _ _ _ c.in_ok-append.ensures.events timers (tick_events c.args.input.now.act _ _ q.tick c.in_ok-draft.ensures.draft)))
+    (c.as_slice-3.ensures.value ∙ no_events _ _ _ c.in_ok-append.ensures.events timers (ap (λ a. a.events) draft ∙ no_act_events c.args.input.now.act _ q.reading)))
 
 pub returns-clause-sound : goal.returns-clause-sound
-returns-clause-sound g c = record {
-  steps = let left : c.args.steps < 281474976710656 = c.requires.left in omega arith;
-  few = omega (arith, c.in_ok-draft.ensures.places);
-  names =
-      ap (λ a. repeats (names_of a.services)) c.in_ok-draft.ensures.draft
-      ∙ act_names c.args.input.now.act _
-      (ap (λ cs. repeats (names_of cs)) c.in_ok-fired.ensures.services
-      ∙ (ap repeats (names_fired c.later-now.result c.as_slice.result.now)
-      ∙ (ap (λ cs. repeats (names_of cs)) (c.as_slice.ensures.value ∙ c.charts_of-charts.ensures) ∙ c.requires.names)));
-  serials = omega (arith, c.in_ok-draft.ensures.next);
-  generations = λ k d lt.
-      let after : All (λ x. x.generation ≤ 2 * c.args.steps + 1 + 1) c.in_ok-draft.draft.charts.items =
-      subst (λ (cs : List ChartState). All (λ x. x.generation ≤ 2 * c.args.steps + 1 + 1) cs) (sym (ap (λ a. a.services) c.in_ok-draft.ensures.draft))
-      (act_grows c.args.input.now.act _ (2 * c.args.steps + 1)
-      (rw c.in_ok-fired.ensures.services
-      (rw (c.as_slice.ensures.value, c.charts_of-charts.ensures)
-      (all_fire c.later-now.result (2 * c.args.steps) _ c.requires.generations)))) in
-      let here : _ = after k d lt in omega arith;
-}
+returns-clause-sound g c = λ history agrees reading.
+    let draft = act_given c.args.clock c.args.input.now.at c.later-now.result c.args.services.now c.as_slice-2.result.now c.in_ok-fired.fired.items _ history c.later-now.ensures
+    (c.in_ok-fired.ensures.services ∙ ap (λ cs. services_after (fire c.later-now.result) cs) (c.as_slice.ensures.value ∙ c.charts_of-charts.ensures)) agrees reading c.in_ok-draft.ensures.draft in
+    let charts : charts_of (map supervised_of c.standing_after-standing.result.items) ≡ c.in_ok-draft.draft.charts.items =
+    ap charts_of c.standing_after-standing.ensures ∙ (charts_kept c.later-now.result c.as_slice-events.result.now c.args.services.now c.as_slice-4.result.now ∙ c.as_slice-4.ensures.value) in
+    rw charts
+    (record {
+      steps = let left : c.args.steps < 281474976710656 = c.requires.left in omega arith;
+      few = omega (arith, c.in_ok-draft.ensures.places);
+      names =
+          ap (λ a. repeats (names_of a.services)) draft
+          ∙ act_names c.args.input.now.act _
+          (ap (λ cs. repeats (names_of cs)) c.in_ok-fired.ensures.services
+          ∙ (ap repeats (names_fired c.later-now.result c.as_slice.result.now)
+          ∙ (ap (λ cs. repeats (names_of cs)) (c.as_slice.ensures.value ∙ c.charts_of-charts.ensures) ∙ c.requires.names)));
+      serials = omega (arith, c.in_ok-draft.ensures.next);
+      generations = λ k d lt.
+          let after : All (λ x. x.generation ≤ 2 * c.args.steps + 1 + 1) c.in_ok-draft.draft.charts.items =
+          subst (λ (cs : List ChartState). All (λ x. x.generation ≤ 2 * c.args.steps + 1 + 1) cs) (sym (ap (λ a. a.services) draft))
+          (act_grows c.args.input.now.act _ (2 * c.args.steps + 1)
+          (rw c.in_ok-fired.ensures.services
+          (rw (c.as_slice.ensures.value, c.charts_of-charts.ensures)
+          (all_fire c.later-now.result (2 * c.args.steps) _ c.requires.generations)))) in
+          let here : _ = after k d lt in omega arith;
+    })
 
 pub returns-clause-step : goal.returns-clause-step
 returns-clause-step g c =
-    plan_makes c.args.clock c.args.steps c.args.closing _ c.args.next_sid c.args.input.now _ c.in_ok-fired.fired.items _ c.requires.left c.later-now.ensures
-    (search rules) c.in_ok-draft.ensures.draft refl refl refl
-    (rw (c.in_ok-append.ensures.events, c.in_ok-fired.ensures.events, c.new-gathered.ensures.events, c.as_slice.ensures.value, c.charts_of-charts.ensures))
-    (rw (c.in_ok-append.ensures.orders, c.in_ok-fired.ensures.orders, c.new-gathered.ensures.orders, c.as_slice.ensures.value, c.charts_of-charts.ensures))
+    let cs = c.as_slice.ensures.value ∙ c.charts_of-charts.ensures in
+    plan_makes c.args.clock c.args.steps c.args.closing c.args.services.now c.args.next_sid c.args.input.now _ c.in_ok-fired.fired.items c.as_slice-2.result.now _
+    c.requires.left c.later-now.ensures
+    (c.in_ok-fired.ensures.services ∙ ap (λ x. services_after (fire c.later-now.result) x) cs)
+    (c.as_slice-2.ensures.value ∙ rw (c.in_ok-fired.ensures.events, c.new-gathered.ensures.events) (ap (λ x. events_after (fire c.later-now.result) x) cs))
+    c.in_ok-draft.ensures.draft
+    (c.standing_after-standing.ensures ∙ rw (c.as_slice-events.ensures.value, c.as_slice-4.ensures.value) refl)
+    refl refl
+    (c.in_ok-append.ensures.events ∙ ap (λ x. x ++ c.in_ok-draft.draft.gathered.events.items) (sym c.as_slice-2.ensures.value))
+    (rw (c.in_ok-append.ensures.orders, c.in_ok-fired.ensures.orders, c.new-gathered.ensures.orders, c.as_slice.ensures.value, c.charts_of-charts.ensures) refl)
     c.new.ensures.items c.new-2.ensures.items
-    (rw c.as_slice-2.ensures.value at c.in_ok-moments.ensures.moments)
+    (rw c.as_slice-3.ensures.value at c.in_ok-moments.ensures.moments)
 
 pub returns-clause-quiet : goal.returns-clause-quiet
-returns-clause-quiet g c = λ q.
+returns-clause-quiet g c = λ history agrees reading q.
     let late = clock_stays c.later-now.result c.args.clock c.args.input.now.at c.later-now.ensures q.early in
     let timers = (c.in_ok-fired.ensures.quiet (rw (late, c.as_slice.ensures.value, c.charts_of-charts.ensures) q.rest)).1 ∙ c.new-gathered.ensures.events in
-    let none = c.as_slice-2.ensures.value ∙ no_events _ _ _ c.in_ok-append.ensures.events timers (tick_events c.args.input.now.act _ _ q.tick c.in_ok-draft.ensures.draft) in (
+    let draft = act_given c.args.clock c.args.input.now.at c.later-now.result c.args.services.now c.as_slice-2.result.now c.in_ok-fired.fired.items _ history c.later-now.ensures
+    (c.in_ok-fired.ensures.services ∙ ap (λ cs. services_after (fire c.later-now.result) cs) (c.as_slice.ensures.value ∙ c.charts_of-charts.ensures)) agrees reading c.in_ok-draft.ensures.draft in
+    let none = c.as_slice-3.ensures.value ∙ no_events _ _ _ c.in_ok-append.ensures.events timers (ap (λ a. a.events) draft ∙ no_act_events c.args.input.now.act _ q.reading) in (
       c.in_ok-moments.ensures.quiet q.early none,
-      ap length (tick_services c.args.input.now.act _ _ q.tick c.in_ok-draft.ensures.draft)
+      sym (length-map c.standing_after-standing.result.items supervised_of)
+          ∙ (ap length c.standing_after-standing.ensures
+          ∙ (length-map c.as_slice-4.result.now _
+          ∙ (ap length c.as_slice-4.ensures.value
+          ∙ (ap length (ap (λ a. a.services) draft ∙ same_services c.args.input.now.act _ q.reading)
           ∙ (ap length c.in_ok-fired.ensures.services
           ∙ (length-services_after (fire c.later-now.result) c.as_slice.result.now
-          ∙ (ap length (c.as_slice.ensures.value ∙ c.charts_of-charts.ensures) ∙ length-map c.args.services.now _))),
+          ∙ (ap length (c.as_slice.ensures.value ∙ c.charts_of-charts.ensures) ∙ length-map c.args.services.now _))))))),
     )

@@ -9,7 +9,7 @@ use Rattle.supervise_core.proofs.service.Service.begin.Goals as goal
 pub returns-clause-agrees : goal.returns-clause-agrees
 returns-clause-agrees g c = λ history.
     agrees_beginning (new_service c.args.sid c.args.name c.args.config) _ _ _ history
-    (c.holding.ensures.chart ∙ c.begin-chart.ensures.gives.chart) c.holding.ensures.status c.begin-chart.ensures.gives.marks
+    (c.holding.ensures.chart ∙ c.begin-chart.ensures.gives.chart) (c.holding.ensures.status ∙ c.new.ensures) c.begin-chart.ensures.gives.marks
 
 pub returns-clause-grammar : goal.returns-clause-grammar
 returns-clause-grammar g c =

@@ -9,4 +9,4 @@ use Rattle.tree_core.proofs.tree.Tree.now.Goals as goal
 pub returns-clause-there : goal.returns-clause-there
 returns-clause-there g c =
     subst (λ (t : Stored). (m : Machine) × StandsFor t m) c.self.view_is
-    (stands_itself (stored c.self.inside) c.self.invariant.1.whole c.self.invariant.1.reading)
+    (stands_itself (stored c.self.inside) c.self.invariant.1.whole c.self.invariant.1.reading c.self.invariant.2)
