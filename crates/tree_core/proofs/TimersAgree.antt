@@ -1,6 +1,6 @@
 -- Timers that agree with the services: what a step does to them, and which are due.
 use Rattle.std.proofs.Common.{◌≡◌, refl, sym, ap, ◌∙◌, ℕ, List, [], ◌∷◌, ◌++◌, Bool, true, false, ◌||◌, ◌&&◌, ◌==◌, cond, rules, find, filter, flat_map}
-use Rattle.std.specs.Prelude.{Option, Some, None, option_map, nat_lt, nat_eq}
+use Rattle.std.specs.Prelude.{Option, Some, None, nat_lt, nat_eq}
 use Rattle.std.specs.Option.{option_eq, option_or}
 use Rattle.std.specs.List.{list_all}
 use Rattle.std.proofs.lemmas.List.Sums.{fold-append}
@@ -10,19 +10,22 @@ use Rattle.deadlines.specs.declared.timer.TimerChange.TheVariants.{Set, Clear}
 use Rattle.deadlines.specs.Timers.{rises, below, above, set_to, cleared, changed, changed_all, is_rising}
 use Rattle.deadlines.proofs.Rising.{rises_set_to, rises_cleared}
 use Rattle.supervise_core.specs.declared.chart.ChartState.{ChartState}
-use Rattle.tree_core.specs.Timers.{serials_of, has_serial, in_reach, timer_in, set_in, Agree, change_to, left, moved, changes_of}
+use Rattle.supervise_core.specs.Service.{Supervised}
+use Rattle.tree_core.specs.Sound.{serials_of}
+use Rattle.tree_core.specs.Told.{charts_of}
+use Rattle.tree_core.specs.Timers.{has_serial, in_reach, timer_in, set_in, TimersAgree, change_to, left, moved, changes_of}
 
--- the timer of the first service of the serial
-abbrev pub found_timer : Option (Option ℕ) → Option ℕ
+-- the timer of a service that was found
+abbrev pub found_timer : Option Supervised → Option ℕ
 found_timer None = None
-found_timer (Some timer) = in_reach timer
+found_timer (Some service) = in_reach service.chart.timer
 
-pub timer_found : (sid : ℕ) (cs : List ChartState) → timer_in sid cs ≡ found_timer (option_map (λ c. c.timer) (find (λ c. c.sid == sid) cs))
+pub timer_found : (sid : ℕ) (services : List Supervised) → timer_in sid (charts_of services) ≡ found_timer (find (λ s. s.chart.sid == sid) services)
 timer_found sid [] = refl
-timer_found sid (c ∷ cs) = by (c.sid == sid) (timer_found sid cs)
+timer_found sid (s ∷ services) = by (s.chart.sid == sid) (timer_found sid services)
   where
-    by : (b : Bool) → timer_in sid cs ≡ found_timer (option_map (λ c. c.timer) (find (λ c. c.sid == sid) cs))
-        → cond b (in_reach c.timer) (timer_in sid cs) ≡ found_timer (option_map (λ c. c.timer) (cond b (Some c) (find (λ c. c.sid == sid) cs)))
+    by : (b : Bool) → timer_in sid (charts_of services) ≡ found_timer (find (λ s. s.chart.sid == sid) services)
+        → cond b (in_reach s.chart.timer) (timer_in sid (charts_of services)) ≡ found_timer (cond b (Some s) (find (λ s. s.chart.sid == sid) services))
     by true rest = refl
     by false rest = rest
 
@@ -256,7 +259,7 @@ rises_changed (Set sid at ∷ changes) ts r = rises_changed changes (set_to sid 
 rises_changed (Clear sid ∷ changes) ts r = rises_changed changes (cleared sid ts) (rises_cleared sid ts r)
 
 -- deadlines that agree with the services before a step agree with those after it, once the changes are made
-pub agrees_changed : (ts : List Timer) (before after : List ChartState) → Agree ts before → is_rising (serials_of after) ≡ true → Agree (changed_all (changes_of before after) ts) after
+pub agrees_changed : (ts : List Timer) (before after : List ChartState) → TimersAgree ts before → is_rising (serials_of after) ≡ true → TimersAgree (changed_all (changes_of before after) ts) after
 agrees_changed ts before after a r = record {
   order = rises_changed (changes_of before after) ts a.order;
   moments = λ q. ap (set_in q) (fold-append changed ts (flat_map (left after) before) (flat_map (moved before) after)) ∙ by q (has_serial q after) refl;

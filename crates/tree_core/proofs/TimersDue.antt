@@ -1,5 +1,5 @@
 -- Which timers are due, where timers agree with the services; and that a step that changes no service changes no timer.
-use Rattle.std.proofs.Common.{◌≡◌, refl, sym, ap, ◌∙◌, ℕ, zero, suc, ◌<◌, ◌≤◌, List, [], ◌∷◌, ◌++◌, Bool, true, false, ◌||◌, ◌==◌, cond, arith, map, filter, length, get_or, flat_map}
+use Rattle.std.proofs.Common.{rules, subst, ◌≡◌, refl, sym, ap, ◌∙◌, ℕ, zero, suc, ◌<◌, ◌≤◌, List, [], ◌∷◌, ◌++◌, Bool, true, false, ◌||◌, ◌==◌, cond, arith, map, max, filter, length, get_or, flat_map}
 use Rattle.std.specs.Prelude.{Option, Some, None, nat_lt, nat_le, nat_eq}
 use Rattle.std.specs.Option.{option_eq}
 use Rattle.std.specs.List.{list_any, list_all}
@@ -9,8 +9,18 @@ use Rattle.deadlines.specs.declared.timer.Timer.{Timer}
 use Rattle.deadlines.specs.declared.timer.TimerChange.TheVariants.{Clear}
 use Rattle.deadlines.specs.Timers.{rises, due_by, is_rising}
 use Rattle.supervise_core.specs.declared.chart.ChartState.{ChartState}
-use Rattle.supervise_core.specs.Chart.{is_due}
-use Rattle.tree_core.specs.Timers.{serials_of, has_serial, in_reach, timer_in, set_in, Agree, change_to, left, moved, changes_of, AreDue}
+use Rattle.supervise_core.specs.ChartState.{still}
+use Rattle.supervise_core.specs.Chart.{is_due, timer_rule, fire}
+use Rattle.tree_core.specs.Moves.{events_of, services_after, events_after, orders_after}
+use Rattle.supervise_core.specs.Service.{Supervised}
+use Rattle.tree_core.specs.declared.input.Input.{Input}
+use Rattle.tree_core.specs.Plan.{IsQuiet}
+use Rattle.tree_core.specs.Sound.{serials_of, IsNumbered}
+use Rattle.tree_core.specs.StandsFor.{Stored}
+use Rattle.tree_core.proofs.Quiet.{clock_stays}
+use Rattle.tree_core.proofs.SerialsRise.{rising_before}
+use Rattle.tree_core.specs.Told.{charts_of}
+use Rattle.tree_core.specs.Timers.{has_serial, in_reach, timer_in, set_in, TimersAgree, change_to, left, moved, changes_of, AreDue}
 use Rattle.tree_core.proofs.TimersAgree.{both_left, both_right, neither_left, neither_right, one_number, itself, later_other, earlier_other}
 
 -- a serial is due among timers in rising serial, where its timer is due
@@ -60,7 +70,7 @@ due_in_reach now (Some due) l = by (nat_le due last_moment) refl
     by false h = sym (past_due now due l h)
 
 -- the serials of the due timers are those of the services whose timers are due
-pub due_agrees : (now : ℕ) (ts : List Timer) (services : List ChartState) → now ≤ last_moment → Agree ts services → is_rising (serials_of services) ≡ true
+pub due_agrees : (now : ℕ) (ts : List Timer) (services : List ChartState) → now ≤ last_moment → TimersAgree ts services → is_rising (serials_of services) ≡ true
     → AreDue (due_by now ts) now services
 due_agrees now ts services l a r = λ k d lt.
     due_found now (get_or services k d).sid ts a.order
@@ -79,7 +89,7 @@ nothing_in : (xs : List ℕ) → ((q : ℕ) → list_any (λ n. n == q) xs ≡ f
 nothing_in [] h = refl
 nothing_in (x ∷ xs) h = let here : (x == x) ≡ false = neither_left (x == x) _ (h x) in let there = itself x in cc
 
-pub none_due : (now : ℕ) (ts : List Timer) (services : List ChartState) → now ≤ last_moment → Agree ts services → list_any (λ c. is_due now c.timer) services ≡ false
+pub none_due : (now : ℕ) (ts : List Timer) (services : List ChartState) → now ≤ last_moment → TimersAgree ts services → list_any (λ c. is_due now c.timer) services ≡ false
     → due_by now ts ≡ []
 none_due now ts services l a h = nothing_in (due_by now ts) (λ q. due_found now q ts a.order ∙ (ap (is_due now) (a.moments q) ∙ rest_timer now q services l h))
 
@@ -100,6 +110,10 @@ pub none_here : {X Y : Type 0} (f : X → List Y) (xs : List X) (k : ℕ) (d : X
 none_here f [] k d lt e = absurd (omega (arith, lt))
 none_here f (x ∷ xs) zero d lt e = first_empty (f x) (flat_map f xs) e
 none_here f (x ∷ xs) (suc k) d lt e = none_here f xs k d (omega (arith, lt)) (rest_empty (f x) (flat_map f xs) e)
+
+pub of_charts : {Y : Type 0} (f : ChartState → List Y) (services : List Supervised) → flat_map (λ s. f s.chart) services ≡ flat_map f (charts_of services)
+of_charts f [] = refl
+of_charts f (s ∷ services) = ap (λ rest. f s.chart ++ rest) (of_charts f services)
 
 -- a step that changes no service changes no timer
 present : (cs : List ChartState) (k : ℕ) (d : ChartState) → k < length cs → has_serial (get_or cs k d).sid cs ≡ true
@@ -126,3 +140,46 @@ nothing_changes cs r = λ i. stays i ++ keeps i
         all_empty (moved cs) cs
         (λ k d lt. ap (λ b. cond b [] (change_to (get_or cs k d).sid (in_reach (get_or cs k d).timer) ∷ []))
         (ap (λ o. option_eq nat_eq o (in_reach (get_or cs k d).timer)) (own_timer cs k d r lt) ∙ same_moment (in_reach (get_or cs k d).timer)))
+
+pub empty_list : {X : Type 0} (xs : List X) → (length xs == 0) ≡ true → xs ≡ []
+empty_list [] h = refl
+empty_list (x ∷ xs) h = search rules
+
+-- where none is due, no service takes its rule
+untouched : (now : ℕ) (c : ChartState) → is_due now c.timer ≡ false → fire now c ≡ still c
+untouched now c h = ap (λ b. cond b (timer_rule c.phase c) (still c)) h
+
+later_ones : (now : ℕ) (c : ChartState) (cs : List ChartState) → AreDue [] now (c ∷ cs) → AreDue [] now cs
+later_ones now c cs h = λ k d lt. h (suc k) d (omega (arith, lt))
+
+pub unfired : (now : ℕ) (cs : List ChartState) → AreDue [] now cs → services_after (fire now) cs ≡ cs
+unfired now [] h = refl
+unfired now (c ∷ cs) h = λ i. (untouched now c (sym (h zero c (omega arith))) i).chart ∷ unfired now cs (later_ones now c cs h) i
+
+pub unfired_events : (now : ℕ) (cs : List ChartState) → AreDue [] now cs → events_after (fire now) cs ≡ []
+unfired_events now [] h = refl
+unfired_events now (c ∷ cs) h = (λ i. events_of c.sid (untouched now c (sym (h zero c (omega arith))) i) ++ events_after (fire now) cs) ∙ unfired_events now cs (later_ones now c cs h)
+
+pub unfired_orders : (now : ℕ) (cs : List ChartState) → AreDue [] now cs → orders_after (fire now) cs ≡ []
+unfired_orders now [] h = refl
+unfired_orders now (c ∷ cs) h = (λ i. (untouched now c (sym (h zero c (omega arith))) i).orders ++ orders_after (fire now) cs) ∙ unfired_orders now cs (later_ones now c cs h)
+
+pub still_fired : (now late : ℕ) (due : List ℕ) (before charts fired : List ChartState) → now ≡ late → charts ≡ before → due ≡ [] → AreDue due late before
+    → fired ≡ services_after (fire now) charts → fired ≡ before
+still_fired now late due before charts fired e f none h is =
+    is ∙ ((λ i. services_after (fire (e i)) (f i)) ∙ unfired late before (subst (λ (sids : List ℕ). AreDue sids late before) none h))
+
+-- what a tree finds due are the services whose timers are due, and for a quiet input there is none
+pub due_now : (now late next : ℕ) (due : List ℕ) (ts : List Timer) (before seen : List ChartState) → now ≡ late → now ≤ last_moment → due ≡ due_by now ts → seen ≡ before
+    → TimersAgree ts before → IsNumbered next before → AreDue due late seen
+due_now now late next due ts before seen e l is same a numbered =
+    subst (λ (n : ℕ). AreDue due n seen) e
+    (subst (λ (cs : List ChartState). AreDue due now cs) (sym same)
+    (subst (λ (sids : List ℕ). AreDue sids now before) (sym is) (due_agrees now ts before l a (rising_before (serials_of before) next numbered))))
+
+pub none_for_quiet : {A : Type 0} (t seen : Stored) (input : Input A) (now : ℕ) (ts : List Timer) → t ≡ seen → now ≡ max t.clock input.at → now ≤ last_moment
+    → TimersAgree ts (charts_of t.services) → IsQuiet input seen.clock (charts_of seen.services) → due_by now ts ≡ []
+none_for_quiet {A} t seen input now ts same e l a quiet =
+    let q : IsQuiet input t.clock (charts_of t.services) = subst (λ (x : Stored). IsQuiet input x.clock (charts_of x.services)) (sym same) quiet in
+    let late : now ≡ t.clock = clock_stays now t.clock input.at e q.early in
+    none_due now ts (charts_of t.services) l a (subst (λ (n : ℕ). list_any (λ c. is_due n c.timer) (charts_of t.services) ≡ false) (sym late) q.rest)

@@ -1,5 +1,5 @@
 -- The timers that a tree keeps beside its services, so that it finds the due ones without looking at each service.
-use Rattle.std.specs.Prelude.{◌≡◌, ℕ, List, [], ◌∷◌, ◌++◌, map, flat_map, All, Bool, true, ◌==◌, nat_le, nat_eq, Option, Some, None, if◌then◌else◌}
+use Rattle.std.specs.Prelude.{◌≡◌, ℕ, List, [], ◌∷◌, ◌++◌, flat_map, All, Bool, true, ◌==◌, nat_le, nat_eq, Option, Some, None, if◌then◌else◌}
 use Rattle.std.specs.Option.{option_eq}
 use Rattle.std.specs.List.{list_any}
 use Rattle.s6_events.specs.At.{last_moment}
@@ -9,10 +9,6 @@ use Rattle.deadlines.specs.declared.timer.TimerChange.TheVariants.{Set, Clear}
 use Rattle.deadlines.specs.Timers.{rises}
 use Rattle.supervise_core.specs.declared.chart.ChartState.{ChartState}
 use Rattle.supervise_core.specs.Chart.{is_due}
-
--- the serials of services
-abbrev pub serials_of : List ChartState → List ℕ
-serials_of services = map (λ c. c.sid) services
 
 -- a service has the serial
 abbrev pub has_serial : ℕ → List ChartState → Bool
@@ -34,7 +30,7 @@ set_in sid [] = None
 set_in sid (timer ∷ timers) = if timer.sid == sid then Some timer.at else set_in sid timers
 
 -- timers agree with the services: they stand in rising serial, and each serial has the timer of its service
-pub record Agree (timers : List Timer) (services : List ChartState) : Type 0 where
+pub record TimersAgree (timers : List Timer) (services : List ChartState) : Type 0 where
   pub order : rises timers ≡ true
   pub moments : (sid : ℕ) → set_in sid timers ≡ timer_in sid services
 
