@@ -1,26 +1,29 @@
 -- Words, joined by spaces and cut again.
-use Rattle.std.proofs.Common.{◌≡◌, ℕ, List, [], ◌∷◌, ◌++◌, refl, ap, sym, ◌∙◌, append-nil}
+use Rattle.std.proofs.Common.{◌≡◌, ℕ, List, [], ◌∷◌, ◌++◌, map, refl, ap, sym, ◌∙◌, append-nil}
 use Rattle.std.specs.Prelude.{All, Bool, ◌==◌, true, false, not}
 use Rattle.std.proofs.lemmas.List.Elements.{All-nil, All-cons}
 use Rattle.std.proofs.lemmas.List.Splits.{slice_split_none, slice_split_at}
 use Rattle.std.specs.List.{join_with_byte, flat_map, slice_split, list_all}
 use Rattle.std.proofs.lemmas.Bool.{and_parts}
 use Rattle.tree_core.specs.declared.input.Act.{Act}
-use Rattle.tree_core.specs.declared.input.Act.TheVariants.{Scan, Svc, Started, StartFailed, Notify, Death, FinishEnded, Tick}
+use Rattle.tree_core.specs.declared.input.Act.TheVariants.{Scan, Svc, Started, StartFailed, Notify, Death, FinishEnded, Status, Tick}
+use Rattle.tree_core.specs.declared.input.Entry.{Entry}
+use Rattle.s6_replay.specs.Options.{entry_text}
 use Rattle.s6_replay.specs.Spelling.{act_words}
 
-pub join_names : (word : List ℕ) (names : List (List ℕ)) → join_with_byte 32 (word ∷ names) ≡ word ++ flat_map (λ name. 32 ∷ name) names
-join_names word [] = sym (append-nil word)
-join_names word (name ∷ names) = ap (λ rest. word ++ (32 ∷ rest)) (join_names name names)
+pub join_entries : (word : List ℕ) (entries : List Entry) → join_with_byte 32 (word ∷ map entry_text entries) ≡ word ++ flat_map (λ e. 32 ∷ entry_text e) entries
+join_entries word [] = sym (append-nil word)
+join_entries word (e ∷ entries) = ap (λ rest. word ++ (32 ∷ rest)) (join_entries (entry_text e) entries)
 
 pub join_act : {A : Type 0} (word : List ℕ) (act : Act A) → join_with_byte 32 (word ∷ act_words act) ≡ word ++ (32 ∷ join_with_byte 32 (act_words act))
-join_act word (Scan names) = refl
+join_act word (Scan listing) = refl
 join_act word (Svc name letters) = refl
 join_act word (Started sid generation pid) = refl
 join_act word (StartFailed sid generation) = refl
 join_act word (Notify sid generation bytes) = refl
 join_act word (FinishEnded sid generation exit) = refl
 join_act word (Death sid generation exit) = refl
+join_act word (Status name) = refl
 join_act word Tick = refl
 
 -- the byte is no space
@@ -31,19 +34,24 @@ is_no_space b = not (b == 32)
 abbrev pub has_no_space : List ℕ → Bool
 has_no_space word = list_all is_no_space word
 
-no_space : (b : ℕ) → is_no_space b ≡ true → (b == 32) ≡ false
-no_space b e = elim (b == 32) as (λ v. not v ≡ true → v ≡ false) [ true ↦ λ h. cc | false ↦ λ h. refl ] e
+-- a word has no byte that passes
+abbrev pub lacks : (ℕ → Bool) → List ℕ → Bool
+lacks p word = list_all (λ b. not (p b)) word
 
-no_spaces : (word : List ℕ) → has_no_space word ≡ true → All (λ b. (b == 32) ≡ false) word
-no_spaces [] e = All-nil (λ b. (b == 32) ≡ false)
-no_spaces (b ∷ word) e =
-    let both = and_parts (is_no_space b) (has_no_space word) e in
-    All-cons (λ b. (b == 32) ≡ false) b word (no_space b both.0) (no_spaces word both.1)
+pub lacking : (p : ℕ → Bool) (word : List ℕ) → lacks p word ≡ true → All (λ b. p b ≡ false) word
+lacking p [] e = All-nil (λ b. p b ≡ false)
+lacking p (b ∷ word) e =
+    let both = and_parts (not (p b)) (lacks p word) e in
+    All-cons (λ b. p b ≡ false) b word (by (p b) both.0) (lacking p word both.1)
+  where
+    by : (v : Bool) → not v ≡ true → v ≡ false
+    by true h = cc
+    by false h = refl
 
--- words that were joined by spaces are cut at them again
-pub split_joined : (word : List ℕ) (words : List (List ℕ)) → list_all has_no_space (word ∷ words) ≡ true
-    → slice_split (λ b. b == 32) (join_with_byte 32 (word ∷ words)) ≡ word ∷ words
-split_joined word [] h = slice_split_none (λ b. b == 32) word (no_spaces word (and_parts _ _ h).0)
-split_joined word (next ∷ words) h =
-    slice_split_at (λ b. b == 32) word 32 (join_with_byte 32 (next ∷ words)) (no_spaces word (and_parts _ _ h).0) refl
-    ∙ ap (λ rest. word ∷ rest) (split_joined next words (and_parts _ _ h).1)
+-- words that were joined by a byte are cut at it again
+pub split_joined : (p : ℕ → Bool) (mark : ℕ) → p mark ≡ true → (word : List ℕ) (words : List (List ℕ)) → list_all (lacks p) (word ∷ words) ≡ true
+    → slice_split p (join_with_byte mark (word ∷ words)) ≡ word ∷ words
+split_joined p mark e word [] h = slice_split_none p word (lacking p word (and_parts _ _ h).0)
+split_joined p mark e word (next ∷ words) h =
+    slice_split_at p word mark (join_with_byte mark (next ∷ words)) (lacking p word (and_parts _ _ h).0) e
+    ∙ ap (λ rest. word ∷ rest) (split_joined p mark e next words (and_parts _ _ h).1)

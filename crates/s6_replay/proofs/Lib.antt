@@ -2,6 +2,8 @@ pub mod HeadRead
 pub mod Hexadecimal
 pub mod Joined
 pub mod LineRead
+pub mod Entries
+pub mod Plain
 pub mod Reading
 pub mod Runs
 pub mod Letters

@@ -1,94 +1,55 @@
 -- What is spelled is read.
-use Rattle.std.proofs.Common.{◌≡◌, ℕ, ◌+◌, ◌%◌, ◌^◌, ◌<◌, ◌≤◌, List, [], ◌∷◌, refl, ap, ◌∙◌, arith, drop, filter, map, rules}
-use Rattle.std.specs.Prelude.{Bool, true, false, cond, ◌==◌, decimal, slice_index_or}
+use Rattle.std.proofs.Common.{◌≡◌, ℕ, ◌^◌, ◌<◌, ◌≤◌, List, [], ◌∷◌, refl, ap, ◌∙◌, arith, drop, map, rules}
+use Rattle.std.specs.Prelude.{All, true, ◌==◌, decimal, slice_index_or}
 use Rattle.std.specs.List.{slice_split, list_all}
-use Rattle.std.proofs.lemmas.Bool.{and_parts}
-use Rattle.std.proofs.lemmas.Bool.Decides.{nat_tests}
-use Rattle.std.proofs.lemmas.Fmt.{decimal_by_steps}
-use Rattle.std.proofs.lemmas.List.Folds.{list_all-append}
 use Rattle.s6_events.specs.declared.exit.Exit.{Exit}
 use Rattle.s6_events.specs.declared.exit.Exit.TheVariants.{Code, Killed}
-use Rattle.s6_events.specs.Name.{is_name, is_name_byte}
 use Rattle.tree_core.specs.declared.input.Act.{Act}
-use Rattle.tree_core.specs.declared.input.Act.TheVariants.{Scan, Svc, Started, StartFailed, Notify, Death, FinishEnded, Tick}
+use Rattle.tree_core.specs.declared.input.Act.TheVariants.{Scan, Svc, Started, StartFailed, Notify, Death, FinishEnded, Status, Tick}
 use Rattle.tree_core.specs.declared.input.Input.{Input}
 use Rattle.s6_replay.specs.declared.parse.Verb.{Verb}
 use Rattle.s6_replay.specs.declared.parse.Verb.TheVariants.{Scan as ScanVerb}
+use Rattle.tree_core.specs.declared.input.Entry.{Entry}
+use Rattle.s6_replay.specs.Options.{entry_text, IsEntry}
 use Rattle.s6_replay.specs.Spelling.{IsSpelt, IsExit, IsAct, exit_words, act_words, input_words, spelling}
 use Rattle.s6_replay.specs.Verb.{verb_word, verb_of_act, details}
 use Rattle.svc_commands.specs.ControlLetter.{byte_of}
 use Rattle.svc_commands.specs.declared.control_letter.ControlLetter.{ControlLetter}
 use Rattle.s6_replay.proofs.Hexadecimal.{hex_plain}
 use Rattle.s6_replay.proofs.Joined.{is_no_space, has_no_space, split_joined}
+use Rattle.s6_replay.proofs.Plain.{digits_plain, name_plain, no_space_in}
+use Rattle.s6_replay.proofs.Entries.{entries_no_space}
 
--- where all pass, none is filtered out
-filter_all : {X : Type 0} (p : X → Bool) (xs : List X) → list_all p xs ≡ true → filter p xs ≡ xs
-filter_all p [] e = refl
-filter_all p (x ∷ xs) e =
-    let both = and_parts (p x) (list_all p xs) e in
-    rw both.0 (ap (λ rest. x ∷ rest) (filter_all p xs both.1))
-
--- what was filtered passes
-pub all_filtered : {X : Type 0} (p : X → Bool) (xs : List X) → list_all p (filter p xs) ≡ true
-all_filtered p [] = refl
-all_filtered p (x ∷ xs) =
-    elim (p x) as (λ v. p x ≡ v → list_all p (cond v (x ∷ filter p xs) (filter p xs)) ≡ true)
-    [ true ↦ λ e. rw e (all_filtered p xs) | false ↦ λ e. all_filtered p xs ] refl
-
-pub scan_read : {A : Type 0} (texts listing : List (List ℕ)) → listing ≡ filter is_name texts
+pub scan_read : {A : Type 0} (texts : List (List ℕ)) (listing : List Entry) → ((entries : List Entry) → All IsEntry entries → texts ≡ map entry_text entries → listing ≡ entries)
     → (act : Act A) → IsAct act → ScanVerb ≡ verb_of_act act → texts ≡ details act → Scan listing ≡ act
-scan_read texts listing e (Scan names) h v d = ap Scan (e ∙ ap (filter is_name) d ∙ filter_all is_name names h)
-scan_read texts listing e (Svc name letters) h v d = cc
-scan_read texts listing e (Started sid generation pid) h v d = cc
-scan_read texts listing e (StartFailed sid generation) h v d = cc
-scan_read texts listing e (Notify sid generation bytes) h v d = cc
-scan_read texts listing e (FinishEnded sid generation exit) h v d = cc
-scan_read texts listing e (Death sid generation exit) h v d = cc
-scan_read texts listing e Tick h v d = cc
+scan_read texts listing reads (Scan entries) h v d = ap Scan (reads entries h d)
+scan_read texts listing reads (Svc name letters) h v d = cc
+scan_read texts listing reads (Started sid generation pid) h v d = cc
+scan_read texts listing reads (StartFailed sid generation) h v d = cc
+scan_read texts listing reads (Notify sid generation bytes) h v d = cc
+scan_read texts listing reads (FinishEnded sid generation exit) h v d = cc
+scan_read texts listing reads (Death sid generation exit) h v d = cc
+scan_read texts listing reads (Status name) h v d = cc
+scan_read texts listing reads Tick h v d = cc
 
 act_begins : {A : Type 0} (act : Act A) → act_words act ≡ verb_word (verb_of_act act) ∷ details act
-act_begins (Scan names) = refl
+act_begins (Scan listing) = refl
 act_begins (Svc name letters) = refl
 act_begins (Started sid generation pid) = refl
 act_begins (StartFailed sid generation) = refl
 act_begins (Notify sid generation bytes) = refl
 act_begins (FinishEnded sid generation exit) = refl
 act_begins (Death sid generation exit) = refl
+act_begins (Status name) = refl
 act_begins Tick = refl
 
 -- decimal digits are no spaces
-digits_plain : (n : ℕ) → n < 2 ^ 64 → has_no_space (decimal n) ≡ true
-digits_plain n small =
-    decimal_by_steps (λ n ds. has_no_space ds ≡ true)
-    (λ n h. digit n h)
-    (λ n ds h so_far. list_all-append is_no_space ds ((48 + n % 10) ∷ []) ∙ grind (arith, so_far, digit (n % 10) (omega arith)))
-    n small
-  where
-    digit : (n : ℕ) → n < 10 → has_no_space ((48 + n) ∷ []) ≡ true
-    digit n h = grind (arith, nat_tests)
-
-name_byte_plain : (b : ℕ) → is_name_byte b ≡ true → is_no_space b ≡ true
-name_byte_plain b h = grind (arith, nat_tests)
-
-bytes_plain : (text : List ℕ) → list_all is_name_byte text ≡ true → has_no_space text ≡ true
-bytes_plain [] h = refl
-bytes_plain (b ∷ text) h =
-    let both = and_parts (is_name_byte b) (list_all is_name_byte text) h in
-    rw (name_byte_plain b both.0) (bytes_plain text both.1)
-
-name_plain : (name : List ℕ) → is_name name ≡ true → has_no_space name ≡ true
-unfolding is_name
-name_plain name h = bytes_plain name (and_parts _ _ h).1
-
-names_plain : (names : List (List ℕ)) → list_all is_name names ≡ true → list_all has_no_space names ≡ true
-names_plain [] h = refl
-names_plain (name ∷ names) h =
-    let both = and_parts (is_name name) (list_all is_name names) h in
-    rw (name_plain name both.0) (names_plain names both.1)
+digits_no_space : (n : ℕ) → n < 2 ^ 64 → has_no_space (decimal n) ≡ true
+digits_no_space n small = no_space_in (decimal n) (digits_plain n small)
 
 exit_plain : (e : Exit) → IsExit e → list_all has_no_space (exit_words e) ≡ true
-exit_plain (Code n) h = rw (digits_plain n (omega arith)) refl
-exit_plain (Killed n) h = rw (digits_plain n (omega arith)) refl
+exit_plain (Code n) h = rw (digits_no_space n (omega arith)) refl
+exit_plain (Killed n) h = rw (digits_no_space n (omega arith)) refl
 
 letter_plain : (l : ControlLetter) → is_no_space (byte_of l) ≡ true
 letter_plain l = search rules
@@ -98,14 +59,15 @@ letters_plain [] = refl
 letters_plain (l ∷ ls) = rw (letter_plain l) (letters_plain ls)
 
 act_plain : {A : Type 0} (act : Act A) → IsAct act → list_all has_no_space (act_words act) ≡ true
-act_plain (Scan names) h = names_plain names h
-act_plain (Svc name letters) h = rw (name_plain name h.0, letters_plain letters.items) refl
+act_plain (Scan listing) h = entries_no_space listing h
+act_plain (Svc name letters) h = rw (no_space_in name (name_plain name h.0), letters_plain letters.items) refl
 act_plain (Started sid generation pid) h =
-    rw (digits_plain sid h.0, digits_plain generation h.1, digits_plain pid (omega arith)) refl
-act_plain (StartFailed sid generation) h = rw (digits_plain sid h.0, digits_plain generation h.1) refl
-act_plain (Notify sid generation bytes) h = rw (digits_plain sid h.0, digits_plain generation h.1, hex_plain bytes.items) refl
-act_plain (FinishEnded sid generation exit) h = rw (digits_plain sid h.0, digits_plain generation h.1) (exit_plain exit h.2)
-act_plain (Death sid generation exit) h = rw (digits_plain sid h.0, digits_plain generation h.1) (exit_plain exit h.2)
+    rw (digits_no_space sid h.0, digits_no_space generation h.1, digits_no_space pid (omega arith)) refl
+act_plain (StartFailed sid generation) h = rw (digits_no_space sid h.0, digits_no_space generation h.1) refl
+act_plain (Notify sid generation bytes) h = rw (digits_no_space sid h.0, digits_no_space generation h.1, hex_plain bytes.items) refl
+act_plain (FinishEnded sid generation exit) h = rw (digits_no_space sid h.0, digits_no_space generation h.1) (exit_plain exit h.2)
+act_plain (Death sid generation exit) h = rw (digits_no_space sid h.0, digits_no_space generation h.1) (exit_plain exit h.2)
+act_plain (Status name) h = rw (no_space_in name (name_plain name h)) refl
 act_plain Tick h = refl
 
 -- a spelling has the words of its input
@@ -113,8 +75,8 @@ pub words_back : {A : Type 0} (i : Input A) → IsSpelt i → slice_split (λ b.
 words_back i s =
     let at : i.at < 2 ^ 64 = omega (arith, s.at) in
     let actor : i.actor < 2 ^ 64 = omega (arith, s.actor) in
-    split_joined (decimal i.at) (decimal i.actor ∷ act_words i.act)
-    (rw (digits_plain i.at at, digits_plain i.actor actor) (act_plain i.act s.act))
+    split_joined (λ b. b == 32) 32 refl (decimal i.at) (decimal i.actor ∷ act_words i.act)
+    (rw (digits_no_space i.at at, digits_no_space i.actor actor) (act_plain i.act s.act))
 
 -- the parts of an input are read, each from its word
 pub input_read : {A : Type 0} (at actor : ℕ) (verb : Verb) (act : Act A) (w0 w1 w2 : List ℕ) (rest texts : List (List ℕ))

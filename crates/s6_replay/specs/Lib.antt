@@ -1,3 +1,4 @@
+pub mod Options
 pub mod Spelling
 pub mod Verb
 pub mod Transcript

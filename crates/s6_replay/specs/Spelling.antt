@@ -1,6 +1,6 @@
 -- How an input is spelled.
-use Rattle.std.specs.Prelude.{◌≡◌, ℕ, ◌^◌, ◌<◌, ◌≤◌, List, [], ◌∷◌, codes, decimal, IsTrue, map, length}
-use Rattle.std.specs.List.{join_with_byte, list_all}
+use Rattle.std.specs.Prelude.{◌≡◌, ℕ, ◌^◌, ◌<◌, ◌≤◌, List, [], ◌∷◌, codes, decimal, IsTrue, All, map, length}
+use Rattle.std.specs.List.{join_with_byte}
 use Rattle.hex.specs.Hex.{encode_lower, IsBytes}
 use Rattle.s6_events.specs.declared.exit.Exit.{Exit}
 use Rattle.s6_events.specs.declared.exit.Exit.TheVariants.{Code, Killed}
@@ -8,8 +8,9 @@ use Rattle.s6_events.specs.At.{last_moment}
 use Rattle.s6_events.specs.Name.{is_name}
 use Rattle.svc_commands.specs.ControlLetter.{byte_of}
 use Rattle.tree_core.specs.declared.input.Act.{Act}
-use Rattle.tree_core.specs.declared.input.Act.TheVariants.{Scan, Svc, Started, StartFailed, Notify, Death, FinishEnded, Tick}
+use Rattle.tree_core.specs.declared.input.Act.TheVariants.{Scan, Svc, Started, StartFailed, Notify, Death, FinishEnded, Status, Tick}
 use Rattle.tree_core.specs.declared.input.Input.{Input}
+use Rattle.s6_replay.specs.Options.{entry_text, IsEntry}
 
 -- the words of an exit
 abbrev pub exit_words : Exit → List (List ℕ)
@@ -18,13 +19,14 @@ exit_words (Killed n) = codes "signal" ∷ decimal n ∷ []
 
 -- the words of an act
 abbrev pub act_words : {A : Type 0} → Act A → List (List ℕ)
-act_words (Scan names) = codes "scan" ∷ names
+act_words (Scan listing) = codes "scan" ∷ map entry_text listing
 act_words (Svc name letters) = codes "svc" ∷ name ∷ map byte_of letters.items ∷ []
 act_words (Started sid generation pid) = codes "started" ∷ decimal sid ∷ decimal generation ∷ decimal pid ∷ []
 act_words (StartFailed sid generation) = codes "startfailed" ∷ decimal sid ∷ decimal generation ∷ []
 act_words (Notify sid generation bytes) = codes "notify" ∷ decimal sid ∷ decimal generation ∷ encode_lower bytes.items ∷ []
 act_words (Death sid generation exit) = codes "death" ∷ decimal sid ∷ decimal generation ∷ exit_words exit
 act_words (FinishEnded sid generation exit) = codes "finished" ∷ decimal sid ∷ decimal generation ∷ exit_words exit
+act_words (Status name) = codes "status" ∷ name ∷ []
 act_words Tick = codes "tick" ∷ []
 
 -- the words of an input: its moment, its actor, its act
@@ -40,9 +42,9 @@ abbrev pub IsExit : Exit → Type 0
 IsExit (Code n) = n ≤ 255
 IsExit (Killed n) = n ≤ 64
 
--- names are names, letters are 1 to 63, bytes are 1 to 64, serials and generations have 64 bits, a process number is positive and has 31 bits
+-- entries are entries, a name is a name, letters are 1 to 63, bytes are 1 to 64, serials and generations have 64 bits, a process number is positive and has 31 bits
 abbrev pub IsAct : {A : Type 0} → Act A → Type 0
-IsAct (Scan names) = IsTrue (list_all is_name names)
+IsAct (Scan listing) = All IsEntry listing
 IsAct (Svc name letters) = IsTrue (is_name name) × (1 ≤ length letters.items) × (length letters.items ≤ 63)
 IsAct (Started sid generation pid) = (sid < 2 ^ 64) × (generation < 2 ^ 64) × (1 ≤ pid) × (pid ≤ 2147483647)
 IsAct (StartFailed sid generation) = (sid < 2 ^ 64) × (generation < 2 ^ 64)
@@ -50,6 +52,7 @@ IsAct (Notify sid generation bytes) =
     (sid < 2 ^ 64) × (generation < 2 ^ 64) × (1 ≤ length bytes.items) × (length bytes.items ≤ 64) × IsBytes bytes.items
 IsAct (Death sid generation exit) = (sid < 2 ^ 64) × (generation < 2 ^ 64) × IsExit exit
 IsAct (FinishEnded sid generation exit) = (sid < 2 ^ 64) × (generation < 2 ^ 64) × IsExit exit
+IsAct (Status name) = IsTrue (is_name name)
 IsAct Tick = Unit {0}
 
 -- the input has a spelling

@@ -1,9 +1,12 @@
 -- What is printed for a step.
-use Rattle.std.specs.Prelude.{ℕ, ◌+◌, List, [], ◌∷◌, ◌++◌, codes, decimal, None, Some}
+use Rattle.std.specs.Prelude.{ℕ, ◌+◌, List, [], ◌∷◌, ◌++◌, codes, decimal, Bool, true, false, Option, None, Some}
 use Rattle.std.specs.List.{flat_map}
 use Rattle.s6_events.specs.Mark.{letter_of}
 use Rattle.s6_events.specs.declared.order.Order.{Order}
 use Rattle.s6_events.specs.declared.order.Order.TheVariants.{Run, Finish, Signal, KillFinish}
+use Rattle.s6_events.specs.declared.exit.Exit.{Exit}
+use Rattle.s6_events.specs.declared.exit.Exit.TheVariants.{Code, Killed}
+use Rattle.supervise_core.specs.declared.row.Row.{Row}
 use Rattle.tree_core.specs.declared.effect.Event.{Event}
 use Rattle.tree_core.specs.declared.effect.Match.{Match}
 use Rattle.tree_core.specs.declared.effect.Release.{Release}
@@ -14,7 +17,7 @@ use Rattle.tree_core.specs.declared.reply.Listed.TheVariants.{Added, Full}
 use Rattle.tree_core.specs.declared.reply.Refusal.{Refusal}
 use Rattle.tree_core.specs.declared.reply.Refusal.TheVariants.{NoService, Stale, Reserved, TooMany, NoSuch, Closing, Repeated, Empty, Exists, Ended, Spent}
 use Rattle.tree_core.specs.declared.reply.Reply.{Reply}
-use Rattle.tree_core.specs.declared.reply.Reply.TheVariants.{Done, Refused, Scanned}
+use Rattle.tree_core.specs.declared.reply.Reply.TheVariants.{Done, Refused, Scanned, Row as RowReply}
 use Rattle.tree_core.specs.declared.verdict.Verdict.{Verdict}
 use Rattle.tree_core.specs.declared.verdict.Verdict.TheVariants.{Held, Failed, Gone, TimedOut}
 use Rattle.tree_core.specs.Machine.{Outcome}
@@ -42,10 +45,45 @@ abbrev pub listed_text : Listed → List ℕ
 listed_text (Added sid name) = (codes " +" ++ (decimal sid ++ (58 ∷ []))) ++ name
 listed_text (Full name) = codes " full:" ++ name
 
+-- a truth value
+abbrev pub truth_text : Bool → List ℕ
+truth_text true = codes "true"
+truth_text false = codes "false"
+
+-- a number, or -1 where it is absent
+abbrev pub number_text : Option ℕ → List ℕ
+number_text None = codes "-1"
+number_text (Some n) = decimal n
+
+-- the exit code, where there is one
+abbrev pub exit_code : Option Exit → Option ℕ
+exit_code (Some (Code n)) = Some n
+exit_code _ = None
+
+-- the number of the signal that killed it, where there is one
+abbrev pub signal_number : Option Exit → Option ℕ
+signal_number (Some (Killed n)) = Some n
+signal_number _ = None
+
+-- a field behind a space
+abbrev pub truth_field : Bool → List ℕ
+truth_field truth = 32 ∷ truth_text truth
+
+abbrev pub number_field : Option ℕ → List ℕ
+number_field number = 32 ∷ number_text number
+
+-- a row: its serial, its name, and its ten fields
+abbrev pub row_text : Row → List ℕ
+row_text r =
+    (codes "row " ++ (decimal r.sid ++ (32 ∷ []))) ++ r.name
+    ++ (truth_field r.up ++ truth_field r.wanted_up ++ truth_field r.normally_up ++ truth_field r.ready ++ truth_field r.paused)
+    ++ (number_field r.pid ++ number_field (exit_code r.exit) ++ number_field (signal_number r.exit) ++ number_field r.up_down_for ++ number_field r.ready_for)
+
 -- a reply
 abbrev pub reply_text : {A : Type 0} → Reply A → List ℕ
 reply_text Done = codes "done"
 reply_text (Refused why) = codes "refused " ++ reason why
+reply_text (RowReply row) = row_text row
 reply_text (Scanned s) = codes "scanned" ++ flat_map dropped_text s.dropped ++ flat_map listed_text s.listed
 
 -- the line of an event

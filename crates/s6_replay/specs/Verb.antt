@@ -3,9 +3,10 @@ use Rattle.std.specs.Prelude.{ℕ, List, [], ◌∷◌, codes, decimal, map}
 use Rattle.hex.specs.Hex.{encode_lower}
 use Rattle.svc_commands.specs.ControlLetter.{byte_of}
 use Rattle.tree_core.specs.declared.input.Act.{Act}
-use Rattle.tree_core.specs.declared.input.Act.TheVariants.{Scan, Svc, Started, StartFailed, Notify, Death, FinishEnded, Tick}
+use Rattle.tree_core.specs.declared.input.Act.TheVariants.{Scan, Svc, Started, StartFailed, Notify, Death, FinishEnded, Status, Tick}
 use Rattle.s6_replay.specs.declared.parse.Verb.{Verb}
-use Rattle.s6_replay.specs.declared.parse.Verb.TheVariants.{Scan as ScanVerb, Svc as SvcVerb, Started as StartedVerb, StartFailed as StartFailedVerb, Notify as NotifyVerb, Death as DeathVerb, Finished as FinishedVerb, Tick as TickVerb}
+use Rattle.s6_replay.specs.declared.parse.Verb.TheVariants.{Scan as ScanVerb, Svc as SvcVerb, Started as StartedVerb, StartFailed as StartFailedVerb, Notify as NotifyVerb, Death as DeathVerb, Finished as FinishedVerb, Status as StatusVerb, Tick as TickVerb}
+use Rattle.s6_replay.specs.Options.{entry_text}
 use Rattle.s6_replay.specs.Spelling.{exit_words}
 
 -- the word of a verb
@@ -17,26 +18,29 @@ verb_word StartFailedVerb = codes "startfailed"
 verb_word NotifyVerb = codes "notify"
 verb_word DeathVerb = codes "death"
 verb_word FinishedVerb = codes "finished"
+verb_word StatusVerb = codes "status"
 verb_word TickVerb = codes "tick"
 
 -- the verb of an act
 abbrev pub verb_of_act : {A : Type 0} → Act A → Verb
-verb_of_act (Scan names) = ScanVerb
+verb_of_act (Scan listing) = ScanVerb
 verb_of_act (Svc name letters) = SvcVerb
 verb_of_act (Started sid generation pid) = StartedVerb
 verb_of_act (StartFailed sid generation) = StartFailedVerb
 verb_of_act (Notify sid generation bytes) = NotifyVerb
 verb_of_act (Death sid generation exit) = DeathVerb
 verb_of_act (FinishEnded sid generation exit) = FinishedVerb
+verb_of_act (Status name) = StatusVerb
 verb_of_act Tick = TickVerb
 
 -- the words of an act behind its verb
 abbrev pub details : {A : Type 0} → Act A → List (List ℕ)
-details (Scan names) = names
+details (Scan listing) = map entry_text listing
 details (Svc name letters) = name ∷ map byte_of letters.items ∷ []
 details (Started sid generation pid) = decimal sid ∷ decimal generation ∷ decimal pid ∷ []
 details (StartFailed sid generation) = decimal sid ∷ decimal generation ∷ []
 details (Notify sid generation bytes) = decimal sid ∷ decimal generation ∷ encode_lower bytes.items ∷ []
 details (Death sid generation exit) = decimal sid ∷ decimal generation ∷ exit_words exit
 details (FinishEnded sid generation exit) = decimal sid ∷ decimal generation ∷ exit_words exit
+details (Status name) = name ∷ []
 details Tick = []

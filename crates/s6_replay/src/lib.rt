@@ -7,14 +7,17 @@ mod counts;
 mod fault;
 mod line;
 mod lists;
+mod options;
 mod parse;
 mod replay;
 mod replies;
+mod setting;
 mod spelling;
 #[cfg(test)]
 mod tests;
 mod turn;
 mod whole;
+mod words;
 
 pub use block::{WriteFault, write_effect};
 pub use counts::Counts;

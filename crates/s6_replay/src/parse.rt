@@ -1,19 +1,18 @@
 //! Reading an input line. A line is first read as the input that it comes closest to; that input is spelled again, and only
 //! where this gives the line it is answered. So each form that is no input of the page is refused with no case of its own.
-ghost use Rattle.std.specs.Prelude.{◌≡◌, ◌≢◌, ℕ, ◌≤◌, ◌<◌, ◌∷◌, ◌++◌, [], List, Bool, Err, IfOk, decimal, map, filter, bytes_eq, drop, slice_index_or, ◌==◌, length, true};
-ghost use Rattle.std.specs.List.{slice_split};
+ghost use Rattle.std.specs.Prelude.{◌≡◌, ◌≢◌, ℕ, ◌≤◌, ◌<◌, ◌∷◌, ◌++◌, [], List, Bool, Err, IfOk, decimal, map, ◌==◌, length};
 ghost use Rattle.hex.specs.Hex.{IsBytes, encode_lower};
-ghost use Rattle.s6_events.specs.Name.{is_name};
 ghost use Rattle.s6_replay.specs.Spelling.{IsSpelt, IsExit, IsAct, Spells, exit_words, input_words};
 ghost use Rattle.svc_commands.specs.ControlLetter.{byte_of};
 ghost use Rattle.svc_commands.specs.declared.control_letter.ControlLetter.{ControlLetter};
 ghost use Rattle.s6_replay.specs.Verb.{verb_word, verb_of_act, details};
 
+use super::options::entries_of;
 use super::spelling::spell;
+use super::words::{is_word, name_of, number, word_at, words_from, words_of};
 use arrayvec::ArrayVec;
-use s6_events::{Actor, At, Exit, Name, Sid};
+use s6_events::{Actor, At, Exit, Sid};
 use std::alloc::{AllocError, Allocator};
-use std::str;
 use svc_commands::{ControlLetter, Letters};
 use thiserror::Error;
 use tree_core::{Act, Input, Listing};
@@ -42,68 +41,8 @@ pub enum Verb {
     Notify,
     Death,
     Finished,
+    Status,
     Tick,
-}
-
-// The words of a line, between its spaces.
-fn words_of<A: Allocator + Copy>(alloc: A, line: &[u8]) -> Result<Vec<&[u8], A>, AllocError>
-    ensures { IfOk result (λ words. map (λ w. w.now) words.items ≡ slice_split (λ b. b == 32) line.now) }
-{
-    line.split(|b| *b == b' ').collect(alloc)
-}
-
-// The word at this place, or no byte where there is none.
-fn word_at<'a>(words: &[&'a [u8]], place: usize) -> &'a [u8]
-    ensures { result.now ≡ slice_index_or (map (λ w. w.now) words.now) place [] }
-{
-    match words.get(place) {
-        Some(word) => word,
-        None => &[],
-    }
-}
-
-// The words from this place on.
-fn words_from<'a, 'b>(words: &'b [&'a [u8]], place: usize) -> &'b [&'a [u8]]
-    ensures { map (λ w. w.now) result.now ≡ drop place (map (λ w. w.now) words.now) }
-{
-    if place <= words.len() {
-        &words[place..]
-    } else {
-        &[]
-    }
-}
-
-// The number that a word spells, or another one where it spells none.
-fn number(word: &[u8], most: u64) -> u64
-    ensures spelled { (n : ℕ) → n ≤ most → word.now ≡ decimal n → result ≡ n }
-    ensures fits { result ≤ most }
-{
-    let Ok(text) = str::from_utf8(word) else {
-        return 0;
-    };
-    match text.parse::<u64>() {
-        Ok(n) => n.min(most),
-        Err(_) => 0,
-    }
-}
-
-// The words that are names.
-fn names_of<A: Allocator + Copy>(alloc: A, words: &[&[u8]]) -> Result<Vec<Name, A>, AllocError>
-    ensures { IfOk result (λ names. names.items ≡ filter is_name (map (λ w. w.now) words.now)) }
-{
-    let mut names = Vec::new(alloc);
-    for word in words {
-        if let Some(name) = Name::new(word) {
-            names.push(name)?;
-        }
-    }
-    Ok(names)
-}
-
-fn is_word(word: &[u8], text: &[u8]) -> bool
-    ensures { result ≡ bytes_eq word.now text.now }
-{
-    word == text
 }
 
 // The exit that two words spell, or another one.
@@ -136,6 +75,8 @@ fn verb_of(word: &[u8]) -> Verb
         Verb::Death
     } else if is_word(word, b"finished") {
         Verb::Finished
+    } else if is_word(word, b"status") {
+        Verb::Status
     } else {
         Verb::Tick
     }
@@ -148,14 +89,6 @@ fn process_of(word: &[u8]) -> u32
     ensures high { result ≤ 2147483647 }
 {
     number(word, 2_147_483_647).max(1) as u32
-}
-
-// The name that a word is, or another one.
-fn name_of(word: &[u8]) -> Name
-    ensures spelled { is_name word.now ≡ true → result ≡ word.now }
-    ensures fits { is_name result ≡ true }
-{
-    Name::new(word).unwrap_or_default()
 }
 
 // Adds the letter that is written as this byte, where there is one and it has room.
@@ -217,21 +150,20 @@ fn act_of<A: Allocator + Copy>(alloc: A, verb: Verb, words: &[&[u8]]) -> Result<
         → map (λ w. w.now) words.now ≡ details act → found ≡ act) }
     ensures fits { IfOk result IsAct }
 {
+    let name = name_of(word_at(words, 0));
     let sid = Sid(number(word_at(words, 0), u64::MAX));
     let generation = number(word_at(words, 1), u64::MAX);
     let third = word_at(words, 2);
     let exit = exit_of(third, word_at(words, 3));
     match verb {
-        Verb::Scan => Ok(Act::Scan(Listing::new(names_of(alloc, words)?))),
-        Verb::Svc => {
-            let name = name_of(word_at(words, 0));
-            Ok(Act::Svc(name, letters_of(word_at(words, 1))))
-        }
+        Verb::Scan => Ok(Act::Scan(Listing::new(entries_of(alloc, words)?))),
+        Verb::Svc => Ok(Act::Svc(name, letters_of(word_at(words, 1)))),
         Verb::Started => Ok(Act::Started(sid, generation, process_of(third))),
         Verb::StartFailed => Ok(Act::StartFailed(sid, generation)),
         Verb::Notify => Ok(Act::Notify(sid, generation, bytes_of(third))),
         Verb::Death => Ok(Act::Death(sid, generation, exit)),
         Verb::Finished => Ok(Act::FinishEnded(sid, generation, exit)),
+        Verb::Status => Ok(Act::Status(name)),
         Verb::Tick => Ok(Act::Tick),
     }
 }

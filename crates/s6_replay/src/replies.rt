@@ -1,10 +1,11 @@
 //! The text of a reply.
-ghost use Rattle.std.specs.Prelude.{◌≡◌, ◌++◌, OnOk};
+ghost use Rattle.std.specs.Prelude.{◌≡◌, ◌++◌, string_bytes, IfOk, OnOk};
 ghost use Rattle.std.specs.List.{flat_map};
-ghost use Rattle.s6_replay.specs.Transcript.{reason, dropped_text, listed_text, reply_text};
+ghost use Rattle.s6_replay.specs.Transcript.{reason, dropped_text, listed_text, truth_text, truth_field, number_field, exit_code, signal_number, row_text, reply_text};
 
-use s6_events::Sid;
+use s6_events::{Exit, Sid};
 use std::alloc::{AllocError, Allocator};
+use supervise_core::Row;
 use tree_core::{Listed, Refusal, Reply};
 
 fn reason_text(refusal: Refusal) -> &'static str
@@ -85,6 +86,109 @@ fn push_all_listed<A: Allocator + Copy>(
     Ok(())
 }
 
+fn truth_bytes(truth: bool) -> &'static str
+    ensures { result.now ≡ truth_text truth }
+{
+    if truth { "true" } else { "false" }
+}
+
+// Adds a truth value behind a space.
+fn push_truth<A: Allocator + Copy>(text: &mut Vec<u8, A>, truth: bool) -> Result<(), AllocError>
+    ensures { OnOk result (text.new.items ≡ text.old.items ++ truth_field truth) }
+{
+    text.push(b' ')?;
+    text.extend_from_slice(truth_bytes(truth).as_bytes())
+}
+
+fn number_of<A: Allocator + Copy>(alloc: A, number: Option<u64>) -> Result<String<A>, AllocError>
+    ensures { IfOk result (λ text. string_bytes text ≡ number_field number) }
+{
+    match number {
+        None => format!(in alloc; " -1"),
+        Some(number) => format!(in alloc; " {number}"),
+    }
+}
+
+// Adds a number behind a space, -1 where it is absent.
+fn push_number<A: Allocator + Copy>(
+    alloc: A,
+    text: &mut Vec<u8, A>,
+    number: Option<u64>,
+) -> Result<(), AllocError>
+    ensures { OnOk result (text.new.items ≡ text.old.items ++ number_field number) }
+{
+    let part = number_of(alloc, number)?;
+    text.extend_from_slice(part.as_bytes())
+}
+
+fn code_of(exit: Option<Exit>) -> Option<u64>
+    ensures { result ≡ exit_code exit }
+{
+    match exit {
+        Some(Exit::Code(code)) => Some(code as u64),
+        _ => None,
+    }
+}
+
+fn signal_of(exit: Option<Exit>) -> Option<u64>
+    ensures { result ≡ signal_number exit }
+{
+    match exit {
+        Some(Exit::Killed(signal)) => Some(signal as u64),
+        _ => None,
+    }
+}
+
+fn pid_of(pid: Option<u32>) -> Option<u64>
+    ensures { result ≡ pid }
+{
+    pid.map(|pid| pid as u64)
+}
+
+// Adds the fields of a row that are true or false.
+fn push_truths<A: Allocator + Copy>(text: &mut Vec<u8, A>, row: &Row) -> Result<(), AllocError>
+    ensures { OnOk result (text.new.items ≡ text.old.items
+        ++ (truth_field row.now.up ++ truth_field row.now.wanted_up ++ truth_field row.now.normally_up ++ truth_field row.now.ready ++ truth_field row.now.paused)) }
+{
+    push_truth(text, row.up)?;
+    push_truth(text, row.wanted_up)?;
+    push_truth(text, row.normally_up)?;
+    push_truth(text, row.ready)?;
+    push_truth(text, row.paused)
+}
+
+// Adds the fields of a row that are numbers.
+fn push_numbers<A: Allocator + Copy>(
+    alloc: A,
+    text: &mut Vec<u8, A>,
+    row: &Row,
+) -> Result<(), AllocError>
+    ensures { OnOk result (text.new.items ≡ text.old.items
+        ++ (number_field row.now.pid ++ number_field (exit_code row.now.exit) ++ number_field (signal_number row.now.exit) ++ number_field row.now.up_down_for ++ number_field row.now.ready_for)) }
+{
+    push_number(alloc, text, pid_of(row.pid))?;
+    push_number(alloc, text, code_of(row.exit))?;
+    push_number(alloc, text, signal_of(row.exit))?;
+    push_number(alloc, text, row.up_down_for)?;
+    push_number(alloc, text, row.ready_for)
+}
+
+// Adds a row: its serial, its name, and its ten fields.
+fn push_row<A: Allocator + Copy>(
+    alloc: A,
+    text: &mut Vec<u8, A>,
+    row: &Row,
+) -> Result<(), AllocError>
+    ensures { OnOk result (text.new.items ≡ text.old.items ++ row_text row.now) }
+{
+    let sid = row.sid.0;
+    let head = format!(in alloc; "row {sid} ")?;
+    text.extend_from_slice(head.as_bytes())?;
+    text.extend_from_slice(row.name.as_bytes())?;
+    push_truths(text, row)?;
+    push_numbers(alloc, text, row)
+}
+
 // Adds the text of the reply.
 pub fn push_reply<A: Allocator + Copy>(
     alloc: A,
@@ -99,6 +203,7 @@ pub fn push_reply<A: Allocator + Copy>(
             text.extend_from_slice(b"refused ")?;
             text.extend_from_slice(reason_text(*refusal).as_bytes())?;
         }
+        Reply::Row(row) => push_row(alloc, text, row)?,
         Reply::Scanned(report) => {
             text.extend_from_slice(b"scanned")?;
             push_all_dropped(alloc, text, report.dropped())?;

@@ -1,24 +1,14 @@
 //! The spelling of an input.
-ghost use Rattle.std.specs.Prelude.{◌≡◌, ◌++◌, ◌∷◌, map, string_bytes, IfOk, OnOk};
-ghost use Rattle.std.specs.List.{join_with_byte, flat_map};
+ghost use Rattle.std.specs.Prelude.{◌≡◌, ◌++◌, map, string_bytes, IfOk, OnOk};
+ghost use Rattle.std.specs.List.{join_with_byte};
 ghost use Rattle.svc_commands.specs.ControlLetter.{byte_of};
 ghost use Rattle.s6_replay.specs.Spelling.{exit_words, act_words, spelling};
 
-use s6_events::{Exit, Name};
+use super::options::push_entries;
+use s6_events::Exit;
 use std::alloc::{AllocError, Allocator};
 use svc_commands::ControlLetter;
 use tree_core::{Act, Input};
-
-// Adds each name's bytes behind a space.
-fn push_names<A: Allocator + Copy>(text: &mut Vec<u8, A>, names: &[Name]) -> Result<(), AllocError>
-    ensures { OnOk result (text.new.items ≡ text.old.items ++ flat_map (λ name. 32 ∷ name) names.now) }
-{
-    for name in names {
-        text.push(b' ')?;
-        text.extend_from_slice(name.as_bytes())?;
-    }
-    Ok(())
-}
 
 // Adds the byte of each letter.
 fn push_letters<A: Allocator + Copy>(
@@ -42,14 +32,14 @@ fn exit_text<A: Allocator + Copy>(alloc: A, exit: Exit) -> Result<String<A>, All
     }
 }
 
-#[tactic(auto, using(crate::proofs::Joined::join_names))]
+#[tactic(auto, using(crate::proofs::Joined::join_entries))]
 fn act_text<A: Allocator + Copy>(alloc: A, act: &Act<A>) -> Result<Vec<u8, A>, AllocError>
     ensures { IfOk result (λ text. text.items ≡ join_with_byte 32 (act_words act.now)) }
 {
     match act {
         Act::Scan(listing) => {
             let mut text = b"scan".to_vec(alloc)?;
-            push_names(&mut text, listing.names())?;
+            push_entries(alloc, &mut text, listing.entries())?;
             Ok(text)
         }
         Act::Svc(name, letters) => {
@@ -86,6 +76,11 @@ fn act_text<A: Allocator + Copy>(alloc: A, act: &Act<A>) -> Result<Vec<u8, A>, A
             let exit = exit_text(alloc, *exit)?;
             let text = format!(in alloc; "finished {sid} {generation} {exit}")?;
             Ok(text.into_bytes())
+        }
+        Act::Status(name) => {
+            let mut text = b"status ".to_vec(alloc)?;
+            text.extend_from_slice(name.as_bytes())?;
+            Ok(text)
         }
         Act::Tick => b"tick".to_vec(alloc),
     }

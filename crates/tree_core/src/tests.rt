@@ -1,6 +1,7 @@
 //! The worked rows `restart-after-pause` and `report-of-an-old-life-is-stale`, and what no clause says: that a step succeeds with
 //! ample memory, and that each growth of one may be refused.
 use super::*;
+use arrayvec::ArrayVec;
 use linked_list_allocator::LocalHeap;
 use s6_events::{Actor, At, Exit, Name, NoMemory, Order, Sid};
 use servicedir::Config;
@@ -9,6 +10,7 @@ use std::fmt::Write;
 use std::process::Abort;
 use std::str;
 use std::test::Fail;
+use supervise_core::Row;
 use svc_commands::{ControlLetter, Letters};
 
 // What a step of the rows does, before it has memory of its own.
@@ -18,9 +20,13 @@ enum Deed {
     Scan(&'static [&'static [u8]]),
     /// One name, whether its directory has `down`, and whether it has `finish`.
     Look(&'static [u8], bool, bool),
-    Tell(&'static [u8], ControlLetter),
+    Tell(&'static [u8], &'static [ControlLetter]),
     Started(u64, u64, u32),
+    StartFailed(u64, u64),
+    Notify(u64, u64, &'static [u8]),
     Death(u64, u64, Exit),
+    Finished(u64, u64, Exit),
+    Ask(&'static [u8]),
     Tick,
 }
 
@@ -58,13 +64,21 @@ fn input<A: Allocator + Copy>(alloc: A, at: u64, deed: Deed) -> Result<Input<A>,
             };
             Act::Scan(Listing::new(vec![in alloc; entry(name, config)?]?))
         }
-        Deed::Tell(name, letter) => {
+        Deed::Tell(name, told) => {
             let mut letters = Letters::new();
-            letters.push(letter);
+            letters.try_extend_from_slice(told).ok().ok_or("letters")?;
             Act::Svc(Name::new(name).ok_or("a name")?, letters)
         }
         Deed::Started(sid, generation, pid) => Act::Started(Sid(sid), generation, pid),
+        Deed::StartFailed(sid, generation) => Act::StartFailed(Sid(sid), generation),
+        Deed::Notify(sid, generation, written) => {
+            let mut bytes = ArrayVec::new();
+            bytes.try_extend_from_slice(written).ok().ok_or("bytes")?;
+            Act::Notify(Sid(sid), generation, bytes)
+        }
         Deed::Death(sid, generation, exit) => Act::Death(Sid(sid), generation, exit),
+        Deed::Finished(sid, generation, exit) => Act::FinishEnded(Sid(sid), generation, exit),
+        Deed::Ask(name) => Act::Status(Name::new(name).ok_or("a name")?),
         Deed::Tick => Act::Tick,
     };
     Ok(Input {
@@ -78,11 +92,27 @@ fn name_text(name: &Name) -> &str {
     str::from_utf8(name.as_bytes()).unwrap_or("?")
 }
 
+fn write_row(text: &mut String, row: &Row) -> Result<(), AllocError> {
+    let sid = row.sid.0;
+    let name = name_text(&row.name);
+    write!(
+        text,
+        "row {sid} {name} {} {} {}",
+        row.up, row.wanted_up, row.normally_up
+    )?;
+    write!(
+        text,
+        " {} {} {:?} {:?}",
+        row.ready, row.paused, row.pid, row.exit
+    )?;
+    write!(text, " {:?} {:?}", row.up_down_for, row.ready_for)
+}
+
 fn write_reply<A: Allocator>(text: &mut String, reply: &Reply<A>) -> Result<(), AllocError> {
     match reply {
         Reply::Done => write!(text, "done"),
         Reply::Refused(refusal) => write!(text, "refused {refusal:?}"),
-        Reply::Row(row) => write!(text, "{row:?}"),
+        Reply::Row(row) => write_row(text, row),
         Reply::Scanned(report) => {
             write!(text, "scanned")?;
             for sid in report.dropped() {
@@ -206,35 +236,137 @@ fn applies_at_last<A: Allocator + Copy>(
 }
 
 // The rows on a heap that has so many bytes left until a refusal gives it ample ones; how many refusals there were.
-fn apply_with_little(rt: &impl Abort, alloc: Global, left: usize) -> Result<u32, Fail> {
+fn apply_with_little(
+    rt: &impl Abort,
+    alloc: Global,
+    rows: &[(u64, Deed, &str)],
+    left: usize,
+) -> Result<u32, Fail> {
     let heap = LocalHeap::new(alloc, 65_536)?;
     let mut refused = 0u32;
     let mut tree = Tree::new(&heap);
-    for (at, deed, block) in RESTART {
-        let input = input(&heap, at, deed)?;
+    for (at, deed, block) in rows {
+        let input = input(&heap, *at, *deed)?;
         let free = 65_536usize.saturating_sub(heap.used());
         let filler = Vec::<u8, _>::with_capacity(&heap, free.saturating_sub(left)).ok();
-        if applies_at_last(rt, alloc, &mut tree, input, filler, block)? {
+        if applies_at_last(rt, alloc, &mut tree, input, filler, *block)? {
             refused = refused.saturating_add(1);
         }
     }
     Ok(refused)
 }
 
-#[test]
-fn a_refused_step_hands_its_input_back_and_can_be_taken_again(rt: HostRuntime) -> Result<(), Fail> {
+// The rows with less and less memory: how many refusals there were, and how many runs without one.
+fn refusals_of(
+    rt: &impl Abort,
+    alloc: Global,
+    rows: &[(u64, Deed, &str)],
+) -> Result<(u32, u32), Fail> {
     let mut refusals = 0u32;
     let mut without = 0u32;
     for step in 0..150usize {
-        let refused = apply_with_little(&rt, rt.alloc(), 16 * step)?;
+        let refused = apply_with_little(rt, alloc, rows, 16 * step)?;
         refusals = refusals.saturating_add(refused);
         if refused == 0 {
             without = without.saturating_add(1);
         }
     }
-    assert!(rt; refusals > 50, "{refusals} refusals");
-    assert!(rt; without > 5, "{without} runs with no refusal");
+    Ok((refusals, without))
+}
+
+#[test]
+fn a_refused_step_hands_its_input_back_and_can_be_taken_again(rt: HostRuntime) -> Result<(), Fail> {
+    for rows in [RESTART.as_slice(), ONCE.as_slice(), FAILURE.as_slice()] {
+        let (refusals, without) = refusals_of(&rt, rt.alloc(), rows)?;
+        assert!(&rt; refusals > 50, "{refusals} refusals");
+        assert!(&rt; without > 5, "{without} runs with no refusal");
+    }
     Ok(())
+}
+
+// The worked row `once-letters-and-row-after-death`, and then no service of a name.
+const ONCE: [(u64, Deed, &str); 6] = [
+    (0, Deed::Look(b"web", true, false), "scanned +1:web|e 1 s"),
+    (
+        1,
+        Deed::Tell(b"web", &[ControlLetter::Up, ControlLetter::Once]),
+        "done|o run 1 1",
+    ),
+    (2, Deed::Started(1, 1, 500), "done|e 1 u"),
+    (5000, Deed::Death(1, 1, Exit::Code(0)), "done|e 1 d|e 1 D"),
+    (
+        9000,
+        Deed::Ask(b"web"),
+        "row 1 web false false false true false None Some(Code(0)) Some(4) Some(4)",
+    ),
+    (9000, Deed::Ask(b"other"), "refused NoService"),
+];
+
+// The worked row `finish-of-125-is-permanent-failure` with a readiness report that no descriptor is there for, and a failed start.
+const FAILURE: [(u64, Deed, &str); 8] = [
+    (
+        0,
+        Deed::Look(b"web", false, true),
+        "scanned +1:web|e 1 s|o run 1 1",
+    ),
+    (0, Deed::Started(1, 1, 500), "done|e 1 u"),
+    (5, Deed::Notify(1, 1, b"a\n"), "done"),
+    (
+        10,
+        Deed::Death(1, 1, Exit::Killed(9)),
+        "done|e 1 d|o finish 1 1 256 9",
+    ),
+    (
+        20,
+        Deed::Finished(1, 1, Exit::Code(125)),
+        "done|e 1 O|e 1 D",
+    ),
+    (
+        30,
+        Deed::Tell(b"web", &[ControlLetter::Up]),
+        "done|o run 1 2",
+    ),
+    (40, Deed::StartFailed(1, 2), "done"),
+    (60040, Deed::Tick, "done|o run 1 3"),
+];
+
+// The tree after the rows shows these rows, and this one for its service.
+fn shows_after(
+    rt: &impl Abort,
+    alloc: Global,
+    rows: &[(u64, Deed, &str)],
+    shown: &str,
+) -> Result<(), Fail> {
+    let mut tree = Tree::new(alloc);
+    for (at, deed, block) in rows {
+        applies(rt, alloc, &mut tree, input(alloc, *at, *deed)?, *block)?;
+    }
+    let mut text = String::new(alloc);
+    for row in tree.rows().as_slice() {
+        write_row(&mut text, row)?;
+    }
+    assert_eq!(rt; text.as_str(), shown);
+    let mut text = String::new(alloc);
+    let row = tree.row(Name::new(b"web").ok_or("a name")?).ok_or("a row")?;
+    write_row(&mut text, &row)?;
+    assert_eq!(rt; text.as_str(), shown);
+    Ok(())
+}
+
+#[test]
+fn shows_the_rows_of_the_services(rt: HostRuntime) -> Result<(), Fail> {
+    shows_after(
+        &rt,
+        rt.alloc(),
+        &ONCE,
+        "row 1 web false false false true false None Some(Code(0)) Some(4) Some(4)",
+    )?;
+    shows_after(
+        &rt,
+        rt.alloc(),
+        &FAILURE,
+        "row 1 web false true true true false None Some(Killed(9)) Some(60) Some(60)",
+    )
 }
 
 const SCANS: [(u64, Deed, &str); 5] = [
@@ -261,7 +393,7 @@ fn scans_in_the_order_of_the_bytes_and_refuses_a_name_twice(rt: HostRuntime) -> 
 const OPENED_DOWN: [(u64, Deed, &str); 5] = [
     (0, Deed::Look(b"web", true, false), "scanned +1:web|e 1 s"),
     (1, Deed::Look(b"web", false, false), "scanned"),
-    (2, Deed::Tell(b"web", ControlLetter::Exit), "done|e 1 x"),
+    (2, Deed::Tell(b"web", &[ControlLetter::Exit]), "done|e 1 x"),
     (1001, Deed::Tick, "done"),
     (1002, Deed::Tick, "done|e 1 s|o run 1 1"),
 ];

@@ -1,9 +1,10 @@
 //! Which lines are inputs, and which input they are.
 use crate::{LineFault, ReplayFault, parse_line};
 use s6_events::Exit;
+use servicedir::Config;
 use std::alloc::Allocator;
 use std::test::Fail;
-use tree_core::Act;
+use tree_core::{Act, Entry};
 
 #[test]
 fn lines_that_spell_no_input(rt: HostRuntime) {
@@ -30,7 +31,36 @@ fn lines_that_spell_no_input(rt: HostRuntime) {
         b"0 1 scan .web",
         b"0 1 scan a/b",
         b"0 1 scan web ",
-        b"0 1 scan web:down",
+        b"0 1 scan web:",
+        b"0 1 scan web:kill=0",
+        b"0 1 scan web:kill=007",
+        b"0 1 scan web:kill=",
+        b"0 1 scan web:kill",
+        b"0 1 scan web:kill=+1",
+        b"0 1 scan web:kill=4294967296",
+        b"0 1 scan web:finish,down",
+        b"0 1 scan web:down,down",
+        b"0 1 scan web:down,",
+        b"0 1 scan web:,down",
+        b"0 1 scan web:down:finish",
+        b"0 1 scan web:down finish:",
+        b"0 1 scan web:Down",
+        b"0 1 scan web:signal=0",
+        b"0 1 scan web:signal=15",
+        b"0 1 scan web:signal=65",
+        b"0 1 scan web:notify=0",
+        b"0 1 scan web:notify=2",
+        b"0 1 scan web:notify=10",
+        b"0 1 scan web:notify=",
+        b"0 1 scan web:fintime=5000",
+        b"0 1 scan web:fintime=4294967296",
+        b"0 1 scan web:tally=100",
+        b"0 1 scan web:tally=4097",
+        b"0 1 scan web:kill=1,notify=3",
+        b"0 1 scan :down",
+        b"0 1 scan .web:down",
+        b"0 1 scan web,down",
+        b"0 1 scan web:up",
         b"0 1 scan web!",
         b"0 1 started 1 1",
         b"0 1 started 1 1 0",
@@ -71,7 +101,7 @@ fn lines_that_spell_no_input(rt: HostRuntime) {
 // The numbers of an act: which one, and how many names it has, or the serial, generation and process number, code or signal.
 fn numbers<A: Allocator>(act: &Act<A>) -> (u8, u64, u64, u32) {
     match act {
-        Act::Scan(listing) => (0, listing.names().len() as u64, 0, 0),
+        Act::Scan(listing) => (0, listing.entries().len() as u64, 0, 0),
         Act::Started(sid, generation, pid) => (1, sid.0, *generation, *pid),
         Act::Death(sid, generation, Exit::Code(code)) => (2, sid.0, *generation, u32::from(*code)),
         Act::Death(sid, generation, Exit::Killed(signal)) => (
@@ -128,6 +158,12 @@ fn lines_that_spell_an_input(rt: HostRuntime) -> Result<(), Fail> {
         (b"7 1 finished 2 3 signal 0", 7, 1, (7, 2, 3, 0)),
         (b"0 1 svc web abqhkti12pcyudOrx", 0, 1, (8, 17, 0, 0)),
         (b"0 1 scan", 0, 1, (0, 0, 0, 0)),
+        (
+            b"0 1 scan web:down,finish,notify=3,kill=1,fintime=0,tally=0,signal=64",
+            0,
+            1,
+            (0, 1, 0, 0),
+        ),
         (b"0 1 scan web @-_.9 web", 0, 1, (0, 3, 0, 0)),
     ];
     for (line, at, actor, act) in rows {
@@ -146,11 +182,69 @@ fn a_line_has_its_names(rt: HostRuntime) -> Result<(), Fail> {
     let Act::Scan(listing) = &input.act else {
         return Err("a scan".into());
     };
-    let names = listing.names();
-    assert_eq!(rt; names.len(), 3);
-    assert_eq!(rt; names[0].as_bytes(), b"web".as_slice());
-    assert_eq!(rt; names[1].as_bytes(), b"@-_.9".as_slice());
-    assert_eq!(rt; names[2].as_bytes(), b"web".as_slice());
+    let entries = listing.entries();
+    assert_eq!(rt; entries.len(), 3);
+    assert_eq!(rt; entries[0].name.as_bytes(), b"web".as_slice());
+    assert_eq!(rt; entries[1].name.as_bytes(), b"@-_.9".as_slice());
+    assert_eq!(rt; entries[2].name.as_bytes(), b"web".as_slice());
+    for entry in entries {
+        assert!(rt; entry.config == Config::plain());
+    }
+    Ok(())
+}
+
+// The first entry of a scan that this line spells.
+fn first_entry<A: Allocator + Copy>(alloc: A, line: &[u8]) -> Result<Entry, Fail> {
+    let input = parse_line(alloc, line).ok().ok_or("an input")?;
+    let Act::Scan(listing) = &input.act else {
+        return Err("a scan".into());
+    };
+    Ok(*listing.entries().first().ok_or("an entry")?)
+}
+
+#[test]
+fn an_entry_has_its_options(rt: HostRuntime) -> Result<(), Fail> {
+    let plain = Config::plain();
+    let all = Config {
+        down: true,
+        finish: true,
+        notification_fd: Some(3),
+        timeout_kill: 1,
+        timeout_finish: 0,
+        max_death_tally: 0,
+        down_signal: 64,
+    };
+    let most = Config {
+        notification_fd: Some(1),
+        timeout_kill: 4_294_967_295,
+        timeout_finish: 4_294_967_295,
+        max_death_tally: 4096,
+        down_signal: 1,
+        ..plain
+    };
+    let rows = [
+        (b"0 1 scan web".as_slice(), plain),
+        (
+            b"0 1 scan web:down,finish,notify=3,kill=1,fintime=0,tally=0,signal=64",
+            all,
+        ),
+        (
+            b"0 1 scan web:notify=1,kill=4294967295,fintime=4294967295,tally=4096,signal=1",
+            most,
+        ),
+        (
+            b"0 1 scan web:finish log",
+            Config {
+                finish: true,
+                ..plain
+            },
+        ),
+    ];
+    for (line, config) in rows {
+        let entry = first_entry(rt.alloc(), line)?;
+        assert_eq!(rt; entry.name.as_bytes(), b"web".as_slice(), "{line:?}");
+        assert!(rt; entry.config == config, "{line:?}");
+    }
     Ok(())
 }
 

@@ -55,19 +55,25 @@ fn each_growth_is_refused_in_turn(rt: HostRuntime) -> Result<(), Fail> {
 
 #[test]
 fn a_line_without_memory(rt: HostRuntime) -> Result<(), Fail> {
-    let mut refused = 0u32;
-    let mut done = 0u32;
-    for step in 0..40usize {
-        let heap = LocalHeap::new(rt.alloc(), 16 * step)?;
-        match parse_line(&heap, b"0 1 scan web other") {
-            Ok(_) => done = done.saturating_add(1),
-            Err(fault) => {
-                refused = refused.saturating_add(1);
-                assert_eq!(rt; fault, LineFault::NoMemory, "at {step}");
+    let lines = [
+        b"0 1 scan web:finish,kill=7 other".as_slice(),
+        b"0 1 notify 1 1 0a0a",
+    ];
+    for line in lines {
+        let mut refused = 0u32;
+        let mut done = 0u32;
+        for step in 0..80usize {
+            let heap = LocalHeap::new(rt.alloc(), 16 * step)?;
+            match parse_line(&heap, line) {
+                Ok(_) => done = done.saturating_add(1),
+                Err(fault) => {
+                    refused = refused.saturating_add(1);
+                    assert_eq!(rt; fault, LineFault::NoMemory, "at {step}");
+                }
             }
         }
+        assert!(rt; done > 2, "{line:?}");
+        assert!(rt; refused > 2, "{line:?}");
     }
-    assert!(rt; done > 2);
-    assert!(rt; refused > 2);
     Ok(())
 }

@@ -13,7 +13,7 @@ struct Row {
     counts: (u64, u128, u128),
 }
 
-const ROWS: [Row; 18] = [
+const ROWS: [Row; 24] = [
     Row {
         name: "restart-after-pause",
         script: "s6-script 1\n0 1 scan web\n0 1 started 1 1 500\n300 1 death 1 1 code 1\n1299 1 tick\n1300 1 tick\n",
@@ -132,6 +132,48 @@ const ROWS: [Row; 18] = [
         counts: (0, 0, 0),
     },
     Row {
+        name: "option-at-its-default",
+        script: "s6-script 1\n0 1 scan web:kill=0\n",
+        transcript: "",
+        fault: Some(ReplayFault::Line(2)),
+        counts: (0, 0, 0),
+    },
+    Row {
+        name: "option-with-leading-zeros",
+        script: "s6-script 1\n0 1 scan web:kill=007\n",
+        transcript: "",
+        fault: Some(ReplayFault::Line(2)),
+        counts: (0, 0, 0),
+    },
+    Row {
+        name: "options-out-of-order",
+        script: "s6-script 1\n0 1 scan web:finish,down\n",
+        transcript: "",
+        fault: Some(ReplayFault::Line(2)),
+        counts: (0, 0, 0),
+    },
+    Row {
+        name: "notify-on-descriptor-two",
+        script: "s6-script 1\n0 1 scan web:notify=2\n",
+        transcript: "",
+        fault: Some(ReplayFault::Line(2)),
+        counts: (0, 0, 0),
+    },
+    Row {
+        name: "ready-service-restarts-at-once",
+        script: "s6-script 1\n0 1 scan web:notify=3\n0 1 started 1 1 500\n100 1 notify 1 1 610a0a\n1101 1 death 1 1 code 0\n",
+        transcript: "1 scanned +1:web\ne 1 s\no run 1 1 fd 3\n2 done\ne 1 u\n3 done\ne 1 U\n4 done\ne 1 d\ne 1 D\no run 1 2 fd 3\n",
+        fault: None,
+        counts: (4, 5, 2),
+    },
+    Row {
+        name: "exit-while-down-and-a-new-supervisor",
+        script: "s6-script 1\n0 1 scan web:down\n5 1 svc web x\n6 1 svc web u\n1005 1 tick\n",
+        transcript: "1 scanned +1:web\ne 1 s\n2 done\ne 1 x\n3 refused Ended\n4 done\ne 1 s\n",
+        fault: None,
+        counts: (4, 3, 0),
+    },
+    Row {
         name: "report-of-an-old-life-is-stale",
         script: "s6-script 1\n0 1 scan web\n0 1 started 1 1 500\n300 1 death 1 1 code 1\n1299 1 tick\n1300 1 tick\n\
         1350 1 started 1 2 501\n1400 1 death 1 1 code 1\n",
@@ -162,6 +204,40 @@ const ROWS: [Row; 18] = [
         counts: (3, 1, 1),
     },
 ];
+
+// Scripts without fault, each with its name and what its transcript ends with, the newline before it included.
+const ENDS: [(&str, &str, &str); 4] = [
+    (
+        "ready-for-exactly-a-second-pauses",
+        "s6-script 1\n0 1 scan web:notify=3\n0 1 started 1 1 500\n100 1 notify 1 1 610a0a\n1100 1 death 1 1 code 0\n2099 1 tick\n2100 1 tick\n",
+        "\n4 done\ne 1 d\ne 1 D\n5 done\n6 done\no run 1 2 fd 3\n",
+    ),
+    (
+        "finish-of-125-is-permanent-failure",
+        "s6-script 1\n0 1 scan web:finish\n0 1 started 1 1 500\n10 1 death 1 1 signal 9\n20 1 finished 1 1 code 125\n30 1 svc web u\n",
+        "\n3 done\ne 1 d\no finish 1 1 256 9\n4 done\ne 1 O\ne 1 D\n5 done\no run 1 2\n",
+    ),
+    (
+        "kill-timer-is-not-set-later",
+        "s6-script 1\n0 1 scan web:kill=500\n0 1 started 1 1 500\n100 1 svc web d\n300 1 svc web d\n599 1 tick\n600 1 tick\n",
+        "\n3 done\no signal 1 1 15\no signal 1 1 18\n4 done\no signal 1 1 15\no signal 1 1 18\n5 done\n6 done\no signal 1 1 9\n",
+    ),
+    (
+        "finish-is-killed-at-its-timeout",
+        "s6-script 1\n0 1 scan web:finish\n0 1 started 1 1 5\n10 1 death 1 1 code 0\n5009 1 tick\n5010 1 tick\n5011 1 finished 1 1 signal 9\n",
+        "\n4 done\n5 done\no killfinish 1 1\n6 done\ne 1 D\no run 1 2\n",
+    ),
+];
+
+#[test]
+fn the_ends_of_worked_rows(rt: HostRuntime) -> Result<(), Fail> {
+    for (name, script, end) in ENDS {
+        let (answer, written) = replayed(rt.alloc(), script.as_bytes())?;
+        assert!(rt; answer.is_ok(), "{name}");
+        assert!(rt; written.as_slice().ends_with(end.as_bytes()), "{name}");
+    }
+    Ok(())
+}
 
 #[test]
 fn the_worked_rows(rt: HostRuntime) -> Result<(), Fail> {

@@ -1,5 +1,4 @@
-use Rattle.std.proofs.Common.{◌≡◌, ◌∙◌, ◌++◌, [], ◌∷◌, ap, sym, Option, Some}
-use Rattle.svc_commands.specs.declared.control_letter.ControlLetter.{ControlLetter}
+use Rattle.std.proofs.Common.{◌≡◌, ◌∙◌, ◌++◌, [], ◌∷◌, ap, sym, Some}
 use Rattle.svc_commands.specs.ControlLetter.{letter_of_byte}
 use Rattle.s6_replay.proofs.Letters.{letter_back}
 use Rattle.s6_replay.proofs.parse.add_letter.Goals as goal

@@ -2,7 +2,7 @@ use Rattle.std.proofs.Common.{◌≡◌, ◌<◌, ◌^◌, List, ℕ, arith, sub
 use Rattle.std.specs.Prelude.{IsUtf8, decimal, Ok}
 use Rattle.std.proofs.lemmas.Fmt.{IsAscii-decimal, parse-decimal}
 use Rattle.std.proofs.lemmas.Str.{IsUtf8-from_ascii}
-use Rattle.s6_replay.proofs.parse.number.Goals as goal
+use Rattle.s6_replay.proofs.words.number.Goals as goal
 
 pub returns-in_default-clause-spelled : goal.returns-in_default-clause-spelled
 returns-in_default-clause-spelled c = λ n le e.
