@@ -78,6 +78,13 @@ impl Service {
         self.chart.sid
     }
 
+    /// The number of the moment at which its timer goes off.
+    pub fn timer(&self) -> Option<u64>
+        ensures { result ≡ self.now.chart.timer }
+    {
+        self.chart.timer
+    }
+
     /// What it stores of its marks, for its status row.
     pub fn status(&self) -> Status
         ensures { result ≡ self.now.status }

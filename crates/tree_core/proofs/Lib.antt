@@ -10,4 +10,7 @@ pub mod Generations
 pub mod ActGrows
 pub mod PlanMakes
 pub mod Quiet
+pub mod SerialsRise
+pub mod TimersAgree
+pub mod TimersDue
 pub mod Names

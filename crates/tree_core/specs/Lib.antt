@@ -13,4 +13,5 @@ pub mod Effect
 pub mod Views
 pub mod Plan
 pub mod Sound
+pub mod Timers
 pub mod TreeFields

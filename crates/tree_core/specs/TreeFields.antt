@@ -2,6 +2,7 @@
 use Rattle.tree_core.specs.declared.tree.Tree.TheInside.{Inside}
 use Rattle.tree_core.specs.Sound.{IsSound, IsRecorded}
 use Rattle.tree_core.specs.StandsFor.{Stored, AllAgree}
+use Rattle.tree_core.specs.Timers.{TimersAgree}
 use Rattle.tree_core.specs.Told.{charts_of}
 
 -- its services, its numbers and its history
@@ -16,9 +17,11 @@ stored t = record {
   kept = t.history.kept;
 }
 
--- its numbers don't outrun its steps, its clock is the last reading of its history, and its history agrees with its services
+-- its numbers don't outrun its steps, its clock is the last reading of its history, and its history and its deadlines agree with
+-- its services
 abbrev pub IsKept : {A : Type 0} → Inside A → Type 0
 IsKept t =
     IsSound t.steps t.next_sid (charts_of t.services.items)
     × IsRecorded t.steps t.clock t.history.forgotten t.history.kept
     × AllAgree t.services.items t.history.kept
+    × TimersAgree t.deadlines.timers (charts_of t.services.items)

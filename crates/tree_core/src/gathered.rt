@@ -1,11 +1,12 @@
 ghost use Rattle.std.specs.Prelude.{◌≡◌, ◌+◌, ◌*◌, ◌<◌, ◌≤◌, ◌^◌, [], ◌∷◌, ◌++◌, map, length, All, IsOk, OnOk, IfOk, false, true, ◌||◌, ◌==◌, bytes_eq};
 ghost use Rattle.std.specs.List.{list_any};
-ghost use Rattle.supervise_core.specs.Chart.{is_due, fire, changed_by};
+ghost use Rattle.supervise_core.specs.Chart.{is_due as is_timer_due, fire, changed_by};
 ghost use Rattle.supervise_core.specs.Gives.{most_orders};
 ghost use Rattle.tree_core.specs.Acts.{changed_at, changed_named};
 ghost use Rattle.tree_core.specs.Listing.{repeats};
 ghost use Rattle.tree_core.specs.Scan.{stands};
 ghost use Rattle.tree_core.specs.Sound.{names_of};
+ghost use Rattle.tree_core.specs.Timers.{AreDue};
 ghost use Rattle.tree_core.specs.Moves.{event, services_after, events_after, orders_after};
 
 use super::effect::Event;
@@ -90,13 +91,41 @@ fn add_events<A: Allocator>(
     Ok(())
 }
 
-/// Each service whose timer is due takes its rule once.
+/// Each service whose timer is due takes its rule once. These are the serials of the due ones: where there is none, no service is
+/// looked at.
 pub fn fire_due<A: Allocator + Copy>(
+    charts: ArrayVec<ChartState, 64>,
+    due: &[Sid],
+    now: At,
+    gathered: &mut Gathered<A>,
+) -> Result<ArrayVec<ChartState, 64>, NoMemory>
+    requires few { length charts.items ≤ 64 }
+    requires due { AreDue due.now now charts.items }
+    requires orders { length gathered.old.orders.items + length charts.items ≤ 256 }
+    requires generations { All (λ c. c.generation + 1 < 2 ^ 64) charts.items }
+    ensures services { IfOk result (λ after. after.items ≡ services_after (fire now) charts.items) }
+    ensures events { OnOk result (gathered.new.events.items ≡ gathered.old.events.items ++ events_after (fire now) charts.items) }
+    ensures orders { OnOk result (gathered.new.orders.items ≡ gathered.old.orders.items ++ orders_after (fire now) charts.items) }
+    ensures count { OnOk result (length gathered.new.orders.items ≤ length gathered.old.orders.items + length charts.items) }
+    ensures few { OnOk result (length gathered.new.events.items ≤ length gathered.old.events.items + 4 * length charts.items) }
+    ensures places { IfOk result (λ after. length after.items ≤ 64) }
+    ensures quiet { due.now ≡ [] → IsOk result × (gathered.new.events.items ≡ gathered.old.events.items) }
+{
+    if due.is_empty() {
+        return Ok(charts);
+    }
+    fire_among(charts.as_slice(), due, now, gathered)
+}
+
+// Each of these services whose timer is due takes its rule once.
+fn fire_among<A: Allocator + Copy>(
     charts: &[ChartState],
+    due: &[Sid],
     now: At,
     gathered: &mut Gathered<A>,
 ) -> Result<ArrayVec<ChartState, 64>, NoMemory>
     requires few { length charts.now ≤ 64 }
+    requires due { AreDue due.now now charts.now }
     requires orders { length gathered.old.orders.items + length charts.now ≤ 256 }
     requires generations { All (λ c. c.generation + 1 < 2 ^ 64) charts.now }
     ensures services { IfOk result (λ after. after.items ≡ services_after (fire now) charts.now) }
@@ -105,17 +134,47 @@ pub fn fire_due<A: Allocator + Copy>(
     ensures count { OnOk result (length gathered.new.orders.items ≤ length gathered.old.orders.items + length charts.now) }
     ensures few { OnOk result (length gathered.new.events.items ≤ length gathered.old.events.items + 4 * length charts.now) }
     ensures places { IfOk result (λ after. length after.items ≤ 64) }
-    ensures quiet { list_any (λ c. is_due now c.timer) charts.now ≡ false → IsOk result × (gathered.new.events.items ≡ gathered.old.events.items) }
 {
     let mut fired = ArrayVec::new();
     for chart in charts {
-        fired.push(fire_one(chart, now, gathered)?);
+        let is_due = is_among(due, chart.sid);
+        fired.push(fire_one(chart, is_due, now, gathered)?);
     }
     Ok(fired)
 }
 
+// Whether the serial is one of these.
+fn is_among(sids: &[Sid], sid: Sid) -> bool
+    ensures { result ≡ list_any (λ s. s == sid) sids.now }
+{
+    sids.iter().any(|other| other.0 == sid.0)
+}
+
 // A service takes its timer rule where it is due.
 fn fire_one<A: Allocator + Copy>(
+    chart: &ChartState,
+    is_due: bool,
+    now: At,
+    gathered: &mut Gathered<A>,
+) -> Result<ChartState, NoMemory>
+    requires due { is_due ≡ is_timer_due now chart.now.timer }
+    requires orders { length gathered.old.orders.items < 256 }
+    requires next { chart.now.generation + 1 < 2 ^ 64 }
+    ensures chart { IfOk result (λ next. next ≡ (fire now chart.now).chart) }
+    ensures events { OnOk result (gathered.new.events.items ≡ gathered.old.events.items ++ map (event chart.now.sid) (fire now chart.now).marks) }
+    ensures orders { OnOk result (gathered.new.orders.items ≡ gathered.old.orders.items ++ (fire now chart.now).orders) }
+    ensures count { OnOk result (length gathered.new.orders.items ≤ length gathered.old.orders.items + 1) }
+    ensures few { OnOk result (length gathered.new.events.items ≤ length gathered.old.events.items + 4) }
+{
+    if is_due {
+        take_timer(chart, now, gathered)
+    } else {
+        Ok(*chart)
+    }
+}
+
+// A service takes its timer rule.
+fn take_timer<A: Allocator + Copy>(
     chart: &ChartState,
     now: At,
     gathered: &mut Gathered<A>,
@@ -127,13 +186,10 @@ fn fire_one<A: Allocator + Copy>(
     ensures orders { OnOk result (gathered.new.orders.items ≡ gathered.old.orders.items ++ (fire now chart.now).orders) }
     ensures count { OnOk result (length gathered.new.orders.items ≤ length gathered.old.orders.items + 1) }
     ensures few { OnOk result (length gathered.new.events.items ≤ length gathered.old.events.items + 4) }
-    ensures quiet { is_due now chart.now.timer ≡ false → IsOk result × (gathered.new.events.items ≡ gathered.old.events.items) }
 {
     let mut next = *chart;
-    if next.is_due(now) {
-        let out = next.fire(now);
-        gathered.add(chart.sid, &out)?;
-    }
+    let out = next.fire(now);
+    gathered.add(chart.sid, &out)?;
     Ok(next)
 }
 

@@ -14,6 +14,7 @@ mod scan;
 mod standing;
 #[cfg(test)]
 mod tests;
+mod timers;
 mod tree;
 mod verdict;
 

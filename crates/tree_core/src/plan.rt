@@ -1,4 +1,5 @@
 ghost use Rattle.std.specs.Prelude.{◌≡◌, ◌+◌, ◌*◌, ◌<◌, ◌≤◌, ◌^◌, ◌++◌, List, [], map, max, length, All, IfOk, IsOkAnd, false};
+ghost use Rattle.s6_events.specs.At.{last_moment};
 ghost use Rattle.s6_events.specs.Clock.{clock_of};
 ghost use Rattle.s6_events.specs.declared.moment.Moment.{Moment};
 ghost use Rattle.tree_core.specs.Machine.{DeathOf};
@@ -7,7 +8,10 @@ ghost use Rattle.tree_core.specs.Plan.{with_past, planned, Plans, IsQuiet};
 ghost use Rattle.tree_core.specs.StandsFor.{AllAgree};
 ghost use Rattle.tree_core.specs.Told.{charts_of as states_of};
 ghost use Rattle.tree_core.specs.Listing.{repeats};
-ghost use Rattle.tree_core.specs.Sound.{IsSound, names_of};
+ghost use Rattle.tree_core.specs.Sound.{IsSound, IsNumbered, names_of};
+ghost use Rattle.tree_core.specs.Timers.{AreDue, TimersAgree};
+ghost use Rattle.deadlines.specs.declared.timer.Timer.{Timer};
+ghost use Rattle.deadlines.specs.Timers.{changed_all};
 ghost use Rattle.tree_core.specs.Step.{clock_moments, step_limit};
 
 use super::act::{Past, act};
@@ -15,8 +19,10 @@ use super::effect::{Effect, Event};
 use super::gathered::{Gathered, fire_due};
 use super::input::Input;
 use super::standing::{Standing, standing_after};
+use super::timers::changes_between;
 use arrayvec::ArrayVec;
-use s6_events::{At, Moment, NoMemory};
+use deadlines::TimerChange;
+use s6_events::{At, Moment, NoMemory, Sid};
 use std::alloc::Allocator;
 use supervise_core::{ChartState, Service};
 
@@ -27,12 +33,14 @@ pub struct Plan<A: Allocator> {
     pub standing: ArrayVec<Standing, 64>,
     pub next_sid: u64,
     pub moments: Vec<Moment, A>,
+    pub timers: Vec<TimerChange, A>,
     pub effect: Effect<A>,
 }
 
-// The later of two moments.
-fn later(a: At, b: At) -> At
-    ensures { result ≡ max a b }
+/// The later of two moments.
+pub fn later(a: At, b: At) -> At
+    ensures later { result ≡ max a b }
+    ensures bound { result ≤ last_moment }
 {
     if a.millis() < b.millis() { b } else { a }
 }
@@ -70,7 +78,7 @@ fn moments_of<A: Allocator + Copy>(
     Ok(moments)
 }
 
-/// The step of an input, from what a tree stores.
+/// The step of an input, from what a tree stores and the serials of the services whose timers are due.
 pub fn plan_step<A: Allocator + Copy>(
     alloc: A,
     clock: At,
@@ -78,11 +86,14 @@ pub fn plan_step<A: Allocator + Copy>(
     closing: bool,
     services: &[Service],
     next_sid: u64,
+    due: &[Sid],
     input: &Input<A>,
 ) -> Result<Plan<A>, NoMemory>
     requires left { steps < step_limit }
     requires few { length services.now ≤ 64 }
     requires names { repeats (names_of (states_of services.now)) ≡ false }
+    requires order { IsNumbered next_sid (states_of services.now) }
+    requires due { AreDue due.now (max clock input.now.at) (states_of services.now) }
     requires serials { next_sid ≤ 64 * steps + 1 }
     requires generations { All (λ c. c.generation ≤ 2 * steps) (states_of services.now) }
     ensures sound { (history : List Moment) → AllAgree services.now history → clock ≡ clock_of history
@@ -90,12 +101,15 @@ pub fn plan_step<A: Allocator + Copy>(
     ensures count { IfOk result (λ plan. length plan.moments.items ≤ 1024) }
     ensures step { IfOk result (λ plan. (history : List Moment) → (deaths : List DeathOf) → AllAgree services.now history → clock ≡ clock_of history
         → Plans (with_past clock steps closing (states_of services.now) next_sid history deaths) input.now plan) }
-    ensures quiet { (history : List Moment) → AllAgree services.now history → clock ≡ clock_of history → IsQuiet input.now clock (states_of services.now) → IsOkAnd result (λ plan. (plan.moments.items ≡ []) × (length plan.standing.items ≡ length services.now)) }
+    ensures timers { (history : List Moment) → AllAgree services.now history → clock ≡ clock_of history → (timers : List Timer) → TimersAgree timers (states_of services.now)
+        → IfOk result (λ plan. TimersAgree (changed_all plan.timers.items timers) (states_of (planned plan))) }
+    ensures quiet { (history : List Moment) → AllAgree services.now history → clock ≡ clock_of history → IsQuiet input.now clock (states_of services.now) → due.now ≡ []
+        → IsOkAnd result (λ plan. (plan.moments.items ≡ []) × (plan.timers.items ≡ []) × (length plan.standing.items ≡ length services.now)) }
 {
     let now = later(clock, input.at);
     let charts = charts_of(services);
     let mut gathered = Gathered::new(alloc);
-    let fired = fire_due(charts.as_slice(), now, &mut gathered)?;
+    let fired = fire_due(charts, due, now, &mut gathered)?;
     let past = Past {
         services,
         events: gathered.events.as_slice(),
@@ -103,13 +117,16 @@ pub fn plan_step<A: Allocator + Copy>(
     let draft = act(alloc, &input.act, closing, now, fired, next_sid, &past)?;
     gathered.append(&draft.gathered)?;
     let moments = moments_of(alloc, clock, input.at, gathered.events.as_slice())?;
+    let after = draft.charts.as_slice();
+    let timers = changes_between(alloc, services, after)?;
     let events = gathered.events.as_slice();
-    let standing = standing_after(services, events, draft.charts.as_slice(), now);
+    let standing = standing_after(services, events, after, now);
     Ok(Plan {
         now,
         standing,
         next_sid: draft.next_sid,
         moments,
+        timers,
         effect: Effect {
             reply: draft.reply,
             events: gathered.events,

@@ -24,8 +24,8 @@ impl Default for Standing {
     }
 }
 
-// The service of the serial.
-fn find_serial(services: &[Service], sid: Sid) -> Option<&Service>
+/// The service of the serial.
+pub fn find_serial(services: &[Service], sid: Sid) -> Option<&Service>
     ensures { option_copied result ≡ find (λ s. s.chart.sid == sid) services.now }
 {
     services.iter().find(|service| service.sid().0 == sid.0)

@@ -10,11 +10,12 @@ ghost use Rattle.tree_core.specs.Step.{step_limit, spent_outcome};
 
 use super::effect::Effect;
 use super::input::Input;
-use super::plan::plan_step;
+use super::plan::{later, plan_step};
 use super::reply::{Refusal, Reply};
 use super::rows::{row_of, rows_of};
 use super::standing::Standing;
 use arrayvec::ArrayVec;
+use deadlines::Deadlines;
 use s6_events::{At, History, Name, NoMemory};
 use std::alloc::Allocator;
 use std::marker::Model;
@@ -32,6 +33,7 @@ pub struct Tree<A: Allocator> {
     closing: bool,
     next_sid: u64,
     services: Vec<Service, A>,
+    deadlines: Deadlines<A>,
     history: History<A>,
 }
 
@@ -82,6 +84,7 @@ impl<A: Allocator + Copy> Tree<A> {
             closing: false,
             next_sid: 1,
             services: Vec::new(alloc),
+            deadlines: Deadlines::new(alloc),
             history: History::new(alloc),
         }
     }
@@ -98,6 +101,7 @@ impl<A: Allocator + Copy> Tree<A> {
         if self.steps == STEP_LIMIT {
             return Ok(spent(alloc));
         }
+        let due = self.deadlines.due(alloc, later(self.clock, input.at))?;
         let plan = plan_step(
             alloc,
             self.clock,
@@ -105,15 +109,18 @@ impl<A: Allocator + Copy> Tree<A> {
             self.closing,
             self.services.as_slice(),
             self.next_sid,
+            due.as_slice(),
             input,
         )?;
         let moments = self.history.prepare(plan.moments.as_slice())?;
+        let timers = self.deadlines.prepare(plan.timers.as_slice())?;
         self.services
             .reserve(plan.standing.len().saturating_sub(self.services.len()))?;
         self.clock = plan.now;
         self.steps += 1;
         self.next_sid = plan.next_sid;
         install(&mut self.services, plan.standing.as_slice());
+        self.deadlines.commit(timers);
         self.history.commit(moments);
         Ok(plan.effect)
     }

@@ -1,8 +1,7 @@
-use Rattle.std.proofs.Common.{◌≡◌, ◌≤◌, ◌+◌, ◌*◌, ◌++◌, take, length, false}
-use Rattle.std.specs.List.{list_any}
-use Rattle.supervise_core.specs.Chart.{fire, is_due}
+use Rattle.std.proofs.Common.{◌≡◌, ◌≤◌, ◌+◌, ◌*◌, ◌++◌, take, length}
+use Rattle.supervise_core.specs.Chart.{fire}
 use Rattle.tree_core.specs.Moves.{services_after, events_after, orders_after}
-use Rattle.tree_core.proofs.gathered.fire_due.Given as goal
+use Rattle.tree_core.proofs.gathered.fire_among.Given as goal
 
 abbrev pub invariant-loop-chart : goal.invariant-loop-chart
 invariant-loop-chart g l = record {
@@ -11,5 +10,4 @@ invariant-loop-chart g l = record {
   orders : l.gathered.orders.items ≡ l.fn.gathered.orders.items ++ orders_after (fire l.now) (take l.chart-index l.charts);
   count : length l.gathered.orders.items ≤ length l.fn.gathered.orders.items + l.chart-index;
   few : length l.gathered.events.items ≤ length l.fn.gathered.events.items + 4 * l.chart-index;
-  quiet : list_any (λ c. is_due l.now c.timer) (take l.chart-index l.charts) ≡ false → l.gathered.events.items ≡ l.fn.gathered.events.items;
 }

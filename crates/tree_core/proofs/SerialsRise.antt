@@ -1,0 +1,150 @@
+-- The serials of the services rise, and the next one is above them all, before a step and after it.
+use Rattle.std.proofs.Common.{◌≡◌, ℕ, ◌+◌, List, [], ◌∷◌, ◌++◌, Bool, true, false, ◌==◌, ◌&&◌, cond, not, refl, sym, ◌∙◌, ap, filter, rules, arith}
+use Rattle.std.specs.Prelude.{bytes_eq, nat_lt, length}
+use Rattle.std.specs.List.{list_all}
+use Rattle.std.proofs.lemmas.Bool.Decides.{nat_tests}
+use Rattle.std.proofs.lemmas.List.{map-append}
+use Rattle.std.proofs.lemmas.List.Folds.{list_all-append}
+use Rattle.deadlines.specs.Timers.{is_rising}
+use Rattle.supervise_core.specs.declared.chart.ChartState.{ChartState}
+use Rattle.supervise_core.specs.declared.change.Change.{Change}
+use Rattle.supervise_core.specs.declared.change.Change.TheVariants.{Started as StartedReport, StartFailed as StartFailedReport, Notify as NotifyReport, Death as DeathReport, FinishEnded as FinishEndedReport, Control as Letters}
+use Rattle.supervise_core.specs.ChartState.{Moved, new_service}
+use Rattle.supervise_core.specs.Moves.{begin_supervisor}
+use Rattle.supervise_core.specs.Chart.{fire}
+use Rattle.supervise_core.proofs.Identity.{KeepsIdentity, keeps_fire, keeps_changed, keeps_begin}
+use Rattle.tree_core.specs.declared.input.Act.{Act}
+use Rattle.tree_core.specs.declared.input.Entry.{Entry}
+use Rattle.tree_core.specs.declared.input.Act.TheVariants.{Scan, Svc, Started, StartFailed, Notify, Death, FinishEnded, Status, Tick}
+use Rattle.tree_core.specs.Acts.{Acted, acted, changed_at, changed_named, has_ended}
+use Rattle.tree_core.specs.Listing.{repeats, in_byte_order, names_in, config_in}
+use Rattle.tree_core.specs.Machine.{Machine}
+use Rattle.tree_core.specs.Moves.{services_after}
+use Rattle.tree_core.specs.Scan.{Grown, looked_up, stays, stands, service_limit, config_for, with_service, with_name, with_names}
+use Rattle.tree_core.specs.Sound.{serials_of, IsNumbered}
+use Rattle.tree_core.proofs.Names.{keeps_either, keeps_still, keeps_look}
+
+left_of : (a b : Bool) → (a && b) ≡ true → a ≡ true
+left_of true b h = refl
+left_of false b h = h
+
+right_of : (a b : Bool) → (a && b) ≡ true → b ≡ true
+right_of true b h = h
+right_of false b h = search rules
+
+both_of : (a b : Bool) → a ≡ true → b ≡ true → (a && b) ≡ true
+both_of true b h k = k
+both_of false b h k = h
+
+-- numbers that rise up to one rise without it
+pub rising_before : (xs : List ℕ) (n : ℕ) → is_rising (xs ++ n ∷ []) ≡ true → is_rising xs ≡ true
+rising_before [] n h = refl
+rising_before (x ∷ xs) n h =
+    both_of _ (is_rising xs)
+    (left_of (list_all (λ m. nat_lt x m) xs) _ (sym (list_all-append (λ m. nat_lt x m) xs (n ∷ [])) ∙ left_of _ (is_rising (xs ++ n ∷ [])) h))
+    (rising_before xs n (right_of _ (is_rising (xs ++ n ∷ [])) h))
+
+-- and they rise up to the next one
+last_above : (x n : ℕ) (xs : List ℕ) → list_all (λ m. nat_lt x m) (xs ++ n ∷ []) ≡ true → nat_lt x n ≡ true
+last_above x n [] h = left_of (nat_lt x n) true h
+last_above x n (y ∷ xs) h = last_above x n xs (right_of (nat_lt x y) _ h)
+
+next_above : (x n : ℕ) → nat_lt x n ≡ true → nat_lt x (n + 1) ≡ true
+next_above x n h = grind (arith, nat_tests)
+
+above_itself : (n : ℕ) → nat_lt n (n + 1) ≡ true
+above_itself n = grind (arith, nat_tests)
+
+rising_next : (xs : List ℕ) (n : ℕ) → is_rising (xs ++ n ∷ []) ≡ true → is_rising ((xs ++ n ∷ []) ++ (n + 1) ∷ []) ≡ true
+rising_next [] n h = both_of _ true (both_of (nat_lt n (n + 1)) true (above_itself n) refl) refl
+rising_next (x ∷ xs) n h =
+    let all = left_of _ (is_rising (xs ++ n ∷ [])) h in
+    both_of _ (is_rising ((xs ++ n ∷ []) ++ (n + 1) ∷ []))
+    (list_all-append (λ m. nat_lt x m) (xs ++ n ∷ []) ((n + 1) ∷ [])
+    ∙ both_of (list_all (λ m. nat_lt x m) (xs ++ n ∷ [])) _ all (both_of (nat_lt x (n + 1)) true (next_above x n (last_above x n xs all)) refl))
+    (rising_next xs n (right_of _ (is_rising (xs ++ n ∷ [])) h))
+
+-- fewer services rise too
+all_left : (s : ℕ) (p : ChartState → Bool) (cs : List ChartState) (ns : List ℕ) → list_all (λ m. nat_lt s m) (serials_of cs ++ ns) ≡ true
+    → list_all (λ m. nat_lt s m) (serials_of (filter p cs) ++ ns) ≡ true
+all_left s p [] ns h = h
+all_left s p (c ∷ cs) ns h = by (p c) (all_left s p cs ns (right_of (nat_lt s c.sid) _ h))
+  where
+    by : (b : Bool) → list_all (λ m. nat_lt s m) (serials_of (filter p cs) ++ ns) ≡ true
+        → list_all (λ m. nat_lt s m) (serials_of (cond b (c ∷ filter p cs) (filter p cs)) ++ ns) ≡ true
+    by true rest = both_of (nat_lt s c.sid) _ (left_of (nat_lt s c.sid) _ h) rest
+    by false rest = rest
+
+numbered_filtered : (p : ChartState → Bool) (next : ℕ) (cs : List ChartState) → IsNumbered next cs → IsNumbered next (filter p cs)
+numbered_filtered p next [] h = h
+numbered_filtered p next (c ∷ cs) h = by (p c) (numbered_filtered p next cs (right_of _ (is_rising (serials_of cs ++ next ∷ [])) h))
+  where
+    by : (b : Bool) → IsNumbered next (filter p cs) → IsNumbered next (cond b (c ∷ filter p cs) (filter p cs))
+    by true rest = both_of _ (is_rising (serials_of (filter p cs) ++ next ∷ [])) (all_left c.sid p cs (next ∷ []) (left_of _ (is_rising (serials_of cs ++ next ∷ [])) h)) rest
+    by false rest = rest
+
+-- a move that keeps each serial keeps the serials
+serials_moved : (move : ChartState → Moved) → ((c : ChartState) → KeepsIdentity c (move c)) → (cs : List ChartState) → serials_of (services_after move cs) ≡ serials_of cs
+serials_moved move keeps [] = refl
+serials_moved move keeps (c ∷ cs) = λ i. (keeps c).sid i ∷ serials_moved move keeps cs i
+
+same_serials : (next : ℕ) (cs ds : List ChartState) → serials_of ds ≡ serials_of cs → IsNumbered next cs → IsNumbered next ds
+same_serials next cs ds e h = ap (λ ns. is_rising (ns ++ next ∷ [])) e ∙ h
+
+pub numbered_fired : (now next : ℕ) (cs : List ChartState) → IsNumbered next cs → IsNumbered next (services_after (fire now) cs)
+numbered_fired now next cs h = same_serials next cs _ (serials_moved (fire now) (keeps_fire now) cs) h
+
+numbered_reported : (sid : ℕ) (change : Change) (now next : ℕ) (cs : List ChartState) → IsNumbered next cs → IsNumbered next (services_after (changed_at sid change now) cs)
+numbered_reported sid change now next cs h =
+    same_serials next cs _ (serials_moved (changed_at sid change now) (λ c. keeps_either (c.sid == sid) c _ _ (keeps_changed change now c) (keeps_still c)) cs) h
+
+numbered_told : (name : List ℕ) (change : Change) (now next : ℕ) (cs : List ChartState) → IsNumbered next cs → IsNumbered next (services_after (changed_named name change now) cs)
+numbered_told name change now next cs h =
+    same_serials next cs _ (serials_moved (changed_named name change now) (λ c. keeps_either (bytes_eq name c.name) c _ _ (keeps_changed change now c) (keeps_still c)) cs) h
+
+serials_looked : (now : ℕ) (listing : List Entry) (cs : List ChartState) → serials_of (looked_up now listing cs) ≡ serials_of cs
+serials_looked now listing [] = refl
+serials_looked now listing (c ∷ cs) = λ i. (keeps_look (config_in listing c.name) now c).sid i ∷ serials_looked now listing cs i
+
+-- new services get the next serials
+either_grown : (b : Bool) (x y : Grown) → IsNumbered x.next_sid x.services → IsNumbered y.next_sid y.services → IsNumbered (cond b x y).next_sid (cond b x y).services
+either_grown true x y hx hy = hx
+either_grown false x y hx hy = hy
+
+numbered_added : (listing : List Entry) (g : Grown) (name : List ℕ) → IsNumbered g.next_sid g.services → IsNumbered (g.next_sid + 1) (with_service listing g name).services
+numbered_added listing g name h =
+    ap (λ ns. is_rising (ns ++ (g.next_sid + 1) ∷ []))
+    (map-append (λ (c : ChartState). c.sid) g.services ((begin_supervisor (new_service g.next_sid name (config_for listing name))).chart ∷ [])
+    ∙ ap (λ n. serials_of g.services ++ n ∷ []) (keeps_begin g.next_sid name (config_for listing name)).sid)
+    ∙ rising_next (serials_of g.services) g.next_sid h
+
+numbered_all : (listing : List Entry) (g : Grown) (names : List (List ℕ)) → IsNumbered g.next_sid g.services
+    → IsNumbered (with_names listing g names).next_sid (with_names listing g names).services
+numbered_all listing g [] h = h
+numbered_all listing g (name ∷ names) h =
+    numbered_all listing (with_name listing g name) names
+    (either_grown (stands name g.services) g _ h
+    (either_grown (nat_lt (length g.services) service_limit) (with_service listing g name) _ (numbered_added listing g name h) h))
+
+either_acted : {A : Type 0} (b : Bool) (x y : Acted A) → IsNumbered x.next_sid x.services → IsNumbered y.next_sid y.services → IsNumbered (cond b x y).next_sid (cond b x y).services
+either_acted true x y hx hy = hx
+either_acted false x y hx hy = hy
+
+-- an act keeps the serials in order
+pub act_numbers : {A : Type 0} (act : Act A) (m : Machine) → IsNumbered m.next_sid m.services → IsNumbered (acted act m).next_sid (acted act m).services
+act_numbers (Scan listing) m h =
+    either_acted m.closing _ _ h
+    (either_acted (repeats (names_in listing)) _ _ h
+    (numbered_all listing _ (in_byte_order (names_in listing))
+    (numbered_filtered stays m.next_sid (looked_up m.clock listing m.services)
+    (same_serials m.next_sid m.services (looked_up m.clock listing m.services) (serials_looked m.clock listing m.services) h))))
+act_numbers (Svc name letters) m h =
+    either_acted (not (stands name m.services)) _ _ h
+    (either_acted (has_ended name m.services) _ _ h (numbered_told name (Letters letters) m.clock m.next_sid m.services h))
+act_numbers (Started sid generation pid) m h = numbered_reported sid (StartedReport generation pid) m.clock m.next_sid m.services h
+act_numbers (StartFailed sid generation) m h = numbered_reported sid (StartFailedReport generation) m.clock m.next_sid m.services h
+act_numbers (Notify sid generation bytes) m h = numbered_reported sid (NotifyReport generation bytes) m.clock m.next_sid m.services h
+act_numbers (Death sid generation exit) m h = numbered_reported sid (DeathReport generation exit) m.clock m.next_sid m.services h
+act_numbers (FinishEnded sid generation exit) m h = numbered_reported sid (FinishEndedReport generation exit) m.clock m.next_sid m.services h
+act_numbers (Status name) m h = h
+act_numbers Tick m h = h

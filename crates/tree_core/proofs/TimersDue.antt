@@ -1,0 +1,185 @@
+-- Which timers are due, where timers agree with the services; and that a step that changes no service changes no timer.
+use Rattle.std.proofs.Common.{rules, subst, ◌≡◌, refl, sym, ap, ◌∙◌, ℕ, zero, suc, ◌<◌, ◌≤◌, List, [], ◌∷◌, ◌++◌, Bool, true, false, ◌||◌, ◌==◌, cond, arith, map, max, filter, length, get_or, flat_map}
+use Rattle.std.specs.Prelude.{Option, Some, None, nat_lt, nat_le, nat_eq}
+use Rattle.std.specs.Option.{option_eq}
+use Rattle.std.specs.List.{list_any, list_all}
+use Rattle.std.proofs.lemmas.Bool.Decides.{nat_tests}
+use Rattle.s6_events.specs.At.{last_moment}
+use Rattle.deadlines.specs.declared.timer.Timer.{Timer}
+use Rattle.deadlines.specs.declared.timer.TimerChange.TheVariants.{Clear}
+use Rattle.deadlines.specs.Timers.{rises, due_by, is_rising}
+use Rattle.supervise_core.specs.declared.chart.ChartState.{ChartState}
+use Rattle.supervise_core.specs.ChartState.{still}
+use Rattle.supervise_core.specs.Chart.{is_due, timer_rule, fire}
+use Rattle.tree_core.specs.Moves.{events_of, services_after, events_after, orders_after}
+use Rattle.supervise_core.specs.Service.{Supervised}
+use Rattle.tree_core.specs.declared.input.Input.{Input}
+use Rattle.tree_core.specs.Plan.{IsQuiet}
+use Rattle.tree_core.specs.Sound.{serials_of, IsNumbered}
+use Rattle.tree_core.specs.StandsFor.{Stored}
+use Rattle.tree_core.proofs.Quiet.{clock_stays}
+use Rattle.tree_core.proofs.SerialsRise.{rising_before}
+use Rattle.tree_core.specs.Told.{charts_of}
+use Rattle.tree_core.specs.Timers.{has_serial, in_reach, timer_in, set_in, TimersAgree, change_to, left, moved, changes_of, AreDue}
+use Rattle.tree_core.proofs.TimersAgree.{both_left, both_right, neither_left, neither_right, one_number, itself, later_other, earlier_other}
+
+-- a serial is due among timers in rising serial, where its timer is due
+later_unset : (s : ℕ) (ts : List Timer) → list_all (λ t. nat_lt s t.sid) ts ≡ true → set_in s ts ≡ None
+later_unset s [] h = refl
+later_unset s (t ∷ ts) h =
+    ap (λ b. cond b (Some t.at) (set_in s ts)) (later_other s t.sid (both_left (nat_lt s t.sid) _ h)) ∙ later_unset s ts (both_right (nat_lt s t.sid) _ h)
+
+due_found : (now q : ℕ) (ts : List Timer) → rises ts ≡ true → list_any (λ sid. sid == q) (due_by now ts) ≡ is_due now (set_in q ts)
+due_found now q [] r = refl
+due_found now q (t ∷ ts) r = by (nat_le t.at now) (t.sid == q) refl refl (due_found now q ts (both_right _ (rises ts) r))
+  where
+    by : (a b : Bool) → nat_le t.at now ≡ a → (t.sid == q) ≡ b → list_any (λ sid. sid == q) (due_by now ts) ≡ is_due now (set_in q ts)
+        → list_any (λ sid. sid == q) (map (λ u. u.sid) (cond a (t ∷ filter (λ u. nat_le u.at now) ts) (filter (λ u. nat_le u.at now) ts))) ≡ is_due now (cond b (Some t.at) (set_in q ts))
+    by true true e f rest = ap (λ b. b || list_any (λ sid. sid == q) (due_by now ts)) f ∙ sym e
+    by true false e f rest = ap (λ b. b || list_any (λ sid. sid == q) (due_by now ts)) f ∙ rest
+    by false true e f rest =
+        rest
+        ∙ (ap (is_due now) (ap (λ n. set_in n ts) (sym (one_number t.sid q f)) ∙ later_unset t.sid ts (both_left _ (rises ts) r))
+        ∙ sym e)
+    by false false e f rest = rest
+
+-- each of the services in rising serial has its own timer
+above_all : (s : ℕ) (cs : List ChartState) (k : ℕ) (d : ChartState) → list_all (λ m. nat_lt s m) (serials_of cs) ≡ true → k < length cs → nat_lt s (get_or cs k d).sid ≡ true
+above_all s [] k d h lt = absurd (omega (arith, lt))
+above_all s (c ∷ cs) zero d h lt = both_left (nat_lt s c.sid) _ h
+above_all s (c ∷ cs) (suc k) d h lt = above_all s cs k d (both_right (nat_lt s c.sid) _ h) (omega (arith, lt))
+
+own_timer : (cs : List ChartState) (k : ℕ) (d : ChartState) → is_rising (serials_of cs) ≡ true → k < length cs → timer_in (get_or cs k d).sid cs ≡ in_reach (get_or cs k d).timer
+own_timer [] k d r lt = absurd (omega (arith, lt))
+own_timer (c ∷ cs) zero d r lt = ap (λ b. cond b (in_reach c.timer) (timer_in c.sid cs)) (itself c.sid)
+own_timer (c ∷ cs) (suc k) d r lt =
+    ap (λ b. cond b (in_reach c.timer) (timer_in (get_or cs k d).sid cs))
+    (earlier_other c.sid (get_or cs k d).sid (above_all c.sid cs k d (both_left _ (is_rising (serials_of cs)) r) (omega (arith, lt))))
+    ∙ own_timer cs k d (both_right _ (is_rising (serials_of cs)) r) (omega (arith, lt))
+
+-- a timer past the greatest moment is never due
+past_due : (now due : ℕ) → now ≤ last_moment → nat_le due last_moment ≡ false → nat_le due now ≡ false
+past_due now due l h = grind (arith, nat_tests)
+
+due_in_reach : (now : ℕ) (timer : Option ℕ) → now ≤ last_moment → is_due now (in_reach timer) ≡ is_due now timer
+due_in_reach now None l = refl
+due_in_reach now (Some due) l = by (nat_le due last_moment) refl
+  where
+    by : (b : Bool) → nat_le due last_moment ≡ b → is_due now (cond b (Some due) None) ≡ nat_le due now
+    by true h = refl
+    by false h = sym (past_due now due l h)
+
+-- the serials of the due timers are those of the services whose timers are due
+pub due_agrees : (now : ℕ) (ts : List Timer) (services : List ChartState) → now ≤ last_moment → TimersAgree ts services → is_rising (serials_of services) ≡ true
+    → AreDue (due_by now ts) now services
+due_agrees now ts services l a r = λ k d lt.
+    due_found now (get_or services k d).sid ts a.order
+    ∙ (ap (is_due now) (a.moments (get_or services k d).sid ∙ own_timer services k d r lt) ∙ due_in_reach now (get_or services k d).timer l)
+
+-- where no service is due no timer is
+rest_timer : (now q : ℕ) (cs : List ChartState) → now ≤ last_moment → list_any (λ c. is_due now c.timer) cs ≡ false → is_due now (timer_in q cs) ≡ false
+rest_timer now q [] l h = refl
+rest_timer now q (c ∷ cs) l h = by (c.sid == q) (rest_timer now q cs l (neither_right (is_due now c.timer) _ h))
+  where
+    by : (b : Bool) → is_due now (timer_in q cs) ≡ false → is_due now (cond b (in_reach c.timer) (timer_in q cs)) ≡ false
+    by true rest = due_in_reach now c.timer l ∙ neither_left (is_due now c.timer) _ h
+    by false rest = rest
+
+nothing_in : (xs : List ℕ) → ((q : ℕ) → list_any (λ n. n == q) xs ≡ false) → xs ≡ []
+nothing_in [] h = refl
+nothing_in (x ∷ xs) h = let here : (x == x) ≡ false = neither_left (x == x) _ (h x) in let there = itself x in cc
+
+pub none_due : (now : ℕ) (ts : List Timer) (services : List ChartState) → now ≤ last_moment → TimersAgree ts services → list_any (λ c. is_due now c.timer) services ≡ false
+    → due_by now ts ≡ []
+none_due now ts services l a h = nothing_in (due_by now ts) (λ q. due_found now q ts a.order ∙ (ap (is_due now) (a.moments q) ∙ rest_timer now q services l h))
+
+-- lists of lists, where none has anything
+pub all_empty : {X Y : Type 0} (f : X → List Y) (xs : List X) → ((k : ℕ) (d : X) → k < length xs → f (get_or xs k d) ≡ []) → flat_map f xs ≡ []
+all_empty f [] h = refl
+all_empty f (x ∷ xs) h = (λ i. h zero x (omega arith) i ++ flat_map f xs) ∙ all_empty f xs (λ k d lt. h (suc k) d (omega (arith, lt)))
+
+pub first_empty : {Y : Type 0} (xs ys : List Y) → xs ++ ys ≡ [] → xs ≡ []
+first_empty [] ys e = refl
+first_empty (x ∷ xs) ys e = cc
+
+pub rest_empty : {Y : Type 0} (xs ys : List Y) → xs ++ ys ≡ [] → ys ≡ []
+rest_empty [] ys e = e
+rest_empty (x ∷ xs) ys e = cc
+
+pub none_here : {X Y : Type 0} (f : X → List Y) (xs : List X) (k : ℕ) (d : X) → k < length xs → flat_map f xs ≡ [] → f (get_or xs k d) ≡ []
+none_here f [] k d lt e = absurd (omega (arith, lt))
+none_here f (x ∷ xs) zero d lt e = first_empty (f x) (flat_map f xs) e
+none_here f (x ∷ xs) (suc k) d lt e = none_here f xs k d (omega (arith, lt)) (rest_empty (f x) (flat_map f xs) e)
+
+pub of_charts : {Y : Type 0} (f : ChartState → List Y) (services : List Supervised) → flat_map (λ s. f s.chart) services ≡ flat_map f (charts_of services)
+of_charts f [] = refl
+of_charts f (s ∷ services) = ap (λ rest. f s.chart ++ rest) (of_charts f services)
+
+-- a step that changes no service changes no timer
+present : (cs : List ChartState) (k : ℕ) (d : ChartState) → k < length cs → has_serial (get_or cs k d).sid cs ≡ true
+present [] k d lt = absurd (omega (arith, lt))
+present (c ∷ cs) zero d lt = ap (λ b. b || has_serial c.sid cs) (itself c.sid)
+present (c ∷ cs) (suc k) d lt = either (c.sid == (get_or cs k d).sid) _ (present cs k d (omega (arith, lt)))
+  where
+    either : (a b : Bool) → b ≡ true → (a || b) ≡ true
+    either true b h = refl
+    either false b h = h
+
+same_moment : (o : Option ℕ) → option_eq nat_eq o o ≡ true
+same_moment None = refl
+same_moment (Some n) = itself n
+
+pub nothing_changes : (cs : List ChartState) → is_rising (serials_of cs) ≡ true → changes_of cs cs ≡ []
+nothing_changes cs r = λ i. stays i ++ keeps i
+  where
+    stays : flat_map (left cs) cs ≡ []
+    stays = all_empty (left cs) cs (λ k d lt. ap (λ b. cond b [] (Clear (get_or cs k d).sid ∷ [])) (present cs k d lt))
+
+    keeps : flat_map (moved cs) cs ≡ []
+    keeps =
+        all_empty (moved cs) cs
+        (λ k d lt. ap (λ b. cond b [] (change_to (get_or cs k d).sid (in_reach (get_or cs k d).timer) ∷ []))
+        (ap (λ o. option_eq nat_eq o (in_reach (get_or cs k d).timer)) (own_timer cs k d r lt) ∙ same_moment (in_reach (get_or cs k d).timer)))
+
+pub empty_list : {X : Type 0} (xs : List X) → (length xs == 0) ≡ true → xs ≡ []
+empty_list [] h = refl
+empty_list (x ∷ xs) h = search rules
+
+-- where none is due, no service takes its rule
+untouched : (now : ℕ) (c : ChartState) → is_due now c.timer ≡ false → fire now c ≡ still c
+untouched now c h = ap (λ b. cond b (timer_rule c.phase c) (still c)) h
+
+later_ones : (now : ℕ) (c : ChartState) (cs : List ChartState) → AreDue [] now (c ∷ cs) → AreDue [] now cs
+later_ones now c cs h = λ k d lt. h (suc k) d (omega (arith, lt))
+
+pub unfired : (now : ℕ) (cs : List ChartState) → AreDue [] now cs → services_after (fire now) cs ≡ cs
+unfired now [] h = refl
+unfired now (c ∷ cs) h = λ i. (untouched now c (sym (h zero c (omega arith))) i).chart ∷ unfired now cs (later_ones now c cs h) i
+
+pub unfired_events : (now : ℕ) (cs : List ChartState) → AreDue [] now cs → events_after (fire now) cs ≡ []
+unfired_events now [] h = refl
+unfired_events now (c ∷ cs) h = (λ i. events_of c.sid (untouched now c (sym (h zero c (omega arith))) i) ++ events_after (fire now) cs) ∙ unfired_events now cs (later_ones now c cs h)
+
+pub unfired_orders : (now : ℕ) (cs : List ChartState) → AreDue [] now cs → orders_after (fire now) cs ≡ []
+unfired_orders now [] h = refl
+unfired_orders now (c ∷ cs) h = (λ i. (untouched now c (sym (h zero c (omega arith))) i).orders ++ orders_after (fire now) cs) ∙ unfired_orders now cs (later_ones now c cs h)
+
+pub still_fired : (now late : ℕ) (due : List ℕ) (before charts fired : List ChartState) → now ≡ late → charts ≡ before → due ≡ [] → AreDue due late before
+    → fired ≡ services_after (fire now) charts → fired ≡ before
+still_fired now late due before charts fired e f none h is =
+    is ∙ ((λ i. services_after (fire (e i)) (f i)) ∙ unfired late before (subst (λ (sids : List ℕ). AreDue sids late before) none h))
+
+-- what a tree finds due are the services whose timers are due, and for a quiet input there is none
+pub due_now : (now late next : ℕ) (due : List ℕ) (ts : List Timer) (before seen : List ChartState) → now ≡ late → now ≤ last_moment → due ≡ due_by now ts → seen ≡ before
+    → TimersAgree ts before → IsNumbered next before → AreDue due late seen
+due_now now late next due ts before seen e l is same a numbered =
+    subst (λ (n : ℕ). AreDue due n seen) e
+    (subst (λ (cs : List ChartState). AreDue due now cs) (sym same)
+    (subst (λ (sids : List ℕ). AreDue sids now before) (sym is) (due_agrees now ts before l a (rising_before (serials_of before) next numbered))))
+
+pub none_for_quiet : {A : Type 0} (t seen : Stored) (input : Input A) (now : ℕ) (ts : List Timer) → t ≡ seen → now ≡ max t.clock input.at → now ≤ last_moment
+    → TimersAgree ts (charts_of t.services) → IsQuiet input seen.clock (charts_of seen.services) → due_by now ts ≡ []
+none_for_quiet {A} t seen input now ts same e l a quiet =
+    let q : IsQuiet input t.clock (charts_of t.services) = subst (λ (x : Stored). IsQuiet input x.clock (charts_of x.services)) (sym same) quiet in
+    let late : now ≡ t.clock = clock_stays now t.clock input.at e q.early in
+    none_due now ts (charts_of t.services) l a (subst (λ (n : ℕ). list_any (λ c. is_due n c.timer) (charts_of t.services) ≡ false) (sym late) q.rest)
