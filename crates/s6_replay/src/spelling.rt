@@ -1,14 +1,16 @@
 //! The spelling of an input.
-ghost use Rattle.std.specs.Prelude.{◌≡◌, ◌++◌, map, string_bytes, IfOk, OnOk};
+ghost use Rattle.std.specs.Prelude.{◌≡◌, ◌++◌, ◌∷◌, [], map, codes, decimal, string_bytes, IfOk, OnOk};
 ghost use Rattle.std.specs.List.{join_with_byte};
+ghost use Rattle.hex.specs.Hex.{encode_lower};
 ghost use Rattle.svc_commands.specs.ControlLetter.{byte_of};
+ghost use Rattle.s6_replay.specs.Options.{entry_text};
 ghost use Rattle.s6_replay.specs.Spelling.{exit_words, act_words, spelling};
 
 use super::options::push_entries;
-use s6_events::Exit;
+use s6_events::{Exit, Name, Sid};
 use std::alloc::{AllocError, Allocator};
 use svc_commands::ControlLetter;
-use tree_core::{Act, Input};
+use tree_core::{Act, Entry, Input};
 
 // Adds the byte of each letter.
 fn push_letters<A: Allocator + Copy>(
@@ -32,23 +34,54 @@ fn exit_text<A: Allocator + Copy>(alloc: A, exit: Exit) -> Result<String<A>, All
     }
 }
 
+// The words of a scan.
 #[tactic(auto, using(crate::proofs::Joined::join_entries))]
+fn scan_text<A: Allocator + Copy>(alloc: A, entries: &[Entry]) -> Result<Vec<u8, A>, AllocError>
+    ensures { IfOk result (λ text. text.items ≡ join_with_byte 32 (codes "scan" ∷ map entry_text entries.now)) }
+{
+    let mut text = b"scan".to_vec(alloc)?;
+    push_entries(alloc, &mut text, entries)?;
+    Ok(text)
+}
+
+// The words of letters for a service.
+fn svc_text<A: Allocator + Copy>(
+    alloc: A,
+    name: &Name,
+    letters: &[ControlLetter],
+) -> Result<Vec<u8, A>, AllocError>
+    ensures { IfOk result (λ text. text.items ≡ join_with_byte 32 (codes "svc" ∷ name.now ∷ map byte_of letters.now ∷ [])) }
+{
+    let mut text = b"svc ".to_vec(alloc)?;
+    text.extend_from_slice(name.as_bytes())?;
+    text.push(b' ')?;
+    push_letters(&mut text, letters)?;
+    Ok(text)
+}
+
+// The words of a notification.
+fn notify_text<A: Allocator + Copy>(
+    alloc: A,
+    sid: Sid,
+    generation: u64,
+    bytes: &[u8],
+) -> Result<Vec<u8, A>, AllocError>
+    ensures { IfOk result (λ text. text.items ≡ join_with_byte 32
+        (codes "notify" ∷ decimal sid ∷ decimal generation ∷ encode_lower bytes.now ∷ [])) }
+{
+    let sid = sid.0;
+    let digits = hex::encode(alloc, bytes)?;
+    let text = format!(in alloc; "notify {sid} {generation} {digits}")?;
+    Ok(text.into_bytes())
+}
+
+// The words of an act.
 fn act_text<A: Allocator + Copy>(alloc: A, act: &Act<A>) -> Result<Vec<u8, A>, AllocError>
     ensures { IfOk result (λ text. text.items ≡ join_with_byte 32 (act_words act.now)) }
 {
     match act {
-        Act::Scan(listing) => {
-            let mut text = b"scan".to_vec(alloc)?;
-            push_entries(alloc, &mut text, listing.entries())?;
-            Ok(text)
-        }
-        Act::Svc(name, letters) => {
-            let mut text = b"svc ".to_vec(alloc)?;
-            text.extend_from_slice(name.as_bytes())?;
-            text.push(b' ')?;
-            push_letters(&mut text, letters.as_slice())?;
-            Ok(text)
-        }
+        Act::Scan(listing) => scan_text(alloc, listing.entries()),
+        Act::Svc(name, letters) => svc_text(alloc, name, letters.as_slice()),
         Act::Started(sid, generation, pid) => {
             let sid = sid.0;
             let text = format!(in alloc; "started {sid} {generation} {pid}")?;
@@ -60,10 +93,7 @@ fn act_text<A: Allocator + Copy>(alloc: A, act: &Act<A>) -> Result<Vec<u8, A>, A
             Ok(text.into_bytes())
         }
         Act::Notify(sid, generation, bytes) => {
-            let sid = sid.0;
-            let digits = hex::encode(alloc, bytes.as_slice())?;
-            let text = format!(in alloc; "notify {sid} {generation} {digits}")?;
-            Ok(text.into_bytes())
+            notify_text(alloc, *sid, *generation, bytes.as_slice())
         }
         Act::Death(sid, generation, exit) => {
             let sid = sid.0;
