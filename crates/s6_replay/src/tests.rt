@@ -33,15 +33,22 @@ fn replayed<A: Allocator + Copy>(
     Ok((answer, written))
 }
 
-// The first of the blocks, one after the other.
-fn first_blocks<A: Allocator + Copy>(alloc: A, count: usize) -> Result<Vec<u8, A>, AllocError> {
+// The first of some blocks, one after the other.
+fn joined<A: Allocator + Copy>(
+    alloc: A,
+    blocks: &[&str],
+    count: usize,
+) -> Result<Vec<u8, A>, AllocError> {
     let mut text = Vec::new(alloc);
-    for (place, block) in BLOCKS.iter().enumerate() {
-        if place < count {
-            text.extend_from_slice(block.as_bytes())?;
-        }
+    for block in blocks.iter().take(count) {
+        text.extend_from_slice(block.as_bytes())?;
     }
     Ok(text)
+}
+
+// The first of the blocks of the script.
+fn first_blocks<A: Allocator + Copy>(alloc: A, count: usize) -> Result<Vec<u8, A>, AllocError> {
+    joined(alloc, &BLOCKS, count)
 }
 
 // How many newlines there are.
