@@ -10,6 +10,7 @@ pub mod Generations
 pub mod ActGrows
 pub mod PlanMakes
 pub mod Quiet
+pub mod Truth
 pub mod SerialsRise
 pub mod TimersAgree
 pub mod TimersDue

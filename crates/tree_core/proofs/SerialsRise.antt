@@ -1,5 +1,5 @@
 -- The serials of the services rise, and the next one is above them all, before a step and after it.
-use Rattle.std.proofs.Common.{◌≡◌, ℕ, ◌+◌, List, [], ◌∷◌, ◌++◌, Bool, true, false, ◌==◌, ◌&&◌, cond, not, refl, sym, ◌∙◌, ap, filter, rules, arith}
+use Rattle.std.proofs.Common.{◌≡◌, ℕ, ◌+◌, List, [], ◌∷◌, ◌++◌, Bool, true, false, ◌==◌, cond, not, refl, sym, ◌∙◌, ap, filter, arith}
 use Rattle.std.specs.Prelude.{bytes_eq, nat_lt, length}
 use Rattle.std.specs.List.{list_all}
 use Rattle.std.proofs.lemmas.Bool.Decides.{nat_tests}
@@ -22,32 +22,21 @@ use Rattle.tree_core.specs.Machine.{Machine}
 use Rattle.tree_core.specs.Moves.{services_after}
 use Rattle.tree_core.specs.Scan.{Grown, looked_up, stays, stands, service_limit, config_for, with_service, with_name, with_names}
 use Rattle.tree_core.specs.Sound.{serials_of, IsNumbered}
+use Rattle.tree_core.proofs.Truth.{both_left, both_right, both_of}
 use Rattle.tree_core.proofs.Names.{keeps_either, keeps_still, keeps_look}
-
-left_of : (a b : Bool) → (a && b) ≡ true → a ≡ true
-left_of true b h = refl
-left_of false b h = h
-
-right_of : (a b : Bool) → (a && b) ≡ true → b ≡ true
-right_of true b h = h
-right_of false b h = search rules
-
-both_of : (a b : Bool) → a ≡ true → b ≡ true → (a && b) ≡ true
-both_of true b h k = k
-both_of false b h k = h
 
 -- numbers that rise up to one rise without it
 pub rising_before : (xs : List ℕ) (n : ℕ) → is_rising (xs ++ n ∷ []) ≡ true → is_rising xs ≡ true
 rising_before [] n h = refl
 rising_before (x ∷ xs) n h =
     both_of _ (is_rising xs)
-    (left_of (list_all (λ m. nat_lt x m) xs) _ (sym (list_all-append (λ m. nat_lt x m) xs (n ∷ [])) ∙ left_of _ (is_rising (xs ++ n ∷ [])) h))
-    (rising_before xs n (right_of _ (is_rising (xs ++ n ∷ [])) h))
+    (both_left (list_all (λ m. nat_lt x m) xs) _ (sym (list_all-append (λ m. nat_lt x m) xs (n ∷ [])) ∙ both_left _ (is_rising (xs ++ n ∷ [])) h))
+    (rising_before xs n (both_right _ (is_rising (xs ++ n ∷ [])) h))
 
 -- and they rise up to the next one
 last_above : (x n : ℕ) (xs : List ℕ) → list_all (λ m. nat_lt x m) (xs ++ n ∷ []) ≡ true → nat_lt x n ≡ true
-last_above x n [] h = left_of (nat_lt x n) true h
-last_above x n (y ∷ xs) h = last_above x n xs (right_of (nat_lt x y) _ h)
+last_above x n [] h = both_left (nat_lt x n) true h
+last_above x n (y ∷ xs) h = last_above x n xs (both_right (nat_lt x y) _ h)
 
 next_above : (x n : ℕ) → nat_lt x n ≡ true → nat_lt x (n + 1) ≡ true
 next_above x n h = grind (arith, nat_tests)
@@ -58,29 +47,29 @@ above_itself n = grind (arith, nat_tests)
 rising_next : (xs : List ℕ) (n : ℕ) → is_rising (xs ++ n ∷ []) ≡ true → is_rising ((xs ++ n ∷ []) ++ (n + 1) ∷ []) ≡ true
 rising_next [] n h = both_of _ true (both_of (nat_lt n (n + 1)) true (above_itself n) refl) refl
 rising_next (x ∷ xs) n h =
-    let all = left_of _ (is_rising (xs ++ n ∷ [])) h in
+    let all = both_left _ (is_rising (xs ++ n ∷ [])) h in
     both_of _ (is_rising ((xs ++ n ∷ []) ++ (n + 1) ∷ []))
     (list_all-append (λ m. nat_lt x m) (xs ++ n ∷ []) ((n + 1) ∷ [])
     ∙ both_of (list_all (λ m. nat_lt x m) (xs ++ n ∷ [])) _ all (both_of (nat_lt x (n + 1)) true (next_above x n (last_above x n xs all)) refl))
-    (rising_next xs n (right_of _ (is_rising (xs ++ n ∷ [])) h))
+    (rising_next xs n (both_right _ (is_rising (xs ++ n ∷ [])) h))
 
 -- fewer services rise too
 all_left : (s : ℕ) (p : ChartState → Bool) (cs : List ChartState) (ns : List ℕ) → list_all (λ m. nat_lt s m) (serials_of cs ++ ns) ≡ true
     → list_all (λ m. nat_lt s m) (serials_of (filter p cs) ++ ns) ≡ true
 all_left s p [] ns h = h
-all_left s p (c ∷ cs) ns h = by (p c) (all_left s p cs ns (right_of (nat_lt s c.sid) _ h))
+all_left s p (c ∷ cs) ns h = by (p c) (all_left s p cs ns (both_right (nat_lt s c.sid) _ h))
   where
     by : (b : Bool) → list_all (λ m. nat_lt s m) (serials_of (filter p cs) ++ ns) ≡ true
         → list_all (λ m. nat_lt s m) (serials_of (cond b (c ∷ filter p cs) (filter p cs)) ++ ns) ≡ true
-    by true rest = both_of (nat_lt s c.sid) _ (left_of (nat_lt s c.sid) _ h) rest
+    by true rest = both_of (nat_lt s c.sid) _ (both_left (nat_lt s c.sid) _ h) rest
     by false rest = rest
 
 numbered_filtered : (p : ChartState → Bool) (next : ℕ) (cs : List ChartState) → IsNumbered next cs → IsNumbered next (filter p cs)
 numbered_filtered p next [] h = h
-numbered_filtered p next (c ∷ cs) h = by (p c) (numbered_filtered p next cs (right_of _ (is_rising (serials_of cs ++ next ∷ [])) h))
+numbered_filtered p next (c ∷ cs) h = by (p c) (numbered_filtered p next cs (both_right _ (is_rising (serials_of cs ++ next ∷ [])) h))
   where
     by : (b : Bool) → IsNumbered next (filter p cs) → IsNumbered next (cond b (c ∷ filter p cs) (filter p cs))
-    by true rest = both_of _ (is_rising (serials_of (filter p cs) ++ next ∷ [])) (all_left c.sid p cs (next ∷ []) (left_of _ (is_rising (serials_of cs ++ next ∷ [])) h)) rest
+    by true rest = both_of _ (is_rising (serials_of (filter p cs) ++ next ∷ [])) (all_left c.sid p cs (next ∷ []) (both_left _ (is_rising (serials_of cs ++ next ∷ [])) h)) rest
     by false rest = rest
 
 -- a move that keeps each serial keeps the serials

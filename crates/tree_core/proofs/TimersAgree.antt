@@ -1,5 +1,5 @@
 -- Timers that agree with the services: what a step does to them, and which are due.
-use Rattle.std.proofs.Common.{◌≡◌, refl, sym, ap, ◌∙◌, ℕ, List, [], ◌∷◌, ◌++◌, Bool, true, false, ◌||◌, ◌&&◌, ◌==◌, cond, rules, find, filter, flat_map}
+use Rattle.std.proofs.Common.{◌≡◌, refl, sym, ap, ◌∙◌, ℕ, List, [], ◌∷◌, ◌++◌, Bool, true, false, ◌==◌, cond, rules, find, filter, flat_map}
 use Rattle.std.specs.Prelude.{Option, Some, None, nat_lt, nat_eq}
 use Rattle.std.specs.Option.{option_eq, option_or}
 use Rattle.std.specs.List.{list_all}
@@ -13,6 +13,7 @@ use Rattle.supervise_core.specs.declared.chart.ChartState.{ChartState}
 use Rattle.supervise_core.specs.Service.{Supervised}
 use Rattle.tree_core.specs.Sound.{serials_of}
 use Rattle.tree_core.specs.Told.{charts_of}
+use Rattle.tree_core.proofs.Truth.{neither_left, neither_right, neither_of, second, both_left, both_right}
 use Rattle.tree_core.specs.Timers.{has_serial, in_reach, timer_in, set_in, TimersAgree, change_to, left, moved, changes_of}
 
 -- the timer of a service that was found
@@ -28,31 +29,6 @@ timer_found sid (s ∷ services) = by (s.chart.sid == sid) (timer_found sid serv
         → cond b (in_reach s.chart.timer) (timer_in sid (charts_of services)) ≡ found_timer (cond b (Some s) (find (λ s. s.chart.sid == sid) services))
     by true rest = refl
     by false rest = rest
-
--- tests of one value and two
-pub neither_left : (a b : Bool) → (a || b) ≡ false → a ≡ false
-neither_left true b h = h
-neither_left false b h = refl
-
-pub neither_right : (a b : Bool) → (a || b) ≡ false → b ≡ false
-neither_right true b h = search rules
-neither_right false b h = h
-
-neither_of : (a b : Bool) → a ≡ false → b ≡ false → (a || b) ≡ false
-neither_of true b h k = h
-neither_of false b h k = k
-
-second : (a b : Bool) → (a || b) ≡ true → a ≡ false → b ≡ true
-second true b h k = search rules
-second false b h k = h
-
-pub both_left : (a b : Bool) → (a && b) ≡ true → a ≡ true
-both_left true b h = refl
-both_left false b h = h
-
-pub both_right : (a b : Bool) → (a && b) ≡ true → b ≡ true
-both_right true b h = h
-both_right false b h = search rules
 
 -- numbers
 pub one_number : (m n : ℕ) → (m == n) ≡ true → m ≡ n

@@ -21,7 +21,8 @@ use Rattle.tree_core.proofs.Quiet.{clock_stays}
 use Rattle.tree_core.proofs.SerialsRise.{rising_before}
 use Rattle.tree_core.specs.Told.{charts_of}
 use Rattle.tree_core.specs.Timers.{has_serial, in_reach, timer_in, set_in, TimersAgree, change_to, left, moved, changes_of, AreDue}
-use Rattle.tree_core.proofs.TimersAgree.{both_left, both_right, neither_left, neither_right, one_number, itself, later_other, earlier_other}
+use Rattle.tree_core.proofs.Truth.{both_left, both_right, neither_left, neither_right}
+use Rattle.tree_core.proofs.TimersAgree.{one_number, itself, later_other, earlier_other}
 
 -- a serial is due among timers in rising serial, where its timer is due
 later_unset : (s : ℕ) (ts : List Timer) → list_all (λ t. nat_lt s t.sid) ts ≡ true → set_in s ts ≡ None

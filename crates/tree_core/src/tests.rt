@@ -422,3 +422,55 @@ fn a_listed_service_takes_what_its_directory_says(rt: HostRuntime) -> Result<(),
     assert_eq!(rt; added, (2, 4));
     Ok(())
 }
+
+// Two services whose timers are set, moved and cleared: each is started at its own moment, and both at once in rising serial.
+const TIMERS: [(u64, Deed, &str); 14] = [
+    (
+        0,
+        Deed::Scan(&[b"b", b"a"]),
+        "scanned +1:a +2:b|e 1 s|e 2 s|o run 1 1|o run 2 1",
+    ),
+    (0, Deed::Started(1, 1, 10), "done|e 1 u"),
+    (0, Deed::Started(2, 1, 20), "done|e 2 u"),
+    (100, Deed::Death(2, 1, Exit::Code(0)), "done|e 2 d|e 2 D"),
+    (200, Deed::Death(1, 1, Exit::Code(0)), "done|e 1 d|e 1 D"),
+    (1100, Deed::Tick, "done|o run 2 2"),
+    (1150, Deed::Tell(b"a", &[ControlLetter::Down]), "done"),
+    (1300, Deed::Tick, "done"),
+    (
+        1300,
+        Deed::Tell(b"a", &[ControlLetter::Up]),
+        "done|o run 1 2",
+    ),
+    (1300, Deed::Started(2, 2, 21), "done|e 2 u"),
+    (1350, Deed::Started(1, 2, 11), "done|e 1 u"),
+    (1400, Deed::Death(2, 2, Exit::Code(0)), "done|e 2 d|e 2 D"),
+    (1450, Deed::Death(1, 2, Exit::Code(0)), "done|e 1 d|e 1 D"),
+    (2500, Deed::Tick, "done|o run 1 3|o run 2 3"),
+];
+
+// A service that dies less than a second before the greatest moment: its timer never comes, and a letter starts it.
+const LAST_MOMENT: [(u64, Deed, &str); 5] = [
+    (0, Deed::Scan(&[b"web"]), "scanned +1:web|e 1 s|o run 1 1"),
+    (0, Deed::Started(1, 1, 500), "done|e 1 u"),
+    (
+        999_999_999_999_500,
+        Deed::Death(1, 1, Exit::Code(0)),
+        "done|e 1 d|e 1 D",
+    ),
+    (1_000_000_000_000_000, Deed::Tick, "done"),
+    (
+        1_000_000_000_000_000,
+        Deed::Tell(b"web", &[ControlLetter::Up]),
+        "done|o run 1 2",
+    ),
+];
+
+#[test]
+fn each_timer_goes_off_at_its_own_moment(rt: HostRuntime) -> Result<(), Fail> {
+    let ended = after_rows(&rt, rt.alloc(), &TIMERS)?;
+    assert_eq!(rt; ended, (2500, 14));
+    let last = after_rows(&rt, rt.alloc(), &LAST_MOMENT)?;
+    assert_eq!(rt; last, (1_000_000_000_000_000, 5));
+    Ok(())
+}
