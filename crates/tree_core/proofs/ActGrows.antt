@@ -3,16 +3,13 @@ use Rattle.std.proofs.Common.{ℕ, ◌+◌, ◌≤◌, arith, List, [], ◌∷�
 use Rattle.std.specs.Prelude.{All, nat_lt, length, Option, Some, None}
 use Rattle.std.proofs.lemmas.List.Elements.{All-map, All-filter, All-push}
 use Rattle.supervise_core.specs.declared.chart.ChartState.{ChartState}
-use Rattle.supervise_core.specs.declared.change.Change.TheVariants.{Started as StartedReport, StartFailed as StartFailedReport, Notify as NotifyReport, Death as DeathReport, FinishEnded as FinishEndedReport, Control as Letters}
 use Rattle.supervise_core.specs.ChartState.{new_service, is_gone}
 use Rattle.supervise_core.specs.Moves.{begin_supervisor}
 use Rattle.servicedir.specs.declared.config.Config.{Config}
-use Rattle.tree_core.specs.declared.input.Act.{Act}
 use Rattle.tree_core.specs.declared.input.Entry.{Entry}
-use Rattle.tree_core.specs.declared.input.Act.TheVariants.{Scan, Svc, Started, StartFailed, Notify, Death, FinishEnded, Status, Tick}
-use Rattle.tree_core.specs.Acts.{Acted, acted, has_ended}
+use Rattle.tree_core.specs.Acts.{Work, Worked, worked}
+use Rattle.tree_core.specs.Acts.Work.{leave, change_one, change_named, look_up}
 use Rattle.tree_core.specs.Listing.{names_in, config_in, repeats, in_byte_order}
-use Rattle.tree_core.specs.Machine.{Machine}
 use Rattle.tree_core.specs.Scan.{Grown, looked_at, looked_up, stays, stands, service_limit, config_for, with_service, with_name, with_names}
 use Rattle.tree_core.proofs.Generations.{all_changed, all_told}
 
@@ -53,22 +50,9 @@ all_named : (listing : List Entry) (n : ℕ) (g : Grown) (names : List (List ℕ
 all_named listing n g [] h = h
 all_named listing n g (name ∷ names) h = all_named listing n (with_name listing g name) names (named listing n g name h)
 
-either_acted : {A : Type 0} (n : ℕ) (b : Bool) (x y : Acted A) → Below n x.services → Below n y.services → Below n (cond b x y).services
-either_acted n true x y hx hy = hx
-either_acted n false x y hx hy = hy
-
-pub act_grows : {A : Type 0} (act : Act A) (m : Machine) (n : ℕ) → Below n m.services → Below (n + 1) (acted act m).services
-act_grows (Scan listing) m n h =
-    either_acted (n + 1) m.closing _ _ (more n m.services h)
-    (either_acted (n + 1) (repeats (names_in listing)) _ _ (more n m.services h)
-    (all_named listing n _ (in_byte_order (names_in listing)) (more n _ (All-filter stays (λ c. c.generation ≤ n) _ (looked listing m.clock n m.services h)))))
-act_grows (Svc name letters) m n h =
-    either_acted (n + 1) (not (stands name m.services)) _ _ (more n m.services h)
-    (either_acted (n + 1) (has_ended name m.services) _ _ (more n m.services h) (all_told name (Letters letters) m.clock n m.services h))
-act_grows (Started sid generation pid) m n h = all_changed sid (StartedReport generation pid) m.clock n m.services h
-act_grows (StartFailed sid generation) m n h = all_changed sid (StartFailedReport generation) m.clock n m.services h
-act_grows (Notify sid generation bytes) m n h = all_changed sid (NotifyReport generation bytes) m.clock n m.services h
-act_grows (FinishEnded sid generation exit) m n h = all_changed sid (FinishEndedReport generation exit) m.clock n m.services h
-act_grows (Death sid generation exit) m n h = all_changed sid (DeathReport generation exit) m.clock n m.services h
-act_grows (Status name) m n h = more n m.services h
-act_grows Tick m n h = more n m.services h
+pub work_grows : (work : Work) (now : ℕ) (cs : List ChartState) (next n : ℕ) → Below n cs → Below (n + 1) (worked work now cs next).services
+work_grows leave now cs next n h = more n cs h
+work_grows (change_one sid change) now cs next n h = all_changed sid change now n cs h
+work_grows (change_named name change) now cs next n h = all_told name change now n cs h
+work_grows (look_up listing) now cs next n h =
+    all_named listing n _ (in_byte_order (names_in listing)) (more n _ (All-filter stays (λ c. c.generation ≤ n) _ (looked listing now n cs h)))

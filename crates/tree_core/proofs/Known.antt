@@ -7,7 +7,6 @@ use Rattle.std.proofs.lemmas.List.Folds.{list_any-append, list_any_at}
 use Rattle.servicedir.specs.declared.config.Config.{Config}
 use Rattle.s6_events.specs.declared.mark.Mark.TheVariants.{SupervisorStarted}
 use Rattle.supervise_core.specs.declared.change.Change.{Change}
-use Rattle.supervise_core.specs.declared.change.Change.TheVariants.{Started as StartedReport, StartFailed as StartFailedReport, Notify as NotifyReport, Death as DeathReport, FinishEnded as FinishEndedReport, Control as Letters}
 use Rattle.supervise_core.specs.declared.chart.ChartState.{ChartState}
 use Rattle.supervise_core.specs.Chart.{fire}
 use Rattle.supervise_core.specs.ChartState.{Moved, new_service}
@@ -16,12 +15,10 @@ use Rattle.supervise_core.specs.Service.{Supervised}
 use Rattle.supervise_core.proofs.Agreement.{begins_with_start}
 use Rattle.supervise_core.proofs.Identity.{KeepsIdentity, keeps_changed, keeps_fire, keeps_begin}
 use Rattle.tree_core.specs.declared.effect.Event.{Event}
-use Rattle.tree_core.specs.declared.input.Act.{Act}
-use Rattle.tree_core.specs.declared.input.Act.TheVariants.{Scan, Svc, Started, StartFailed, Notify, Death, FinishEnded, Status, Tick}
 use Rattle.tree_core.specs.declared.input.Entry.{Entry}
-use Rattle.tree_core.specs.Acts.{Acted, acted, changed_at, changed_named, has_ended}
+use Rattle.tree_core.specs.Acts.{Work, Worked, worked, changed_at, changed_named}
+use Rattle.tree_core.specs.Acts.Work.{leave, change_one, change_named, look_up}
 use Rattle.tree_core.specs.Listing.{config_in, names_in, repeats, in_byte_order}
-use Rattle.tree_core.specs.Machine.{Machine}
 use Rattle.tree_core.specs.Moves.{event, events_of, services_after}
 use Rattle.tree_core.specs.Scan.{Grown, looked_at, looked_up, stays, stands, service_limit, config_for, with_service, with_name, with_names}
 use Rattle.tree_core.specs.Told.{charts_of}
@@ -136,24 +133,11 @@ known_told services events name change now cs h =
     known_still services events _
     (known_moved services [] (changed_named name change now) cs (λ c. keeps_either (bytes_eq name c.name) c _ _ (keeps_changed change now c) (keeps_still c)) h)
 
-either_acted : {A : Type 0} (services : List Supervised) (b : Bool) (x y : Acted A) → AllKnown services x.events x.services → AllKnown services y.events y.services
-    → AllKnown services (cond b x y).events (cond b x y).services
-either_acted services true x y hx hy = hx
-either_acted services false x y hx hy = hy
-
--- after an act each service was there before it or begins in it
-pub known_act : {A : Type 0} (services : List Supervised) (act : Act A) (m : Machine) → AllKnown services [] m.services → AllKnown services (acted act m).events (acted act m).services
-known_act services (Scan listing) m h =
-    either_acted services m.closing _ _ h
-    (either_acted services (repeats (names_in listing)) _ _ h
-    (known_named services listing _ (in_byte_order (names_in listing)) (All-filter stays (λ (c : ChartState). is_known services [] c.sid ≡ true) _ (known_looked services m.clock listing m.services h))))
-known_act services (Svc name letters) m h =
-    either_acted services (not (stands name m.services)) _ _ h
-    (either_acted services (has_ended name m.services) _ _ h (known_told services _ name (Letters letters) m.clock m.services h))
-known_act services (Started sid generation pid) m h = known_reported services _ sid (StartedReport generation pid) m.clock m.services h
-known_act services (StartFailed sid generation) m h = known_reported services _ sid (StartFailedReport generation) m.clock m.services h
-known_act services (Notify sid generation bytes) m h = known_reported services _ sid (NotifyReport generation bytes) m.clock m.services h
-known_act services (Death sid generation exit) m h = known_reported services _ sid (DeathReport generation exit) m.clock m.services h
-known_act services (FinishEnded sid generation exit) m h = known_reported services _ sid (FinishEndedReport generation exit) m.clock m.services h
-known_act services (Status name) m h = h
-known_act services Tick m h = h
+-- after work each service was there before it or begins in it
+pub known_work : (services : List Supervised) (work : Work) (now : ℕ) (cs : List ChartState) (next : ℕ) → AllKnown services [] cs
+    → AllKnown services (worked work now cs next).events (worked work now cs next).services
+known_work services leave now cs next h = h
+known_work services (change_one sid change) now cs next h = known_reported services _ sid change now cs h
+known_work services (change_named name change) now cs next h = known_told services _ name change now cs h
+known_work services (look_up listing) now cs next h =
+    known_named services listing _ (in_byte_order (names_in listing)) (All-filter stays (λ (c : ChartState). is_known services [] c.sid ≡ true) _ (known_looked services now listing cs h))

@@ -1,6 +1,5 @@
 pub mod ListingOrder
 pub mod Entries
-pub mod Past
 pub mod Reading
 pub mod Recall
 pub mod Known

@@ -6,18 +6,15 @@ use Rattle.std.specs.List.{list_any}
 use Rattle.std.proofs.lemmas.List.{map-append}
 use Rattle.supervise_core.specs.declared.chart.ChartState.{ChartState}
 use Rattle.supervise_core.specs.declared.change.Change.{Change}
-use Rattle.supervise_core.specs.declared.change.Change.TheVariants.{Started as StartedReport, StartFailed as StartFailedReport, Notify as NotifyReport, Death as DeathReport, FinishEnded as FinishEndedReport, Control as Letters}
 use Rattle.supervise_core.specs.ChartState.{Moved, new_service}
 use Rattle.supervise_core.specs.Moves.{begin_supervisor}
 use Rattle.supervise_core.specs.Chart.{fire}
 use Rattle.supervise_core.proofs.Identity.{IsSame, KeepsIdentity, keeps_fire, keeps_changed, keeps_active, keeps_begin}
 use Rattle.servicedir.specs.declared.config.Config.{Config}
-use Rattle.tree_core.specs.declared.input.Act.{Act}
 use Rattle.tree_core.specs.declared.input.Entry.{Entry}
-use Rattle.tree_core.specs.declared.input.Act.TheVariants.{Scan, Svc, Started, StartFailed, Notify, Death, FinishEnded, Status, Tick}
-use Rattle.tree_core.specs.Acts.{Acted, acted, changed_at, changed_named, has_ended}
+use Rattle.tree_core.specs.Acts.{Work, Worked, worked, changed_at, changed_named}
+use Rattle.tree_core.specs.Acts.Work.{leave, change_one, change_named, look_up}
 use Rattle.tree_core.specs.Listing.{lists, repeats, in_byte_order, names_in, config_in}
-use Rattle.tree_core.specs.Machine.{Machine}
 use Rattle.tree_core.specs.Moves.{services_after}
 use Rattle.tree_core.specs.Scan.{Grown, looked_at, looked_up, stays, stands, service_limit, config_for, with_service, with_name, with_names}
 use Rattle.tree_core.specs.Sound.{names_of}
@@ -112,26 +109,13 @@ all_once : (listing : List Entry) (g : Grown) (names : List (List ℕ)) → repe
 all_once listing g [] h = h
 all_once listing g (name ∷ names) h = all_once listing (with_name listing g name) names (once_named listing g name h)
 
-either_acted : {A : Type 0} (b : Bool) (x y : Acted A) → repeats (names_of x.services) ≡ false → repeats (names_of y.services) ≡ false → repeats (names_of (cond b x y).services) ≡ false
-either_acted true x y hx hy = hx
-either_acted false x y hx hy = hy
-
--- an act leaves no name twice
-pub act_names : {A : Type 0} (act : Act A) (m : Machine) → repeats (names_of m.services) ≡ false → repeats (names_of (acted act m).services) ≡ false
-act_names (Scan listing) m h =
-    either_acted m.closing _ _ h
-    (either_acted (repeats (names_in listing)) _ _ h
-    (all_once listing _ (in_byte_order (names_in listing)) (once_filtered stays (looked_up m.clock listing m.services) (ap repeats (names_looked m.clock listing m.services) ∙ h))))
-act_names (Svc name letters) m h =
-    either_acted (not (stands name m.services)) _ _ h
-    (either_acted (has_ended name m.services) _ _ h (ap repeats (names_told name (Letters letters) m.clock m.services) ∙ h))
-act_names (Started sid generation pid) m h = ap repeats (names_reported sid (StartedReport generation pid) m.clock m.services) ∙ h
-act_names (StartFailed sid generation) m h = ap repeats (names_reported sid (StartFailedReport generation) m.clock m.services) ∙ h
-act_names (Notify sid generation bytes) m h = ap repeats (names_reported sid (NotifyReport generation bytes) m.clock m.services) ∙ h
-act_names (Death sid generation exit) m h = ap repeats (names_reported sid (DeathReport generation exit) m.clock m.services) ∙ h
-act_names (FinishEnded sid generation exit) m h = ap repeats (names_reported sid (FinishEndedReport generation exit) m.clock m.services) ∙ h
-act_names (Status name) m h = h
-act_names Tick m h = h
+-- no work leaves a name twice
+pub work_names : (work : Work) (now : ℕ) (cs : List ChartState) (next : ℕ) → repeats (names_of cs) ≡ false → repeats (names_of (worked work now cs next).services) ≡ false
+work_names leave now cs next h = h
+work_names (change_one sid change) now cs next h = ap repeats (names_reported sid change now cs) ∙ h
+work_names (change_named name change) now cs next h = ap repeats (names_told name change now cs) ∙ h
+work_names (look_up listing) now cs next h =
+    all_once listing _ (in_byte_order (names_in listing)) (once_filtered stays (looked_up now listing cs) (ap repeats (names_looked now listing cs) ∙ h))
 
 unlisted_at : (q : List ℕ) (i : ℕ) (cs : List ChartState) (d : ChartState) → lists (names_of cs) q ≡ false → i < length cs → bytes_eq q (get_or cs i d).name ≡ false
 unlisted_at q i [] d h l = absurd (omega (arith, l))

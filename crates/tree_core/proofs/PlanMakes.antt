@@ -10,15 +10,14 @@ use Rattle.supervise_core.specs.Service.{Supervised}
 use Rattle.tree_core.specs.declared.effect.Event.{Event}
 use Rattle.tree_core.specs.declared.input.Input.{Input}
 use Rattle.tree_core.specs.declared.plan.Plan.{Plan}
-use Rattle.tree_core.specs.Acts.{Acted, acted}
+use Rattle.tree_core.specs.Acts.{Acted, acted, work_of}
 use Rattle.tree_core.specs.Machine.{Machine, DeathOf}
 use Rattle.tree_core.specs.Moves.{services_after, events_after, orders_after, moment_of}
-use Rattle.tree_core.specs.Plan.{with_past, at_work, planned, Plans}
+use Rattle.tree_core.specs.Plan.{with_past, planned, Plans}
 use Rattle.tree_core.specs.StandsFor.{AllAgree}
 use Rattle.tree_core.specs.Step.{step, timed, clocked, step_limit, clock_moments}
 use Rattle.tree_core.specs.Told.{charts_of, all_with_status}
-use Rattle.tree_core.proofs.Known.{AllKnown, known_before, known_fired, known_act, known_with}
-use Rattle.tree_core.proofs.Past.{same_act}
+use Rattle.tree_core.proofs.Known.{AllKnown, known_before, known_fired, known_work, known_with}
 use Rattle.tree_core.proofs.Reading.{reading-clocked}
 use Rattle.tree_core.proofs.Recall.{all_clocked, recalled}
 
@@ -56,26 +55,26 @@ act_given clock at now services timers fired Given history is timed_by agrees re
 
 -- after the act, what is stored agrees
 done_agrees : {A : Type 0} (clock now : ℕ) (services : List Supervised) (timers all : List Event) (fired : List ChartState) (history : List Moment) (input : Input A) (m : Machine) (a : Acted A)
-    → now ≡ max clock input.at → fired ≡ services_after (fire now) (charts_of services) → m.services ≡ fired → a ≡ acted input.act m → all ≡ timers ++ a.events
+    → now ≡ max clock input.at → fired ≡ services_after (fire now) (charts_of services) → m.services ≡ fired → a ≡ acted input.act m → all ≡ timers ++ a.work.events
     → AllAgree services history → clock ≡ clock_of history
-    → AllAgree (all_with_status now all services a.services) ((history ++ clock_moments clock input.at) ++ map moment_of all)
+    → AllAgree (all_with_status now all services a.work.services) ((history ++ clock_moments clock input.at) ++ map moment_of all)
 done_agrees {A} clock now services timers all fired history input m a is timed_by there act_is gathered agrees reading =
-    recalled services all a.services now (history ++ clock_moments clock input.at) (sym (is ∙ reading-clocked history clock input.at reading)) (all_clocked services clock input.at history agrees)
-    (subst (λ (events : List Event). AllKnown services events a.services) (sym gathered)
-    (known_with services timers a.events a.services
-    (subst (λ (x : Acted A). AllKnown services x.events x.services) (sym act_is)
-    (known_act services input.act m
+    recalled services all a.work.services now (history ++ clock_moments clock input.at) (sym (is ∙ reading-clocked history clock input.at reading)) (all_clocked services clock input.at history agrees)
+    (subst (λ (events : List Event). AllKnown services events a.work.services) (sym gathered)
+    (known_with services timers a.work.events a.work.services
+    (subst (λ (x : Acted A). AllKnown services x.work.events x.work.services) (sym act_is)
+    (known_work services (work_of input.act m) m.clock m.services m.next_sid
     (subst (λ (cs : List ChartState). AllKnown services [] cs) (sym (there ∙ timed_by)) (known_fired services [] now (charts_of services) (known_before services [])))))))
 
 pub plan_makes : {A : Type 0} (clock steps : ℕ) (closing : Bool) (services : List Supervised) (next_sid : ℕ) (input : Input A) (plan : Plan A) (fired : List ChartState) (timers : List Event) (a : Acted A)
     → steps < step_limit → plan.now ≡ max clock input.at
     → fired ≡ services_after (fire plan.now) (charts_of services)
     → timers ≡ events_after (fire plan.now) (charts_of services)
-    → ((history : List Moment) → AllAgree (all_with_status plan.now timers services fired) history → a ≡ acted input.act (at_work closing plan.now fired next_sid history))
-    → planned plan ≡ all_with_status plan.now plan.effect.events.items services a.services
-    → plan.next_sid ≡ a.next_sid → plan.effect.reply ≡ a.reply
-    → plan.effect.events.items ≡ timers ++ a.events
-    → plan.effect.orders.items ≡ orders_after (fire plan.now) (charts_of services) ++ a.orders
+    → ((taken : ℕ) (history : List Moment) (deaths : List DeathOf) → AllAgree (all_with_status plan.now timers services fired) history → a ≡ acted input.act (with_past plan.now taken closing fired next_sid history deaths))
+    → planned plan ≡ all_with_status plan.now plan.effect.events.items services a.work.services
+    → plan.next_sid ≡ a.work.next_sid → plan.effect.reply ≡ a.reply
+    → plan.effect.events.items ≡ timers ++ a.work.events
+    → plan.effect.orders.items ≡ orders_after (fire plan.now) (charts_of services) ++ a.work.orders
     → plan.effect.matched.items ≡ [] → plan.effect.released.items ≡ []
     → plan.moments.items ≡ clock_moments clock input.at ++ map moment_of plan.effect.events.items
     → (history : List Moment) (deaths : List DeathOf) → AllAgree services history → clock ≡ clock_of history
@@ -84,21 +83,19 @@ plan_makes clock steps closing services next_sid input plan fired timers a left 
     let cs : List ChartState = charts_of services in
     let before : List Moment = history ++ clock_moments clock input.at in
     let t = opened (with_past clock steps closing cs next_sid history deaths) input left in
-    let was : a ≡ acted input.act (at_work closing plan.now fired next_sid (before ++ map moment_of timers)) =
-    act_is (before ++ map moment_of timers) (fired_agrees clock input.at plan.now services timers fired history now timed_by agrees reading) in
+    let was : a ≡ acted input.act (with_past plan.now steps closing fired next_sid (before ++ map moment_of timers) deaths) =
+    act_is steps (before ++ map moment_of timers) deaths (fired_agrees clock input.at plan.now services timers fired history now timed_by agrees reading) in
     let fired_is : fired ≡ services_after (fire (max clock input.at)) cs = timed_by ∙ ap (λ n. services_after (fire n) cs) now in
     let told_is : timers ≡ events_after (fire (max clock input.at)) cs = told ∙ ap (λ n. events_after (fire n) cs) now in
-    let work : a ≡ acted input.act (at_work closing (max clock input.at) (services_after (fire (max clock input.at)) cs) next_sid (before ++ map moment_of (events_after (fire (max clock input.at)) cs))) =
-    was ∙ (λ i. acted input.act (at_work closing (now i) (fired_is i) next_sid (before ++ map moment_of (told_is i)))) in
-    let full = same_act input.act (max clock input.at) steps closing (services_after (fire (max clock input.at)) cs) next_sid (before ++ map moment_of (events_after (fire (max clock input.at)) cs)) deaths in
-    let done = work ∙ sym full in
-    let given : plan.effect.events.items ≡ _ = events ∙ (λ i. told_is i ++ (done i).events) in
+    let done : a ≡ acted input.act (with_past (max clock input.at) steps closing (services_after (fire (max clock input.at)) cs) next_sid (before ++ map moment_of (events_after (fire (max clock input.at)) cs)) deaths) =
+    was ∙ (λ i. acted input.act (with_past (now i) steps closing (fired_is i) next_sid (before ++ map moment_of (told_is i)) deaths)) in
+    let given : plan.effect.events.items ≡ _ = events ∙ (λ i. told_is i ++ (done i).work.events) in
     record {
       clock = now ∙ sym (ap (λ s. s.machine.clock) t);
       steps = sym (ap (λ s. s.machine.steps) t);
       closing = sym (ap (λ s. s.machine.closing) t);
-      services = ap charts_of standing ∙ (charts_kept plan.now plan.effect.events.items services a.services ∙ (ap (λ x. x.services) done ∙ sym (ap (λ s. s.machine.services) t)));
-      next_sid = next ∙ (ap (λ x. x.next_sid) done ∙ sym (ap (λ s. s.machine.next_sid) t));
+      services = ap charts_of standing ∙ (charts_kept plan.now plan.effect.events.items services a.work.services ∙ (ap (λ x. x.work.services) done ∙ sym (ap (λ s. s.machine.services) t)));
+      next_sid = next ∙ (ap (λ x. x.work.next_sid) done ∙ sym (ap (λ s. s.machine.next_sid) t));
       history =
           ap (λ ms. history ++ ms) (moments ∙ ap (λ e. clock_moments clock input.at ++ map moment_of e) given)
           ∙ (regrouped history (clock_moments clock input.at) (events_after (fire (max clock input.at)) cs) _
@@ -107,15 +104,15 @@ plan_makes clock steps closing services next_sid input plan fired timers a left 
           (λ i. record {
             reply = (reply ∙ ap (λ x. x.reply) done) i;
             events = given i;
-            orders = (orders ∙ (λ j. orders_after (fire (now j)) cs ++ (done j).orders)) i;
+            orders = (orders ∙ (λ j. orders_after (fire (now j)) cs ++ (done j).work.orders)) i;
             matched = matched i;
             released = released i;
           })
           ∙ sym (ap (λ s. s.outcome) t);
       agrees =
           subst (λ (ss : List Supervised). AllAgree ss (history ++ plan.moments.items)) (sym standing)
-          (subst (λ (h : List Moment). AllAgree (all_with_status plan.now plan.effect.events.items services a.services) h)
+          (subst (λ (h : List Moment). AllAgree (all_with_status plan.now plan.effect.events.items services a.work.services) h)
           (append_assoc history (clock_moments clock input.at) (map moment_of plan.effect.events.items) ∙ ap (λ ms. history ++ ms) (sym moments))
-          (done_agrees clock plan.now services timers plan.effect.events.items fired history input (at_work closing plan.now fired next_sid (before ++ map moment_of timers)) a
+          (done_agrees clock plan.now services timers plan.effect.events.items fired history input (with_past plan.now steps closing fired next_sid (before ++ map moment_of timers) deaths) a
           now timed_by refl was events agrees reading));
     }

@@ -44,7 +44,7 @@ reads_by false m input e =
     let n : Machine = with_moves (fire (clocked input.at m).clock) (clocked input.at m) in
     reading-clocked m.history m.clock input.at e
     ∙ (sym (reading-marks (clocked input.at m).history (events_after (fire (clocked input.at m).clock) m.services))
-    ∙ sym (reading-marks n.history (acted input.act n).events))
+    ∙ sym (reading-marks n.history (acted input.act n).work.events))
 
 pub step-reads : {A : Type 0} (m : Machine) (input : Input A) → m.clock ≡ clock_of m.history → (step m input).machine.clock ≡ clock_of (step m input).machine.history
 step-reads m input e = reads_by (m.steps == step_limit) m input e

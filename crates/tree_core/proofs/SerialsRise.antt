@@ -8,17 +8,14 @@ use Rattle.std.proofs.lemmas.List.Folds.{list_all-append}
 use Rattle.deadlines.specs.Timers.{is_rising}
 use Rattle.supervise_core.specs.declared.chart.ChartState.{ChartState}
 use Rattle.supervise_core.specs.declared.change.Change.{Change}
-use Rattle.supervise_core.specs.declared.change.Change.TheVariants.{Started as StartedReport, StartFailed as StartFailedReport, Notify as NotifyReport, Death as DeathReport, FinishEnded as FinishEndedReport, Control as Letters}
 use Rattle.supervise_core.specs.ChartState.{Moved, new_service}
 use Rattle.supervise_core.specs.Moves.{begin_supervisor}
 use Rattle.supervise_core.specs.Chart.{fire}
 use Rattle.supervise_core.proofs.Identity.{KeepsIdentity, keeps_fire, keeps_changed, keeps_begin}
-use Rattle.tree_core.specs.declared.input.Act.{Act}
 use Rattle.tree_core.specs.declared.input.Entry.{Entry}
-use Rattle.tree_core.specs.declared.input.Act.TheVariants.{Scan, Svc, Started, StartFailed, Notify, Death, FinishEnded, Status, Tick}
-use Rattle.tree_core.specs.Acts.{Acted, acted, changed_at, changed_named, has_ended}
+use Rattle.tree_core.specs.Acts.{Work, Worked, worked, changed_at, changed_named}
+use Rattle.tree_core.specs.Acts.Work.{leave, change_one, change_named, look_up}
 use Rattle.tree_core.specs.Listing.{repeats, in_byte_order, names_in, config_in}
-use Rattle.tree_core.specs.Machine.{Machine}
 use Rattle.tree_core.specs.Moves.{services_after}
 use Rattle.tree_core.specs.Scan.{Grown, looked_up, stays, stands, service_limit, config_for, with_service, with_name, with_names}
 use Rattle.tree_core.specs.Sound.{serials_of, IsNumbered}
@@ -115,25 +112,11 @@ numbered_all listing g (name ∷ names) h =
     (either_grown (stands name g.services) g _ h
     (either_grown (nat_lt (length g.services) service_limit) (with_service listing g name) _ (numbered_added listing g name h) h))
 
-either_acted : {A : Type 0} (b : Bool) (x y : Acted A) → IsNumbered x.next_sid x.services → IsNumbered y.next_sid y.services → IsNumbered (cond b x y).next_sid (cond b x y).services
-either_acted true x y hx hy = hx
-either_acted false x y hx hy = hy
-
--- an act keeps the serials in order
-pub act_numbers : {A : Type 0} (act : Act A) (m : Machine) → IsNumbered m.next_sid m.services → IsNumbered (acted act m).next_sid (acted act m).services
-act_numbers (Scan listing) m h =
-    either_acted m.closing _ _ h
-    (either_acted (repeats (names_in listing)) _ _ h
-    (numbered_all listing _ (in_byte_order (names_in listing))
-    (numbered_filtered stays m.next_sid (looked_up m.clock listing m.services)
-    (same_serials m.next_sid m.services (looked_up m.clock listing m.services) (serials_looked m.clock listing m.services) h))))
-act_numbers (Svc name letters) m h =
-    either_acted (not (stands name m.services)) _ _ h
-    (either_acted (has_ended name m.services) _ _ h (numbered_told name (Letters letters) m.clock m.next_sid m.services h))
-act_numbers (Started sid generation pid) m h = numbered_reported sid (StartedReport generation pid) m.clock m.next_sid m.services h
-act_numbers (StartFailed sid generation) m h = numbered_reported sid (StartFailedReport generation) m.clock m.next_sid m.services h
-act_numbers (Notify sid generation bytes) m h = numbered_reported sid (NotifyReport generation bytes) m.clock m.next_sid m.services h
-act_numbers (Death sid generation exit) m h = numbered_reported sid (DeathReport generation exit) m.clock m.next_sid m.services h
-act_numbers (FinishEnded sid generation exit) m h = numbered_reported sid (FinishEndedReport generation exit) m.clock m.next_sid m.services h
-act_numbers (Status name) m h = h
-act_numbers Tick m h = h
+-- work keeps the serials in order
+pub work_numbers : (work : Work) (now : ℕ) (cs : List ChartState) (next : ℕ) → IsNumbered next cs → IsNumbered (worked work now cs next).next_sid (worked work now cs next).services
+work_numbers leave now cs next h = h
+work_numbers (change_one sid change) now cs next h = numbered_reported sid change now next cs h
+work_numbers (change_named name change) now cs next h = numbered_told name change now next cs h
+work_numbers (look_up listing) now cs next h =
+    numbered_all listing _ (in_byte_order (names_in listing))
+    (numbered_filtered stays next (looked_up now listing cs) (same_serials next cs (looked_up now listing cs) (serials_looked now listing cs) h))

@@ -25,6 +25,10 @@ machine_of t history deaths = with_past t.clock t.steps t.closing (charts_of t.s
 same_machine : (t : Stored) (m : Machine) → StandsFor t m → machine_of t m.history m.deaths ≡ m
 same_machine t m s = sym (λ i. with_past (s.clock i) (s.steps i) (s.closing i) (s.services i) (s.next_sid i) m.history m.deaths)
 
+-- the clock that a tree stores is the last reading of each history that it stands for
+pub read_by : (t : Stored) (m : Machine) → StandsFor t m → t.clock ≡ clock_of m.history
+read_by t m s = sym s.clock ∙ s.reading
+
 -- a plan for every past that agrees with what a tree stores
 abbrev PlansAll : {A : Type 0} → Stored → Input A → Plan A → Type 0
 PlansAll t input plan = (history : List Moment) → (deaths : List DeathOf) → AllAgree t.services history → t.clock ≡ clock_of history
@@ -69,19 +73,10 @@ stands_spent {A} t input given at_limit is m s =
     let t' : step m input ≡ spent m = rw over refl in
     (is ∙ sym (ap (λ x. x.outcome) t'), subst (StandsFor t) (sym (ap (λ x. x.machine) t')) s)
 
--- a tree that has forgotten nothing stands for the machine whose history it keeps
-pub stands_itself : (t : Stored) → t.forgotten ≡ 0 → t.clock ≡ clock_of t.kept → AllAgree t.services t.kept → (m : Machine) × StandsFor t m
-stands_itself t none reading agrees = (
-  machine_of t t.kept [],
-  record { clock = refl; steps = refl; closing = refl; services = refl; next_sid = refl; forgotten = rw none (omega arith); kept = rw none refl; agrees = agrees; reading = reading },
-)
-
 -- the history with the moments of a planned step
-pub recorded_after : {A : Type 0} (t : Stored) (input : Input A) (plan : Plan A) (forgotten : ℕ) (kept : List Moment) → IsRecorded t.steps t.clock t.forgotten t.kept
-    → Plans (machine_of t t.kept []) input plan → length plan.moments.items ≤ 1024 → forgotten ≡ t.forgotten → kept ≡ t.kept ++ plan.moments.items
-    → IsRecorded (t.steps + 1) plan.now forgotten kept
-recorded_after t input plan forgotten kept r p few same more = record {
-  few = rw more (omega (arith, length-append t.kept plan.moments.items, r.few, few));
-  whole = same ∙ r.whole;
-  reading = p.clock ∙ (step-reads (machine_of t t.kept []) input r.reading ∙ ap clock_of (sym p.history ∙ sym more));
+pub recorded_after : {A : Type 0} (t : Stored) (plan : Plan A) (forgotten : ℕ) (kept : List Moment) → IsRecorded t.steps t.forgotten t.kept
+    → length plan.moments.items ≤ 1024 → forgotten ≡ t.forgotten → kept ≡ t.kept ++ plan.moments.items
+    → IsRecorded (t.steps + 1) forgotten kept
+recorded_after t plan forgotten kept r few same more = record {
+  few = rw (same, more) (omega (arith, length-append t.kept plan.moments.items, r.few, few));
 }

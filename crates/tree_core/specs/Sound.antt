@@ -1,7 +1,6 @@
 -- What is true of every tree.
 use Rattle.std.specs.Prelude.{◌≡◌, ℕ, ◌+◌, ◌*◌, ◌≤◌, List, [], ◌∷◌, ◌++◌, length, All, map, true, false}
 use Rattle.deadlines.specs.Timers.{is_rising}
-use Rattle.s6_events.specs.Clock.{clock_of}
 use Rattle.s6_events.specs.declared.moment.Moment.{Moment}
 use Rattle.tree_core.specs.Listing.{repeats}
 use Rattle.supervise_core.specs.declared.chart.ChartState.{ChartState}
@@ -27,8 +26,6 @@ pub record IsSound (taken next : ℕ) (services : List ChartState) : Type 0 wher
   pub serials : next ≤ 64 * taken + 1
   pub generations : All (λ c. c.generation ≤ 2 * taken) services
 
--- a step adds at most 1024 moments, none is forgotten yet, and the clock is their last reading
-pub record IsRecorded (taken clock forgotten : ℕ) (kept : List Moment) : Type 0 where
-  pub few : length kept ≤ 1024 * taken
-  pub whole : forgotten ≡ 0
-  pub reading : clock ≡ clock_of kept
+-- a step adds at most 1024 moments
+pub record IsRecorded (taken forgotten : ℕ) (kept : List Moment) : Type 0 where
+  pub few : forgotten + length kept ≤ 1024 * taken

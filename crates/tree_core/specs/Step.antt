@@ -39,9 +39,9 @@ with_moves move m = record m { services = services_after move m.services; histor
 -- an act is done: its marks join the history, and its deaths the deaths
 abbrev pub with_act : {A : Type 0} → Act A → Machine → Machine
 with_act act m = record m {
-  services = (acted act m).services;
-  next_sid = (acted act m).next_sid;
-  history = m.history ++ map moment_of (acted act m).events;
+  services = (acted act m).work.services;
+  next_sid = (acted act m).work.next_sid;
+  history = m.history ++ map moment_of (acted act m).work.events;
   deaths = m.deaths ++ deaths_by act m;
 }
 
@@ -49,7 +49,7 @@ with_act act m = record m {
 abbrev pub finished : {A : Type 0} → Act A → List Event → List Order → Machine → Stepped A
 finished act events orders m = record {
   machine = record (with_act act m) { steps = m.steps + 1 };
-  outcome = record { reply = (acted act m).reply; events = events ++ (acted act m).events; orders = orders ++ (acted act m).orders; matched = []; released = [] };
+  outcome = record { reply = (acted act m).reply; events = events ++ (acted act m).work.events; orders = orders ++ (acted act m).work.orders; matched = []; released = [] };
 }
 
 -- each service whose timer is due takes its rule once, and then the act is done

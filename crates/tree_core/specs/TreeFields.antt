@@ -1,7 +1,8 @@
 -- What a contract sees of a tree, and what is true of every tree.
 use Rattle.tree_core.specs.declared.tree.Tree.TheInside.{Inside}
 use Rattle.tree_core.specs.Sound.{IsSound, IsRecorded}
-use Rattle.tree_core.specs.StandsFor.{Stored, AllAgree}
+use Rattle.tree_core.specs.Machine.{Machine}
+use Rattle.tree_core.specs.StandsFor.{Stored, StandsFor}
 use Rattle.tree_core.specs.Timers.{TimersAgree}
 use Rattle.tree_core.specs.Told.{charts_of}
 
@@ -17,11 +18,10 @@ stored t = record {
   kept = t.history.kept;
 }
 
--- its numbers don't outrun its steps, its clock is the last reading of its history, and its history and its deadlines agree with
--- its services
+-- its numbers don't outrun its steps, its deadlines agree with its services, and there is a machine for which it stands
 abbrev pub IsKept : {A : Type 0} → Inside A → Type 0
 IsKept t =
     IsSound t.steps t.next_sid (charts_of t.services.items)
-    × IsRecorded t.steps t.clock t.history.forgotten t.history.kept
-    × AllAgree t.services.items t.history.kept
+    × IsRecorded t.steps t.history.forgotten t.history.kept
     × TimersAgree t.deadlines.timers (charts_of t.services.items)
+    × ((m : Machine) × StandsFor (stored t) m)

@@ -8,4 +8,7 @@ abbrev pub grown_of : {A : Type 0} → Growing A → Grown
 grown_of g = record { services = g.charts.items; next_sid = g.next_sid; listed = g.listed.items; events = g.gathered.events.items; orders = g.gathered.orders.items }
 
 abbrev pub drafted : {A : Type 0} → Draft A → Acted A
-drafted d = record { reply = d.reply; services = d.charts.items; next_sid = d.next_sid; events = d.gathered.events.items; orders = d.gathered.orders.items }
+drafted d = record {
+  reply = d.reply;
+  work = record { services = d.charts.items; next_sid = d.next_sid; events = d.gathered.events.items; orders = d.gathered.orders.items };
+}

@@ -2,11 +2,14 @@ ghost use Rattle.std.specs.Prelude.{◌≡◌, ◌+◌, ◌<◌, ◌≤◌, ◌^
 ghost use Rattle.std.specs.List.{list_any};
 ghost use Rattle.s6_events.specs.declared.moment.Moment.{Moment};
 ghost use Rattle.supervise_core.specs.Gives.{most_orders};
-ghost use Rattle.tree_core.specs.Acts.{nothing_done, report_reply as reply_to_report, reported, told, has_ended as is_ended, scanned, listed_to, row_reply as reply_of_row, only_replied, acted};
+ghost use Rattle.tree_core.specs.Acts.{report_reply as reply_by, reply_to_report, has_ended as is_ended, left_alone, worked, doing, refused_letters, refused_listing, reply_unless, work_unless, scan_reply, row_reply as reply_of_row, acted};
+ghost use Rattle.tree_core.specs.declared.reply.Reply.TheVariants.{Done};
+ghost use Rattle.tree_core.specs.Acts.Work.{change_one, change_named, look_up as look_up_work};
+ghost use Rattle.tree_core.specs.Machine.{DeathOf};
 ghost use Rattle.tree_core.specs.Listing.{names_in, in_byte_order, repeats};
 ghost use Rattle.tree_core.specs.Scan.{stands};
 ghost use Rattle.tree_core.specs.Sound.{names_of};
-ghost use Rattle.tree_core.specs.Plan.{at_work, is_reading, IsFew};
+ghost use Rattle.tree_core.specs.Plan.{at_work, with_past, is_reading, IsFew};
 ghost use Rattle.tree_core.specs.Rows.{row_named};
 ghost use Rattle.tree_core.specs.StandsFor.{AllAgree};
 ghost use Rattle.tree_core.specs.Told.{all_with_status};
@@ -44,7 +47,7 @@ fn reply_only<A: Allocator + Copy>(
     ensures places { length result.charts.items ≤ 64 }
     ensures few { IsFew result.gathered.events.items result.gathered.orders.items }
     ensures next { result.next_sid ≡ next_sid }
-    ensures draft { drafted result ≡ nothing_done reply charts.items next_sid }
+    ensures draft { drafted result ≡ record { reply = reply; work = left_alone charts.items next_sid } }
 {
     Draft {
         reply,
@@ -63,7 +66,7 @@ fn has_service(charts: &[ChartState], sid: Sid) -> bool
 
 // The reply to a report.
 fn report_reply<A: Allocator>(is_known: bool, is_stale: bool) -> Reply<A>
-    ensures { result ≡ reply_to_report is_known is_stale }
+    ensures { result ≡ reply_by is_known is_stale }
 {
     if !is_known {
         Reply::Refused(Refusal::NoService)
@@ -85,7 +88,7 @@ fn report<A: Allocator + Copy>(
 ) -> Result<Draft<A>, NoMemory>
     requires report { most_orders change.now ≤ 2 }
     requires generations { All (λ c. c.generation + 1 < 2 ^ 64) charts.items }
-    ensures draft { IfOk result (λ d. drafted d ≡ reported sid change.now (at_work false now charts.items next_sid [])) }
+    ensures draft { IfOk result (λ d. let m = at_work false now charts.items next_sid [] in drafted d ≡ doing (reply_to_report sid change.now m) (change_one sid change.now) m) }
     ensures places { IfOk result (λ d. length d.charts.items ≤ 64) }
     ensures next { IfOk result (λ d. d.next_sid ≡ next_sid) }
     ensures few { IfOk result (λ d. IsFew d.gathered.events.items d.gathered.orders.items) }
@@ -142,7 +145,7 @@ fn tell<A: Allocator + Copy>(
     requires places { length charts.items ≤ 64 }
     requires names { repeats (names_of charts.items) ≡ false }
     requires generations { All (λ c. c.generation + 1 < 2 ^ 64) charts.items }
-    ensures draft { IfOk result (λ d. drafted d ≡ told name change.now (at_work false now charts.items next_sid [])) }
+    ensures draft { IfOk result (λ d. let m = at_work false now charts.items next_sid [] in drafted d ≡ doing (reply_unless (refused_letters name m) Done) (work_unless (refused_letters name m) (change_named name change.now)) m) }
     ensures places { IfOk result (λ d. length d.charts.items ≤ 64) }
     ensures next { IfOk result (λ d. d.next_sid ≡ next_sid) }
     ensures few { IfOk result (λ d. IsFew d.gathered.events.items d.gathered.orders.items) }
@@ -176,7 +179,7 @@ fn scan<A: Allocator + Copy>(
 ) -> Result<Draft<A>, NoMemory>
     requires next { next_sid + 65 < 2 ^ 64 }
     requires sorted { sorted.now ≡ in_byte_order (names_in listing.now) }
-    ensures draft { IfOk result (λ d. drafted d ≡ scanned listing.now (at_work false now charts.items next_sid [])) }
+    ensures draft { IfOk result (λ d. let m = at_work false now charts.items next_sid [] in drafted d ≡ doing (scan_reply listing.now m) (look_up_work listing.now) m) }
     ensures places { IfOk result (λ d. length d.charts.items ≤ 64) }
     ensures next { IfOk result (λ d. d.next_sid ≤ next_sid + 64) }
     ensures few { IfOk result (λ d. IsFew d.gathered.events.items d.gathered.orders.items) }
@@ -209,7 +212,7 @@ fn take_listing<A: Allocator + Copy>(
 ) -> Result<Draft<A>, NoMemory>
     requires places { length charts.items ≤ 64 }
     requires next { next_sid + 65 < 2 ^ 64 }
-    ensures draft { IfOk result (λ d. drafted d ≡ listed_to listing.now (at_work closing now charts.items next_sid [])) }
+    ensures draft { IfOk result (λ d. let m = at_work closing now charts.items next_sid [] in drafted d ≡ doing (reply_unless (refused_listing listing.now m) (scan_reply listing.now m)) (work_unless (refused_listing listing.now m) (look_up_work listing.now)) m) }
     ensures places { IfOk result (λ d. length d.charts.items ≤ 64) }
     ensures next { IfOk result (λ d. d.next_sid ≤ next_sid + 64) }
     ensures few { IfOk result (λ d. IsFew d.gathered.events.items d.gathered.orders.items) }
@@ -273,8 +276,8 @@ pub fn act<A: Allocator + Copy>(
     requires names { repeats (names_of charts.items) ≡ false }
     requires generations { All (λ c. c.generation + 1 < 2 ^ 64) charts.items }
     requires next { next_sid + 65 < 2 ^ 64 }
-    ensures draft { (history : List Moment) → AllAgree (all_with_status now past.now.events.now past.now.services.now charts.items) history
-        → IfOk result (λ d. drafted d ≡ acted act.now (at_work closing now charts.items next_sid history)) }
+    ensures draft { (steps : ℕ) → (history : List Moment) → (deaths : List DeathOf) → AllAgree (all_with_status now past.now.events.now past.now.services.now charts.items) history
+        → IfOk result (λ d. drafted d ≡ acted act.now (with_past now steps closing charts.items next_sid history deaths)) }
     ensures places { IfOk result (λ d. length d.charts.items ≤ 64) }
     ensures next { IfOk result (λ d. d.next_sid ≤ next_sid + 64) }
     ensures few { IfOk result (λ d. IsFew d.gathered.events.items d.gathered.orders.items) }

@@ -9,12 +9,13 @@ use Rattle.tree_core.specs.Sound.{names_of, serials_of}
 use Rattle.tree_core.specs.Moves.{services_after, events_after}
 use Rattle.tree_core.specs.Plan.{supervised_of}
 use Rattle.tree_core.specs.Told.{charts_of}
-use Rattle.tree_core.proofs.ActGrows.{act_grows}
+use Rattle.tree_core.specs.Acts.{work_of}
+use Rattle.tree_core.proofs.ActGrows.{work_grows}
 use Rattle.tree_core.proofs.Generations.{all_fire}
-use Rattle.tree_core.proofs.Names.{act_names, names_fired}
+use Rattle.tree_core.proofs.Names.{work_names, names_fired}
 use Rattle.tree_core.proofs.PlanMakes.{plan_makes, act_given, charts_kept}
 use Rattle.tree_core.proofs.Quiet.{no_act_events, same_services, no_events}
-use Rattle.tree_core.proofs.SerialsRise.{act_numbers, numbered_fired, rising_before}
+use Rattle.tree_core.proofs.SerialsRise.{work_numbers, numbered_fired, rising_before}
 use Rattle.tree_core.proofs.TimersDue.{still_fired}
 use Rattle.tree_core.proofs.plan.plan_step.Goals as goal
 
@@ -38,27 +39,27 @@ act-requires-clause-names g c =
 pub returns-in_err-append-clause-quiet : goal.returns-in_err-append-clause-quiet
 returns-in_err-append-clause-quiet g c = λ history agrees reading q none.
     let draft = act_given c.args.clock c.args.input.now.at c.later-now.result c.args.services.now c.as_slice.result.now c.in_ok-fired.fired.items _ history c.later-now.ensures.later
-    (c.in_ok-fired.ensures.services ∙ ap (λ cs. services_after (fire c.later-now.result) cs) c.charts_of-charts.ensures) agrees reading c.in_ok-draft.ensures.draft in
-    let fails : false ≡ true = c.in_err-append.ensures.quiet (ap (λ a. a.events) draft ∙ no_act_events c.args.input.now.act _ q.reading) in
+    (c.in_ok-fired.ensures.services ∙ ap (λ cs. services_after (fire c.later-now.result) cs) c.charts_of-charts.ensures) agrees reading (λ h a. c.in_ok-draft.ensures.draft 0 h [] a) in
+    let fails : false ≡ true = c.in_err-append.ensures.quiet (ap (λ a. a.work.events) draft ∙ no_act_events c.args.input.now.act _ q.reading) in
     cc fails
 
 pub returns-in_err-moments-clause-quiet : goal.returns-in_err-moments-clause-quiet
 returns-in_err-moments-clause-quiet g c = λ history agrees reading q none.
     let timers = (c.in_ok-fired.ensures.quiet none).1 ∙ c.new-gathered.ensures.events in
     let draft = act_given c.args.clock c.args.input.now.at c.later-now.result c.args.services.now c.as_slice.result.now c.in_ok-fired.fired.items _ history c.later-now.ensures.later
-    (c.in_ok-fired.ensures.services ∙ ap (λ cs. services_after (fire c.later-now.result) cs) c.charts_of-charts.ensures) agrees reading c.in_ok-draft.ensures.draft in
+    (c.in_ok-fired.ensures.services ∙ ap (λ cs. services_after (fire c.later-now.result) cs) c.charts_of-charts.ensures) agrees reading (λ h a. c.in_ok-draft.ensures.draft 0 h [] a) in
     absurd
     (c.in_err-moments.ensures.quiet q.early
-    (c.as_slice-2.ensures.value ∙ no_events _ _ _ c.in_ok-append.ensures.events timers (ap (λ a. a.events) draft ∙ no_act_events c.args.input.now.act _ q.reading)))
+    (c.as_slice-2.ensures.value ∙ no_events _ _ _ c.in_ok-append.ensures.events timers (ap (λ a. a.work.events) draft ∙ no_act_events c.args.input.now.act _ q.reading)))
 
 pub returns-in_err-timers-clause-quiet : goal.returns-in_err-timers-clause-quiet
 returns-in_err-timers-clause-quiet g c = λ history agrees reading q none.
     let draft = act_given c.args.clock c.args.input.now.at c.later-now.result c.args.services.now c.as_slice.result.now c.in_ok-fired.fired.items _ history c.later-now.ensures.later
-    (c.in_ok-fired.ensures.services ∙ ap (λ cs. services_after (fire c.later-now.result) cs) c.charts_of-charts.ensures) agrees reading c.in_ok-draft.ensures.draft in
+    (c.in_ok-fired.ensures.services ∙ ap (λ cs. services_after (fire c.later-now.result) cs) c.charts_of-charts.ensures) agrees reading (λ h a. c.in_ok-draft.ensures.draft 0 h [] a) in
     let rising = rising_before (serials_of (charts_of c.args.services.now)) c.args.next_sid c.requires.order in
     let same =
     sym (c.as_slice-after.ensures.value
-    ∙ (ap (λ a. a.services) draft
+    ∙ (ap (λ a. a.work.services) draft
     ∙ (same_services c.args.input.now.act _ q.reading
     ∙ still_fired c.later-now.result _ c.args.due.now (charts_of c.args.services.now) c.charts_of-charts.result.items c.in_ok-fired.fired.items
     c.later-now.ensures.later c.charts_of-charts.ensures none c.requires.due c.in_ok-fired.ensures.services))) in
@@ -67,7 +68,7 @@ returns-in_err-timers-clause-quiet g c = λ history agrees reading q none.
 pub returns-clause-sound : goal.returns-clause-sound
 returns-clause-sound g c = λ history agrees reading.
     let draft = act_given c.args.clock c.args.input.now.at c.later-now.result c.args.services.now c.as_slice.result.now c.in_ok-fired.fired.items _ history c.later-now.ensures.later
-    (c.in_ok-fired.ensures.services ∙ ap (λ cs. services_after (fire c.later-now.result) cs) c.charts_of-charts.ensures) agrees reading c.in_ok-draft.ensures.draft in
+    (c.in_ok-fired.ensures.services ∙ ap (λ cs. services_after (fire c.later-now.result) cs) c.charts_of-charts.ensures) agrees reading (λ h a. c.in_ok-draft.ensures.draft 0 h [] a) in
     let charts : charts_of (map supervised_of c.standing_after-standing.result.items) ≡ c.in_ok-draft.draft.charts.items =
     ap charts_of c.standing_after-standing.ensures ∙ (charts_kept c.later-now.result c.as_slice-events.result.now c.args.services.now c.as_slice-after.result.now ∙ c.as_slice-after.ensures.value) in
     rw charts
@@ -75,22 +76,22 @@ returns-clause-sound g c = λ history agrees reading.
       steps = let left : c.args.steps < 281474976710656 = c.requires.left in omega arith;
       few = omega (arith, c.in_ok-draft.ensures.places);
       names =
-          ap (λ a. repeats (names_of a.services)) draft
-          ∙ act_names c.args.input.now.act _
+          ap (λ a. repeats (names_of a.work.services)) draft
+          ∙ work_names (work_of c.args.input.now.act _) _ _ _
           (ap (λ cs. repeats (names_of cs)) c.in_ok-fired.ensures.services
           ∙ (ap repeats (names_fired c.later-now.result c.charts_of-charts.result.items)
           ∙ (ap (λ cs. repeats (names_of cs)) c.charts_of-charts.ensures ∙ c.requires.names)));
       order =
-          ap (λ a. is_rising (serials_of a.services ++ a.next_sid ∷ [])) draft
-          ∙ act_numbers c.args.input.now.act _
+          ap (λ a. is_rising (serials_of a.work.services ++ a.work.next_sid ∷ [])) draft
+          ∙ work_numbers (work_of c.args.input.now.act _) _ _ _
           (ap (λ cs. is_rising (serials_of cs ++ c.args.next_sid ∷ [])) c.in_ok-fired.ensures.services
           ∙ numbered_fired c.later-now.result c.args.next_sid c.charts_of-charts.result.items
           (ap (λ cs. is_rising (serials_of cs ++ c.args.next_sid ∷ [])) c.charts_of-charts.ensures ∙ c.requires.order));
       serials = omega (arith, c.in_ok-draft.ensures.next);
       generations = λ k d lt.
           let after : All (λ x. x.generation ≤ 2 * c.args.steps + 1 + 1) c.in_ok-draft.draft.charts.items =
-          subst (λ (cs : List ChartState). All (λ x. x.generation ≤ 2 * c.args.steps + 1 + 1) cs) (sym (ap (λ a. a.services) draft))
-          (act_grows c.args.input.now.act _ (2 * c.args.steps + 1)
+          subst (λ (cs : List ChartState). All (λ x. x.generation ≤ 2 * c.args.steps + 1 + 1) cs) (sym (ap (λ a. a.work.services) draft))
+          (work_grows (work_of c.args.input.now.act _) _ _ _ (2 * c.args.steps + 1)
           (rw c.in_ok-fired.ensures.services
           (rw c.charts_of-charts.ensures
           (all_fire c.later-now.result (2 * c.args.steps) _ c.requires.generations)))) in
@@ -100,12 +101,12 @@ returns-clause-sound g c = λ history agrees reading.
 pub returns-clause-timers : goal.returns-clause-timers
 returns-clause-timers g c = λ history agrees reading ts a.
     let draft = act_given c.args.clock c.args.input.now.at c.later-now.result c.args.services.now c.as_slice.result.now c.in_ok-fired.fired.items _ history c.later-now.ensures.later
-    (c.in_ok-fired.ensures.services ∙ ap (λ cs. services_after (fire c.later-now.result) cs) c.charts_of-charts.ensures) agrees reading c.in_ok-draft.ensures.draft in
+    (c.in_ok-fired.ensures.services ∙ ap (λ cs. services_after (fire c.later-now.result) cs) c.charts_of-charts.ensures) agrees reading (λ h a. c.in_ok-draft.ensures.draft 0 h [] a) in
     let charts : charts_of (map supervised_of c.standing_after-standing.result.items) ≡ c.in_ok-draft.draft.charts.items =
     ap charts_of c.standing_after-standing.ensures ∙ (charts_kept c.later-now.result c.as_slice-events.result.now c.args.services.now c.as_slice-after.result.now ∙ c.as_slice-after.ensures.value) in
     let order =
-    ap (λ a. is_rising (serials_of a.services ++ a.next_sid ∷ [])) draft
-    ∙ act_numbers c.args.input.now.act _
+    ap (λ a. is_rising (serials_of a.work.services ++ a.work.next_sid ∷ [])) draft
+    ∙ work_numbers (work_of c.args.input.now.act _) _ _ _
     (ap (λ cs. is_rising (serials_of cs ++ c.args.next_sid ∷ [])) c.in_ok-fired.ensures.services
     ∙ numbered_fired c.later-now.result c.args.next_sid c.charts_of-charts.result.items
     (ap (λ cs. is_rising (serials_of cs ++ c.args.next_sid ∷ [])) c.charts_of-charts.ensures ∙ c.requires.order)) in
@@ -133,12 +134,12 @@ pub returns-clause-quiet : goal.returns-clause-quiet
 returns-clause-quiet g c = λ history agrees reading q none.
     let timers = (c.in_ok-fired.ensures.quiet none).1 ∙ c.new-gathered.ensures.events in
     let draft = act_given c.args.clock c.args.input.now.at c.later-now.result c.args.services.now c.as_slice.result.now c.in_ok-fired.fired.items _ history c.later-now.ensures.later
-    (c.in_ok-fired.ensures.services ∙ ap (λ cs. services_after (fire c.later-now.result) cs) c.charts_of-charts.ensures) agrees reading c.in_ok-draft.ensures.draft in
-    let nothing = c.as_slice-2.ensures.value ∙ no_events _ _ _ c.in_ok-append.ensures.events timers (ap (λ a. a.events) draft ∙ no_act_events c.args.input.now.act _ q.reading) in
+    (c.in_ok-fired.ensures.services ∙ ap (λ cs. services_after (fire c.later-now.result) cs) c.charts_of-charts.ensures) agrees reading (λ h a. c.in_ok-draft.ensures.draft 0 h [] a) in
+    let nothing = c.as_slice-2.ensures.value ∙ no_events _ _ _ c.in_ok-append.ensures.events timers (ap (λ a. a.work.events) draft ∙ no_act_events c.args.input.now.act _ q.reading) in
     let rising = rising_before (serials_of (charts_of c.args.services.now)) c.args.next_sid c.requires.order in
     let same =
     sym (c.as_slice-after.ensures.value
-    ∙ (ap (λ a. a.services) draft
+    ∙ (ap (λ a. a.work.services) draft
     ∙ (same_services c.args.input.now.act _ q.reading
     ∙ still_fired c.later-now.result _ c.args.due.now (charts_of c.args.services.now) c.charts_of-charts.result.items c.in_ok-fired.fired.items
     c.later-now.ensures.later c.charts_of-charts.ensures none c.requires.due c.in_ok-fired.ensures.services))) in (
