@@ -13,12 +13,13 @@ use Rattle.supervise_core.proofs.Identity.{IsSame, KeepsIdentity, keeps_fire, ke
 use Rattle.servicedir.specs.declared.config.Config.{Config}
 use Rattle.tree_core.specs.declared.input.Entry.{Entry}
 use Rattle.tree_core.specs.Acts.{Work, Worked, worked, changed_at, changed_named}
-use Rattle.tree_core.specs.Acts.Work.{leave, change_one, change_named, look_up}
-use Rattle.tree_core.specs.Listing.{lists, repeats, in_byte_order, names_in, config_in}
+use Rattle.tree_core.specs.Acts.Work.{leave, change_one, change_named, apply_listing}
+use Rattle.tree_core.specs.Listing.{lists, repeats, in_byte_order, names_in, is_listed, config_in}
 use Rattle.tree_core.specs.Moves.{services_after}
-use Rattle.tree_core.specs.Scan.{Grown, looked_at, looked_up, stays, stands, service_limit, config_for, with_service, with_name, with_names}
+use Rattle.tree_core.specs.Scan.{ScanState, looked_at, looked_up, stays, stands, service_limit, config_for, with_service, with_name, with_names}
 use Rattle.tree_core.specs.Sound.{names_of}
 use Rattle.tree_core.proofs.ListingOrder.{repeats_last}
+use Rattle.tree_core.proofs.Truth.{neither_left, neither_right, neither_of}
 
 -- a move that keeps each name keeps the names
 pub names_moved : (move : ChartState → Moved) → ((c : ChartState) → KeepsIdentity c (move c)) → (cs : List ChartState) → names_of (services_after move cs) ≡ names_of cs
@@ -41,27 +42,14 @@ names_reported sid change now cs = names_moved (changed_at sid change now) (λ c
 names_told : (name : List ℕ) (change : Change) (now : ℕ) (cs : List ChartState) → names_of (services_after (changed_named name change now) cs) ≡ names_of cs
 names_told name change now cs = names_moved (changed_named name change now) (λ c. keeps_either (bytes_eq name c.name) c _ _ (keeps_changed change now c) (keeps_still c)) cs
 
-pub keeps_look : (found : Option Config) (now : ℕ) (c : ChartState) → IsSame c (looked_at found now c)
-keeps_look None now c = keeps_active false now c
-keeps_look (Some config) now c =
-    let active = keeps_active true now c in record { sid = active.sid; name = active.name }
+pub keeps_look : (listed : Bool) (found : Option Config) (now : ℕ) (c : ChartState) → IsSame c (looked_at listed found now c)
+keeps_look listed None now c = keeps_active listed now c
+keeps_look listed (Some config) now c =
+    let active = keeps_active listed now c in record { sid = active.sid; name = active.name }
 
 names_looked : (now : ℕ) (listing : List Entry) (cs : List ChartState) → names_of (looked_up now listing cs) ≡ names_of cs
 names_looked now listing [] = refl
-names_looked now listing (c ∷ cs) = λ i. (keeps_look (config_in listing c.name) now c).name i ∷ names_looked now listing cs i
-
--- both are false where one or the other is
-pub neither_left : (a b : Bool) → (a || b) ≡ false → a ≡ false
-neither_left true b h = h
-neither_left false b h = refl
-
-pub neither_right : (a b : Bool) → (a || b) ≡ false → b ≡ false
-neither_right true b h = search rules
-neither_right false b h = h
-
-neither_of : (a b : Bool) → a ≡ false → b ≡ false → (a || b) ≡ false
-neither_of true b h k = h
-neither_of false b h k = k
+names_looked now listing (c ∷ cs) = λ i. (keeps_look (is_listed listing c.name) (config_in listing c.name) now c).name i ∷ names_looked now listing cs i
 
 -- fewer services have fewer names
 unlisted_filtered : (p : ChartState → Bool) (q : List ℕ) (cs : List ChartState) → lists (names_of cs) q ≡ false → lists (names_of (filter p cs)) q ≡ false
@@ -85,11 +73,11 @@ stands_listed : (name : List ℕ) (cs : List ChartState) → lists (names_of cs)
 stands_listed name [] = refl
 stands_listed name (c ∷ cs) = ap (λ b. bytes_eq name c.name || b) (stands_listed name cs)
 
-either_grown : (b : Bool) (x y : Grown) → repeats (names_of x.services) ≡ false → repeats (names_of y.services) ≡ false → repeats (names_of (cond b x y).services) ≡ false
+either_grown : (b : Bool) (x y : ScanState) → repeats (names_of x.services) ≡ false → repeats (names_of y.services) ≡ false → repeats (names_of (cond b x y).services) ≡ false
 either_grown true x y hx hy = hx
 either_grown false x y hx hy = hy
 
-once_added : (listing : List Entry) (g : Grown) (name : List ℕ) → repeats (names_of g.services) ≡ false → stands name g.services ≡ false
+once_added : (listing : List Entry) (g : ScanState) (name : List ℕ) → repeats (names_of g.services) ≡ false → stands name g.services ≡ false
     → repeats (names_of (with_service listing g name).services) ≡ false
 once_added listing g name h new =
     ap repeats (map-append (λ (c : ChartState). c.name) g.services ((begin_supervisor (new_service g.next_sid name (config_for listing name))).chart ∷ []))
@@ -97,15 +85,15 @@ once_added listing g name h new =
     ∙ (repeats_last (names_of g.services) name
     ∙ neither_of (repeats (names_of g.services)) _ h (stands_listed name g.services ∙ new)))
 
-once_named : (listing : List Entry) (g : Grown) (name : List ℕ) → repeats (names_of g.services) ≡ false → repeats (names_of (with_name listing g name).services) ≡ false
+once_named : (listing : List Entry) (g : ScanState) (name : List ℕ) → repeats (names_of g.services) ≡ false → repeats (names_of (with_name listing g name).services) ≡ false
 once_named listing g name h = by (stands name g.services) refl _ h
   where
-    by : (b : Bool) → stands name g.services ≡ b → (full : Grown) → repeats (names_of full.services) ≡ false
+    by : (b : Bool) → stands name g.services ≡ b → (full : ScanState) → repeats (names_of full.services) ≡ false
         → repeats (names_of (cond b g (cond (nat_lt (length g.services) service_limit) (with_service listing g name) full)).services) ≡ false
     by true e full hf = h
     by false e full hf = either_grown (nat_lt (length g.services) service_limit) (with_service listing g name) full (once_added listing g name h e) hf
 
-all_once : (listing : List Entry) (g : Grown) (names : List (List ℕ)) → repeats (names_of g.services) ≡ false → repeats (names_of (with_names listing g names).services) ≡ false
+all_once : (listing : List Entry) (g : ScanState) (names : List (List ℕ)) → repeats (names_of g.services) ≡ false → repeats (names_of (with_names listing g names).services) ≡ false
 all_once listing g [] h = h
 all_once listing g (name ∷ names) h = all_once listing (with_name listing g name) names (once_named listing g name h)
 
@@ -114,7 +102,7 @@ pub work_names : (work : Work) (now : ℕ) (cs : List ChartState) (next : ℕ) �
 work_names leave now cs next h = h
 work_names (change_one sid change) now cs next h = ap repeats (names_reported sid change now cs) ∙ h
 work_names (change_named name change) now cs next h = ap repeats (names_told name change now cs) ∙ h
-work_names (look_up listing) now cs next h =
+work_names (apply_listing listing) now cs next h =
     all_once listing _ (in_byte_order (names_in listing)) (once_filtered stays (looked_up now listing cs) (ap repeats (names_looked now listing cs) ∙ h))
 
 unlisted_at : (q : List ℕ) (i : ℕ) (cs : List ChartState) (d : ChartState) → lists (names_of cs) q ≡ false → i < length cs → bytes_eq q (get_or cs i d).name ≡ false

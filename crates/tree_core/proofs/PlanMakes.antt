@@ -9,11 +9,11 @@ use Rattle.supervise_core.specs.Chart.{fire}
 use Rattle.supervise_core.specs.Service.{Supervised}
 use Rattle.tree_core.specs.declared.effect.Event.{Event}
 use Rattle.tree_core.specs.declared.input.Input.{Input}
-use Rattle.tree_core.specs.declared.plan.Plan.{Plan}
+use Rattle.tree_core.specs.declared.plan.StepPlan.{StepPlan}
 use Rattle.tree_core.specs.Acts.{Acted, acted, work_of}
 use Rattle.tree_core.specs.Machine.{Machine, DeathOf}
 use Rattle.tree_core.specs.Moves.{services_after, events_after, orders_after, moment_of}
-use Rattle.tree_core.specs.Plan.{with_past, planned, Plans}
+use Rattle.tree_core.specs.Plan.{Present, IsNow, machine_with_history, planned, Plans}
 use Rattle.tree_core.specs.StandsFor.{AllAgree}
 use Rattle.tree_core.specs.Step.{step, timed, clocked, step_limit, clock_moments}
 use Rattle.tree_core.specs.Told.{charts_of, all_with_status}
@@ -58,19 +58,30 @@ done_agrees : {A : Type 0} (clock now : ℕ) (services : List Supervised) (timer
     → now ≡ max clock input.at → fired ≡ services_after (fire now) (charts_of services) → m.services ≡ fired → a ≡ acted input.act m → all ≡ timers ++ a.work.events
     → AllAgree services history → clock ≡ clock_of history
     → AllAgree (all_with_status now all services a.work.services) ((history ++ clock_moments clock input.at) ++ map moment_of all)
-done_agrees {A} clock now services timers all fired history input m a is timed_by there act_is gathered agrees reading =
+done_agrees {A} clock now services timers all fired history input m a is timed_by there act_is output agrees reading =
     recalled services all a.work.services now (history ++ clock_moments clock input.at) (sym (is ∙ reading-clocked history clock input.at reading)) (all_clocked services clock input.at history agrees)
-    (subst (λ (events : List Event). AllKnown services events a.work.services) (sym gathered)
+    (subst (λ (events : List Event). AllKnown services events a.work.services) (sym output)
     (known_with services timers a.work.events a.work.services
     (subst (λ (x : Acted A). AllKnown services x.work.events x.work.services) (sym act_is)
     (known_work services (work_of input.act m) m.clock m.services m.next_sid
     (subst (λ (cs : List ChartState). AllKnown services [] cs) (sym (there ∙ timed_by)) (known_fired services [] now (charts_of services) (known_before services [])))))))
 
-pub plan_makes : {A : Type 0} (clock steps : ℕ) (closing : Bool) (services : List Supervised) (next_sid : ℕ) (input : Input A) (plan : Plan A) (fired : List ChartState) (timers : List Event) (a : Acted A)
+-- a machine is what is there now, with its past
+same_now : (p : Present) (m : Machine) → IsNow p m → machine_with_history p.clock p.steps p.closing (charts_of p.services) p.next_sid m.history m.deaths ≡ m
+same_now p m is = sym (λ i. machine_with_history (is.clock i) (is.steps i) (is.closing i) (is.services i) (is.next_sid i) m.history m.deaths)
+
+-- what holds of what is there now with each past that agrees holds of each machine that has it now
+pub for_machine : (p : Present) (Holds : Machine → Type 0)
+    → ((history : List Moment) (deaths : List DeathOf) → AllAgree p.services history → p.clock ≡ clock_of history
+    → Holds (machine_with_history p.clock p.steps p.closing (charts_of p.services) p.next_sid history deaths))
+    → (m : Machine) → IsNow p m → Holds m
+for_machine p Holds each m is = subst Holds (same_now p m is) (each m.history m.deaths is.agrees (sym is.clock ∙ is.reading))
+
+pub plan_makes : {A : Type 0} (clock steps : ℕ) (closing : Bool) (services : List Supervised) (next_sid : ℕ) (input : Input A) (plan : StepPlan A) (fired : List ChartState) (timers : List Event) (a : Acted A)
     → steps < step_limit → plan.now ≡ max clock input.at
     → fired ≡ services_after (fire plan.now) (charts_of services)
     → timers ≡ events_after (fire plan.now) (charts_of services)
-    → ((taken : ℕ) (history : List Moment) (deaths : List DeathOf) → AllAgree (all_with_status plan.now timers services fired) history → a ≡ acted input.act (with_past plan.now taken closing fired next_sid history deaths))
+    → ((taken : ℕ) (history : List Moment) (deaths : List DeathOf) → AllAgree (all_with_status plan.now timers services fired) history → a ≡ acted input.act (machine_with_history plan.now taken closing fired next_sid history deaths))
     → planned plan ≡ all_with_status plan.now plan.effect.events.items services a.work.services
     → plan.next_sid ≡ a.work.next_sid → plan.effect.reply ≡ a.reply
     → plan.effect.events.items ≡ timers ++ a.work.events
@@ -78,17 +89,17 @@ pub plan_makes : {A : Type 0} (clock steps : ℕ) (closing : Bool) (services : L
     → plan.effect.matched.items ≡ [] → plan.effect.released.items ≡ []
     → plan.moments.items ≡ clock_moments clock input.at ++ map moment_of plan.effect.events.items
     → (history : List Moment) (deaths : List DeathOf) → AllAgree services history → clock ≡ clock_of history
-    → Plans (with_past clock steps closing (charts_of services) next_sid history deaths) input plan
+    → Plans (machine_with_history clock steps closing (charts_of services) next_sid history deaths) input plan
 plan_makes clock steps closing services next_sid input plan fired timers a left now timed_by told act_is standing next reply events orders matched released moments history deaths agrees reading =
     let cs : List ChartState = charts_of services in
     let before : List Moment = history ++ clock_moments clock input.at in
-    let t = opened (with_past clock steps closing cs next_sid history deaths) input left in
-    let was : a ≡ acted input.act (with_past plan.now steps closing fired next_sid (before ++ map moment_of timers) deaths) =
+    let t = opened (machine_with_history clock steps closing cs next_sid history deaths) input left in
+    let was : a ≡ acted input.act (machine_with_history plan.now steps closing fired next_sid (before ++ map moment_of timers) deaths) =
     act_is steps (before ++ map moment_of timers) deaths (fired_agrees clock input.at plan.now services timers fired history now timed_by agrees reading) in
     let fired_is : fired ≡ services_after (fire (max clock input.at)) cs = timed_by ∙ ap (λ n. services_after (fire n) cs) now in
     let told_is : timers ≡ events_after (fire (max clock input.at)) cs = told ∙ ap (λ n. events_after (fire n) cs) now in
-    let done : a ≡ acted input.act (with_past (max clock input.at) steps closing (services_after (fire (max clock input.at)) cs) next_sid (before ++ map moment_of (events_after (fire (max clock input.at)) cs)) deaths) =
-    was ∙ (λ i. acted input.act (with_past (now i) steps closing (fired_is i) next_sid (before ++ map moment_of (told_is i)) deaths)) in
+    let done : a ≡ acted input.act (machine_with_history (max clock input.at) steps closing (services_after (fire (max clock input.at)) cs) next_sid (before ++ map moment_of (events_after (fire (max clock input.at)) cs)) deaths) =
+    was ∙ (λ i. acted input.act (machine_with_history (now i) steps closing (fired_is i) next_sid (before ++ map moment_of (told_is i)) deaths)) in
     let given : plan.effect.events.items ≡ _ = events ∙ (λ i. told_is i ++ (done i).work.events) in
     record {
       clock = now ∙ sym (ap (λ s. s.machine.clock) t);
@@ -113,6 +124,6 @@ plan_makes clock steps closing services next_sid input plan fired timers a left 
           subst (λ (ss : List Supervised). AllAgree ss (history ++ plan.moments.items)) (sym standing)
           (subst (λ (h : List Moment). AllAgree (all_with_status plan.now plan.effect.events.items services a.work.services) h)
           (append_assoc history (clock_moments clock input.at) (map moment_of plan.effect.events.items) ∙ ap (λ ms. history ++ ms) (sym moments))
-          (done_agrees clock plan.now services timers plan.effect.events.items fired history input (with_past plan.now steps closing fired next_sid (before ++ map moment_of timers) deaths) a
+          (done_agrees clock plan.now services timers plan.effect.events.items fired history input (machine_with_history plan.now steps closing fired next_sid (before ++ map moment_of timers) deaths) a
           now timed_by refl was events agrees reading));
     }

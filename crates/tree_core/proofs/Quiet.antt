@@ -30,6 +30,3 @@ clock_stays now clock at is early = is ∙ omega arith
 -- the events of the timers and of the act are none
 pub no_events : (all timers acts : List Event) → all ≡ timers ++ acts → timers ≡ [] → acts ≡ [] → all ≡ []
 no_events all timers acts is none nothing = is ∙ (λ i. none i ++ nothing i)
-
-pub length-services_after : (move : ChartState → Moved) (services : List ChartState) → length (services_after move services) ≡ length services
-length-services_after move services = length-map services (λ c. (move c).chart)

@@ -14,10 +14,10 @@ use Rattle.supervise_core.specs.Chart.{fire}
 use Rattle.supervise_core.proofs.Identity.{KeepsIdentity, keeps_fire, keeps_changed, keeps_begin}
 use Rattle.tree_core.specs.declared.input.Entry.{Entry}
 use Rattle.tree_core.specs.Acts.{Work, Worked, worked, changed_at, changed_named}
-use Rattle.tree_core.specs.Acts.Work.{leave, change_one, change_named, look_up}
-use Rattle.tree_core.specs.Listing.{repeats, in_byte_order, names_in, config_in}
+use Rattle.tree_core.specs.Acts.Work.{leave, change_one, change_named, apply_listing}
+use Rattle.tree_core.specs.Listing.{repeats, in_byte_order, names_in, is_listed, config_in}
 use Rattle.tree_core.specs.Moves.{services_after}
-use Rattle.tree_core.specs.Scan.{Grown, looked_up, stays, stands, service_limit, config_for, with_service, with_name, with_names}
+use Rattle.tree_core.specs.Scan.{ScanState, looked_up, stays, stands, service_limit, config_for, with_service, with_name, with_names}
 use Rattle.tree_core.specs.Sound.{serials_of, IsNumbered}
 use Rattle.tree_core.proofs.Truth.{both_left, both_right, both_of}
 use Rattle.tree_core.proofs.Names.{keeps_either, keeps_still, keeps_look}
@@ -90,21 +90,21 @@ numbered_told name change now next cs h =
 
 serials_looked : (now : ℕ) (listing : List Entry) (cs : List ChartState) → serials_of (looked_up now listing cs) ≡ serials_of cs
 serials_looked now listing [] = refl
-serials_looked now listing (c ∷ cs) = λ i. (keeps_look (config_in listing c.name) now c).sid i ∷ serials_looked now listing cs i
+serials_looked now listing (c ∷ cs) = λ i. (keeps_look (is_listed listing c.name) (config_in listing c.name) now c).sid i ∷ serials_looked now listing cs i
 
 -- new services get the next serials
-either_grown : (b : Bool) (x y : Grown) → IsNumbered x.next_sid x.services → IsNumbered y.next_sid y.services → IsNumbered (cond b x y).next_sid (cond b x y).services
+either_grown : (b : Bool) (x y : ScanState) → IsNumbered x.next_sid x.services → IsNumbered y.next_sid y.services → IsNumbered (cond b x y).next_sid (cond b x y).services
 either_grown true x y hx hy = hx
 either_grown false x y hx hy = hy
 
-numbered_added : (listing : List Entry) (g : Grown) (name : List ℕ) → IsNumbered g.next_sid g.services → IsNumbered (g.next_sid + 1) (with_service listing g name).services
+numbered_added : (listing : List Entry) (g : ScanState) (name : List ℕ) → IsNumbered g.next_sid g.services → IsNumbered (g.next_sid + 1) (with_service listing g name).services
 numbered_added listing g name h =
     ap (λ ns. is_rising (ns ++ (g.next_sid + 1) ∷ []))
     (map-append (λ (c : ChartState). c.sid) g.services ((begin_supervisor (new_service g.next_sid name (config_for listing name))).chart ∷ [])
     ∙ ap (λ n. serials_of g.services ++ n ∷ []) (keeps_begin g.next_sid name (config_for listing name)).sid)
     ∙ rising_next (serials_of g.services) g.next_sid h
 
-numbered_all : (listing : List Entry) (g : Grown) (names : List (List ℕ)) → IsNumbered g.next_sid g.services
+numbered_all : (listing : List Entry) (g : ScanState) (names : List (List ℕ)) → IsNumbered g.next_sid g.services
     → IsNumbered (with_names listing g names).next_sid (with_names listing g names).services
 numbered_all listing g [] h = h
 numbered_all listing g (name ∷ names) h =
@@ -117,6 +117,6 @@ pub work_numbers : (work : Work) (now : ℕ) (cs : List ChartState) (next : ℕ)
 work_numbers leave now cs next h = h
 work_numbers (change_one sid change) now cs next h = numbered_reported sid change now next cs h
 work_numbers (change_named name change) now cs next h = numbered_told name change now next cs h
-work_numbers (look_up listing) now cs next h =
+work_numbers (apply_listing listing) now cs next h =
     numbered_all listing _ (in_byte_order (names_in listing))
     (numbered_filtered stays next (looked_up now listing cs) (same_serials next cs (looked_up now listing cs) (serials_looked now listing cs) h))

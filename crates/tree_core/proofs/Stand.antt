@@ -1,41 +1,45 @@
 -- What makes the step of an input stands for the machine after it.
-use Rattle.std.proofs.Common.{◌≡◌, ◌+◌, ◌≤◌, ◌++◌, List, [], drop, ℕ, true, arith, length, sym, ap, ◌∙◌, refl, subst, nat_eq}
-use Rattle.std.proofs.lemmas.Bool.Decides.{nat_tests}
+use Rattle.std.proofs.Common.{◌≡◌, ◌+◌, ◌≤◌, ◌++◌, List, [], drop, max, ℕ, arith, length, sym, ap, ◌∙◌, subst}
 use Rattle.std.proofs.lemmas.List.{length-append, drop-append-le}
-use Rattle.s6_events.specs.Clock.{clock_of}
+use Rattle.s6_events.specs.At.{last_moment}
 use Rattle.s6_events.specs.declared.moment.Moment.{Moment}
+use Rattle.deadlines.specs.Timers.{due_by}
+use Rattle.deadlines.specs.declared.timer.Timer.{Timer}
 use Rattle.supervise_core.specs.Service.{Supervised}
 use Rattle.tree_core.specs.declared.input.Input.{Input}
-use Rattle.tree_core.specs.declared.plan.Plan.{Plan}
+use Rattle.tree_core.specs.declared.plan.StepPlan.{StepPlan}
 use Rattle.tree_core.specs.Effect.{outcome_of}
-use Rattle.tree_core.specs.Machine.{Machine, DeathOf, Outcome}
-use Rattle.tree_core.specs.Plan.{Plans, with_past, planned}
+use Rattle.tree_core.specs.Machine.{Machine}
+use Rattle.tree_core.specs.Plan.{Present, present, IsNow, IsQuiet, Plans, planned}
 use Rattle.tree_core.specs.Run.{after, outcome}
 use Rattle.tree_core.specs.Sound.{IsRecorded}
 use Rattle.tree_core.specs.StandsFor.{Stored, StandsFor, AllAgree}
-use Rattle.tree_core.specs.Step.{step, step_limit, spent, spent_outcome}
+use Rattle.tree_core.specs.Timers.{TimersAgree}
 use Rattle.tree_core.specs.Told.{charts_of}
 use Rattle.tree_core.proofs.Reading.{step-reads}
+use Rattle.tree_core.proofs.TimersDue.{none_for_quiet}
 
--- what a tree stores, with a past
-abbrev machine_of : Stored → List Moment → List DeathOf → Machine
-machine_of t history deaths = with_past t.clock t.steps t.closing (charts_of t.services) t.next_sid history deaths
+-- what is there now in a tree, and in each machine for which it stands
+abbrev pub present_of : Stored → Present
+present_of t = present t.clock t.steps t.closing t.services t.next_sid
 
--- a machine for which a tree stands is what it stores, with its past
-same_machine : (t : Stored) (m : Machine) → StandsFor t m → machine_of t m.history m.deaths ≡ m
-same_machine t m s = sym (λ i. with_past (s.clock i) (s.steps i) (s.closing i) (s.services i) (s.next_sid i) m.history m.deaths)
+pub is_now : (t : Stored) (m : Machine) → StandsFor t m → IsNow (present_of t) m
+is_now t m s = record {
+  clock = s.clock;
+  steps = s.steps;
+  closing = s.closing;
+  services = s.services;
+  next_sid = s.next_sid;
+  agrees = s.agrees;
+  reading = s.reading;
+}
 
--- the clock that a tree stores is the last reading of each history that it stands for
-pub read_by : (t : Stored) (m : Machine) → StandsFor t m → t.clock ≡ clock_of m.history
-read_by t m s = sym s.clock ∙ s.reading
-
--- a plan for every past that agrees with what a tree stores
-abbrev PlansAll : {A : Type 0} → Stored → Input A → Plan A → Type 0
-PlansAll t input plan = (history : List Moment) → (deaths : List DeathOf) → AllAgree t.services history → t.clock ≡ clock_of history
-    → Plans (machine_of t history deaths) input plan
+-- a plan for every machine that has now what a tree has
+abbrev PlansAll : {A : Type 0} → Stored → Input A → StepPlan A → Type 0
+PlansAll t input plan = (m : Machine) → IsNow (present_of t) m → Plans m input plan
 
 -- what a step leaves in a tree, by its plan
-pub record Installs {A : Type 0} (t new : Stored) (plan : Plan A) : Type 0 where
+pub record Installs {A : Type 0} (t new : Stored) (plan : StepPlan A) : Type 0 where
   pub clock : new.clock ≡ plan.now
   pub steps : new.steps ≡ t.steps + 1
   pub closing : new.closing ≡ t.closing
@@ -44,10 +48,10 @@ pub record Installs {A : Type 0} (t new : Stored) (plan : Plan A) : Type 0 where
   pub forgotten : new.forgotten ≡ t.forgotten
   pub kept : new.kept ≡ t.kept ++ plan.moments.items
 
-pub stands_after : {A : Type 0} (t new : Stored) (input : Input A) (plan : Plan A) → PlansAll t input plan → Installs t new plan
+pub stands_after : {A : Type 0} (t new : Stored) (input : Input A) (plan : StepPlan A) → PlansAll t input plan → Installs t new plan
     → (m : Machine) → StandsFor t m → (outcome_of plan.effect ≡ outcome m input) × StandsFor new (after m input)
 stands_after {A} t new input plan plans n m s =
-    let p : Plans m input plan = subst (λ (x : Machine). Plans x input plan) (same_machine t m s) (plans m.history m.deaths s.agrees (sym s.clock ∙ s.reading)) in (
+    let p : Plans m input plan = plans m (is_now t m s) in (
       p.effect,
       record {
         clock = sym (n.clock ∙ p.clock);
@@ -65,16 +69,17 @@ stands_after {A} t new input plan plans n m s =
       },
     )
 
--- a spent tree goes on standing for what it stands for
-pub stands_spent : {A : Type 0} (t : Stored) (input : Input A) (given : Outcome A) → t.steps ≡ step_limit → given ≡ spent_outcome
-    → (m : Machine) → StandsFor t m → (given ≡ outcome m input) × StandsFor t (after m input)
-stands_spent {A} t input given at_limit is m s =
-    let over : nat_eq m.steps step_limit ≡ true = grind (arith, nat_tests, at_limit, s.steps) in
-    let t' : step m input ≡ spent m = rw over refl in
-    (is ∙ sym (ap (λ x. x.outcome) t'), subst (StandsFor t) (sym (ap (λ x. x.machine) t')) s)
+-- for a quiet input nothing is due, and what then holds of each machine that has now what the tree has holds
+pub for_quiet : {A : Type 0} (t seen : Stored) (input : Input A) (now : ℕ) (ts : List Timer) (due : List ℕ) (Given : Type 0)
+    → t ≡ seen → now ≡ max t.clock input.at → now ≤ last_moment → TimersAgree ts (charts_of t.services) → due ≡ due_by now ts → (m : Machine) × StandsFor t m
+    → ((m : Machine) → IsNow (present_of t) m → IsQuiet input t.clock (charts_of t.services) → due ≡ [] → Given)
+    → IsQuiet input seen.clock (charts_of seen.services) → Given
+for_quiet {A} t seen input now ts due Given same later bound agree is there gives quiet =
+    gives there.0 (is_now t there.0 there.1) (subst (λ (x : Stored). IsQuiet input x.clock (charts_of x.services)) (sym same) quiet)
+    (is ∙ none_for_quiet t seen input now ts same later bound agree quiet)
 
 -- the history with the moments of a planned step
-pub recorded_after : {A : Type 0} (t : Stored) (plan : Plan A) (forgotten : ℕ) (kept : List Moment) → IsRecorded t.steps t.forgotten t.kept
+pub recorded_after : {A : Type 0} (t : Stored) (plan : StepPlan A) (forgotten : ℕ) (kept : List Moment) → IsRecorded t.steps t.forgotten t.kept
     → length plan.moments.items ≤ 1024 → forgotten ≡ t.forgotten → kept ≡ t.kept ++ plan.moments.items
     → IsRecorded (t.steps + 1) forgotten kept
 recorded_after t plan forgotten kept r few same more = record {

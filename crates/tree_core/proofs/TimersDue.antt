@@ -21,7 +21,7 @@ use Rattle.tree_core.proofs.Quiet.{clock_stays}
 use Rattle.tree_core.proofs.SerialsRise.{rising_before}
 use Rattle.tree_core.specs.Told.{charts_of}
 use Rattle.tree_core.specs.Timers.{has_serial, in_reach, timer_in, set_in, TimersAgree, change_to, left, moved, changes_of, AreDue}
-use Rattle.tree_core.proofs.Truth.{both_left, both_right, neither_left, neither_right}
+use Rattle.tree_core.proofs.Truth.{both_left, both_right, either_right, neither_left, neither_right}
 use Rattle.tree_core.proofs.TimersAgree.{one_number, itself, later_other, earlier_other}
 
 -- a serial is due among timers in rising serial, where its timer is due
@@ -120,11 +120,7 @@ of_charts f (s ∷ services) = ap (λ rest. f s.chart ++ rest) (of_charts f serv
 present : (cs : List ChartState) (k : ℕ) (d : ChartState) → k < length cs → has_serial (get_or cs k d).sid cs ≡ true
 present [] k d lt = absurd (omega (arith, lt))
 present (c ∷ cs) zero d lt = ap (λ b. b || has_serial c.sid cs) (itself c.sid)
-present (c ∷ cs) (suc k) d lt = either (c.sid == (get_or cs k d).sid) _ (present cs k d (omega (arith, lt)))
-  where
-    either : (a b : Bool) → b ≡ true → (a || b) ≡ true
-    either true b h = refl
-    either false b h = h
+present (c ∷ cs) (suc k) d lt = either_right (c.sid == (get_or cs k d).sid) _ (present cs k d (omega (arith, lt)))
 
 same_moment : (o : Option ℕ) → option_eq nat_eq o o ≡ true
 same_moment None = refl

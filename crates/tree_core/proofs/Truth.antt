@@ -1,6 +1,15 @@
 -- What one test says, and two together.
 use Rattle.std.proofs.Common.{◌≡◌, refl, Bool, true, false, ◌||◌, ◌&&◌, rules}
 
+-- one or the other is true
+pub either_left : (a b : Bool) → a ≡ true → (a || b) ≡ true
+either_left true b h = refl
+either_left false b h = search rules
+
+pub either_right : (a b : Bool) → b ≡ true → (a || b) ≡ true
+either_right true b h = refl
+either_right false b h = h
+
 -- both are false where one or the other is
 pub neither_left : (a b : Bool) → (a || b) ≡ false → a ≡ false
 neither_left true b h = h

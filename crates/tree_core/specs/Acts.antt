@@ -9,6 +9,8 @@ use Rattle.supervise_core.specs.declared.row.Row.{Row}
 use Rattle.supervise_core.specs.ChartState.{Moved, still, is_gone}
 use Rattle.supervise_core.specs.Chart.{changed_by}
 use Rattle.tree_core.specs.declared.effect.Event.{Event}
+use Rattle.tree_core.specs.declared.effect.Match.{Match}
+use Rattle.tree_core.specs.declared.effect.Release.{Release}
 use Rattle.tree_core.specs.declared.input.Act.{Act}
 use Rattle.tree_core.specs.declared.input.Entry.{Entry}
 use Rattle.tree_core.specs.declared.input.Act.TheVariants.{Scan, Svc, Started, StartFailed, Notify, Death, FinishEnded, Status, Tick}
@@ -20,14 +22,23 @@ use Rattle.tree_core.specs.Listing.{names_in, repeats, in_byte_order}
 use Rattle.tree_core.specs.Machine.{Machine, DeathOf}
 use Rattle.tree_core.specs.Moves.{services_after, events_after, orders_after, deaths_after}
 use Rattle.tree_core.specs.Rows.{row_named}
-use Rattle.tree_core.specs.Scan.{stands, Grown, looked_up, stays, leaves, grown_from}
+use Rattle.tree_core.specs.Scan.{stands, ScanState, looked_up, stays, leaves, scan_state_from}
 
 -- what an act asks of the services
 pub data Work : Type 0 where
   leave : Work
   change_one : ℕ → Change → Work
   change_named : List ℕ → Change → Work
-  look_up : List Entry → Work
+  apply_listing : List Entry → Work
+
+-- what an act asks of those who listen; no act of today asks anything of them
+pub data Ask : Type 0 where
+  same : Ask
+
+-- what those who listen are given
+pub record Heard : Type 0 where
+  pub matched : List Match
+  pub released : List Release
 
 -- what is left of the services, and what they give
 pub record Worked : Type 0 where
@@ -63,15 +74,15 @@ moved_all move services next_sid = record {
 }
 
 -- a scan: activity, drops, and additions in the order of the names' bytes
-abbrev pub scanned : List Entry → ℕ → List ChartState → ℕ → Grown
-scanned listing now services next_sid = grown_from listing (filter stays (looked_up now listing services)) next_sid (in_byte_order (names_in listing))
+abbrev pub scanned : List Entry → ℕ → List ChartState → ℕ → ScanState
+scanned listing now services next_sid = scan_state_from listing (filter stays (looked_up now listing services)) next_sid (in_byte_order (names_in listing))
 
 -- the work, done at a moment on the services
 abbrev pub worked : Work → ℕ → List ChartState → ℕ → Worked
 worked leave now services next_sid = left_alone services next_sid
 worked (change_one sid change) now services next_sid = moved_all (changed_at sid change now) services next_sid
 worked (change_named name change) now services next_sid = moved_all (changed_named name change now) services next_sid
-worked (look_up listing) now services next_sid = record {
+worked (apply_listing listing) now services next_sid = record {
   services = (scanned listing now services next_sid).services;
   next_sid = (scanned listing now services next_sid).next_sid;
   events = (scanned listing now services next_sid).events;
@@ -120,7 +131,7 @@ scan_reply listing m =
 
 -- what each act asks of the services
 abbrev pub work_of : {A : Type 0} → Act A → Machine → Work
-work_of (Scan listing) m = work_unless (refused_listing listing m) (look_up listing)
+work_of (Scan listing) m = work_unless (refused_listing listing m) (apply_listing listing)
 work_of (Svc name letters) m = work_unless (refused_letters name m) (change_named name (Letters letters))
 work_of (Started sid generation pid) m = change_one sid (StartedReport generation pid)
 work_of (StartFailed sid generation) m = change_one sid (StartFailedReport generation)
@@ -128,6 +139,13 @@ work_of (Notify sid generation bytes) m = change_one sid (NotifyReport generatio
 work_of (Death sid generation exit) m = change_one sid (DeathReport generation exit)
 work_of (FinishEnded sid generation exit) m = change_one sid (FinishEndedReport generation exit)
 work_of act m = leave
+
+-- what each act asks of those who listen, and what that gives them
+abbrev pub ask_of : {A : Type 0} → Act A → Machine → Ask
+ask_of act m = same
+
+abbrev pub heard : Ask → Heard
+heard same = record { matched = []; released = [] }
 
 -- what each act is answered
 abbrev pub reply_to : {A : Type 0} → Act A → Machine → Reply A

@@ -11,6 +11,10 @@ use Rattle.tree_core.specs.declared.input.Entry.{Entry}
 abbrev pub names_in : List Entry → List (List ℕ)
 names_in listing = map (λ e. e.name) listing
 
+-- a listing has an entry of the name
+abbrev pub is_listed : List Entry → List ℕ → Bool
+is_listed listing name = list_any (λ e. bytes_eq name e.name) listing
+
 -- the configuration that a listing has for a name
 abbrev pub config_in : List Entry → List ℕ → Option Config
 config_in listing name = option_map (λ e. e.config) (find (λ e. bytes_eq name e.name) listing)

@@ -12,21 +12,25 @@ use Rattle.tree_core.specs.declared.input.Entry.{Entry}
 use Rattle.tree_core.specs.declared.effect.Event.{Event}
 use Rattle.tree_core.specs.declared.reply.Listed.{Listed}
 use Rattle.tree_core.specs.declared.reply.Listed.TheVariants.{Added, Full}
-use Rattle.tree_core.specs.Listing.{config_in}
+use Rattle.tree_core.specs.Listing.{is_listed, config_in}
 use Rattle.tree_core.specs.Moves.{events_of}
 
 -- the most services that stand
 abbrev pub service_limit : ℕ
 service_limit = 64
 
--- a look at the directory of a service: it is inactive where it is not listed, and else it takes the configuration found there
-abbrev pub looked_at : Option Config → ℕ → ChartState → ChartState
-looked_at None now c = set_active false now c
-looked_at (Some config) now c = set_config config (set_active true now c)
+-- a service takes a configuration, where there is one
+abbrev pub configured : Option Config → ChartState → ChartState
+configured None c = c
+configured (Some config) c = set_config config c
+
+-- a look at the directory of a service: it is active where it is listed, and takes the configuration that the listing has for it
+abbrev pub looked_at : Bool → Option Config → ℕ → ChartState → ChartState
+looked_at listed found now c = configured found (set_active listed now c)
 
 -- activity: each standing service is looked at
 abbrev pub looked_up : ℕ → List Entry → List ChartState → List ChartState
-looked_up now listing services = map (λ c. looked_at (config_in listing c.name) now c) services
+looked_up now listing services = map (λ c. looked_at (is_listed listing c.name) (config_in listing c.name) now c) services
 
 -- drops: a service leaves whose directory and whose supervisor are both gone
 abbrev pub stays : ChartState → Bool
@@ -36,7 +40,7 @@ abbrev pub leaves : ChartState → Bool
 leaves c = not (stays c)
 
 -- additions: the services while new names get theirs, the next serial, what became of the names, and what was given
-pub record Grown : Type 0 where
+pub record ScanState : Type 0 where
   pub services : List ChartState
   pub next_sid : ℕ
   pub listed : List Listed
@@ -52,7 +56,7 @@ abbrev pub config_for : List Entry → List ℕ → Config
 config_for listing name = unwrap_or (config_in listing name) plain_config
 
 -- the name gets a service of the next serial, whose supervisor starts with the configuration that the listing has for it
-abbrev pub with_service : List Entry → Grown → List ℕ → Grown
+abbrev pub with_service : List Entry → ScanState → List ℕ → ScanState
 with_service listing g name = record {
   services = g.services ++ (begin_supervisor (new_service g.next_sid name (config_for listing name))).chart ∷ [];
   next_sid = g.next_sid + 1;
@@ -62,16 +66,16 @@ with_service listing g name = record {
 }
 
 -- a name that stands is passed over; another one gets a service, unless the limit is reached
-abbrev pub with_name : List Entry → Grown → List ℕ → Grown
+abbrev pub with_name : List Entry → ScanState → List ℕ → ScanState
 with_name listing g name =
     if stands name g.services then g
     else if nat_lt (length g.services) service_limit then with_service listing g name
     else record g { listed = g.listed ++ Full name ∷ [] }
 
 -- one name after the other
-abbrev pub with_names : List Entry → Grown → List (List ℕ) → Grown
+abbrev pub with_names : List Entry → ScanState → List (List ℕ) → ScanState
 with_names listing g names = fold (with_name listing) g names
 
 -- from the services that stayed on
-abbrev pub grown_from : List Entry → List ChartState → ℕ → List (List ℕ) → Grown
-grown_from listing services next_sid names = with_names listing (record { services = services; next_sid = next_sid; listed = []; events = []; orders = [] }) names
+abbrev pub scan_state_from : List Entry → List ChartState → ℕ → List (List ℕ) → ScanState
+scan_state_from listing services next_sid names = with_names listing (record { services = services; next_sid = next_sid; listed = []; events = []; orders = [] }) names

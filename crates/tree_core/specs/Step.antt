@@ -11,7 +11,7 @@ use Rattle.tree_core.specs.declared.input.Act.{Act}
 use Rattle.tree_core.specs.declared.input.Input.{Input}
 use Rattle.tree_core.specs.declared.reply.Refusal.TheVariants.{Spent}
 use Rattle.tree_core.specs.declared.reply.Reply.TheVariants.{Refused}
-use Rattle.tree_core.specs.Acts.{acted, deaths_by}
+use Rattle.tree_core.specs.Acts.{acted, deaths_by, ask_of, heard}
 use Rattle.tree_core.specs.Machine.{Machine, Outcome}
 use Rattle.tree_core.specs.Moves.{services_after, events_after, orders_after, moment_of}
 
@@ -49,7 +49,13 @@ with_act act m = record m {
 abbrev pub finished : {A : Type 0} → Act A → List Event → List Order → Machine → Stepped A
 finished act events orders m = record {
   machine = record (with_act act m) { steps = m.steps + 1 };
-  outcome = record { reply = (acted act m).reply; events = events ++ (acted act m).work.events; orders = orders ++ (acted act m).work.orders; matched = []; released = [] };
+  outcome = record {
+    reply = (acted act m).reply;
+    events = events ++ (acted act m).work.events;
+    orders = orders ++ (acted act m).work.orders;
+    matched = (heard (ask_of act m)).matched;
+    released = (heard (ask_of act m)).released;
+  };
 }
 
 -- each service whose timer is due takes its rule once, and then the act is done

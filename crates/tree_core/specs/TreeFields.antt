@@ -19,8 +19,8 @@ stored t = record {
 }
 
 -- its numbers don't outrun its steps, its deadlines agree with its services, and there is a machine for which it stands
-abbrev pub IsKept : {A : Type 0} → Inside A → Type 0
-IsKept t =
+abbrev pub TreeInvariant : {A : Type 0} → Inside A → Type 0
+TreeInvariant t =
     IsSound t.steps t.next_sid (charts_of t.services.items)
     × IsRecorded t.steps t.history.forgotten t.history.kept
     × TimersAgree t.deadlines.timers (charts_of t.services.items)

@@ -1,14 +1,14 @@
 -- What the clauses of private functions see of their values.
-use Rattle.tree_core.specs.declared.act.Draft.{Draft}
-use Rattle.tree_core.specs.declared.scan.Growing.{Growing}
+use Rattle.tree_core.specs.declared.act.ActResult.{ActResult}
+use Rattle.tree_core.specs.declared.scan.Scanning.{Scanning}
 use Rattle.tree_core.specs.Acts.{Acted}
-use Rattle.tree_core.specs.Scan.{Grown}
+use Rattle.tree_core.specs.Scan.{ScanState}
 
-abbrev pub grown_of : {A : Type 0} → Growing A → Grown
-grown_of g = record { services = g.charts.items; next_sid = g.next_sid; listed = g.listed.items; events = g.gathered.events.items; orders = g.gathered.orders.items }
+abbrev pub scan_state_of : {A : Type 0} → Scanning A → ScanState
+scan_state_of g = record { services = g.charts.items; next_sid = g.next_sid; listed = g.listed.items; events = g.output.events.items; orders = g.output.orders.items }
 
-abbrev pub drafted : {A : Type 0} → Draft A → Acted A
-drafted d = record {
+abbrev pub acted_of : {A : Type 0} → ActResult A → Acted A
+acted_of d = record {
   reply = d.reply;
-  work = record { services = d.charts.items; next_sid = d.next_sid; events = d.gathered.events.items; orders = d.gathered.orders.items };
+  work = record { services = d.charts.items; next_sid = d.next_sid; events = d.output.events.items; orders = d.output.orders.items };
 }

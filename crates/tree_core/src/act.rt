@@ -1,27 +1,26 @@
-ghost use Rattle.std.specs.Prelude.{◌≡◌, ◌+◌, ◌<◌, ◌≤◌, ◌^◌, ◌==◌, length, All, IfOk, IsOk, ℕ, Bool, List, [], true, false, find, bytes_eq, option_copied};
-ghost use Rattle.std.specs.List.{list_any};
+ghost use Rattle.std.specs.Prelude.{◌≡◌, ◌+◌, ◌<◌, ◌≤◌, ◌^◌, ◌==◌, length, All, IfOk, IsOk, ℕ, Bool, List, [], true, false};
 ghost use Rattle.s6_events.specs.declared.moment.Moment.{Moment};
 ghost use Rattle.supervise_core.specs.Gives.{most_orders};
 ghost use Rattle.tree_core.specs.Acts.{report_reply as reply_by, reply_to_report, has_ended as is_ended, left_alone, worked, doing, refused_letters, refused_listing, reply_unless, work_unless, scan_reply, row_reply as reply_of_row, acted};
 ghost use Rattle.tree_core.specs.declared.reply.Reply.TheVariants.{Done};
-ghost use Rattle.tree_core.specs.Acts.Work.{change_one, change_named, look_up as look_up_work};
+ghost use Rattle.tree_core.specs.Acts.Work.{change_one, change_named, apply_listing as listing_work};
 ghost use Rattle.tree_core.specs.Machine.{DeathOf};
 ghost use Rattle.tree_core.specs.Listing.{names_in, in_byte_order, repeats};
-ghost use Rattle.tree_core.specs.Scan.{stands};
 ghost use Rattle.tree_core.specs.Sound.{names_of};
-ghost use Rattle.tree_core.specs.Plan.{at_work, with_past, is_reading, IsFew};
+ghost use Rattle.tree_core.specs.Plan.{machine_before_act, machine_with_history, is_reading, FitsBuffers};
 ghost use Rattle.tree_core.specs.Rows.{row_named};
 ghost use Rattle.tree_core.specs.StandsFor.{AllAgree};
 ghost use Rattle.tree_core.specs.Told.{all_with_status};
-ghost use Rattle.tree_core.specs.Views.{drafted};
+ghost use Rattle.tree_core.specs.Views.{acted_of};
 
+use super::charts::{find_name, has_name, has_serial};
 use super::effect::Event;
-use super::gathered::{Gathered, change_at, change_named};
 use super::input::{Act, Entry};
 use super::listing::sort_listing;
 use super::reply::{Refusal, Reply, ScanReport};
-use super::scan::{Growing, leaving, look_up, staying};
+use super::scan::{Scanning, apply_listing, dropped_ids, retained};
 use super::standing::status_once_told;
+use super::step_output::{StepOutput, change_at, change_named};
 use arrayvec::ArrayVec;
 use s6_events::{At, Name, NoMemory, Sid};
 use std::alloc::Allocator;
@@ -29,11 +28,11 @@ use supervise_core::{Change, ChartState, Phase, Service};
 
 /// What an act leaves and gives, before anything is changed.
 #[derive(Drop)]
-pub struct Draft<A: Allocator> {
+pub struct ActResult<A: Allocator> {
     pub reply: Reply<A>,
     pub charts: ArrayVec<ChartState, 64>,
     pub next_sid: u64,
-    pub gathered: Gathered<A>,
+    pub output: StepOutput<A>,
 }
 
 // A reply, and nothing done.
@@ -42,26 +41,19 @@ fn reply_only<A: Allocator + Copy>(
     reply: Reply<A>,
     charts: ArrayVec<ChartState, 64>,
     next_sid: u64,
-) -> Draft<A>
+) -> ActResult<A>
     requires { length charts.items ≤ 64 }
     ensures places { length result.charts.items ≤ 64 }
-    ensures few { IsFew result.gathered.events.items result.gathered.orders.items }
+    ensures few { FitsBuffers result.output.events.items result.output.orders.items }
     ensures next { result.next_sid ≡ next_sid }
-    ensures draft { drafted result ≡ record { reply = reply; work = left_alone charts.items next_sid } }
+    ensures given { acted_of result ≡ record { reply = reply; work = left_alone charts.items next_sid } }
 {
-    Draft {
+    ActResult {
         reply,
         charts,
         next_sid,
-        gathered: Gathered::new(alloc),
+        output: StepOutput::new(alloc),
     }
-}
-
-// Whether a service has the serial.
-fn has_service(charts: &[ChartState], sid: Sid) -> bool
-    ensures { result ≡ list_any (λ c. c.sid == sid) charts.now }
-{
-    charts.iter().any(|chart| chart.sid.0 == sid.0)
 }
 
 // The reply to a report.
@@ -85,32 +77,25 @@ fn report<A: Allocator + Copy>(
     now: At,
     charts: ArrayVec<ChartState, 64>,
     next_sid: u64,
-) -> Result<Draft<A>, NoMemory>
+) -> Result<ActResult<A>, NoMemory>
     requires report { most_orders change.now ≤ 2 }
     requires generations { All (λ c. c.generation + 1 < 2 ^ 64) charts.items }
-    ensures draft { IfOk result (λ d. let m = at_work false now charts.items next_sid [] in drafted d ≡ doing (reply_to_report sid change.now m) (change_one sid change.now) m) }
+    ensures given { IfOk result (λ d. let m = machine_before_act false now charts.items next_sid [] in acted_of d ≡ doing (reply_to_report sid change.now m) (change_one sid change.now) m) }
     ensures places { IfOk result (λ d. length d.charts.items ≤ 64) }
     ensures next { IfOk result (λ d. d.next_sid ≡ next_sid) }
-    ensures few { IfOk result (λ d. IsFew d.gathered.events.items d.gathered.orders.items) }
+    ensures few { IfOk result (λ d. FitsBuffers d.output.events.items d.output.orders.items) }
 {
-    let mut gathered = Gathered::new(alloc);
+    let mut output = StepOutput::new(alloc);
     let before = charts.as_slice();
-    let is_known = has_service(before, sid);
-    let after = change_at(before, sid, change, now, &mut gathered)?;
-    let reply = report_reply(is_known, gathered.stale);
-    Ok(Draft {
+    let is_known = has_serial(before, sid);
+    let after = change_at(before, sid, change, now, &mut output)?;
+    let reply = report_reply(is_known, output.stale);
+    Ok(ActResult {
         reply,
         charts: after,
         next_sid,
-        gathered,
+        output,
     })
-}
-
-// Whether a service has the name.
-fn has_name(charts: &[ChartState], name: Name) -> bool
-    ensures { result ≡ stands name charts.now }
-{
-    charts.iter().any(|chart| chart.name == name)
 }
 
 // Whether the supervisor of the service of the name has ended.
@@ -134,21 +119,21 @@ fn copy_of<T: Copy + Default, const N: usize>(list: &ArrayVec<T, N>) -> ArrayVec
 }
 
 // Letters for the service of a name.
-fn tell<A: Allocator + Copy>(
+fn control_named<A: Allocator + Copy>(
     alloc: A,
     name: Name,
     change: &Change,
     now: At,
     charts: ArrayVec<ChartState, 64>,
     next_sid: u64,
-) -> Result<Draft<A>, NoMemory>
+) -> Result<ActResult<A>, NoMemory>
     requires places { length charts.items ≤ 64 }
     requires names { repeats (names_of charts.items) ≡ false }
     requires generations { All (λ c. c.generation + 1 < 2 ^ 64) charts.items }
-    ensures draft { IfOk result (λ d. let m = at_work false now charts.items next_sid [] in drafted d ≡ doing (reply_unless (refused_letters name m) Done) (work_unless (refused_letters name m) (change_named name change.now)) m) }
+    ensures given { IfOk result (λ d. let m = machine_before_act false now charts.items next_sid [] in acted_of d ≡ doing (reply_unless (refused_letters name m) Done) (work_unless (refused_letters name m) (change_named name change.now)) m) }
     ensures places { IfOk result (λ d. length d.charts.items ≤ 64) }
     ensures next { IfOk result (λ d. d.next_sid ≡ next_sid) }
-    ensures few { IfOk result (λ d. IsFew d.gathered.events.items d.gathered.orders.items) }
+    ensures few { IfOk result (λ d. FitsBuffers d.output.events.items d.output.orders.items) }
 {
     if !has_name(charts.as_slice(), name) {
         let reply = Reply::Refused(Refusal::NoService);
@@ -158,13 +143,13 @@ fn tell<A: Allocator + Copy>(
         let reply = Reply::Refused(Refusal::Ended);
         return Ok(reply_only(alloc, reply, charts, next_sid));
     }
-    let mut gathered = Gathered::new(alloc);
-    let after = change_named(charts.as_slice(), name, change, now, &mut gathered)?;
-    Ok(Draft {
+    let mut output = StepOutput::new(alloc);
+    let after = change_named(charts.as_slice(), name, change, now, &mut output)?;
+    Ok(ActResult {
         reply: Reply::Done,
         charts: after,
         next_sid,
-        gathered,
+        output,
     })
 }
 
@@ -176,28 +161,28 @@ fn scan<A: Allocator + Copy>(
     now: At,
     charts: ArrayVec<ChartState, 64>,
     next_sid: u64,
-) -> Result<Draft<A>, NoMemory>
+) -> Result<ActResult<A>, NoMemory>
     requires next { next_sid + 65 < 2 ^ 64 }
     requires sorted { sorted.now ≡ in_byte_order (names_in listing.now) }
-    ensures draft { IfOk result (λ d. let m = at_work false now charts.items next_sid [] in drafted d ≡ doing (scan_reply listing.now m) (look_up_work listing.now) m) }
+    ensures given { IfOk result (λ d. let m = machine_before_act false now charts.items next_sid [] in acted_of d ≡ doing (scan_reply listing.now m) (listing_work listing.now) m) }
     ensures places { IfOk result (λ d. length d.charts.items ≤ 64) }
     ensures next { IfOk result (λ d. d.next_sid ≤ next_sid + 64) }
-    ensures few { IfOk result (λ d. IsFew d.gathered.events.items d.gathered.orders.items) }
+    ensures few { IfOk result (λ d. FitsBuffers d.output.events.items d.output.orders.items) }
 {
-    let looked_up = look_up(charts.as_slice(), listing, now);
-    let dropped = leaving(alloc, looked_up.as_slice())?;
-    let mut growing = Growing {
-        charts: staying(looked_up.as_slice()),
+    let looked_up = apply_listing(charts.as_slice(), listing, now);
+    let dropped = dropped_ids(alloc, looked_up.as_slice())?;
+    let mut scanning = Scanning {
+        charts: retained(looked_up.as_slice()),
         next_sid,
         listed: Vec::new(alloc),
-        gathered: Gathered::new(alloc),
+        output: StepOutput::new(alloc),
     };
-    growing.take_all(sorted, listing)?;
-    Ok(Draft {
-        reply: Reply::Scanned(ScanReport::new(dropped, growing.listed)),
-        charts: growing.charts,
-        next_sid: growing.next_sid,
-        gathered: growing.gathered,
+    scanning.add_names(sorted, listing)?;
+    Ok(ActResult {
+        reply: Reply::Scanned(ScanReport::new(dropped, scanning.listed)),
+        charts: scanning.charts,
+        next_sid: scanning.next_sid,
+        output: scanning.output,
     })
 }
 
@@ -209,13 +194,13 @@ fn take_listing<A: Allocator + Copy>(
     now: At,
     charts: ArrayVec<ChartState, 64>,
     next_sid: u64,
-) -> Result<Draft<A>, NoMemory>
+) -> Result<ActResult<A>, NoMemory>
     requires places { length charts.items ≤ 64 }
     requires next { next_sid + 65 < 2 ^ 64 }
-    ensures draft { IfOk result (λ d. let m = at_work closing now charts.items next_sid [] in drafted d ≡ doing (reply_unless (refused_listing listing.now m) (scan_reply listing.now m)) (work_unless (refused_listing listing.now m) (look_up_work listing.now)) m) }
+    ensures given { IfOk result (λ d. let m = machine_before_act closing now charts.items next_sid [] in acted_of d ≡ doing (reply_unless (refused_listing listing.now m) (scan_reply listing.now m)) (work_unless (refused_listing listing.now m) (listing_work listing.now)) m) }
     ensures places { IfOk result (λ d. length d.charts.items ≤ 64) }
     ensures next { IfOk result (λ d. d.next_sid ≤ next_sid + 64) }
-    ensures few { IfOk result (λ d. IsFew d.gathered.events.items d.gathered.orders.items) }
+    ensures few { IfOk result (λ d. FitsBuffers d.output.events.items d.output.orders.items) }
 {
     if closing {
         let reply = Reply::Refused(Refusal::Closing);
@@ -238,27 +223,25 @@ fn take_listing<A: Allocator + Copy>(
 
 /// What an act looks at beside the states: what each service stored before the step, and the events of the step so far.
 #[derive(Clone, Copy)]
-pub struct Past<'a> {
+pub struct StepContext<'a> {
     pub services: &'a [Service],
     pub events: &'a [Event],
 }
 
-// The service of the name.
-fn find_name(charts: &[ChartState], name: Name) -> Option<&ChartState>
-    ensures { option_copied result ≡ find (λ c. bytes_eq name c.name) charts.now }
-{
-    charts.iter().find(|chart| chart.name == name)
-}
-
 // The status row of the service of a name.
-fn show_row<A: Allocator>(name: Name, past: &Past, now: At, charts: &[ChartState]) -> Reply<A>
-    ensures { (closing : Bool) → (next_sid : ℕ) → (history : List Moment) → AllAgree (all_with_status now past.now.events.now past.now.services.now charts.now) history
-        → result ≡ reply_of_row (row_named name (at_work closing now charts.now next_sid history)) }
+fn show_row<A: Allocator>(
+    name: Name,
+    context: &StepContext,
+    now: At,
+    charts: &[ChartState],
+) -> Reply<A>
+    ensures { (closing : Bool) → (next_sid : ℕ) → (history : List Moment) → AllAgree (all_with_status now context.now.events.now context.now.services.now charts.now) history
+        → result ≡ reply_of_row (row_named name (machine_before_act closing now charts.now next_sid history)) }
 {
     let Some(chart) = find_name(charts, name) else {
         return Reply::Refused(Refusal::NoService);
     };
-    let status = status_once_told(past.services, past.events, chart.sid, now);
+    let status = status_once_told(context.services, context.events, chart.sid, now);
     Reply::Row(status.row(chart, now))
 }
 
@@ -270,17 +253,17 @@ pub fn act<A: Allocator + Copy>(
     now: At,
     charts: ArrayVec<ChartState, 64>,
     next_sid: u64,
-    past: &Past,
-) -> Result<Draft<A>, NoMemory>
+    context: &StepContext,
+) -> Result<ActResult<A>, NoMemory>
     requires places { length charts.items ≤ 64 }
     requires names { repeats (names_of charts.items) ≡ false }
     requires generations { All (λ c. c.generation + 1 < 2 ^ 64) charts.items }
     requires next { next_sid + 65 < 2 ^ 64 }
-    ensures draft { (steps : ℕ) → (history : List Moment) → (deaths : List DeathOf) → AllAgree (all_with_status now past.now.events.now past.now.services.now charts.items) history
-        → IfOk result (λ d. drafted d ≡ acted act.now (with_past now steps closing charts.items next_sid history deaths)) }
+    ensures given { (steps : ℕ) → (history : List Moment) → (deaths : List DeathOf) → AllAgree (all_with_status now context.now.events.now context.now.services.now charts.items) history
+        → IfOk result (λ d. acted_of d ≡ acted act.now (machine_with_history now steps closing charts.items next_sid history deaths)) }
     ensures places { IfOk result (λ d. length d.charts.items ≤ 64) }
     ensures next { IfOk result (λ d. d.next_sid ≤ next_sid + 64) }
-    ensures few { IfOk result (λ d. IsFew d.gathered.events.items d.gathered.orders.items) }
+    ensures few { IfOk result (λ d. FitsBuffers d.output.events.items d.output.orders.items) }
     ensures quiet { is_reading act.now ≡ true → IsOk result }
 {
     match act {
@@ -289,7 +272,7 @@ pub fn act<A: Allocator + Copy>(
         }
         Act::Svc(name, letters) => {
             let change = Change::Control(copy_of(letters));
-            tell(alloc, *name, &change, now, charts, next_sid)
+            control_named(alloc, *name, &change, now, charts, next_sid)
         }
         Act::Started(sid, generation, pid) => {
             let change = Change::Started(*generation, *pid);
@@ -312,7 +295,7 @@ pub fn act<A: Allocator + Copy>(
             report(alloc, *sid, &change, now, charts, next_sid)
         }
         Act::Status(name) => {
-            let reply = show_row(*name, past, now, charts.as_slice());
+            let reply = show_row(*name, context, now, charts.as_slice());
             Ok(reply_only(alloc, reply, charts, next_sid))
         }
         Act::Tick => Ok(reply_only(alloc, Reply::Done, charts, next_sid)),

@@ -2,8 +2,8 @@
 #![tactic(auto)]
 
 mod act;
+mod charts;
 mod effect;
-mod gathered;
 mod hit;
 mod input;
 mod listing;
@@ -12,6 +12,7 @@ mod reply;
 mod rows;
 mod scan;
 mod standing;
+mod step_output;
 #[cfg(test)]
 mod tests;
 mod timers;

@@ -1,5 +1,5 @@
 ghost use Rattle.std.specs.Prelude.{◌≡◌, IfOk};
-ghost use Rattle.tree_core.specs.Listing.{names_in, config_in as config_of, repeats as has_repeats, in_byte_order};
+ghost use Rattle.tree_core.specs.Listing.{names_in, is_listed as has_entry, config_in as config_of, repeats as has_repeats, in_byte_order};
 
 use super::input::Entry;
 use s6_events::{Name, NoMemory};
@@ -12,6 +12,13 @@ use std::collections::BTreeSet;
 pub struct SortedListing<A: Allocator> {
     pub names: Vec<Name, A>,
     pub repeats: bool,
+}
+
+/// Whether the listing has an entry of the name.
+pub fn is_listed(listing: &[Entry], name: &Name) -> bool
+    ensures { result ≡ has_entry listing.now name.now }
+{
+    listing.iter().any(|entry| *name == entry.name)
 }
 
 /// The configuration that the listing has for the name.

@@ -1,11 +1,9 @@
 ghost use Rattle.std.specs.Prelude.{◌≡◌, ◌+◌, ◌*◌, ◌<◌, ◌≤◌, ◌^◌, ◌++◌, List, [], map, max, length, All, IfOk, IsOkAnd, false};
 ghost use Rattle.s6_events.specs.At.{last_moment};
-ghost use Rattle.s6_events.specs.Clock.{clock_of};
 ghost use Rattle.s6_events.specs.declared.moment.Moment.{Moment};
-ghost use Rattle.tree_core.specs.Machine.{DeathOf};
+ghost use Rattle.tree_core.specs.Machine.{Machine};
 ghost use Rattle.tree_core.specs.Moves.{moment_of};
-ghost use Rattle.tree_core.specs.Plan.{with_past, planned, Plans, IsQuiet};
-ghost use Rattle.tree_core.specs.StandsFor.{AllAgree};
+ghost use Rattle.tree_core.specs.Plan.{present, IsNow, planned, Plans, IsQuiet};
 ghost use Rattle.tree_core.specs.Told.{charts_of as states_of};
 ghost use Rattle.tree_core.specs.Listing.{repeats};
 ghost use Rattle.tree_core.specs.Sound.{IsSound, IsNumbered, names_of};
@@ -14,11 +12,11 @@ ghost use Rattle.deadlines.specs.declared.timer.Timer.{Timer};
 ghost use Rattle.deadlines.specs.Timers.{changed_all};
 ghost use Rattle.tree_core.specs.Step.{clock_moments, step_limit};
 
-use super::act::{Past, act};
+use super::act::{StepContext, act};
 use super::effect::{Effect, Event};
-use super::gathered::{Gathered, fire_due};
 use super::input::Input;
 use super::standing::{Standing, standing_after};
+use super::step_output::{StepOutput, fire_due};
 use super::timers::changes_between;
 use arrayvec::ArrayVec;
 use deadlines::TimerChange;
@@ -28,7 +26,7 @@ use supervise_core::{ChartState, Service};
 
 /// A step that is known before anything is changed.
 #[derive(Drop)]
-pub struct Plan<A: Allocator> {
+pub struct StepPlan<A: Allocator> {
     pub now: At,
     pub standing: ArrayVec<Standing, 64>,
     pub next_sid: u64,
@@ -88,7 +86,7 @@ pub fn plan_step<A: Allocator + Copy>(
     next_sid: u64,
     due: &[Sid],
     input: &Input<A>,
-) -> Result<Plan<A>, NoMemory>
+) -> Result<StepPlan<A>, NoMemory>
     requires left { steps < step_limit }
     requires few { length services.now ≤ 64 }
     requires names { repeats (names_of (states_of services.now)) ≡ false }
@@ -96,41 +94,40 @@ pub fn plan_step<A: Allocator + Copy>(
     requires due { AreDue due.now (max clock input.now.at) (states_of services.now) }
     requires serials { next_sid ≤ 64 * steps + 1 }
     requires generations { All (λ c. c.generation ≤ 2 * steps) (states_of services.now) }
-    ensures sound { (history : List Moment) → AllAgree services.now history → clock ≡ clock_of history
+    ensures sound { (m : Machine) → IsNow (present clock steps closing services.now next_sid) m
         → IfOk result (λ plan. IsSound (steps + 1) plan.next_sid (states_of (planned plan))) }
     ensures count { IfOk result (λ plan. length plan.moments.items ≤ 1024) }
-    ensures step { IfOk result (λ plan. (history : List Moment) → (deaths : List DeathOf) → AllAgree services.now history → clock ≡ clock_of history
-        → Plans (with_past clock steps closing (states_of services.now) next_sid history deaths) input.now plan) }
-    ensures timers { (history : List Moment) → AllAgree services.now history → clock ≡ clock_of history → (timers : List Timer) → TimersAgree timers (states_of services.now)
+    ensures step { IfOk result (λ plan. (m : Machine) → IsNow (present clock steps closing services.now next_sid) m → Plans m input.now plan) }
+    ensures timers { (m : Machine) → IsNow (present clock steps closing services.now next_sid) m → (timers : List Timer) → TimersAgree timers (states_of services.now)
         → IfOk result (λ plan. TimersAgree (changed_all plan.timers.items timers) (states_of (planned plan))) }
-    ensures quiet { (history : List Moment) → AllAgree services.now history → clock ≡ clock_of history → IsQuiet input.now clock (states_of services.now) → due.now ≡ []
+    ensures quiet { (m : Machine) → IsNow (present clock steps closing services.now next_sid) m → IsQuiet input.now clock (states_of services.now) → due.now ≡ []
         → IsOkAnd result (λ plan. (plan.moments.items ≡ []) × (plan.timers.items ≡ []) × (length plan.standing.items ≡ length services.now)) }
 {
     let now = later(clock, input.at);
     let charts = charts_of(services);
-    let mut gathered = Gathered::new(alloc);
-    let fired = fire_due(charts, due, now, &mut gathered)?;
-    let past = Past {
+    let mut output = StepOutput::new(alloc);
+    let fired = fire_due(charts, due, now, &mut output)?;
+    let context = StepContext {
         services,
-        events: gathered.events.as_slice(),
+        events: output.events.as_slice(),
     };
-    let draft = act(alloc, &input.act, closing, now, fired, next_sid, &past)?;
-    gathered.append(&draft.gathered)?;
-    let moments = moments_of(alloc, clock, input.at, gathered.events.as_slice())?;
-    let after = draft.charts.as_slice();
+    let act_result = act(alloc, &input.act, closing, now, fired, next_sid, &context)?;
+    output.append(&act_result.output)?;
+    let moments = moments_of(alloc, clock, input.at, output.events.as_slice())?;
+    let after = act_result.charts.as_slice();
     let timers = changes_between(alloc, services, after)?;
-    let events = gathered.events.as_slice();
+    let events = output.events.as_slice();
     let standing = standing_after(services, events, after, now);
-    Ok(Plan {
+    Ok(StepPlan {
         now,
         standing,
-        next_sid: draft.next_sid,
+        next_sid: act_result.next_sid,
         moments,
         timers,
         effect: Effect {
-            reply: draft.reply,
-            events: gathered.events,
-            orders: gathered.orders,
+            reply: act_result.reply,
+            events: output.events,
+            orders: output.orders,
             matched: Vec::new(alloc),
             released: Vec::new(alloc),
         },

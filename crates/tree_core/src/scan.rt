@@ -2,12 +2,13 @@ ghost use Rattle.std.specs.Prelude.{◌≡◌, ◌+◌, ◌*◌, ◌<◌, ◌≤
 ghost use Rattle.supervise_core.specs.ChartState.{new_service};
 ghost use Rattle.supervise_core.specs.Moves.{begin_supervisor};
 ghost use Rattle.tree_core.specs.Scan.{looked_at, looked_up, stays, leaves, stands, config_for as has_for, with_service, with_name, with_names};
-ghost use Rattle.tree_core.specs.Views.{grown_of};
+ghost use Rattle.tree_core.specs.Views.{scan_state_of};
 
-use super::gathered::Gathered;
+use super::charts::has_name;
 use super::input::Entry;
-use super::listing::config_in;
+use super::listing::{config_in, is_listed};
 use super::reply::Listed;
+use super::step_output::StepOutput;
 use arrayvec::ArrayVec;
 use s6_events::{At, Name, NoMemory, Sid};
 use servicedir::Config;
@@ -16,20 +17,19 @@ use supervise_core::{ChartState, Out, Phase};
 
 /// The services while new names get theirs.
 #[derive(Drop)]
-pub struct Growing<A: Allocator> {
+pub struct Scanning<A: Allocator> {
     pub charts: ArrayVec<ChartState, 64>,
     pub next_sid: u64,
     pub listed: Vec<Listed, A>,
-    pub gathered: Gathered<A>,
+    pub output: StepOutput<A>,
 }
 
-// A look at the directory of a service: where it is listed the service is active and takes the configuration that the directory
-// says; else it is inactive.
-fn look_at(chart: &ChartState, found: Option<Config>, now: At) -> ChartState
-    ensures { result ≡ looked_at found now chart.now }
+// A look at the directory of a service: it is active where it is listed, and takes the configuration that the listing has for it.
+fn look_at(chart: &ChartState, is_listed: bool, found: Option<Config>, now: At) -> ChartState
+    ensures { result ≡ looked_at is_listed found now chart.now }
 {
     let mut next = *chart;
-    next.set_active(found.is_some(), now);
+    next.set_active(is_listed, now);
     if let Some(config) = found {
         next.set_config(config);
     }
@@ -38,33 +38,34 @@ fn look_at(chart: &ChartState, found: Option<Config>, now: At) -> ChartState
 
 /// Activity: each standing service is active if its name is listed, else inactive; a listed one takes the configuration that the
 /// listing has for it.
-pub fn look_up(charts: &[ChartState], listing: &[Entry], now: At) -> ArrayVec<ChartState, 64>
+pub fn apply_listing(charts: &[ChartState], listing: &[Entry], now: At) -> ArrayVec<ChartState, 64>
     requires { length charts.now ≤ 64 }
     ensures { result.items ≡ looked_up now listing.now charts.now }
 {
     let mut after = ArrayVec::new();
     for chart in charts {
+        let is_listed = is_listed(listing, &chart.name);
         let found = config_in(listing, &chart.name);
-        after.push(look_at(chart, found, now));
+        after.push(look_at(chart, is_listed, found, now));
     }
     after
 }
 
 // A service stays unless its directory and its supervisor are both gone.
-fn is_staying(chart: &ChartState) -> bool
+fn is_retained(chart: &ChartState) -> bool
     ensures { result ≡ stays chart.now }
 {
     chart.active || chart.phase != Phase::Gone
 }
 
 /// The services that stay.
-pub fn staying(charts: &[ChartState]) -> ArrayVec<ChartState, 64>
+pub fn retained(charts: &[ChartState]) -> ArrayVec<ChartState, 64>
     requires { length charts.now ≤ 64 }
     ensures { result.items ≡ filter stays charts.now }
 {
     let mut after = ArrayVec::new();
     for chart in charts {
-        if is_staying(chart) {
+        if is_retained(chart) {
             after.push(*chart);
         }
     }
@@ -72,7 +73,7 @@ pub fn staying(charts: &[ChartState]) -> ArrayVec<ChartState, 64>
 }
 
 /// The services that are dropped.
-pub fn leaving<A: Allocator + Copy>(
+pub fn dropped_ids<A: Allocator + Copy>(
     alloc: A,
     charts: &[ChartState],
 ) -> Result<Vec<Sid, A>, NoMemory>
@@ -80,18 +81,11 @@ pub fn leaving<A: Allocator + Copy>(
 {
     let mut sids = Vec::new(alloc);
     for chart in charts {
-        if !is_staying(chart) {
+        if !is_retained(chart) {
             sids.push(chart.sid)?;
         }
     }
     Ok(sids)
-}
-
-// Whether a service of the name stands.
-fn is_standing(name: &Name, charts: &[ChartState]) -> bool
-    ensures { result ≡ stands name.now charts.now }
-{
-    charts.iter().any(|chart| *name == chart.name)
 }
 
 // The configuration that the listing has for a name of its own.
@@ -113,58 +107,58 @@ fn begin_at_end(charts: &mut ArrayVec<ChartState, 64>, sid: Sid, name: &Name, co
     out
 }
 
-impl<A: Allocator + Copy> Growing<A> {
+impl<A: Allocator + Copy> Scanning<A> {
     // The name gets a service of the next serial, with the configuration that the listing has for it.
-    fn add(&mut self, name: &Name, listing: &[Entry]) -> Result<(), NoMemory>
+    fn add_service(&mut self, name: &Name, listing: &[Entry]) -> Result<(), NoMemory>
         requires place { length self.old.charts.items < 64 }
-        requires orders { length self.old.gathered.orders.items ≤ length self.old.charts.items }
+        requires orders { length self.old.output.orders.items ≤ length self.old.charts.items }
         requires next { self.old.next_sid + 1 < 2 ^ 64 }
-        ensures grown { OnOk result (grown_of self.new ≡ with_service listing.now (grown_of self.old) name.now) }
-        ensures orders { OnOk result (length self.new.gathered.orders.items ≤ length self.old.gathered.orders.items + 1) }
-        ensures events { OnOk result (length self.new.gathered.events.items ≤ length self.old.gathered.events.items + 4) }
+        ensures state { OnOk result (scan_state_of self.new ≡ with_service listing.now (scan_state_of self.old) name.now) }
+        ensures orders { OnOk result (length self.new.output.orders.items ≤ length self.old.output.orders.items + 1) }
+        ensures events { OnOk result (length self.new.output.events.items ≤ length self.old.output.events.items + 4) }
     {
         let sid = Sid(self.next_sid);
         let config = config_for(listing, name);
         let out = begin_at_end(&mut self.charts, sid, name, config);
-        self.gathered.add(sid, &out)?;
+        self.output.add(sid, &out)?;
         self.listed.push(Listed::Added(sid, *name))?;
         self.next_sid += 1;
         Ok(())
     }
 
     // A name that stands is passed over; another one gets a service, unless the limit is reached.
-    fn take(&mut self, name: &Name, listing: &[Entry]) -> Result<(), NoMemory>
-        requires orders { length self.old.gathered.orders.items ≤ length self.old.charts.items }
+    fn add_name(&mut self, name: &Name, listing: &[Entry]) -> Result<(), NoMemory>
+        requires orders { length self.old.output.orders.items ≤ length self.old.charts.items }
         requires next { self.old.next_sid + 1 < 2 ^ 64 }
-        ensures grown { OnOk result (grown_of self.new ≡ with_name listing.now (grown_of self.old) name.now) }
-        ensures orders { OnOk result (length self.new.gathered.orders.items ≤ length self.new.charts.items) }
-        ensures events { OnOk result (length self.new.gathered.events.items + 4 * length self.old.charts.items ≤ length self.old.gathered.events.items + 4 * length self.new.charts.items) }
+        ensures state { OnOk result (scan_state_of self.new ≡ with_name listing.now (scan_state_of self.old) name.now) }
+        ensures orders { OnOk result (length self.new.output.orders.items ≤ length self.new.charts.items) }
+        ensures events { OnOk result (length self.new.output.events.items + 4 * length self.old.charts.items ≤ length self.old.output.events.items + 4 * length self.new.charts.items) }
         ensures next { OnOk result (self.new.next_sid + length self.old.charts.items ≤ self.old.next_sid + length self.new.charts.items) }
         ensures places { OnOk result (length self.new.charts.items ≤ 64) }
     {
-        if is_standing(name, self.charts.as_slice()) {
+        if has_name(self.charts.as_slice(), *name) {
             return Ok(());
         }
         if self.charts.is_full() {
             self.listed.push(Listed::Full(*name))?;
             return Ok(());
         }
-        self.add(name, listing)
+        self.add_service(name, listing)
     }
 
     /// Additions: one name after the other.
-    pub fn take_all(&mut self, names: &[Name], listing: &[Entry]) -> Result<(), NoMemory>
+    pub fn add_names(&mut self, names: &[Name], listing: &[Entry]) -> Result<(), NoMemory>
         requires places { length self.old.charts.items ≤ 64 }
-        requires orders { length self.old.gathered.orders.items ≤ length self.old.charts.items }
+        requires orders { length self.old.output.orders.items ≤ length self.old.charts.items }
         requires next { self.old.next_sid + 65 < 2 ^ 64 }
-        ensures grown { OnOk result (grown_of self.new ≡ with_names listing.now (grown_of self.old) names.now) }
-        ensures orders { OnOk result (length self.new.gathered.orders.items ≤ length self.new.charts.items) }
-        ensures events { OnOk result (length self.new.gathered.events.items + 4 * length self.old.charts.items ≤ length self.old.gathered.events.items + 4 * length self.new.charts.items) }
+        ensures state { OnOk result (scan_state_of self.new ≡ with_names listing.now (scan_state_of self.old) names.now) }
+        ensures orders { OnOk result (length self.new.output.orders.items ≤ length self.new.charts.items) }
+        ensures events { OnOk result (length self.new.output.events.items + 4 * length self.old.charts.items ≤ length self.old.output.events.items + 4 * length self.new.charts.items) }
         ensures next { OnOk result (self.new.next_sid + length self.old.charts.items ≤ self.old.next_sid + length self.new.charts.items) }
         ensures places { OnOk result (length self.new.charts.items ≤ 64) }
     {
         for name in names {
-            self.take(name, listing)?;
+            self.add_name(name, listing)?;
         }
         Ok(())
     }

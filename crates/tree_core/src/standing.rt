@@ -28,7 +28,7 @@ impl Default for Standing {
 pub fn find_serial(services: &[Service], sid: Sid) -> Option<&Service>
     ensures { option_copied result ≡ find (λ s. s.chart.sid == sid) services.now }
 {
-    services.iter().find(|service| service.sid().0 == sid.0)
+    services.iter().find(|service| service.sid() == sid)
 }
 
 // What the service of the serial stores of its marks, or that nothing was told.
@@ -47,7 +47,7 @@ fn tell_events(status: Status, sid: Sid, events: &[Event], now: At) -> Status
 {
     let mut told = status;
     for event in events {
-        if event.sid.0 == sid.0 {
+        if event.sid == sid {
             told.tell(event.mark, now);
         }
     }

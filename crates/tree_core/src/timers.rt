@@ -3,20 +3,14 @@ ghost use Rattle.deadlines.specs.declared.timer.Timer.{Timer};
 ghost use Rattle.deadlines.specs.Timers.{changed_all, is_rising};
 ghost use Rattle.tree_core.specs.Sound.{serials_of};
 ghost use Rattle.tree_core.specs.Told.{charts_of};
-ghost use Rattle.tree_core.specs.Timers.{has_serial as is_serial_in, in_reach, timer_in as moment_in, change_to as to_moment, left, moved, changes_of, TimersAgree};
+ghost use Rattle.tree_core.specs.Timers.{in_reach, timer_in as moment_in, change_to as to_moment, left, moved, changes_of, TimersAgree};
 
+use super::charts::has_serial;
 use super::standing::find_serial;
 use deadlines::TimerChange;
 use s6_events::{At, NoMemory, Sid};
 use std::alloc::Allocator;
 use supervise_core::{ChartState, Service};
-
-// Whether a service has the serial.
-fn has_serial(charts: &[ChartState], sid: Sid) -> bool
-    ensures { result ≡ is_serial_in sid charts.now }
-{
-    charts.iter().any(|chart| chart.sid.0 == sid.0)
-}
 
 // The moment of a timer, where it can come.
 fn reachable(timer: Option<u64>) -> Option<At>

@@ -1,4 +1,4 @@
-ghost use Rattle.std.specs.Prelude.{◌≡◌, ◌+◌, ◌-◌, ◌≤◌, ◌++◌, map, length, vec_capacity, [], IfOk, IfErr, OnErr, IsOk};
+ghost use Rattle.std.specs.Prelude.{◌≡◌, ◌+◌, ◌-◌, ◌≤◌, ◌++◌, map, length, vec_capacity, [], IfOk, OnOk, IfErr, OnErr, IsOk};
 ghost use Rattle.tree_core.specs.Effect.{outcome_of};
 ghost use Rattle.tree_core.specs.Machine.{new_machine, Machine};
 ghost use Rattle.tree_core.specs.Plan.{supervised_of, IsQuiet};
@@ -42,11 +42,11 @@ impl<A: Allocator> Model for Tree<A> {
 
     ghost Value = { Stored };
 
-    ghost use Rattle.tree_core.specs.TreeFields.{stored, IsKept};
+    ghost use Rattle.tree_core.specs.TreeFields.{stored, TreeInvariant};
 
     ghost view = { stored };
 
-    ghost invariant = { IsKept };
+    ghost invariant = { TreeInvariant };
 }
 
 // What a spent tree gives.
@@ -60,6 +60,16 @@ fn spent<A: Allocator + Copy>(alloc: A) -> Effect<A>
         matched: Vec::new(alloc),
         released: Vec::new(alloc),
     }
+}
+
+// Room for so many services in all.
+fn make_room<A: Allocator>(services: &mut Vec<Service, A>, count: usize) -> Result<(), NoMemory>
+    ensures items { services.new.items ≡ services.old.items }
+    ensures room { OnOk result (count ≤ vec_capacity services.new) }
+    ensures quiet { count ≤ length services.old.items → IsOk result }
+{
+    services.reserve(count.saturating_sub(services.len()))?;
+    Ok(())
 }
 
 // The services become these. There is room for them.
@@ -102,24 +112,28 @@ impl<A: Allocator + Copy> Tree<A> {
             return Ok(spent(alloc));
         }
         let due = self.deadlines.due(alloc, later(self.clock, input.at))?;
+        let services = self.services.as_slice();
+        let serials = due.as_slice();
         let plan = plan_step(
             alloc,
             self.clock,
             self.steps,
             self.closing,
-            self.services.as_slice(),
+            services,
             self.next_sid,
-            due.as_slice(),
+            serials,
             input,
         )?;
-        let moments = self.history.prepare(plan.moments.as_slice())?;
-        let timers = self.deadlines.prepare(plan.timers.as_slice())?;
-        self.services
-            .reserve(plan.standing.len().saturating_sub(self.services.len()))?;
+        let joining = plan.moments.as_slice();
+        let moments = self.history.prepare(joining)?;
+        let changes = plan.timers.as_slice();
+        let timers = self.deadlines.prepare(changes)?;
+        let standing = plan.standing.as_slice();
+        make_room(&mut self.services, standing.len())?;
         self.clock = plan.now;
         self.steps += 1;
         self.next_sid = plan.next_sid;
-        install(&mut self.services, plan.standing.as_slice());
+        install(&mut self.services, standing);
         self.deadlines.commit(timers);
         self.history.commit(moments);
         Ok(plan.effect)

@@ -5,8 +5,7 @@ use Rattle.tree_core.proofs.tree.Tree.new.Goals as goal
 
 pub invariant_of-result : goal.invariant_of-result
 invariant_of-result g c =
-    rw (c.zero.ensures, c.new.ensures.items, c.new-2.ensures, c.new-3.ensures.forgotten, c.new-3.ensures.kept)
-    (
+    rw (c.zero.ensures, c.new.ensures.items, c.new-2.ensures, c.new-3.ensures.forgotten, c.new-3.ensures.kept) (
       record { steps = omega arith; few = omega arith; names = refl; order = refl; serials = omega arith; generations = λ k d lt. absurd (omega (arith, lt)) },
       record { few = omega arith },
       record { order = refl; moments = λ sid. refl },

@@ -17,20 +17,20 @@ use supervise_core::{Change, ChartState, Out};
 
 /// The events and orders of a step under way, and whether a report was stale.
 #[derive(Drop)]
-pub struct Gathered<A: Allocator> {
+pub struct StepOutput<A: Allocator> {
     pub events: Vec<Event, A>,
     pub orders: ArrayVec<Order, 256>,
     pub stale: bool,
 }
 
-impl<A: Allocator + Copy> Gathered<A> {
+impl<A: Allocator + Copy> StepOutput<A> {
     /// Nothing yet.
-    pub fn new(alloc: A) -> Gathered<A>
+    pub fn new(alloc: A) -> StepOutput<A>
         ensures events { result.events.items ≡ [] }
         ensures orders { result.orders.items ≡ [] }
         ensures stale { result.stale ≡ false }
     {
-        Gathered {
+        StepOutput {
             events: Vec::new(alloc),
             orders: ArrayVec::new(),
             stale: false,
@@ -57,7 +57,7 @@ impl<A: Allocator + Copy> Gathered<A> {
     }
 
     /// Adds what came after it.
-    pub fn append(&mut self, later: &Gathered<A>) -> Result<(), NoMemory>
+    pub fn append(&mut self, later: &StepOutput<A>) -> Result<(), NoMemory>
         requires { length self.old.orders.items + length later.now.orders.items ≤ 256 }
         ensures events { OnOk result (self.new.events.items ≡ self.old.events.items ++ later.now.events.items) }
         ensures orders { OnOk result (self.new.orders.items ≡ self.old.orders.items ++ later.now.orders.items) }
@@ -97,24 +97,24 @@ pub fn fire_due<A: Allocator + Copy>(
     charts: ArrayVec<ChartState, 64>,
     due: &[Sid],
     now: At,
-    gathered: &mut Gathered<A>,
+    output: &mut StepOutput<A>,
 ) -> Result<ArrayVec<ChartState, 64>, NoMemory>
     requires few { length charts.items ≤ 64 }
     requires due { AreDue due.now now charts.items }
-    requires orders { length gathered.old.orders.items + length charts.items ≤ 256 }
+    requires orders { length output.old.orders.items + length charts.items ≤ 256 }
     requires generations { All (λ c. c.generation + 1 < 2 ^ 64) charts.items }
     ensures services { IfOk result (λ after. after.items ≡ services_after (fire now) charts.items) }
-    ensures events { OnOk result (gathered.new.events.items ≡ gathered.old.events.items ++ events_after (fire now) charts.items) }
-    ensures orders { OnOk result (gathered.new.orders.items ≡ gathered.old.orders.items ++ orders_after (fire now) charts.items) }
-    ensures count { OnOk result (length gathered.new.orders.items ≤ length gathered.old.orders.items + length charts.items) }
-    ensures few { OnOk result (length gathered.new.events.items ≤ length gathered.old.events.items + 4 * length charts.items) }
+    ensures events { OnOk result (output.new.events.items ≡ output.old.events.items ++ events_after (fire now) charts.items) }
+    ensures orders { OnOk result (output.new.orders.items ≡ output.old.orders.items ++ orders_after (fire now) charts.items) }
+    ensures count { OnOk result (length output.new.orders.items ≤ length output.old.orders.items + length charts.items) }
+    ensures few { OnOk result (length output.new.events.items ≤ length output.old.events.items + 4 * length charts.items) }
     ensures places { IfOk result (λ after. length after.items ≤ 64) }
-    ensures quiet { due.now ≡ [] → IsOk result × (gathered.new.events.items ≡ gathered.old.events.items) }
+    ensures quiet { due.now ≡ [] → IsOk result × (output.new.events.items ≡ output.old.events.items) }
 {
     if due.is_empty() {
         return Ok(charts);
     }
-    fire_among(charts.as_slice(), due, now, gathered)
+    fire_among(charts.as_slice(), due, now, output)
 }
 
 // Each of these services whose timer is due takes its rule once.
@@ -122,23 +122,23 @@ fn fire_among<A: Allocator + Copy>(
     charts: &[ChartState],
     due: &[Sid],
     now: At,
-    gathered: &mut Gathered<A>,
+    output: &mut StepOutput<A>,
 ) -> Result<ArrayVec<ChartState, 64>, NoMemory>
     requires few { length charts.now ≤ 64 }
     requires due { AreDue due.now now charts.now }
-    requires orders { length gathered.old.orders.items + length charts.now ≤ 256 }
+    requires orders { length output.old.orders.items + length charts.now ≤ 256 }
     requires generations { All (λ c. c.generation + 1 < 2 ^ 64) charts.now }
     ensures services { IfOk result (λ after. after.items ≡ services_after (fire now) charts.now) }
-    ensures events { OnOk result (gathered.new.events.items ≡ gathered.old.events.items ++ events_after (fire now) charts.now) }
-    ensures orders { OnOk result (gathered.new.orders.items ≡ gathered.old.orders.items ++ orders_after (fire now) charts.now) }
-    ensures count { OnOk result (length gathered.new.orders.items ≤ length gathered.old.orders.items + length charts.now) }
-    ensures few { OnOk result (length gathered.new.events.items ≤ length gathered.old.events.items + 4 * length charts.now) }
+    ensures events { OnOk result (output.new.events.items ≡ output.old.events.items ++ events_after (fire now) charts.now) }
+    ensures orders { OnOk result (output.new.orders.items ≡ output.old.orders.items ++ orders_after (fire now) charts.now) }
+    ensures count { OnOk result (length output.new.orders.items ≤ length output.old.orders.items + length charts.now) }
+    ensures few { OnOk result (length output.new.events.items ≤ length output.old.events.items + 4 * length charts.now) }
     ensures places { IfOk result (λ after. length after.items ≤ 64) }
 {
     let mut fired = ArrayVec::new();
     for chart in charts {
         let is_due = is_among(due, chart.sid);
-        fired.push(fire_one(chart, is_due, now, gathered)?);
+        fired.push(fire_one(chart, is_due, now, output)?);
     }
     Ok(fired)
 }
@@ -147,7 +147,7 @@ fn fire_among<A: Allocator + Copy>(
 fn is_among(sids: &[Sid], sid: Sid) -> bool
     ensures { result ≡ list_any (λ s. s == sid) sids.now }
 {
-    sids.iter().any(|other| other.0 == sid.0)
+    sids.iter().any(|other| *other == sid)
 }
 
 // A service takes its timer rule where it is due.
@@ -155,19 +155,19 @@ fn fire_one<A: Allocator + Copy>(
     chart: &ChartState,
     is_due: bool,
     now: At,
-    gathered: &mut Gathered<A>,
+    output: &mut StepOutput<A>,
 ) -> Result<ChartState, NoMemory>
     requires due { is_due ≡ is_timer_due now chart.now.timer }
-    requires orders { length gathered.old.orders.items < 256 }
+    requires orders { length output.old.orders.items < 256 }
     requires next { chart.now.generation + 1 < 2 ^ 64 }
     ensures chart { IfOk result (λ next. next ≡ (fire now chart.now).chart) }
-    ensures events { OnOk result (gathered.new.events.items ≡ gathered.old.events.items ++ map (event chart.now.sid) (fire now chart.now).marks) }
-    ensures orders { OnOk result (gathered.new.orders.items ≡ gathered.old.orders.items ++ (fire now chart.now).orders) }
-    ensures count { OnOk result (length gathered.new.orders.items ≤ length gathered.old.orders.items + 1) }
-    ensures few { OnOk result (length gathered.new.events.items ≤ length gathered.old.events.items + 4) }
+    ensures events { OnOk result (output.new.events.items ≡ output.old.events.items ++ map (event chart.now.sid) (fire now chart.now).marks) }
+    ensures orders { OnOk result (output.new.orders.items ≡ output.old.orders.items ++ (fire now chart.now).orders) }
+    ensures count { OnOk result (length output.new.orders.items ≤ length output.old.orders.items + 1) }
+    ensures few { OnOk result (length output.new.events.items ≤ length output.old.events.items + 4) }
 {
     if is_due {
-        take_timer(chart, now, gathered)
+        take_timer(chart, now, output)
     } else {
         Ok(*chart)
     }
@@ -177,19 +177,19 @@ fn fire_one<A: Allocator + Copy>(
 fn take_timer<A: Allocator + Copy>(
     chart: &ChartState,
     now: At,
-    gathered: &mut Gathered<A>,
+    output: &mut StepOutput<A>,
 ) -> Result<ChartState, NoMemory>
-    requires orders { length gathered.old.orders.items < 256 }
+    requires orders { length output.old.orders.items < 256 }
     requires next { chart.now.generation + 1 < 2 ^ 64 }
     ensures chart { IfOk result (λ next. next ≡ (fire now chart.now).chart) }
-    ensures events { OnOk result (gathered.new.events.items ≡ gathered.old.events.items ++ map (event chart.now.sid) (fire now chart.now).marks) }
-    ensures orders { OnOk result (gathered.new.orders.items ≡ gathered.old.orders.items ++ (fire now chart.now).orders) }
-    ensures count { OnOk result (length gathered.new.orders.items ≤ length gathered.old.orders.items + 1) }
-    ensures few { OnOk result (length gathered.new.events.items ≤ length gathered.old.events.items + 4) }
+    ensures events { OnOk result (output.new.events.items ≡ output.old.events.items ++ map (event chart.now.sid) (fire now chart.now).marks) }
+    ensures orders { OnOk result (output.new.orders.items ≡ output.old.orders.items ++ (fire now chart.now).orders) }
+    ensures count { OnOk result (length output.new.orders.items ≤ length output.old.orders.items + 1) }
+    ensures few { OnOk result (length output.new.events.items ≤ length output.old.events.items + 4) }
 {
     let mut next = *chart;
     let out = next.fire(now);
-    gathered.add(chart.sid, &out)?;
+    output.add(chart.sid, &out)?;
     Ok(next)
 }
 
@@ -198,20 +198,20 @@ fn take_change<A: Allocator + Copy>(
     chart: &ChartState,
     change: &Change,
     now: At,
-    gathered: &mut Gathered<A>,
+    output: &mut StepOutput<A>,
 ) -> Result<ChartState, NoMemory>
-    requires orders { length gathered.old.orders.items + most_orders change.now ≤ 256 }
+    requires orders { length output.old.orders.items + most_orders change.now ≤ 256 }
     requires next { chart.now.generation + 1 < 2 ^ 64 }
     ensures chart { IfOk result (λ next. next ≡ (changed_by change.now now chart.now).chart) }
-    ensures events { OnOk result (gathered.new.events.items ≡ gathered.old.events.items ++ map (event chart.now.sid) (changed_by change.now now chart.now).marks) }
-    ensures orders { OnOk result (gathered.new.orders.items ≡ gathered.old.orders.items ++ (changed_by change.now now chart.now).orders) }
-    ensures count { OnOk result (length gathered.new.orders.items ≤ length gathered.old.orders.items + most_orders change.now) }
-    ensures few { OnOk result (length gathered.new.events.items ≤ length gathered.old.events.items + 4) }
-    ensures stale { gathered.new.stale ≡ (gathered.old.stale || (changed_by change.now now chart.now).stale) }
+    ensures events { OnOk result (output.new.events.items ≡ output.old.events.items ++ map (event chart.now.sid) (changed_by change.now now chart.now).marks) }
+    ensures orders { OnOk result (output.new.orders.items ≡ output.old.orders.items ++ (changed_by change.now now chart.now).orders) }
+    ensures count { OnOk result (length output.new.orders.items ≤ length output.old.orders.items + most_orders change.now) }
+    ensures few { OnOk result (length output.new.events.items ≤ length output.old.events.items + 4) }
+    ensures stale { output.new.stale ≡ (output.old.stale || (changed_by change.now now chart.now).stale) }
 {
     let mut next = *chart;
     let out = next.change(change, now);
-    gathered.add(chart.sid, &out)?;
+    output.add(chart.sid, &out)?;
     Ok(next)
 }
 
@@ -221,23 +221,23 @@ pub fn change_at<A: Allocator + Copy>(
     sid: Sid,
     change: &Change,
     now: At,
-    gathered: &mut Gathered<A>,
+    output: &mut StepOutput<A>,
 ) -> Result<ArrayVec<ChartState, 64>, NoMemory>
     requires report { most_orders change.now ≤ 2 }
     requires few { length charts.now ≤ 64 }
-    requires orders { length gathered.old.orders.items + 2 * length charts.now ≤ 256 }
+    requires orders { length output.old.orders.items + 2 * length charts.now ≤ 256 }
     requires generations { All (λ c. c.generation + 1 < 2 ^ 64) charts.now }
     ensures services { IfOk result (λ after. after.items ≡ services_after (changed_at sid change.now now) charts.now) }
-    ensures events { OnOk result (gathered.new.events.items ≡ gathered.old.events.items ++ events_after (changed_at sid change.now now) charts.now) }
-    ensures orders { OnOk result (gathered.new.orders.items ≡ gathered.old.orders.items ++ orders_after (changed_at sid change.now now) charts.now) }
-    ensures stale { OnOk result (gathered.new.stale ≡ (gathered.old.stale || list_any (λ c. (changed_at sid change.now now c).stale) charts.now)) }
+    ensures events { OnOk result (output.new.events.items ≡ output.old.events.items ++ events_after (changed_at sid change.now now) charts.now) }
+    ensures orders { OnOk result (output.new.orders.items ≡ output.old.orders.items ++ orders_after (changed_at sid change.now now) charts.now) }
+    ensures stale { OnOk result (output.new.stale ≡ (output.old.stale || list_any (λ c. (changed_at sid change.now now c).stale) charts.now)) }
     ensures places { IfOk result (λ after. length after.items ≤ 64) }
-    ensures count { OnOk result (length gathered.new.orders.items ≤ length gathered.old.orders.items + 2 * length charts.now) }
-    ensures few { OnOk result (length gathered.new.events.items ≤ length gathered.old.events.items + 4 * length charts.now) }
+    ensures count { OnOk result (length output.new.orders.items ≤ length output.old.orders.items + 2 * length charts.now) }
+    ensures few { OnOk result (length output.new.events.items ≤ length output.old.events.items + 4 * length charts.now) }
 {
     let mut after = ArrayVec::new();
     for chart in charts {
-        after.push(change_one(chart, sid, change, now, gathered)?);
+        after.push(change_one(chart, sid, change, now, output)?);
     }
     Ok(after)
 }
@@ -248,20 +248,20 @@ fn change_one<A: Allocator + Copy>(
     sid: Sid,
     change: &Change,
     now: At,
-    gathered: &mut Gathered<A>,
+    output: &mut StepOutput<A>,
 ) -> Result<ChartState, NoMemory>
     requires report { most_orders change.now ≤ 2 }
-    requires orders { length gathered.old.orders.items + 2 ≤ 256 }
+    requires orders { length output.old.orders.items + 2 ≤ 256 }
     requires next { chart.now.generation + 1 < 2 ^ 64 }
     ensures chart { IfOk result (λ next. next ≡ (changed_at sid change.now now chart.now).chart) }
-    ensures events { OnOk result (gathered.new.events.items ≡ gathered.old.events.items ++ map (event chart.now.sid) (changed_at sid change.now now chart.now).marks) }
-    ensures orders { OnOk result (gathered.new.orders.items ≡ gathered.old.orders.items ++ (changed_at sid change.now now chart.now).orders) }
-    ensures count { OnOk result (length gathered.new.orders.items ≤ length gathered.old.orders.items + 2) }
-    ensures few { OnOk result (length gathered.new.events.items ≤ length gathered.old.events.items + 4) }
-    ensures stale { gathered.new.stale ≡ (gathered.old.stale || (changed_at sid change.now now chart.now).stale) }
+    ensures events { OnOk result (output.new.events.items ≡ output.old.events.items ++ map (event chart.now.sid) (changed_at sid change.now now chart.now).marks) }
+    ensures orders { OnOk result (output.new.orders.items ≡ output.old.orders.items ++ (changed_at sid change.now now chart.now).orders) }
+    ensures count { OnOk result (length output.new.orders.items ≤ length output.old.orders.items + 2) }
+    ensures few { OnOk result (length output.new.events.items ≤ length output.old.events.items + 4) }
+    ensures stale { output.new.stale ≡ (output.old.stale || (changed_at sid change.now now chart.now).stale) }
 {
-    if chart.sid.0 == sid.0 {
-        take_change(chart, change, now, gathered)
+    if chart.sid == sid {
+        take_change(chart, change, now, output)
     } else {
         Ok(*chart)
     }
@@ -273,22 +273,22 @@ pub fn change_named<A: Allocator + Copy>(
     name: Name,
     change: &Change,
     now: At,
-    gathered: &mut Gathered<A>,
+    output: &mut StepOutput<A>,
 ) -> Result<ArrayVec<ChartState, 64>, NoMemory>
     requires few { length charts.now ≤ 64 }
-    requires orders { length gathered.old.orders.items + 126 ≤ 256 }
+    requires orders { length output.old.orders.items + 126 ≤ 256 }
     requires names { repeats (names_of charts.now) ≡ false }
     requires generations { All (λ c. c.generation + 1 < 2 ^ 64) charts.now }
     ensures services { IfOk result (λ after. after.items ≡ services_after (changed_named name change.now now) charts.now) }
-    ensures events { OnOk result (gathered.new.events.items ≡ gathered.old.events.items ++ events_after (changed_named name change.now now) charts.now) }
-    ensures orders { OnOk result (gathered.new.orders.items ≡ gathered.old.orders.items ++ orders_after (changed_named name change.now now) charts.now) }
+    ensures events { OnOk result (output.new.events.items ≡ output.old.events.items ++ events_after (changed_named name change.now now) charts.now) }
+    ensures orders { OnOk result (output.new.orders.items ≡ output.old.orders.items ++ orders_after (changed_named name change.now now) charts.now) }
     ensures places { IfOk result (λ after. length after.items ≤ 64) }
-    ensures count { OnOk result (length gathered.new.orders.items ≤ length gathered.old.orders.items + 126) }
-    ensures few { OnOk result (length gathered.new.events.items ≤ length gathered.old.events.items + 4 * length charts.now) }
+    ensures count { OnOk result (length output.new.orders.items ≤ length output.old.orders.items + 126) }
+    ensures few { OnOk result (length output.new.events.items ≤ length output.old.events.items + 4 * length charts.now) }
 {
     let mut after = ArrayVec::new();
     for chart in charts {
-        after.push(change_if_named(chart, name, change, now, gathered)?);
+        after.push(change_if_named(chart, name, change, now, output)?);
     }
     Ok(after)
 }
@@ -299,19 +299,19 @@ fn change_if_named<A: Allocator + Copy>(
     name: Name,
     change: &Change,
     now: At,
-    gathered: &mut Gathered<A>,
+    output: &mut StepOutput<A>,
 ) -> Result<ChartState, NoMemory>
-    requires orders { bytes_eq name chart.now.name ≡ true → length gathered.old.orders.items + 126 ≤ 256 }
+    requires orders { bytes_eq name chart.now.name ≡ true → length output.old.orders.items + 126 ≤ 256 }
     requires next { chart.now.generation + 1 < 2 ^ 64 }
     ensures chart { IfOk result (λ next. next ≡ (changed_named name change.now now chart.now).chart) }
-    ensures events { OnOk result (gathered.new.events.items ≡ gathered.old.events.items ++ map (event chart.now.sid) (changed_named name change.now now chart.now).marks) }
-    ensures orders { OnOk result (gathered.new.orders.items ≡ gathered.old.orders.items ++ (changed_named name change.now now chart.now).orders) }
-    ensures count { OnOk result (length gathered.new.orders.items ≤ length gathered.old.orders.items + 126) }
-    ensures other { bytes_eq name chart.now.name ≡ false → OnOk result (length gathered.new.orders.items ≤ length gathered.old.orders.items) }
-    ensures few { OnOk result (length gathered.new.events.items ≤ length gathered.old.events.items + 4) }
+    ensures events { OnOk result (output.new.events.items ≡ output.old.events.items ++ map (event chart.now.sid) (changed_named name change.now now chart.now).marks) }
+    ensures orders { OnOk result (output.new.orders.items ≡ output.old.orders.items ++ (changed_named name change.now now chart.now).orders) }
+    ensures count { OnOk result (length output.new.orders.items ≤ length output.old.orders.items + 126) }
+    ensures other { bytes_eq name chart.now.name ≡ false → OnOk result (length output.new.orders.items ≤ length output.old.orders.items) }
+    ensures few { OnOk result (length output.new.events.items ≤ length output.old.events.items + 4) }
 {
     if chart.name == name {
-        take_change(chart, change, now, gathered)
+        take_change(chart, change, now, output)
     } else {
         Ok(*chart)
     }

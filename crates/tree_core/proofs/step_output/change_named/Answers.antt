@@ -4,8 +4,9 @@ use Rattle.std.specs.List.{list_any}
 use Rattle.std.proofs.lemmas.Grind.{common_steps}
 use Rattle.std.proofs.lemmas.List.Folds.{list_any_more}
 use Rattle.supervise_core.specs.declared.chart.ChartState.{ChartState}
-use Rattle.tree_core.proofs.Names.{unnamed_before, neither_left, neither_right}
-use Rattle.tree_core.proofs.gathered.change_named.Goals as goal
+use Rattle.tree_core.proofs.Names.{unnamed_before}
+use Rattle.tree_core.proofs.Truth.{neither_left, neither_right}
+use Rattle.tree_core.proofs.step_output.change_named.Goals as goal
 
 pub change_if_named-requires-clause-orders : goal.change_if_named-requires-clause-orders
 change_if_named-requires-clause-orders g c = λ e.
@@ -25,7 +26,7 @@ loop-chart-preserved g c = record {
   few = omega (arith, c.in_ok-change_if_named.ensures.few, c.loop-chart.invariant.few);
   count =
       elim (bytes_eq c.args.name c.chart-item.result.name)
-      as (λ b. bytes_eq c.args.name c.chart-item.result.name ≡ b → length c.change_if_named.new.gathered.orders.items ≤ length c.args.gathered.now.orders.items + 126) [
+      as (λ b. bytes_eq c.args.name c.chart-item.result.name ≡ b → length c.change_if_named.new.output.orders.items ≤ length c.args.output.now.orders.items + 126) [
         | true ↦ λ e. omega (
           arith,
           c.in_ok-change_if_named.ensures.count,

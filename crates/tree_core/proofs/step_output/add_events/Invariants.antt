@@ -1,6 +1,6 @@
 use Rattle.std.proofs.Common.{◌≡◌, ◌+◌, ◌++◌, map, take, length}
 use Rattle.tree_core.specs.Moves.{event}
-use Rattle.tree_core.proofs.gathered.add_events.Given as goal
+use Rattle.tree_core.proofs.step_output.add_events.Given as goal
 
 abbrev pub invariant-loop-mark : goal.invariant-loop-mark
 invariant-loop-mark g l = record {
