@@ -1,4 +1,5 @@
 pub mod ListingOrder
+pub mod ByteOrder
 pub mod Entries
 pub mod Reading
 pub mod Recall

@@ -39,7 +39,7 @@ in_order-found q k (x ∷ xs) = by_order (slice_cmp nat_cmp k x) refl (in_order-
     by_order Equal e rest = or_twice (list_any (bytes_eq q) xs) (bytes_eq q x) ∙ ap (λ n. bytes_eq q n || (bytes_eq q x || list_any (bytes_eq q) xs)) (sym (same_name k x e))
     by_order Greater e rest = ap (λ b. bytes_eq q x || b) rest ∙ or_swap (bytes_eq q x) (bytes_eq q k) (list_any (bytes_eq q) xs)
 
-all_found : (q : List ℕ) (ks names : List (List ℕ)) → list_any (bytes_eq q) (fold (insert_key (slice_cmp nat_cmp)) ks names) ≡ (list_any (bytes_eq q) ks || list_any (bytes_eq q) names)
+pub all_found : (q : List ℕ) (ks names : List (List ℕ)) → list_any (bytes_eq q) (fold (insert_key (slice_cmp nat_cmp)) ks names) ≡ (list_any (bytes_eq q) ks || list_any (bytes_eq q) names)
 all_found q ks [] = or_none (list_any (bytes_eq q) ks)
   where
     or_none : (a : Bool) → a ≡ (a || false)

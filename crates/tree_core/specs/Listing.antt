@@ -1,6 +1,7 @@
 -- What a listing of the scan directory says.
-use Rattle.std.specs.Prelude.{ℕ, List, [], ◌∷◌, Bool, false, ◌||◌, fold, map, find, Option, option_map, bytes_eq}
+use Rattle.std.specs.Prelude.{◌≡◌, ℕ, List, [], ◌∷◌, Bool, false, ◌||◌, fold, map, find, Option, option_map, bytes_eq}
 use Rattle.std.specs.List.{list_any}
+use Rattle.std.specs.List.Sorted.{IsStrictlySortedBy}
 use Rattle.std.specs.Ordering.{nat_cmp}
 use Rattle.std.specs.Cmp.Lexicographic.{slice_cmp}
 use Rattle.std.specs.BTreeSet.{insert_key}
@@ -31,3 +32,8 @@ repeats (name ∷ names) = lists names name || repeats names
 -- the names in the order of their bytes
 abbrev pub in_byte_order : List (List ℕ) → List (List ℕ)
 in_byte_order listing = fold (insert_key (slice_cmp nat_cmp)) [] listing
+
+-- these names are those of the listing, each once, in the order of their bytes
+pub record IsInByteOrder (listing names : List (List ℕ)) : Type 0 where
+  pub rise : IsStrictlySortedBy (slice_cmp nat_cmp) names
+  pub same : (name : List ℕ) → lists names name ≡ lists listing name

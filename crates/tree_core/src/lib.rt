@@ -6,6 +6,7 @@ mod charts;
 mod effect;
 mod hit;
 mod input;
+pub mod laws;
 mod listing;
 mod plan;
 mod reply;
