@@ -13,7 +13,7 @@ ghost use Rattle.tree_core.specs.StandsFor.{AllAgree};
 ghost use Rattle.tree_core.specs.Told.{all_with_status};
 ghost use Rattle.tree_core.specs.Views.{acted_of};
 
-use super::charts::{find_name, has_name, has_serial};
+use super::charts::{Charts, find_name, has_name, has_serial};
 use super::effect::Event;
 use super::input::{Act, Entry};
 use super::listing::sort_listing;
@@ -30,7 +30,7 @@ use supervise_core::{Change, ChartState, Phase, Service};
 #[derive(Drop)]
 pub struct ActResult<A: Allocator> {
     pub reply: Reply<A>,
-    pub charts: ArrayVec<ChartState, 64>,
+    pub charts: Charts,
     pub next_sid: u64,
     pub output: StepOutput<A>,
 }
@@ -39,7 +39,7 @@ pub struct ActResult<A: Allocator> {
 fn reply_only<A: Allocator + Copy>(
     alloc: A,
     reply: Reply<A>,
-    charts: ArrayVec<ChartState, 64>,
+    charts: Charts,
     next_sid: u64,
 ) -> ActResult<A>
     requires { length charts.items ≤ 64 }
@@ -75,7 +75,7 @@ fn report<A: Allocator + Copy>(
     sid: Sid,
     change: &Change,
     now: At,
-    charts: ArrayVec<ChartState, 64>,
+    charts: Charts,
     next_sid: u64,
 ) -> Result<ActResult<A>, NoMemory>
     requires report { most_orders change.now ≤ 2 }
@@ -124,7 +124,7 @@ fn control_named<A: Allocator + Copy>(
     name: Name,
     change: &Change,
     now: At,
-    charts: ArrayVec<ChartState, 64>,
+    charts: Charts,
     next_sid: u64,
 ) -> Result<ActResult<A>, NoMemory>
     requires places { length charts.items ≤ 64 }
@@ -159,7 +159,7 @@ fn scan<A: Allocator + Copy>(
     listing: &[Entry],
     sorted: &[Name],
     now: At,
-    charts: ArrayVec<ChartState, 64>,
+    charts: Charts,
     next_sid: u64,
 ) -> Result<ActResult<A>, NoMemory>
     requires next { next_sid + 65 < 2 ^ 64 }
@@ -192,7 +192,7 @@ fn take_listing<A: Allocator + Copy>(
     listing: &[Entry],
     closing: bool,
     now: At,
-    charts: ArrayVec<ChartState, 64>,
+    charts: Charts,
     next_sid: u64,
 ) -> Result<ActResult<A>, NoMemory>
     requires places { length charts.items ≤ 64 }
@@ -251,7 +251,7 @@ pub fn act<A: Allocator + Copy>(
     act: &Act<A>,
     closing: bool,
     now: At,
-    charts: ArrayVec<ChartState, 64>,
+    charts: Charts,
     next_sid: u64,
     context: &StepContext,
 ) -> Result<ActResult<A>, NoMemory>

@@ -2,8 +2,12 @@ ghost use Rattle.std.specs.Prelude.{◌≡◌, ◌==◌, find, bytes_eq, option_
 ghost use Rattle.tree_core.specs.Scan.{stands};
 ghost use Rattle.tree_core.specs.Timers.{has_serial as is_serial_in};
 
+use arrayvec::ArrayVec;
 use s6_events::{Name, Sid};
 use supervise_core::ChartState;
+
+/// The states of all services, in rising serial: at most 64.
+pub type Charts = ArrayVec<ChartState, 64>;
 
 /// Whether a service has the serial.
 pub fn has_serial(charts: &[ChartState], sid: Sid) -> bool

@@ -13,6 +13,7 @@ ghost use Rattle.deadlines.specs.Timers.{changed_all};
 ghost use Rattle.tree_core.specs.Step.{clock_moments, step_limit};
 
 use super::act::{StepContext, act};
+use super::charts::Charts;
 use super::effect::{Effect, Event};
 use super::input::Input;
 use super::standing::{Standing, standing_after};
@@ -44,7 +45,7 @@ pub fn later(a: At, b: At) -> At
 }
 
 // The states of the services.
-fn charts_of(services: &[Service]) -> ArrayVec<ChartState, 64>
+fn charts_of(services: &[Service]) -> Charts
     requires { length services.now ≤ 64 }
     ensures { result.items ≡ states_of services.now }
 {

@@ -4,7 +4,7 @@ ghost use Rattle.supervise_core.specs.Moves.{begin_supervisor};
 ghost use Rattle.tree_core.specs.Scan.{looked_at, looked_up, stays, leaves, stands, config_for as has_for, with_service, with_name, with_names};
 ghost use Rattle.tree_core.specs.Views.{scan_state_of};
 
-use super::charts::has_name;
+use super::charts::{Charts, has_name};
 use super::input::Entry;
 use super::listing::{config_in, is_listed};
 use super::reply::Listed;
@@ -18,7 +18,7 @@ use supervise_core::{ChartState, Out, Phase};
 /// The services while new names get theirs.
 #[derive(Drop)]
 pub struct Scanning<A: Allocator> {
-    pub charts: ArrayVec<ChartState, 64>,
+    pub charts: Charts,
     pub next_sid: u64,
     pub listed: Vec<Listed, A>,
     pub output: StepOutput<A>,
@@ -38,7 +38,7 @@ fn look_at(chart: &ChartState, is_listed: bool, found: Option<Config>, now: At) 
 
 /// Activity: each standing service is active if its name is listed, else inactive; a listed one takes the configuration that the
 /// listing has for it.
-pub fn apply_listing(charts: &[ChartState], listing: &[Entry], now: At) -> ArrayVec<ChartState, 64>
+pub fn apply_listing(charts: &[ChartState], listing: &[Entry], now: At) -> Charts
     requires { length charts.now ≤ 64 }
     ensures { result.items ≡ looked_up now listing.now charts.now }
 {
@@ -59,7 +59,7 @@ fn is_retained(chart: &ChartState) -> bool
 }
 
 /// The services that stay.
-pub fn retained(charts: &[ChartState]) -> ArrayVec<ChartState, 64>
+pub fn retained(charts: &[ChartState]) -> Charts
     requires { length charts.now ≤ 64 }
     ensures { result.items ≡ filter stays charts.now }
 {
@@ -96,7 +96,7 @@ fn config_for(listing: &[Entry], name: &Name) -> Config
 }
 
 // A new service at the end.
-fn begin_at_end(charts: &mut ArrayVec<ChartState, 64>, sid: Sid, name: &Name, config: Config) -> Out
+fn begin_at_end(charts: &mut Charts, sid: Sid, name: &Name, config: Config) -> Out
     requires { length charts.old.items < 64 }
     ensures charts { charts.new.items ≡ charts.old.items ++ (begin_supervisor (new_service sid name.now config)).chart ∷ [] }
     ensures events { result.events.items ≡ (begin_supervisor (new_service sid name.now config)).marks }

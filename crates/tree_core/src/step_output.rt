@@ -9,6 +9,7 @@ ghost use Rattle.tree_core.specs.Sound.{names_of};
 ghost use Rattle.tree_core.specs.Timers.{AreDue};
 ghost use Rattle.tree_core.specs.Moves.{event, services_after, events_after, orders_after};
 
+use super::charts::Charts;
 use super::effect::Event;
 use arrayvec::ArrayVec;
 use s6_events::{At, Mark, Name, NoMemory, Order, Sid};
@@ -94,11 +95,11 @@ fn add_events<A: Allocator>(
 /// Each service whose timer is due takes its rule once. These are the serials of the due ones: where there is none, no service is
 /// looked at.
 pub fn fire_due<A: Allocator + Copy>(
-    charts: ArrayVec<ChartState, 64>,
+    charts: Charts,
     due: &[Sid],
     now: At,
     output: &mut StepOutput<A>,
-) -> Result<ArrayVec<ChartState, 64>, NoMemory>
+) -> Result<Charts, NoMemory>
     requires few { length charts.items ≤ 64 }
     requires due { AreDue due.now now charts.items }
     requires orders { length output.old.orders.items + length charts.items ≤ 256 }
@@ -123,7 +124,7 @@ fn fire_among<A: Allocator + Copy>(
     due: &[Sid],
     now: At,
     output: &mut StepOutput<A>,
-) -> Result<ArrayVec<ChartState, 64>, NoMemory>
+) -> Result<Charts, NoMemory>
     requires few { length charts.now ≤ 64 }
     requires due { AreDue due.now now charts.now }
     requires orders { length output.old.orders.items + length charts.now ≤ 256 }
@@ -222,7 +223,7 @@ pub fn change_at<A: Allocator + Copy>(
     change: &Change,
     now: At,
     output: &mut StepOutput<A>,
-) -> Result<ArrayVec<ChartState, 64>, NoMemory>
+) -> Result<Charts, NoMemory>
     requires report { most_orders change.now ≤ 2 }
     requires few { length charts.now ≤ 64 }
     requires orders { length output.old.orders.items + 2 * length charts.now ≤ 256 }
@@ -274,7 +275,7 @@ pub fn change_named<A: Allocator + Copy>(
     change: &Change,
     now: At,
     output: &mut StepOutput<A>,
-) -> Result<ArrayVec<ChartState, 64>, NoMemory>
+) -> Result<Charts, NoMemory>
     requires few { length charts.now ≤ 64 }
     requires orders { length output.old.orders.items + 126 ≤ 256 }
     requires names { repeats (names_of charts.now) ≡ false }
