@@ -1,0 +1,4 @@
+pub mod LastDeaths
+pub mod TallyFields
+pub mod DeathList
+pub mod PermanentFailure

@@ -1,0 +1,13 @@
+-- Whether enough deaths make a permanent failure.
+use Rattle.std.specs.Prelude.{ℕ, ◌+◌, ◌*◌, List, Bool, ◌&&◌, nat_le, length, filter}
+use Rattle.s6_events.specs.declared.exit.Exit.{Exit}
+use Rattle.death_tally.specs.declared.death_list.DeathItem.{DeathItem}
+use Rattle.death_tally.specs.DeathList.{list_names}
+
+-- a death counts that is no longer ago than so many seconds, and whose exit the list names
+abbrev pub counts : ℕ → ℕ → List DeathItem → ℕ × Exit → Bool
+counts now seconds items death = nat_le now (death.0 + 1000 * seconds) && list_names items death.1
+
+-- at least so many deaths count
+abbrev pub is_permanent : ℕ → ℕ → ℕ → List DeathItem → List (ℕ × Exit) → Bool
+is_permanent now seconds count items deaths = nat_le count (length (filter (counts now seconds items) deaths))

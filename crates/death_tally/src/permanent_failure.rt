@@ -1,0 +1,43 @@
+ghost use Rattle.std.specs.Prelude.{◌≡◌, length, filter};
+ghost use Rattle.death_tally.specs.PermanentFailure.{counts as is_counted, is_permanent};
+
+use super::death_list::DeathList;
+use super::tally::Tally;
+use s6_events::{At, Exit};
+use std::alloc::Allocator;
+
+// Whether a death counts.
+fn counts(death: &(At, Exit), now: At, seconds: u32, list: &DeathList) -> bool
+    ensures { result ≡ is_counted now seconds list.now death.now }
+{
+    let (at, exit) = *death;
+    now.millis() <= at.millis() + 1000 * u64::from(seconds) && list.names(exit)
+}
+
+// How many deaths count.
+fn count_of(deaths: &[(At, Exit)], now: At, seconds: u32, list: &DeathList) -> u64
+    ensures { result ≡ length (filter (is_counted now seconds list.now) deaths.now) }
+{
+    let mut count = 0;
+    for death in deaths {
+        if counts(death, now, seconds, list) {
+            count += 1;
+        }
+    }
+    count
+}
+
+/// Whether at least `count` of the deaths that the tally has are no longer ago than so many seconds and are named by the list: a
+/// permanent failure. A count of 0 is always met. Takes no memory. Page `s6-permafailon`; what a count of 0 means is this project's
+/// own rule.
+pub fn permafails<A: Allocator + Copy>(
+    tally: &Tally<A>,
+    now: At,
+    seconds: u32,
+    count: u32,
+    list: &DeathList,
+) -> bool
+    ensures { result ≡ is_permanent now seconds count list.now tally.now.kept }
+{
+    count_of(tally.as_slice(), now, seconds, list) >= u64::from(count)
+}
