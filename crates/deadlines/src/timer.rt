@@ -7,7 +7,7 @@ pub struct Timer {
     pub at: At,
 }
 
-/// What a step does to the timer of a service. This project's own.
+/// What a step does to the timer of a service.
 #[derive(Clone, Copy, PartialEq, Eq, Debug)]
 pub enum TimerChange {
     /// It is set to this moment, in place of the one that it had.

@@ -7,7 +7,7 @@ use s6_events::At;
 const PAUSE: u32 = 1000;
 
 /// The number of the moment, in milliseconds, at which a service whose `finish` is done starts again: `now` where it had been
-/// ready for more than 1000 ms when it died, else no sooner than 1000 ms after its death. Takes no memory. Page `s6-supervise`,
+/// ready for more than 1000 ms when it died, else no sooner than 1000 ms after its death. Page `s6-supervise`,
 /// "Detailed operation"; from which moment the second counts is this project's own rule.
 pub fn restart_due(ready_since: Option<At>, death: At, now: At) -> u64
     ensures { result ≡ restart_moment ready_since death now }

@@ -27,17 +27,26 @@ fn pauses_a_second_unless_it_was_ready_for_longer(rt: HostRuntime) -> Result<(),
 
 #[test]
 fn tells_finish_the_code_or_the_signal(rt: HostRuntime) {
-    assert_eq!(rt; finish_args(Exit::Code(7)), (7, 0));
-    assert_eq!(rt; finish_args(Exit::Code(0)), (0, 0));
-    assert_eq!(rt; finish_args(Exit::Killed(9)), (256, 9));
-    assert_eq!(rt; finish_args(Exit::Killed(0)), (256, 0));
+    let found = [
+        finish_args(Exit::Code(7)),
+        finish_args(Exit::Code(0)),
+        finish_args(Exit::Killed(9)),
+        finish_args(Exit::Killed(0)),
+    ];
+    assert_eq!(rt; found, [(7, 0), (0, 0), (256, 9), (256, 0)]);
 }
 
 #[test]
 fn takes_the_code_125_for_a_permanent_failure(rt: HostRuntime) {
-    assert_eq!(rt; verdict(Exit::Code(125)), Verdict125::Permanent);
-    assert_eq!(rt; verdict(Exit::Code(124)), Verdict125::Ordinary);
-    assert_eq!(rt; verdict(Exit::Code(0)), Verdict125::Ordinary);
-    assert_eq!(rt; verdict(Exit::Killed(0)), Verdict125::Ordinary);
-    assert_eq!(rt; verdict(Exit::Killed(125)), Verdict125::Ordinary);
+    let found = [
+        verdict(Exit::Code(125)),
+        verdict(Exit::Code(124)),
+        verdict(Exit::Code(0)),
+        verdict(Exit::Killed(125)),
+    ];
+    let ordinary = Verdict125::Ordinary;
+    assert_eq!(rt;
+        found,
+        [Verdict125::Permanent, ordinary, ordinary, ordinary]
+    );
 }

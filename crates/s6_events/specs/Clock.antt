@@ -1,5 +1,5 @@
 -- What the clock shows after some moments.
-use Rattle.std.specs.Prelude.{ℕ, List, fold, take}
+use Rattle.std.specs.Prelude.{ℕ, List, fold}
 use Rattle.s6_events.specs.declared.moment.Moment.{Moment}
 use Rattle.s6_events.specs.declared.moment.Moment.TheVariants.{Clock, Event}
 
@@ -11,7 +11,3 @@ clock_after clock (Event sid mark) = clock
 -- the last clock reading among the moments, or 0
 abbrev pub clock_of : List Moment → ℕ
 clock_of moments = fold clock_after 0 moments
-
--- the moment of the mark at a place of a history is the clock after the moments before it
-abbrev pub moment_at : List Moment → ℕ → ℕ
-moment_at history place = clock_of (take place history)

@@ -1,5 +1,5 @@
 -- A list of moments of which the first ones may be forgotten.
-use Rattle.std.specs.Prelude.{◌≡◌, ℕ, ◌+◌, ◌-◌, List, length, drop, Option, Some, None, if◌then◌else◌, nat_le, ◌&&◌}
+use Rattle.std.specs.Prelude.{ℕ, ◌+◌, ◌-◌, List, length, drop, Option, Some, None, if◌then◌else◌, nat_le, ◌&&◌}
 use Rattle.s6_events.specs.declared.moment.Moment.{Moment}
 
 -- how many of the first moments are forgotten, those after them, and how many more fit with no growth
@@ -11,11 +11,6 @@ pub record Recorded : Type 0 where
 -- the place after the last moment
 abbrev pub end_of : Recorded → ℕ
 end_of h = h.forgotten + length h.kept
-
--- the history stands for a full list of moments, where both agree in what was not forgotten
-pub record Records (h : Recorded) (all : List Moment) : Type 0 where
-  pub count : length all ≡ end_of h
-  pub rest : drop h.forgotten all ≡ h.kept
 
 -- the moments from a place on, where the place stands or is the end
 abbrev pub from_place : Recorded → ℕ → Option (List Moment)

@@ -33,7 +33,7 @@ impl At {
         At { millis: 0 }
     }
 
-    /// The moment of so many milliseconds, or None where that is more than 10^15. Takes no memory.
+    /// The moment of so many milliseconds, or None where that is more than 10^15.
     pub fn new(millis: u64) -> Option<At>
         ensures { result ≡ (if nat_le millis last_moment then Some millis else None) }
     {

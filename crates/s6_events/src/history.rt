@@ -80,7 +80,7 @@ impl<A: Allocator + Copy> History<A> {
         Ok(())
     }
 
-    /// The moments from a place on, the empty slice at the place `len`; None where that place is not there yet. Takes no memory.
+    /// The moments from a place on, the empty slice at the place `len`; None where that place is not there yet.
     pub fn from(&self, place: u64) -> Option<&[Moment]>
         ensures { option_map (λ s. s.now) result ≡ from_place self.now place }
     {

@@ -1,9 +1,9 @@
+//! Serials and actors, all of which are this project's own.
 ghost use Rattle.std.specs.Prelude.{◌≡◌, ◌≤◌, None, Some, nat_le, if◌then◌else◌};
 
 use std::marker::Model;
 
-/// The serial of a service, counted from 1. No serial is used again, so a name that comes again is another service. Serials
-/// are this project's own.
+/// The serial of a service, counted from 1. No serial is used again, so a name that comes again is another service.
 #[derive(Clone, Copy, PartialEq, Eq, PartialOrd, Ord, Hash, Debug, Default)]
 pub struct Sid(pub u64);
 
@@ -17,7 +17,7 @@ impl Model for Sid {
     ghost inverse = { λ n. record { 0 = n } };
 }
 
-/// The serial of a subscription, counted from 1 and never used again. This project's own.
+/// The serial of a subscription, counted from 1 and never used again.
 #[derive(Clone, Copy, PartialEq, Eq, PartialOrd, Ord, Hash, Debug, Default)]
 pub struct SubId(pub u64);
 
@@ -31,7 +31,7 @@ impl Model for SubId {
     ghost inverse = { λ n. record { 0 = n } };
 }
 
-/// The serial of a waiter, counted from 1 and never used again. This project's own.
+/// The serial of a waiter, counted from 1 and never used again.
 #[derive(Clone, Copy, PartialEq, Eq, PartialOrd, Ord, Hash, Debug, Default)]
 pub struct WaitId(pub u64);
 
@@ -45,7 +45,7 @@ impl Model for WaitId {
     ghost inverse = { λ n. record { 0 = n } };
 }
 
-/// Who gives an input: one of 16 actors, with the numbers 0 to 15. This project's own; what an input does never depends on it.
+/// Who gives an input: one of 16 actors, with the numbers 0 to 15. What an input does never depends on it.
 #[derive(Clone, Copy, PartialEq, Eq, PartialOrd, Ord, Hash, Debug, Default)]
 pub struct Actor {
     number: u8,
@@ -64,7 +64,7 @@ impl Model for Actor {
 }
 
 impl Actor {
-    /// The actor of this number, or None where it is over 15. Takes no memory.
+    /// The actor of this number, or None where it is over 15.
     pub fn new(number: u8) -> Option<Actor>
         ensures { result ≡ (if nat_le number 15 then Some number else None) }
     {

@@ -24,7 +24,7 @@ impl Model for Letter {
 }
 
 impl Letter {
-    /// The letter of this byte, or None where it is below 0x21 or above 0x7e. Takes no memory.
+    /// The letter of this byte, or None where it is below 0x21 or above 0x7e.
     pub fn new(byte: u8) -> Option<Letter>
         ensures { result ≡ (if is_letter byte then Some byte else None) }
     {

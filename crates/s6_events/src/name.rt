@@ -40,7 +40,7 @@ impl Model for Name {
 }
 
 impl Name {
-    /// The name of these bytes, or None where they make none. Takes no memory.
+    /// The name of these bytes, or None where they make none.
     pub fn new(text: &[u8]) -> Option<Name>
         ensures { result ≡ (if is_name text.now then Some text.now else None) }
     {

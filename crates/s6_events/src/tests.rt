@@ -1,60 +1,76 @@
 use super::*;
 use linked_list_allocator::LocalHeap;
+use std::alloc::Allocator;
+use std::process::Abort;
 use std::test::Fail;
 
-#[test]
-fn makes_moments_up_to_the_greatest(rt: HostRuntime) -> Result<(), Fail> {
-    let last = At::new(1_000_000_000_000_000).ok_or("the greatest moment")?;
-    assert_eq!(rt; last.millis(), 1_000_000_000_000_000);
-    assert_eq!(rt; last.later(1), 1_000_000_000_000_001);
-    assert_eq!(rt; At::new(1_000_000_000_000_001), None);
-    assert_eq!(rt; At::zero().millis(), 0);
-    Ok(())
+const LAST_MOMENT: u64 = 1_000_000_000_000_000;
+
+// The number of the moment one millisecond later, of the actor, and of the letter, where there is one.
+fn after(millis: u64) -> Option<u64> {
+    Some(At::new(millis)?.later(1))
+}
+
+fn actor(number: u8) -> Option<u8> {
+    Some(Actor::new(number)?.number())
+}
+
+fn letter(byte: u8) -> Option<u8> {
+    Some(Letter::new(byte)?.byte())
 }
 
 #[test]
-fn makes_actors_and_letters_within_their_limits(rt: HostRuntime) -> Result<(), Fail> {
-    assert_eq!(rt; Actor::new(15).ok_or("15")?.number(), 15);
-    assert_eq!(rt; Actor::new(16), None);
-    assert_eq!(rt; Letter::new(0x21).ok_or("0x21")?.byte(), 0x21);
-    assert_eq!(rt; Letter::new(0x7e).ok_or("0x7e")?.byte(), 0x7e);
-    assert_eq!(rt; Letter::new(0x20), None);
-    assert_eq!(rt; Letter::new(0x7f), None);
-    Ok(())
+fn moments_actors_and_letters_have_their_limits(rt: HostRuntime) {
+    let moments = (after(LAST_MOMENT), after(LAST_MOMENT + 1));
+    let actors = (actor(15), actor(16));
+    let letters = [letter(0x20), letter(0x21), letter(0x7e), letter(0x7f)];
+    let found = (At::zero().millis(), moments, actors, letters);
+    let shown = [None, Some(0x21), Some(0x7e), None];
+    let wanted = (0, (Some(LAST_MOMENT + 1), None), (Some(15), None), shown);
+    assert_eq!(rt; found, wanted);
 }
 
 #[test]
 fn marks_have_the_letters_of_the_page(rt: HostRuntime) {
-    let rows = [
-        (Mark::SupervisorStarted, b's'),
-        (Mark::Spawned, b'u'),
-        (Mark::Ready, b'U'),
-        (Mark::Died, b'd'),
-        (Mark::FinishDone, b'D'),
-        (Mark::PermanentFailure, b'O'),
-        (Mark::SupervisorEnded, b'x'),
+    let letters = [
+        Mark::SupervisorStarted.letter().byte(),
+        Mark::Spawned.letter().byte(),
+        Mark::Ready.letter().byte(),
+        Mark::Died.letter().byte(),
+        Mark::FinishDone.letter().byte(),
+        Mark::PermanentFailure.letter().byte(),
+        Mark::SupervisorEnded.letter().byte(),
     ];
-    for (mark, letter) in rows {
-        assert_eq!(rt; mark.letter().byte(), letter);
-    }
+    assert_eq!(rt; letters, *b"suUdDOx");
+}
+
+// A text makes a name of its bytes, or none.
+fn makes_a_name(rt: &impl Abort, text: &[u8], is_name: bool) {
+    let is_made = match Name::new(text) {
+        Some(name) => name.as_bytes() == text,
+        None => false,
+    };
+    assert_eq!(rt; is_made, is_name, "{text:?}");
 }
 
 #[test]
-fn takes_names_of_its_alphabet(rt: HostRuntime) -> Result<(), Fail> {
-    assert_eq!(rt;
-        Name::new(b"web").ok_or("web")?.as_bytes(),
-        b"web".as_slice()
-    );
-    assert_eq!(rt;
-        Name::new(b"A-z_0.9@").ok_or("all kinds")?.as_bytes(),
-        b"A-z_0.9@".as_slice()
-    );
-    assert!(rt; Name::new(&[b'a'; 64]).is_some());
-    assert!(rt; Name::new(&[b'a'; 65]).is_none());
-    for text in [b"".as_slice(), b".x", b"a:b", b"a b", b"a/b", b"\xc3\xa9"] {
-        assert!(rt; Name::new(text).is_none());
+fn takes_names_of_its_alphabet(rt: HostRuntime) {
+    let names = [b"web".as_slice(), b"A-z_0.9@", &[b'a'; 64]];
+    for text in names {
+        makes_a_name(&rt, text, true);
     }
-    Ok(())
+    let others = [
+        b"".as_slice(),
+        b".x",
+        b"a:b",
+        b"a b",
+        b"a/b",
+        b"\xc3\xa9",
+        &[b'a'; 65],
+    ];
+    for text in others {
+        makes_a_name(&rt, text, false);
+    }
 }
 
 #[test]
@@ -62,64 +78,68 @@ fn orders_names_by_their_bytes(rt: HostRuntime) -> Result<(), Fail> {
     let upper = Name::new(b"B").ok_or("B")?;
     let lower = Name::new(b"a").ok_or("a")?;
     let longer = Name::new(b"a0").ok_or("a0")?;
-    assert!(rt; upper < lower);
-    assert!(rt; lower < longer);
-    assert!(rt; lower == lower);
-    assert!(rt; lower != longer);
+    let found = [
+        upper < lower,
+        lower < longer,
+        lower == lower,
+        lower == longer,
+    ];
+    assert_eq!(rt; found, [true, true, true, false]);
     Ok(())
 }
+
+const FIRST: Moment = Moment::Event(Sid(1), Mark::SupervisorStarted);
+
+const SECOND: Moment = Moment::Event(Sid(1), Mark::Spawned);
+
+const THIRD: Moment = Moment::Event(Sid(1), Mark::Died);
 
 #[test]
 fn a_history_is_the_list_of_its_pushes(rt: HostRuntime) -> Result<(), Fail> {
     let mut history = History::new(rt.alloc());
-    assert!(rt; history.is_empty());
-    let first = Moment::Clock(At::new(7).ok_or("7")?);
-    let second = Moment::Event(Sid(1), Mark::Spawned);
-    let third = Moment::Event(Sid(1), Mark::Died);
-    history.push(first)?;
-    let more = [second, third];
-    let plan = history.prepare(&more)?;
-    assert_eq!(rt; history.len(), 1);
+    let was_empty = history.is_empty();
+    history.push(FIRST)?;
+    let plan = history.prepare(&[SECOND, THIRD])?;
+    let prepared = history.len();
     history.commit(plan);
-    assert_eq!(rt; history.len(), 3);
-    assert_eq!(rt;
-        history.from(0).ok_or("from 0")?,
-        [first, second, third].as_slice()
-    );
-    assert_eq!(rt; history.from(2).ok_or("from 2")?, [third].as_slice());
-    assert_eq!(rt; history.from(3).ok_or("from 3")?.len(), 0);
-    assert!(rt; history.from(4).is_none());
+    let lengths = (was_empty, prepared, history.len());
+    assert_eq!(rt; lengths, (true, 1, 3));
+    let all = [FIRST, SECOND, THIRD];
+    let last = [THIRD];
+    let end = history.from(3).ok_or("the end")?;
+    assert_eq!(rt; history.from(0).ok_or("the start")?, all.as_slice());
+    assert_eq!(rt; history.from(2).ok_or("place 2")?, last.as_slice());
+    assert!(rt; end.is_empty() && history.from(4).is_none());
     Ok(())
+}
+
+// Pushes a moment and then nine more, as far as memory goes; how many are in the history then.
+fn pushed<A: Allocator + Copy>(alloc: A) -> u64 {
+    let mut history = History::new(alloc);
+    if history.push(FIRST).is_err() {
+        return history.len();
+    }
+    match history.prepare(&[SECOND; 9]) {
+        Ok(plan) => history.commit(plan),
+        Err(NoMemory) => {}
+    }
+    history.len()
 }
 
 // On heaps of a growing size each growth is the first one refused; then the history is as it was.
 #[test]
 fn a_refused_growth_changes_nothing(rt: HostRuntime) -> Result<(), Fail> {
-    let more = [Moment::Event(Sid(2), Mark::Ready); 9];
-    let mut refused = 0u32;
-    let mut done = 0u32;
+    let mut seen = [0u32; 3];
     for step in 0..120usize {
         let heap = LocalHeap::new(rt.alloc(), 16 * step)?;
-        let mut history = History::new(&heap);
-        if history.push(Moment::Clock(At::zero())).is_err() {
-            refused = refused.saturating_add(1);
-            assert_eq!(rt; history.len(), 0);
-            continue;
-        }
-        match history.prepare(&more) {
-            Ok(plan) => {
-                done = done.saturating_add(1);
-                assert!(rt; history.len() < 100);
-                history.commit(plan);
-                assert_eq!(rt; history.len(), 10);
-            }
-            Err(NoMemory) => {
-                refused = refused.saturating_add(1);
-                assert_eq!(rt; history.len(), 1);
-            }
-        }
+        let stage = match pushed(&heap) {
+            0 => 0,
+            1 => 1,
+            10 => 2,
+            _ => return Err("a part of the pushes".into()),
+        };
+        seen[stage] = seen[stage].saturating_add(1);
     }
-    assert!(rt; refused > 2);
-    assert!(rt; done > 2);
+    assert!(rt; seen[0] > 1 && seen[1] > 1 && seen[2] > 1, "{seen:?}");
     Ok(())
 }

@@ -1,5 +1,5 @@
--- What a service directory gives, and how often it failed.
-use Rattle.std.specs.Prelude.{◌≡◌, ℕ, ◌+◌, List, Option, Some, Result, Ok, Err, codes}
+-- What a service directory gives, how often it failed, and how often a growth was refused.
+use Rattle.std.specs.Prelude.{◌≡◌, ℕ, ◌+◌, ◌%◌, ◌^◌, List, Option, Some, Result, Ok, Err, codes}
 use Rattle.servicedir.specs.declared.files.ServiceFile.{ServiceFile}
 use Rattle.servicedir.specs.declared.files.ServiceFile.TheVariants.{Run, Kind, Finish, Down, NotificationFd, TimeoutKill, TimeoutFinish, MaxDeathTally, DownSignal}
 use Rattle.servicedir.specs.declared.files.ReadFault.{ReadFault}
@@ -30,3 +30,13 @@ abbrev pub Counts : {V : Type 0} → Result V ReadFault → ServiceFile → ℕ 
 Counts (Ok v) file old new last = new ≡ old
 Counts (Err fault.Io) file old new last = (new ≡ old + 1) × (last ≡ Some file)
 Counts (Err fault.NoMemory) file old new last = new ≡ old
+
+-- one refused growth more, modulo 2 ^ 64
+abbrev pub one_more : ℕ → ℕ
+one_more count = (count + 1) % 2 ^ 64
+
+-- a growth that was refused is counted once, and nothing else is counted
+abbrev pub CountsRefusal : {V : Type 0} → Result V ReadFault → ℕ → ℕ → Type 0
+CountsRefusal (Ok v) old new = new ≡ old
+CountsRefusal (Err fault.Io) old new = new ≡ old
+CountsRefusal (Err fault.NoMemory) old new = new ≡ one_more old

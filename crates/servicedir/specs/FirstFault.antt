@@ -2,7 +2,7 @@
 use Rattle.std.specs.Prelude.{◌≡◌, ℕ, ◌+◌, List, Bool, Option, Some, None, codes, IsSomeAnd, if◌then◌else◌}
 use Rattle.std.specs.Str.{bytes_eq}
 use Rattle.servicedir.specs.Number.{line_of}
-use Rattle.servicedir.specs.Files.{Directory}
+use Rattle.servicedir.specs.Files.{Directory, one_more}
 use Rattle.servicedir.specs.declared.files.ServiceFile.{ServiceFile}
 use Rattle.servicedir.specs.declared.files.ServiceFile.TheVariants.{Run, Kind}
 use Rattle.servicedir.specs.declared.files.ReadFault.{ReadFault}
@@ -51,3 +51,8 @@ Answers directory old new last NotLongrun = (first_fault directory ≡ Some NotL
 Answers directory old new last Io = IsSomeAnd last (λ file. fault_before file directory ≡ None) × (new ≡ old + 1)
 Answers directory old new last NoMemory = new ≡ old
 Answers directory old new last other = ⊥
+
+-- how many growths were refused once this fault is answered, where so many were refused before
+abbrev pub refused_by : DirFault → ℕ → ℕ
+refused_by NoMemory old = one_more old
+refused_by other old = old

@@ -4,22 +4,22 @@ use crate::files::ReadFault;
 use thiserror::Error;
 
 /// Why a service directory was not read. `NotifyFd` is only ever a note beside a configuration, and `BadName` is for who lists
-/// a scan directory and meets a name that is none.
+/// a scan directory and meets a name that is none. `NotLongrun`, `NotifyFd` and `BadName` are this project's own rules.
 #[derive(Clone, Copy, Debug, PartialEq, Eq, Error)]
 pub enum DirFault {
     /// There is no `run`. Page `servicedir`.
     #[error("there is no run file")]
     NoRun = 1,
-    /// `type` has another text than `longrun`. This project's own rule.
+    /// `type` has another text than `longrun`.
     #[error("the type is not longrun")]
     NotLongrun = 2,
-    /// `notification-fd` names no descriptor that is served. This project's own rule.
+    /// `notification-fd` names no descriptor that is served.
     #[error("the notification descriptor is not served")]
     NotifyFd = 3,
     /// The reading of a file failed, and the directory counted it.
     #[error("a file could not be read")]
     Io = 4,
-    /// The directory's name is no name of a service. This project's own rule.
+    /// The directory's name is no name of a service.
     #[error("the name is no name of a service")]
     BadName = 5,
     /// A growth was refused.

@@ -1,5 +1,5 @@
 ghost use Rattle.std.specs.Prelude.{◌≡◌, ◌≤◌, ℕ, List, Option, IfOk, IfSome, is_some, option_map, length};
-ghost use Rattle.servicedir.specs.Files.{Directory, reading_limit, file_name, Counts};
+ghost use Rattle.servicedir.specs.Files.{Directory, reading_limit, file_name, Counts, CountsRefusal};
 
 use s6_events::Name;
 use std::alloc::Allocator;
@@ -28,7 +28,7 @@ pub enum ServiceFile {
 }
 
 impl ServiceFile {
-    /// What the file is called in the directory. Takes no memory.
+    /// What the file is called in the directory.
     pub fn name(self) -> &'static str
         ensures { result.now ≡ file_name self }
     {
@@ -51,7 +51,7 @@ impl ServiceFile {
 pub enum ReadFault {
     /// It failed; the directory counts it. That a file is absent is no failure.
     Io,
-    /// A growth was refused. It is not counted.
+    /// A growth was refused; the directory counts it.
     NoMemory,
 }
 
@@ -71,11 +71,15 @@ pub trait Files {
     /// The file whose reading failed last.
     ghost failed: { Self → Option ServiceFile };
 
+    /// How many growths were refused so far, modulo 2^64, so that a counter can keep it.
+    ghost refused: { Self → ℕ };
+
     /// Whether the file is there; it need not be readable for that.
     fn has(&mut self, name: Name, file: ServiceFile) -> Result<bool, ReadFault>
         ensures there { IfOk result (λ there. there ≡ is_some (gives self.old name file)) }
         ensures same { gives self.new ≡ gives self.old }
-        ensures count { Counts result file (failures self.old) (failures self.new) (failed self.new) };
+        ensures count { Counts result file (failures self.old) (failures self.new) (failed self.new) }
+        ensures memory { CountsRefusal result (refused self.old) (refused self.new) };
 
     /// The bytes of the file, of a longer one the first 4097; None where it is absent.
     fn text<A: Allocator + Copy>(
@@ -87,5 +91,6 @@ pub trait Files {
         ensures text { IfOk result (λ text. option_map (λ t. t.items) text ≡ gives self.old name file) }
         ensures bound { IfOk result (λ text. IfSome text (λ t. length t.items ≤ reading_limit)) }
         ensures same { gives self.new ≡ gives self.old }
-        ensures count { Counts result file (failures self.old) (failures self.new) (failed self.new) };
+        ensures count { Counts result file (failures self.old) (failures self.new) (failed self.new) }
+        ensures memory { CountsRefusal result (refused self.old) (refused self.new) };
 }

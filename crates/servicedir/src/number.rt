@@ -8,8 +8,7 @@ const GREATEST_NUMBER: u32 = 4_294_967_295;
 
 /// The number that the text of a number file says: one or more digits of ASCII, leading zeros among them, with at most one
 /// newline behind them, and at most 4294967295. So what is printed of a number is read as that number. None for any other
-/// text. Takes no memory. Page `servicedir`; that a second newline, and whatever is no digit, make the text invalid is this
-/// project's own rule.
+/// text. Page `servicedir`; that a second newline, and whatever is no digit, make the text invalid is this project's own rule.
 #[tactic(auto, using(crate::proofs::Decimals::read_back))]
 pub fn parse_number(text: &[u8]) -> Option<u32>
     ensures value { result ≡ number_of text.now }

@@ -1,6 +1,6 @@
 ghost use Rattle.std.specs.Prelude.{◌≡◌, IfOk, OnOk, IfErr, None, is_some, option_map};
 ghost use Rattle.servicedir.specs.Config.{number_in, signal_in, timeout_kill_of, timeout_finish_of, max_death_tally_of, down_signal_of, notification_fd_of, note_of, config_of, found_of};
-ghost use Rattle.servicedir.specs.FirstFault.{fault_of_run, first_fault, fault_before, Answers};
+ghost use Rattle.servicedir.specs.FirstFault.{fault_of_run, first_fault, fault_before, Answers, refused_by};
 
 use crate::config::Config;
 use crate::dir_fault::DirFault;
@@ -36,6 +36,8 @@ pub fn read<A: Allocator + Copy, F: Files>(
     ensures same { F.gives files.new ≡ F.gives files.old }
     ensures count { OnOk result (F.failures files.new ≡ F.failures files.old) }
     ensures err { IfErr result (λ fault. Answers (F.gives files.old name) (F.failures files.old) (F.failures files.new) (F.failed files.new) fault) }
+    ensures granted { OnOk result (F.refused files.new ≡ F.refused files.old) }
+    ensures refused { IfErr result (λ fault. F.refused files.new ≡ refused_by fault (F.refused files.old)) }
 {
     look_for_run(files, name)?;
     look_at_type(alloc, files, name)?;
@@ -47,6 +49,8 @@ fn look_for_run<F: Files>(files: &mut F, name: Name) -> Result<(), DirFault>
     ensures same { F.gives files.new ≡ F.gives files.old }
     ensures count { OnOk result (F.failures files.new ≡ F.failures files.old) }
     ensures err { IfErr result (λ fault. Answers (F.gives files.old name) (F.failures files.old) (F.failures files.new) (F.failed files.new) fault) }
+    ensures granted { OnOk result (F.refused files.new ≡ F.refused files.old) }
+    ensures refused { IfErr result (λ fault. F.refused files.new ≡ refused_by fault (F.refused files.old)) }
 {
     if has(files, name, ServiceFile::Run)? {
         Ok(())
@@ -65,6 +69,8 @@ fn look_at_type<A: Allocator + Copy, F: Files>(
     ensures same { F.gives files.new ≡ F.gives files.old }
     ensures count { OnOk result (F.failures files.new ≡ F.failures files.old) }
     ensures err { IfErr result (λ fault. Answers (F.gives files.old name) (F.failures files.old) (F.failures files.new) (F.failed files.new) fault) }
+    ensures granted { OnOk result (F.refused files.new ≡ F.refused files.old) }
+    ensures refused { IfErr result (λ fault. F.refused files.new ≡ refused_by fault (F.refused files.old)) }
 {
     match text(alloc, files, name, ServiceFile::Kind)? {
         Some(text) if !is_longrun_text(&text) => Err(DirFault::NotLongrun),
@@ -83,6 +89,8 @@ fn read_found<A: Allocator + Copy, F: Files>(
     ensures same { F.gives files.new ≡ F.gives files.old }
     ensures count { OnOk result (F.failures files.new ≡ F.failures files.old) }
     ensures err { IfErr result (λ fault. Answers (F.gives files.old name) (F.failures files.old) (F.failures files.new) (F.failed files.new) fault) }
+    ensures granted { OnOk result (F.refused files.new ≡ F.refused files.old) }
+    ensures refused { IfErr result (λ fault. F.refused files.new ≡ refused_by fault (F.refused files.old)) }
 {
     let finish = has(files, name, ServiceFile::Finish)?;
     let down = has(files, name, ServiceFile::Down)?;
@@ -119,6 +127,8 @@ fn readiness<A: Allocator + Copy, F: Files>(
     ensures same { F.gives files.new ≡ F.gives files.old }
     ensures count { OnOk result (F.failures files.new ≡ F.failures files.old) }
     ensures err { IfErr result (λ fault. Answers (F.gives files.old name) (F.failures files.old) (F.failures files.new) (F.failed files.new) fault) }
+    ensures granted { OnOk result (F.refused files.new ≡ F.refused files.old) }
+    ensures refused { IfErr result (λ fault. F.refused files.new ≡ refused_by fault (F.refused files.old)) }
 {
     match text(alloc, files, name, ServiceFile::NotificationFd)? {
         Some(text) => {
@@ -141,6 +151,8 @@ fn number<A: Allocator + Copy, F: Files>(
     ensures same { F.gives files.new ≡ F.gives files.old }
     ensures count { OnOk result (F.failures files.new ≡ F.failures files.old) }
     ensures err { IfErr result (λ fault. Answers (F.gives files.old name) (F.failures files.old) (F.failures files.new) (F.failed files.new) fault) }
+    ensures granted { OnOk result (F.refused files.new ≡ F.refused files.old) }
+    ensures refused { IfErr result (λ fault. F.refused files.new ≡ refused_by fault (F.refused files.old)) }
 {
     match text(alloc, files, name, file)? {
         Some(text) => Ok(number_in_text(&text)),
@@ -159,6 +171,8 @@ fn signal<A: Allocator + Copy, F: Files>(
     ensures same { F.gives files.new ≡ F.gives files.old }
     ensures count { OnOk result (F.failures files.new ≡ F.failures files.old) }
     ensures err { IfErr result (λ fault. Answers (F.gives files.old name) (F.failures files.old) (F.failures files.new) (F.failed files.new) fault) }
+    ensures granted { OnOk result (F.refused files.new ≡ F.refused files.old) }
+    ensures refused { IfErr result (λ fault. F.refused files.new ≡ refused_by fault (F.refused files.old)) }
 {
     match text(alloc, files, name, ServiceFile::DownSignal)? {
         Some(text) => Ok(signal_in_text(&text)),
@@ -173,6 +187,8 @@ fn has<F: Files>(files: &mut F, name: Name, file: ServiceFile) -> Result<bool, D
     ensures same { F.gives files.new ≡ F.gives files.old }
     ensures count { OnOk result (F.failures files.new ≡ F.failures files.old) }
     ensures err { IfErr result (λ fault. Answers (F.gives files.old name) (F.failures files.old) (F.failures files.new) (F.failed files.new) fault) }
+    ensures granted { OnOk result (F.refused files.new ≡ F.refused files.old) }
+    ensures refused { IfErr result (λ fault. F.refused files.new ≡ refused_by fault (F.refused files.old)) }
 {
     Ok(files.has(name, file)?)
 }
@@ -189,6 +205,8 @@ fn text<A: Allocator + Copy, F: Files>(
     ensures same { F.gives files.new ≡ F.gives files.old }
     ensures count { OnOk result (F.failures files.new ≡ F.failures files.old) }
     ensures err { IfErr result (λ fault. Answers (F.gives files.old name) (F.failures files.old) (F.failures files.new) (F.failed files.new) fault) }
+    ensures granted { OnOk result (F.refused files.new ≡ F.refused files.old) }
+    ensures refused { IfErr result (λ fault. F.refused files.new ≡ refused_by fault (F.refused files.old)) }
 {
     Ok(files.text(alloc, name, file)?)
 }

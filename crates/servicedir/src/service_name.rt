@@ -14,7 +14,7 @@ pub enum Seen {
     Bad,
 }
 
-/// What an entry of this name is. Takes no memory. Page `s6-svscan` skips what begins with a dot; which other texts are names
+/// What an entry of this name is. Page `s6-svscan` skips what begins with a dot; which other texts are names
 /// is this project's own rule.
 pub fn name_of(text: &str) -> Seen
     ensures { result ≡ seen_of text.now }

@@ -16,7 +16,7 @@ const SIGNAL_NAMES: [&str; 31] = [
 const LAST_SIGNAL: u32 = 64;
 
 /// The signal that the text of a signal file says: a name in capitals, with or without `SIG`, or a number from 1 to 64, with
-/// at most one newline behind it. None for any other text. Takes no memory. Page `servicedir`, `down-signal`; that lower case,
+/// at most one newline behind it. None for any other text. Page `servicedir`, `down-signal`; that lower case,
 /// 0 and numbers over 64 are invalid is this project's own rule.
 pub fn parse_signal(text: &[u8]) -> Option<u8>
     ensures { result ≡ signal_of text.now }
@@ -28,7 +28,7 @@ pub fn parse_signal(text: &[u8]) -> Option<u8>
     }
 }
 
-/// The signal of this name in capitals, with or without `SIG`, or None. No newline may follow. Takes no memory.
+/// The signal of this name in capitals, with or without `SIG`, or None. No newline may follow.
 pub fn signal_named(word: &[u8]) -> Option<u8>
     ensures { result ≡ signal_of_word word.now }
 {

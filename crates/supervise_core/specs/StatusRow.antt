@@ -1,9 +1,9 @@
 -- The status row: ten fields that are read from the history and the chart.
 use Rattle.std.specs.Prelude.{ℕ, ◌-◌, ◌/◌, List, Bool, true, false, not, Option, None, Some, if◌then◌else◌}
 use Rattle.s6_events.specs.declared.mark.Mark.{Mark}
-use Rattle.s6_events.specs.declared.mark.Mark.TheVariants.{Spawned, Ready, FinishDone}
+use Rattle.s6_events.specs.declared.mark.Mark.TheVariants.{Spawned, Ready}
 use Rattle.s6_events.specs.declared.moment.Moment.{Moment}
-use Rattle.s6_events.specs.CurrentLetter.{current_letter, up_or_down_since, ready_or_done_since}
+use Rattle.s6_events.specs.CurrentLetter.{current_letter, up_or_down_since, ready_or_done_since, is_ready_or_done}
 use Rattle.supervise_core.specs.declared.chart.ChartState.{ChartState}
 use Rattle.supervise_core.specs.declared.row.Row.{Row}
 use Rattle.supervise_core.specs.ChartState.{is_up}
@@ -13,12 +13,6 @@ abbrev pub shows_up : Mark → Bool
 shows_up Spawned = true
 shows_up Ready = true
 shows_up _ = false
-
--- U and D: it is ready, or ready to be started
-abbrev pub shows_ready : Mark → Bool
-shows_ready Ready = true
-shows_ready FinishDone = true
-shows_ready _ = false
 
 -- whole seconds since a moment, rounded down
 abbrev pub seconds_since : ℕ → Option ℕ → Option ℕ
@@ -33,12 +27,12 @@ row_of letter up_or_down ready_or_done now c = record {
   up = shows_up letter;
   wanted_up = c.wanted_up;
   normally_up = not c.config.down;
-  ready = shows_ready letter;
+  ready = is_ready_or_done letter;
   paused = c.paused;
   pid = if is_up c.phase then Some c.pid else None;
   exit = if shows_up letter then None else c.last_exit;
   up_down_for = seconds_since now up_or_down;
-  ready_for = if shows_ready letter then seconds_since now ready_or_done else None;
+  ready_for = if is_ready_or_done letter then seconds_since now ready_or_done else None;
 }
 
 -- the status row of a service, read from the history and its chart

@@ -1,6 +1,6 @@
 ghost use Rattle.std.specs.Prelude.{◌≡◌, ◌+◌, ◌<◌, ◌^◌, ◌++◌, List, IfOk};
 ghost use Rattle.s6_events.specs.declared.moment.Moment.{Moment};
-ghost use Rattle.supervise_core.specs.ChartState.{new_service};
+ghost use Rattle.supervise_core.specs.ChartState.{new_service, still};
 ghost use Rattle.supervise_core.specs.Moves.{begin_supervisor};
 ghost use Rattle.supervise_core.specs.Chart.{started as started_move, start_failed as start_failed_move, notified as notified_move, death as death_move, finish_ended as finish_ended_move, control as control_move, fire as fire_move, set_active as with_activity, set_config as with_config, changed_by};
 ghost use Rattle.supervise_core.specs.Gives.{Gives};
@@ -54,8 +54,8 @@ impl Service {
         Ok((Service::holding(chart, Status::new()), out))
     }
 
-    /// A service in this state, of whose marks this is stored: what it is after changes that were made to copies of both. Takes no
-    /// memory.
+    /// A service in this state, of whose marks this is stored: what it is after changes that were made to copies of both. A history
+    /// agrees with it only where the letter that is stored is one of `u`, `U`, `d` and `D`.
     pub fn holding(chart: ChartState, status: Status) -> Service
         ensures chart { result.chart ≡ chart }
         ensures status { result.status ≡ status }
@@ -93,7 +93,7 @@ impl Service {
         *status
     }
 
-    /// Its status row: that of each history which agrees with what it stores. Takes no memory. Page `s6-svstat`.
+    /// Its status row: that of each history which agrees with what it stores. Page `s6-svstat`.
     pub fn row(&self, now: At) -> Row
         ensures { (history : List Moment) → AgreesWith self.now history → result ≡ status_row history now self.now.chart }
     {
@@ -195,18 +195,20 @@ impl Service {
     }
 
     /// Its directory is listed, or no longer listed. Page `s6-svscan`.
-    pub fn set_active(&mut self, active: bool, now: At)
-        ensures chart { self.new.chart ≡ with_activity active now self.old.chart }
+    pub fn set_active(&mut self, active: bool, now: At) -> Out
+        ensures gives { Gives (still (with_activity active now self.old.chart)) self.new.chart result }
         ensures agrees { (history : List Moment) → AgreesWith self.old history → AgreesWith self.new history }
     {
-        self.chart.set_active(active, now)
+        self.chart.set_active(active, now);
+        Out::new()
     }
 
     /// Its directory was read again, and says this now; the number of deaths that are kept stays as it was. Page `servicedir`.
-    pub fn set_config(&mut self, config: Config)
-        ensures chart { self.new.chart ≡ with_config config self.old.chart }
+    pub fn set_config(&mut self, config: Config) -> Out
+        ensures gives { Gives (still (with_config config self.old.chart)) self.new.chart result }
         ensures agrees { (history : List Moment) → AgreesWith self.old history → AgreesWith self.new history }
     {
-        self.chart.set_config(config)
+        self.chart.set_config(config);
+        Out::new()
     }
 }

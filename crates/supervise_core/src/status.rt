@@ -1,8 +1,9 @@
 ghost use Rattle.std.specs.Prelude.{◌≡◌, ℕ, ◌++◌, List};
 ghost use Rattle.s6_events.specs.declared.moment.Moment.{Moment};
 ghost use Rattle.s6_events.specs.Clock.{clock_of};
+ghost use Rattle.s6_events.specs.CurrentLetter.{is_ready_or_done};
 ghost use Rattle.supervise_core.specs.Status.{Agrees, nothing_told, told_at, told_all, events_of};
-ghost use Rattle.supervise_core.specs.StatusRow.{row_of, seconds_since, shows_up, shows_ready};
+ghost use Rattle.supervise_core.specs.StatusRow.{row_of, seconds_since, shows_up};
 
 use super::chart::ChartState;
 use super::phase::Phase;

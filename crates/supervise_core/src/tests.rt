@@ -1,174 +1,177 @@
-mod rows;
+ghost use Rattle.std.specs.Prelude.{◌+◌, ◌<◌, ◌^◌};
 
 use super::*;
+use arrayvec::ArrayVec;
 use s6_events::{At, Exit, Mark, Name, Order, Sid};
 use servicedir::Config;
+use std::process::Abort;
 use std::test::Fail;
+use svc_commands::{ControlLetter, Letters};
 
-fn web() -> Result<Name, Fail> {
-    Ok(Name::new(b"web").ok_or("web")?)
-}
+// A change, the moment of it, the marks and the orders that it gives, and whether it is stale.
+type Step<'a> = (u64, Change, &'a [Mark], &'a [Order], bool);
 
 fn at(millis: u64) -> Result<At, Fail> {
     Ok(At::new(millis).ok_or("a moment")?)
 }
 
-// A run of this configuration that is up, in its first generation.
-fn up(config: Config) -> Result<ChartState, Fail> {
-    let (mut chart, _) = ChartState::begin(Sid(1), web()?, config);
-    let _ = chart.started(1, 500, at(0)?);
-    Ok(chart)
+fn control(letter: ControlLetter) -> Result<Change, Fail> {
+    let mut letters = Letters::new();
+    letters.try_push(letter).map_err(|_| "a letter")?;
+    Ok(Change::Control(letters))
 }
 
-#[test]
-fn begins_with_a_run_unless_it_is_down(rt: HostRuntime) -> Result<(), Fail> {
-    let (service, out) = Service::begin(rt.alloc(), Sid(1), web()?, Config::plain(), at(0)?)?;
-    assert_eq!(rt; out.events.as_slice(), [Mark::SupervisorStarted].as_slice());
-    assert_eq!(rt;
-        out.orders.as_slice(),
-        [Order::Run(Sid(1), 1, web()?, None)].as_slice()
-    );
-    assert!(rt; !out.stale);
-    assert_eq!(rt; service.chart().phase, Phase::Starting);
+fn notify(generation: u64, bytes: &[u8]) -> Result<Change, Fail> {
+    let mut list = ArrayVec::new();
+    list.try_extend_from_slice(bytes).map_err(|_| "64 bytes")?;
+    Ok(Change::Notify(generation, list))
+}
 
-    let down = Config {
-        down: true,
-        ..Config::plain()
-    };
-    let (service, out) = Service::begin(rt.alloc(), Sid(2), web()?, down, at(0)?)?;
-    assert_eq!(rt; out.events.as_slice(), [Mark::SupervisorStarted].as_slice());
-    assert!(rt; out.orders.is_empty());
-    assert_eq!(rt; service.chart().phase, Phase::Down);
-    assert!(rt; !service.chart().wanted_up);
+// The answer to a change has these marks and orders.
+fn gives(rt: &impl Abort, out: &Out, now: u64, marks: &[Mark], orders: &[Order], stale: bool) {
+    let found = (out.events.as_slice(), out.orders.as_slice(), out.stale);
+    assert_eq!(rt; found, (marks, orders, stale), "at {now}");
+}
+
+// Takes a change by the call that is named after it.
+fn take(service: &mut Service, change: &Change, now: At) -> Out
+    requires { service.old.chart.generation + 1 < 2 ^ 64 }
+{
+    match change {
+        Change::Started(generation, pid) => service.started(*generation, *pid, now),
+        Change::StartFailed(generation) => service.start_failed(*generation, now),
+        Change::Notify(generation, bytes) => service.notify(*generation, bytes.as_slice(), now),
+        Change::Death(generation, exit) => service.death(*generation, *exit, now),
+        Change::FinishEnded(generation, exit) => service.finish_ended(*generation, *exit, now),
+        Change::Control(letters) => service.control(letters, now),
+        Change::Fire => service.fire(now),
+        Change::SetConfig(config) => service.set_config(*config),
+        Change::SetActive(active) => service.set_active(*active, now),
+    }
+}
+
+// Takes the changes in turn: one service by `change`, the other by the call of each.
+fn play(
+    rt: &impl Abort,
+    service: &mut Service,
+    other: &mut Service,
+    steps: &[Step<'_>],
+) -> Result<(), Fail> {
+    for (now, change, marks, orders, stale) in steps {
+        assert!(rt; service.chart().generation < 9 && other.chart().generation < 9);
+        let out = service.change(change, at(*now)?);
+        gives(rt, &out, *now, marks, orders, *stale);
+        let out = take(other, change, at(*now)?);
+        gives(rt, &out, *now, marks, orders, *stale);
+    }
     Ok(())
 }
 
 #[test]
-fn restarts_a_second_after_a_death(rt: HostRuntime) -> Result<(), Fail> {
-    let (mut service, _) = Service::begin(rt.alloc(), Sid(1), web()?, Config::plain(), at(0)?)?;
-    let out = service.started(1, 500, at(0)?);
-    assert_eq!(rt; out.events.as_slice(), [Mark::Spawned].as_slice());
-    assert!(rt; service.chart().generation < 9);
-    let out = service.death(1, Exit::Code(1), at(300)?);
-    assert_eq!(rt;
-        out.events.as_slice(),
-        [Mark::Died, Mark::FinishDone].as_slice()
-    );
-    assert!(rt; out.orders.is_empty());
-    assert_eq!(rt; service.chart().timer, Some(1300));
-    assert!(rt; service.chart().generation < 9);
-    assert!(rt; service.fire(at(1299)?).orders.is_empty());
-    assert!(rt; service.chart().generation < 9);
-    let out = service.fire(at(1300)?);
-    assert_eq!(rt;
-        out.orders.as_slice(),
-        [Order::Run(Sid(1), 2, web()?, None)].as_slice()
-    );
-    assert!(rt; service.chart().generation < 9);
-    let late = service.death(1, Exit::Code(1), at(1400)?);
-    assert!(rt; late.stale);
-    assert!(rt; late.events.is_empty());
-    Ok(())
-}
-
-#[test]
-fn restarts_at_once_after_more_than_a_second_of_readiness(rt: HostRuntime) -> Result<(), Fail> {
-    let mut ready = up(Config {
-        notification_fd: Some(3),
-        ..Config::plain()
-    })?;
-    ready.ready_since = Some(at(100)?);
-    let mut just = ready;
-    assert!(rt; ready.generation < 9 && just.generation < 9);
-    let out = ready.death(1, Exit::Code(0), at(1101)?);
-    assert_eq!(rt;
-        out.orders.as_slice(),
-        [Order::Run(Sid(1), 2, web()?, Some(3))].as_slice()
-    );
-    let out = just.death(1, Exit::Code(0), at(1100)?);
-    assert!(rt; out.orders.is_empty());
-    assert_eq!(rt; just.timer, Some(2100));
-    Ok(())
-}
-
-#[test]
-fn runs_finish_after_a_death(rt: HostRuntime) -> Result<(), Fail> {
-    let mut chart = up(Config {
-        finish: true,
-        ..Config::plain()
-    })?;
-    assert!(rt; chart.generation < 9);
-    let out = chart.death(1, Exit::Killed(9), at(10)?);
-    assert_eq!(rt; out.events.as_slice(), [Mark::Died].as_slice());
-    assert_eq!(rt;
-        out.orders.as_slice(),
-        [Order::Finish(Sid(1), 1, web()?, 256, 9)].as_slice()
-    );
-    assert_eq!(rt; chart.timer, Some(5010));
-    assert!(rt; chart.generation < 9);
-    let out = chart.fire(at(5010)?);
-    assert_eq!(rt;
-        out.orders.as_slice(),
-        [Order::KillFinish(Sid(1), 1)].as_slice()
-    );
-    assert_eq!(rt; chart.timer, None);
-
-    let mut patient = up(Config {
-        finish: true,
-        timeout_finish: 0,
-        ..Config::plain()
-    })?;
-    assert!(rt; patient.generation < 9);
-    let _ = patient.death(1, Exit::Code(0), at(10)?);
-    assert_eq!(rt; patient.timer, None);
-    Ok(())
-}
-
-#[test]
-fn sends_the_down_signal_that_waited_for_the_spawn(rt: HostRuntime) -> Result<(), Fail> {
+fn a_service_takes_each_change(rt: HostRuntime) -> Result<(), Fail> {
+    let web = Name::new(b"web").ok_or("web")?;
     let config = Config {
+        finish: true,
+        notification_fd: Some(3),
         timeout_kill: 500,
         ..Config::plain()
     };
-    let (mut chart, _) = ChartState::begin(Sid(1), web()?, config);
-    chart.down_pending = true;
-    let out = chart.started(1, 500, at(8)?);
-    assert_eq!(rt; out.events.as_slice(), [Mark::Spawned].as_slice());
-    let signals = [Order::Signal(Sid(1), 1, 15), Order::Signal(Sid(1), 1, 18)];
-    assert_eq!(rt; out.orders.as_slice(), signals.as_slice());
-    assert_eq!(rt; chart.timer, Some(508));
-    assert!(rt; !chart.down_pending);
-    assert!(rt; chart.generation < 9);
-    let out = chart.fire(at(508)?);
-    assert_eq!(rt;
-        out.orders.as_slice(),
-        [Order::Signal(Sid(1), 1, 9)].as_slice()
-    );
+    let first = [Order::Run(Sid(1), 1, web, Some(3))];
+    let (mut service, out) = Service::begin(rt.alloc(), Sid(1), web, config, at(0)?)?;
+    gives(&rt, &out, 0, &[Mark::SupervisorStarted], &first, false);
+    let (mut other, _) = Service::begin(rt.alloc(), Sid(1), web, config, at(0)?)?;
+
+    let second = [Order::Run(Sid(1), 2, web, Some(3))];
+    let to_ready: [Step<'_>; 6] = [
+        (0, Change::StartFailed(1), &[], &[], false),
+        (59999, Change::Fire, &[], &[], false),
+        (60000, Change::Fire, &[], &second, false),
+        (60000, Change::Started(2, 500), &[Mark::Spawned], &[], false),
+        (60010, Change::Started(2, 501), &[], &[], true),
+        (60100, notify(2, b"a\n\n")?, &[Mark::Ready], &[], false),
+    ];
+    play(&rt, &mut service, &mut other, &to_ready)?;
+    let row = Row {
+        sid: Sid(1),
+        name: web,
+        up: true,
+        wanted_up: true,
+        normally_up: true,
+        ready: true,
+        paused: false,
+        pid: Some(500),
+        exit: None,
+        up_down_for: Some(1),
+        ready_for: Some(0),
+    };
+    assert_eq!(rt; service.row(at(61099)?), row);
+
+    let down = [Order::Signal(Sid(1), 2, 15), Order::Signal(Sid(1), 2, 18)];
+    let kill = [Order::Signal(Sid(1), 2, 9)];
+    let finish = [Order::Finish(Sid(1), 2, web, 256, 9)];
+    let failed = [Mark::PermanentFailure, Mark::FinishDone];
+    let third = [Order::Run(Sid(1), 3, web, None)];
+    let to_the_next_supervisor: [Step<'_>; 10] = [
+        (60200, control(ControlLetter::Down)?, &[], &down, false),
+        (60700, Change::Fire, &[], &kill, false),
+        (
+            60800,
+            Change::Death(2, Exit::Killed(9)),
+            &[Mark::Died],
+            &finish,
+            false,
+        ),
+        (
+            60900,
+            Change::FinishEnded(2, Exit::Code(125)),
+            &failed,
+            &[],
+            false,
+        ),
+        (60950, Change::SetConfig(Config::plain()), &[], &[], false),
+        (
+            61000,
+            control(ControlLetter::Exit)?,
+            &[Mark::SupervisorEnded],
+            &[],
+            false,
+        ),
+        (61050, Change::SetActive(false), &[], &[], false),
+        (61100, Change::SetActive(true), &[], &[], false),
+        (62099, Change::Fire, &[], &[], false),
+        (
+            62100,
+            Change::Fire,
+            &[Mark::SupervisorStarted],
+            &third,
+            false,
+        ),
+    ];
+    play(&rt, &mut service, &mut other, &to_the_next_supervisor)?;
+    let row = Row {
+        up: false,
+        pid: None,
+        exit: Some(Exit::Killed(9)),
+        up_down_for: None,
+        ready_for: None,
+        ..row
+    };
+    assert_eq!(rt; other.row(at(63000)?), row);
     Ok(())
 }
 
 #[test]
-fn ends_its_supervisor_and_begins_another_while_listed(rt: HostRuntime) -> Result<(), Fail> {
-    let mut chart = up(Config::plain())?;
-    chart.exit_requested = true;
-    assert!(rt; chart.generation < 9);
-    let out = chart.death(1, Exit::Code(0), at(20)?);
-    let marks = [Mark::Died, Mark::FinishDone, Mark::SupervisorEnded];
-    assert_eq!(rt; out.events.as_slice(), marks.as_slice());
-    assert_eq!(rt; chart.timer, Some(1020));
-    let mut away = chart;
-    assert!(rt; chart.generation < 9);
-    let out = chart.fire(at(1020)?);
-    assert_eq!(rt; out.events.as_slice(), [Mark::SupervisorStarted].as_slice());
+fn a_service_with_a_file_down_begins_without_a_run(rt: HostRuntime) -> Result<(), Fail> {
+    let config = Config {
+        down: true,
+        ..Config::plain()
+    };
+    let (service, out) = Service::begin(rt.alloc(), Sid(2), Name::default(), config, at(0)?)?;
+    gives(&rt, &out, 0, &[Mark::SupervisorStarted], &[], false);
+    let held = Service::holding(service.chart(), service.status());
     assert_eq!(rt;
-        out.orders.as_slice(),
-        [Order::Run(Sid(1), 2, web()?, None)].as_slice()
+        (held.sid(), held.timer(), held.chart().phase),
+        (Sid(2), None, Phase::Down)
     );
-    away.set_active(false, at(30)?);
-    assert_eq!(rt; away.timer, None);
-    away.set_active(true, at(40)?);
-    assert_eq!(rt; away.timer, Some(1040));
-    away.set_active(true, at(50)?);
-    assert_eq!(rt; away.timer, Some(1040));
     Ok(())
 }

@@ -3,3 +3,4 @@ pub mod Parses
 pub mod NameWords
 pub mod Cuts
 pub mod Items
+pub mod LetterLaw

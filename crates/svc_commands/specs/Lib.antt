@@ -1,5 +1,6 @@
 pub mod ControlLetter
 pub mod LetterWords
+pub mod LetterLaw
 pub mod ReadWords
 pub mod LetterCommands
 pub mod Fields

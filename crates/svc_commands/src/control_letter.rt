@@ -69,7 +69,7 @@ const ALL: [ControlLetter; 17] = [
 ];
 
 impl ControlLetter {
-    /// The letter that is written as this byte, or None where it is none. Takes no memory.
+    /// The letter that is written as this byte, or None where it is none.
     #[tactic(auto, unfolding(crate::specs::ControlLetter::letter_of_byte))]
     pub fn of_byte(byte: u8) -> Option<ControlLetter>
         ensures { result ≡ letter_of_byte byte }

@@ -2,6 +2,7 @@
 #![tactic(auto)]
 
 mod control_letter;
+mod letter_law;
 mod letter_words;
 mod matches;
 mod names;
@@ -15,6 +16,7 @@ mod tests;
 mod usage_fault;
 
 pub use control_letter::{ControlLetter, Letters};
+pub use letter_law::{law_of_svc, law_of_svscanctl};
 pub use names::Names;
 pub use svc::{SvcCommand, compile_svc};
 pub use svlisten::{ListenCommand, compile_svlisten};

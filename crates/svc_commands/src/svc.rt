@@ -18,8 +18,8 @@ pub struct SvcCommand {
 
 /// Reads the words behind `svc`: runs of letters, each behind a dash, and one name, in any order; `o` is `u` and `O`. The first
 /// fault in the order of writing is told: Unknown for a dash alone or a letter that is none, TooMany for a 64th letter or a
-/// second name, BadName for another word that is no name; after all words Missing, where no letter or no name was there. Takes
-/// no memory. Page `s6-svc`; the limit and the faults are this project's own rule.
+/// second name, BadName for another word that is no name; after all words Missing, where no letter or no name was there. Page
+/// `s6-svc`; the limit and the faults are this project's own rule.
 pub fn compile_svc(words: &[&str]) -> Result<SvcCommand, UsageFault>
     ensures { MatchResult result (IsSvcCommand (map (λ w. w.now) words.now)) (λ fault. svc_fault (map (λ w. w.now) words.now) ≡ Some fault) }
 {

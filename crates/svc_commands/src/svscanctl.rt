@@ -30,8 +30,8 @@ pub struct ScanCommand {
 
 /// Reads the words behind `svscanctl`: runs of the letters a n h t q, each behind a dash; `h` is `a` and `n`, and `q` is `t`.
 /// The first fault in the order of writing is told: Unknown for a dash alone or another letter, TooMany for a 64th letter or a
-/// word that is no run; after all words Missing, where no letter was there. Takes no memory. Page `s6-svscanctl`; the limit,
-/// the faults and what `h` and `q` become are this project's own rule.
+/// word that is no run; after all words Missing, where no letter was there. Page `s6-svscanctl`; the limit, the faults
+/// and what `h` and `q` become are this project's own rule.
 pub fn compile_svscanctl(words: &[&str]) -> Result<ScanCommand, UsageFault>
     ensures { MatchResult result (IsScanCommand (map (λ w. w.now) words.now)) (λ fault. scan_fault (map (λ w. w.now) words.now) ≡ Some fault) }
 {

@@ -1,218 +1,183 @@
 use super::*;
+use arrayvec::ArrayVec;
 use s6_events::{Condition, Mode, Name};
-use std::alloc::{AllocError, Global};
+use std::alloc::Global;
 use std::process::Abort;
 use std::test::Fail;
 
-// A command line has one bar between two words; its answer is what is read, or the fault.
-type Answer = Result<&'static str, UsageFault>;
+// Each row is the words of a command, with one bar between two, and what is read in them, or the fault.
 
 // The name, and the letters.
-const SVC: [(&str, Answer); 27] = [
-    ("-o|web", Ok("web uO")),
-    ("-u|web", Ok("web u")),
-    ("web|-d", Ok("web d")),
-    ("-du|web|-x", Ok("web dux")),
-    ("-abqhkit12pcyudOrx|web", Ok("web abqhkit12pcyudOrx")),
-    ("-oo|web", Ok("web uOuO")),
-    (
-        "-hhhhhhhhhhhhhhhhhhhhhhhhhhhhhhhhhhhhhhhhhhhhhhhhhhhhhhhhhhhhhhh|web",
-        Ok("web hhhhhhhhhhhhhhhhhhhhhhhhhhhhhhhhhhhhhhhhhhhhhhhhhhhhhhhhhhhhhhh"),
-    ),
-    (
-        "-hhhhhhhhhhhhhhhhhhhhhhhhhhhhhhhhhhhhhhhhhhhhhhhhhhhhhhhhhhhhh|web|-o",
-        Ok("web hhhhhhhhhhhhhhhhhhhhhhhhhhhhhhhhhhhhhhhhhhhhhhhhhhhhhhhhhhhhhuO"),
-    ),
-    (
-        "-hhhhhhhhhhhhhhhhhhhhhhhhhhhhhhhhhhhhhhhhhhhhhhhhhhhhhhhhhhhhhho|web",
-        Err(UsageFault::TooMany),
-    ),
-    (
-        "-hhhhhhhhhhhhhhhhhhhhhhhhhhhhhhhhhhhhhhhhhhhhhhhhhhhhhhhhhhhhhhhh|web",
-        Err(UsageFault::TooMany),
-    ),
-    (
-        "-hhhhhhhhhhhhhhhhhhhhhhhhhhhhhhhhhhhhhhhhhhhhhhhhhhhhhhhhhhhhhhh|-u|web",
-        Err(UsageFault::TooMany),
-    ),
-    (
-        "-hhhhhhhhhhhhhhhhhhhhhhhhhhhhhhhhhhhhhhhhhhhhhhhhhhhhhhhhhhhhhhhhz|web",
-        Err(UsageFault::TooMany),
-    ),
-    (
-        "-hhhhhhhhhhhhhhhhhhhhhhhhhhhhhhhhhhhhhhhhhhhhhhhhhhhhhhhhhhhhhhhz|web",
-        Err(UsageFault::Unknown),
-    ),
-    (
-        "-hhhhhhhhhhhhhhhhhhhhhhhhhhhhhhhhhhhhhhhhhhhhhhhhhhhhhhhhhhhhhhhh|.web",
-        Err(UsageFault::TooMany),
-    ),
-    (
-        ".web|-hhhhhhhhhhhhhhhhhhhhhhhhhhhhhhhhhhhhhhhhhhhhhhhhhhhhhhhhhhhhhhhh",
-        Err(UsageFault::BadName),
-    ),
-    ("web", Err(UsageFault::Missing)),
-    ("-u", Err(UsageFault::Missing)),
-    ("", Err(UsageFault::BadName)),
-    ("-|web", Err(UsageFault::Unknown)),
-    ("--|web", Err(UsageFault::Unknown)),
-    ("-uz|web", Err(UsageFault::Unknown)),
-    ("-U|web", Err(UsageFault::Unknown)),
-    ("-u|.web", Err(UsageFault::BadName)),
-    ("-u|a:b", Err(UsageFault::BadName)),
-    ("-u||web", Err(UsageFault::BadName)),
-    ("-u|web|db", Err(UsageFault::TooMany)),
-    ("-u|web|.db", Err(UsageFault::BadName)),
-];
+const SVC: &str = "-o|web = web uO
+-u|web = web u
+web|-d = web d
+-du|web|-x = web dux
+-abqhkit12pcyudOrx|web = web abqhkit12pcyudOrx
+-oo|web = web uOuO
+-hhhhhhhhhhhhhhhhhhhhhhhhhhhhhhhhhhhhhhhhhhhhhhhhhhhhhhhhhhhhhhh|web = web hhhhhhhhhhhhhhhhhhhhhhhhhhhhhhhhhhhhhhhhhhhhhhhhhhhhhhhhhhhhhhh
+-hhhhhhhhhhhhhhhhhhhhhhhhhhhhhhhhhhhhhhhhhhhhhhhhhhhhhhhhhhhhh|web|-o = web hhhhhhhhhhhhhhhhhhhhhhhhhhhhhhhhhhhhhhhhhhhhhhhhhhhhhhhhhhhhhuO
+-hhhhhhhhhhhhhhhhhhhhhhhhhhhhhhhhhhhhhhhhhhhhhhhhhhhhhhhhhhhhhho|web = TooMany
+-hhhhhhhhhhhhhhhhhhhhhhhhhhhhhhhhhhhhhhhhhhhhhhhhhhhhhhhhhhhhhhhh|web = TooMany
+-hhhhhhhhhhhhhhhhhhhhhhhhhhhhhhhhhhhhhhhhhhhhhhhhhhhhhhhhhhhhhhh|-u|web = TooMany
+-hhhhhhhhhhhhhhhhhhhhhhhhhhhhhhhhhhhhhhhhhhhhhhhhhhhhhhhhhhhhhhhhz|web = TooMany
+-hhhhhhhhhhhhhhhhhhhhhhhhhhhhhhhhhhhhhhhhhhhhhhhhhhhhhhhhhhhhhhhz|web = Unknown
+-hhhhhhhhhhhhhhhhhhhhhhhhhhhhhhhhhhhhhhhhhhhhhhhhhhhhhhhhhhhhhhhh|.web = TooMany
+.web|-hhhhhhhhhhhhhhhhhhhhhhhhhhhhhhhhhhhhhhhhhhhhhhhhhhhhhhhhhhhhhhhh = BadName
+web = Missing
+-u = Missing
+ = BadName
+-|web = Unknown
+--|web = Unknown
+-uz|web = Unknown
+-U|web = Unknown
+-u|.web = BadName
+-u|a:b = BadName
+-u||web = BadName
+-u|web|db = TooMany
+-u|web|.db = BadName";
 
 // The letters.
-const SVSCANCTL: [(&str, Answer); 15] = [
-    ("-h", Ok("an")),
-    ("-a", Ok("a")),
-    ("-n", Ok("n")),
-    ("-t", Ok("t")),
-    ("-q", Ok("t")),
-    ("-hq", Ok("ant")),
-    ("-t|-a", Ok("ta")),
-    (
-        "-hhhhhhhhhhhhhhhhhhhhhhhhhhhhhhha",
-        Ok("ananananananananananananananananananananananananananananananana"),
-    ),
-    (
-        "-hhhhhhhhhhhhhhhhhhhhhhhhhhhhhhhh",
-        Err(UsageFault::TooMany),
-    ),
-    ("web", Err(UsageFault::TooMany)),
-    ("-a|web", Err(UsageFault::TooMany)),
-    ("", Err(UsageFault::TooMany)),
-    ("-", Err(UsageFault::Unknown)),
-    ("-z", Err(UsageFault::Unknown)),
-    ("--", Err(UsageFault::Unknown)),
-];
+const SVSCANCTL: &str = "-h = an
+-a = a
+-n = n
+-t = t
+-q = t
+-hq = ant
+-t|-a = ta
+-hhhhhhhhhhhhhhhhhhhhhhhhhhhhhhha = ananananananananananananananananananananananananananananananana
+-hhhhhhhhhhhhhhhhhhhhhhhhhhhhhhhh = TooMany
+web = TooMany
+-a|web = TooMany
+ = TooMany
+- = Unknown
+-z = Unknown
+-- = Unknown";
 
 // Condition, mode, timeout and names.
-const SVWAIT: [(&str, Answer); 41] = [
-    ("-U|-o|-t|5|a|b", Ok("U o 5 a b")),
-    ("a", Ok("u a 0 a")),
-    ("-Uot5|a|b", Ok("U o 5 a b")),
-    ("-t5|a", Ok("u a 5 a")),
-    ("-t|5|a", Ok("u a 5 a")),
-    ("-t=5|a", Ok("u a 5 a")),
-    ("-t|007|a", Ok("u a 7 a")),
-    ("-t|4294967295|a", Ok("u a 4294967295 a")),
-    ("-D|a", Ok("D a 0 a")),
-    ("-d|-a|b|a", Ok("d a 0 b a")),
-    ("a|-u|b", Ok("u a 0 a b")),
-    ("--|-x|b", Ok("u a 0 -x b")),
-    ("-d|--|-t|--", Ok("d a 0 -t --")),
-    ("-", Ok("u a 0 -")),
-    (
-        "a1|a2|a3|a4|a5|a6|a7|a8|a9|a10|a11|a12|a13|a14|a15|a16",
-        Ok("u a 0 a1 a2 a3 a4 a5 a6 a7 a8 a9 a10 a11 a12 a13 a14 a15 a16"),
-    ),
-    (
-        "a1|a2|a3|a4|a5|a6|a7|a8|a9|a10|a11|a12|a13|a14|a15|a16|a17",
-        Err(UsageFault::TooMany),
-    ),
-    (
-        "a1|a2|a3|a4|a5|a6|a7|a8|a9|a10|a11|a12|a13|a14|a15|a16|.a",
-        Err(UsageFault::BadName),
-    ),
-    ("-u|-U|a", Err(UsageFault::TooMany)),
-    ("-uU|a", Err(UsageFault::TooMany)),
-    ("-u|-u|a", Err(UsageFault::TooMany)),
-    ("-a|-o|a", Err(UsageFault::TooMany)),
-    ("-oo|a", Err(UsageFault::TooMany)),
-    ("-u|-d|-t|x", Err(UsageFault::TooMany)),
-    ("-t|x|a", Err(UsageFault::BadNumber)),
-    ("-t|x", Err(UsageFault::BadNumber)),
-    ("-t|x|.a", Err(UsageFault::BadNumber)),
-    ("-t|4294967296|a", Err(UsageFault::BadNumber)),
-    ("-t||a", Err(UsageFault::BadNumber)),
-    ("-u", Err(UsageFault::Missing)),
-    ("--", Err(UsageFault::Missing)),
-    ("-u|.a", Err(UsageFault::BadName)),
-    ("", Err(UsageFault::BadName)),
-    ("a||b", Err(UsageFault::BadName)),
-    ("-z|a", Err(UsageFault::Unknown)),
-    ("-r|a", Err(UsageFault::Unknown)),
-    ("-h", Err(UsageFault::Unknown)),
-    ("--help", Err(UsageFault::Unknown)),
-    ("a|-t", Err(UsageFault::Unknown)),
-    ("-t|5|-t|6|a", Err(UsageFault::Unknown)),
-    ("-t|-5|a", Err(UsageFault::Unknown)),
-    ("-u|-U|-z", Err(UsageFault::Unknown)),
-];
+const SVWAIT: &str = "-U|-o|-t|5|a|b = U o 5 a b
+a = u a 0 a
+-Uot5|a|b = U o 5 a b
+-t5|a = u a 5 a
+-t|5|a = u a 5 a
+-t=5|a = u a 5 a
+-t|007|a = u a 7 a
+-t|4294967295|a = u a 4294967295 a
+-D|a = D a 0 a
+-d|-a|b|a = d a 0 b a
+a|-u|b = u a 0 a b
+--|-x|b = u a 0 -x b
+-d|--|-t|-- = d a 0 -t --
+- = u a 0 -
+a1|a2|a3|a4|a5|a6|a7|a8|a9|a10|a11|a12|a13|a14|a15|a16 = u a 0 a1 a2 a3 a4 a5 a6 a7 a8 a9 a10 a11 a12 a13 a14 a15 a16
+a1|a2|a3|a4|a5|a6|a7|a8|a9|a10|a11|a12|a13|a14|a15|a16|a17 = TooMany
+a1|a2|a3|a4|a5|a6|a7|a8|a9|a10|a11|a12|a13|a14|a15|a16|.a = BadName
+-u|-U|a = TooMany
+-uU|a = TooMany
+-u|-u|a = TooMany
+-a|-o|a = TooMany
+-oo|a = TooMany
+-u|-d|-t|x = TooMany
+-t|x|a = BadNumber
+-t|x = BadNumber
+-t|x|.a = BadNumber
+-t|4294967296|a = BadNumber
+-t||a = BadNumber
+-u = Missing
+-- = Missing
+-u|.a = BadName
+ = BadName
+a||b = BadName
+-z|a = Unknown
+-r|a = Unknown
+-h = Unknown
+--help = Unknown
+a|-t = Unknown
+-t|5|-t|6|a = Unknown
+-t|-5|a = Unknown
+-u|-U|-z = Unknown";
 
 // The same, and the program.
-const SVLISTEN: [(&str, Answer); 12] = [
-    ("-r|a|--|true", Ok("r a 0 a -- true")),
-    (
-        "-R|-o|-t9|a|b|--|prog|-x|--|y",
-        Ok("R o 9 a b -- prog -x -- y"),
-    ),
-    ("a|--|--", Ok("u a 0 a -- --")),
-    ("-u|a|--", Err(UsageFault::Missing)),
-    ("-u|a", Err(UsageFault::Missing)),
-    ("--|true", Err(UsageFault::Missing)),
-    (".a|--", Err(UsageFault::Missing)),
-    (".a|--|true", Err(UsageFault::BadName)),
-    ("-t|x|--", Err(UsageFault::BadNumber)),
-    ("-r|-R|a|--|true", Err(UsageFault::TooMany)),
-    (
-        "a1|a2|a3|a4|a5|a6|a7|a8|a9|a10|a11|a12|a13|a14|a15|a16|a17|--|true",
-        Err(UsageFault::TooMany),
-    ),
-    ("-z|a|--|true", Err(UsageFault::Unknown)),
-];
+const SVLISTEN: &str = "-r|a|--|true = r a 0 a -- true
+-R|-o|-t9|a|b|--|prog|-x|--|y = R o 9 a b -- prog -x -- y
+a|--|-- = u a 0 a -- --
+-u|a|-- = Missing
+-u|a = Missing
+--|true = Missing
+.a|-- = Missing
+.a|--|true = BadName
+-t|x|-- = BadNumber
+-r|-R|a|--|true = TooMany
+a1|a2|a3|a4|a5|a6|a7|a8|a9|a10|a11|a12|a13|a14|a15|a16|a17|--|true = TooMany
+-z|a|--|true = Unknown";
 
 // The name, and the place of each field in a row.
-const SVSTAT: [(&str, Answer); 22] = [
-    ("-o|up,pid|web", Ok("web 0 5")),
-    (
-        "-o|up,wantedup,normallyup,ready,paused,pid,exitcode,signum,updownfor,readyfor|web",
-        Ok("web 0 1 2 3 4 5 6 7 8 9"),
-    ),
-    ("-o|up,up|web", Ok("web 0 0")),
-    ("web|-o|ready", Ok("web 3")),
-    ("-osignum|web", Ok("web 7")),
-    ("-o|up|--|-x", Ok("-x 0")),
-    ("-o|up,uptime|web", Err(UsageFault::BadList)),
-    ("-o||web", Err(UsageFault::BadList)),
-    ("-o|up,|web", Err(UsageFault::BadList)),
-    ("-o|,up|web", Err(UsageFault::BadList)),
-    ("-o|UP|web", Err(UsageFault::BadList)),
-    ("-o|up pid|web", Err(UsageFault::BadList)),
-    ("-o|nope", Err(UsageFault::BadList)),
-    ("web", Err(UsageFault::Missing)),
-    ("-o|up", Err(UsageFault::Missing)),
-    ("--", Err(UsageFault::Missing)),
-    ("-o|up|.web", Err(UsageFault::BadName)),
-    ("-o|up|", Err(UsageFault::BadName)),
-    ("-o|up|a|b", Err(UsageFault::Unknown)),
-    ("-o|up|-o|pid|web", Err(UsageFault::Unknown)),
-    ("web|-o", Err(UsageFault::Unknown)),
-    ("-p|web", Err(UsageFault::Unknown)),
-];
+const SVSTAT: &str = "-o|up,pid|web = web 0 5
+-o|up,wantedup,normallyup,ready,paused,pid,exitcode,signum,updownfor,readyfor|web = web 0 1 2 3 4 5 6 7 8 9
+-o|up,up|web = web 0 0
+web|-o|ready = web 3
+-osignum|web = web 7
+-o|up|--|-x = -x 0
+-o|up,uptime|web = BadList
+-o||web = BadList
+-o|up,|web = BadList
+-o|,up|web = BadList
+-o|UP|web = BadList
+-o|up pid|web = BadList
+-o|nope = BadList
+web = Missing
+-o|up = Missing
+-- = Missing
+-o|up|.web = BadName
+-o|up| = BadName
+-o|up|a|b = Unknown
+-o|up|-o|pid|web = Unknown
+web|-o = Unknown
+-p|web = Unknown";
 
-fn words_of(alloc: Global, line: &str) -> Result<Vec<&str>, AllocError> {
-    line.split('|').collect(alloc)
+/// A command, as it is compared with the text of a row.
+type Shown = ArrayVec<u8, 256>;
+
+#[derive(Clone, Copy, Debug)]
+enum Tool {
+    Svc,
+    Svscanctl,
+    Svwait,
+    Svlisten,
+    Svstat,
 }
 
-// The answer is that of the table.
-fn agrees(rt: &impl Abort, line: &str, shown: Result<Vec<u8>, UsageFault>, answer: Answer) {
-    match (shown, answer) {
-        (Ok(shown), Ok(text)) => assert_eq!(rt; shown.as_slice(), text.as_bytes(), "{line}"),
-        (Err(fault), Err(told)) => assert_eq!(rt; fault, told, "{line}"),
-        (Ok(_), Err(_)) => assert!(rt; false, "{line} is taken"),
-        (Err(fault), Ok(_)) => assert!(rt; false, "{line} is refused: {fault}"),
+// Adds a word behind those before it.
+fn add(shown: &mut Shown, word: &[u8]) {
+    if !shown.is_empty() {
+        add_bytes(shown, b" ");
     }
+    add_bytes(shown, word);
 }
 
-fn add_names(out: &mut Vec<u8>, names: &[Name]) -> Result<(), AllocError> {
-    for name in names {
-        out.push(b' ')?;
-        out.extend_from_slice(name.as_bytes())?;
+fn add_bytes(shown: &mut Shown, bytes: &[u8]) {
+    let _ = shown.try_extend_from_slice(bytes);
+}
+
+fn show_svc(words: &[&str], shown: &mut Shown) -> Result<(), UsageFault> {
+    let command = compile_svc(words)?;
+    add(shown, command.name.as_bytes());
+    add(shown, b"");
+    for letter in &command.letters {
+        add_bytes(shown, &[letter.byte()]);
+    }
+    Ok(())
+}
+
+fn show_svscanctl(words: &[&str], shown: &mut Shown) -> Result<(), UsageFault> {
+    for letter in &compile_svscanctl(words)?.letters {
+        add_bytes(
+            shown,
+            match letter {
+                ScanLetter::Scan => b"a",
+                ScanLetter::Nuke => b"n",
+                ScanLetter::Terminate => b"t",
+            },
+        );
     }
     Ok(())
 }
@@ -228,147 +193,122 @@ fn condition_letter(condition: Condition) -> u8 {
     }
 }
 
-fn add_wait(alloc: Global, out: &mut Vec<u8>, wait: &WaitCommand) -> Result<(), Fail> {
-    out.push(condition_letter(wait.condition))?;
-    out.extend_from_slice(match wait.mode {
-        Mode::All => b" a ",
-        Mode::One => b" o ",
-    })?;
+fn show_wait(alloc: Global, wait: &WaitCommand, shown: &mut Shown) -> Result<(), UsageFault> {
     let timeout = wait.timeout;
-    out.extend_from_slice(format!(in alloc; "{timeout}")?.as_bytes())?;
-    add_names(out, wait.names.as_slice())?;
+    let Ok(timeout) = format!(in alloc; "{timeout}") else {
+        return Err(UsageFault::NoMemory);
+    };
+    add(shown, &[condition_letter(wait.condition)]);
+    add(shown, if wait.mode == Mode::All { b"a" } else { b"o" });
+    add(shown, timeout.as_bytes());
+    for name in &wait.names {
+        add(shown, name.as_bytes());
+    }
+    Ok(())
+}
+
+fn show_svstat(alloc: Global, words: &[&str], shown: &mut Shown) -> Result<(), UsageFault> {
+    let command = compile_svstat(alloc, words)?;
+    add(shown, command.name.as_bytes());
+    for field in &command.fields {
+        add(shown, &[b'0' + *field as u8]);
+    }
+    Ok(())
+}
+
+fn show_svlisten(alloc: Global, words: &[&str], shown: &mut Shown) -> Result<(), UsageFault> {
+    let command = compile_svlisten(alloc, words)?;
+    show_wait(alloc, &command.wait, shown)?;
+    add(shown, b"--");
+    for word in command.program {
+        add(shown, word.as_bytes());
+    }
+    Ok(())
+}
+
+// What a tool reads in the words.
+fn show(alloc: Global, tool: Tool, words: &[&str], shown: &mut Shown) -> Result<(), UsageFault> {
+    match tool {
+        Tool::Svc => show_svc(words, shown),
+        Tool::Svscanctl => show_svscanctl(words, shown),
+        Tool::Svwait => show_wait(alloc, &compile_svwait(alloc, words)?, shown),
+        Tool::Svlisten => show_svlisten(alloc, words, shown),
+        Tool::Svstat => show_svstat(alloc, words, shown),
+    }
+}
+
+fn fault_name(fault: UsageFault) -> &'static [u8] {
+    match fault {
+        UsageFault::Unknown => b"Unknown",
+        UsageFault::Missing => b"Missing",
+        UsageFault::TooMany => b"TooMany",
+        UsageFault::BadNumber => b"BadNumber",
+        UsageFault::BadList => b"BadList",
+        UsageFault::BadName => b"BadName",
+        UsageFault::NoMemory => b"NoMemory",
+    }
+}
+
+// A tool answers so.
+fn answers(rt: &impl Abort, alloc: Global, tool: Tool, words: &[&str], answer: &str) {
+    let mut shown = Shown::new();
+    if let Err(fault) = show(alloc, tool, words, &mut shown) {
+        shown.clear();
+        add(&mut shown, fault_name(fault));
+    }
+    assert_eq!(rt; shown.as_slice(), answer.as_bytes(), "{tool:?}: {words:?}");
+}
+
+// The rows of a tool, which wants at least one word.
+fn rows_agree(rt: &impl Abort, alloc: Global, tool: Tool, rows: &str) -> Result<(), Fail> {
+    answers(rt, alloc, tool, &[], "Missing");
+    for row in rows.split('\n') {
+        let (line, answer) = row.split_once(" = ").ok_or("a row")?;
+        let words: Vec<&str> = line.split('|').collect(alloc)?;
+        answers(rt, alloc, tool, &words, answer);
+    }
     Ok(())
 }
 
 #[test]
 fn reads_the_words_of_svc(rt: HostRuntime) -> Result<(), Fail> {
-    assert_eq!(rt; compile_svc(&[]).err(), Some(UsageFault::Missing));
-    for (line, answer) in SVC {
-        let words = words_of(rt.alloc(), line)?;
-        let shown = match compile_svc(&words) {
-            Ok(command) => {
-                let mut out = command.name.as_bytes().to_vec(rt.alloc())?;
-                out.push(b' ')?;
-                for letter in &command.letters {
-                    out.push(letter.byte())?;
-                }
-                Ok(out)
-            }
-            Err(fault) => Err(fault),
-        };
-        agrees(&rt, line, shown, answer);
-    }
-    Ok(())
+    rows_agree(&rt, rt.alloc(), Tool::Svc, SVC)
 }
 
 #[test]
 fn reads_the_words_of_svscanctl(rt: HostRuntime) -> Result<(), Fail> {
-    assert_eq!(rt; compile_svscanctl(&[]).err(), Some(UsageFault::Missing));
-    for (line, answer) in SVSCANCTL {
-        let words = words_of(rt.alloc(), line)?;
-        let shown = match compile_svscanctl(&words) {
-            Ok(command) => {
-                let mut out = Vec::new(rt.alloc());
-                for letter in &command.letters {
-                    out.push(match letter {
-                        ScanLetter::Scan => b'a',
-                        ScanLetter::Nuke => b'n',
-                        ScanLetter::Terminate => b't',
-                    })?;
-                }
-                Ok(out)
-            }
-            Err(fault) => Err(fault),
-        };
-        agrees(&rt, line, shown, answer);
-    }
-    Ok(())
+    rows_agree(&rt, rt.alloc(), Tool::Svscanctl, SVSCANCTL)
 }
 
 #[test]
 fn reads_the_words_of_svwait(rt: HostRuntime) -> Result<(), Fail> {
-    assert_eq!(rt;
-        compile_svwait(rt.alloc(), &[]).err(),
-        Some(UsageFault::Missing)
-    );
-    for (line, answer) in SVWAIT {
-        let words = words_of(rt.alloc(), line)?;
-        let shown = match compile_svwait(rt.alloc(), &words) {
-            Ok(wait) => {
-                let mut out = Vec::new(rt.alloc());
-                add_wait(rt.alloc(), &mut out, &wait)?;
-                Ok(out)
-            }
-            Err(fault) => Err(fault),
-        };
-        agrees(&rt, line, shown, answer);
-    }
-    Ok(())
+    rows_agree(&rt, rt.alloc(), Tool::Svwait, SVWAIT)
 }
 
 #[test]
 fn reads_the_words_of_svlisten(rt: HostRuntime) -> Result<(), Fail> {
-    assert_eq!(rt;
-        compile_svlisten(rt.alloc(), &[]).err(),
-        Some(UsageFault::Missing)
-    );
-    for (line, answer) in SVLISTEN {
-        let words = words_of(rt.alloc(), line)?;
-        let shown = match compile_svlisten(rt.alloc(), &words) {
-            Ok(command) => {
-                let mut out = Vec::new(rt.alloc());
-                add_wait(rt.alloc(), &mut out, &command.wait)?;
-                out.extend_from_slice(b" --")?;
-                for word in command.program {
-                    out.push(b' ')?;
-                    out.extend_from_slice(word.as_bytes())?;
-                }
-                Ok(out)
-            }
-            Err(fault) => Err(fault),
-        };
-        agrees(&rt, line, shown, answer);
-    }
-    Ok(())
+    rows_agree(&rt, rt.alloc(), Tool::Svlisten, SVLISTEN)
 }
 
 #[test]
 fn reads_the_words_of_svstat(rt: HostRuntime) -> Result<(), Fail> {
-    assert_eq!(rt;
-        compile_svstat(rt.alloc(), &[]).err(),
-        Some(UsageFault::Missing)
-    );
-    for (line, answer) in SVSTAT {
-        let words = words_of(rt.alloc(), line)?;
-        let shown = match compile_svstat(rt.alloc(), &words) {
-            Ok(command) => {
-                let mut out = command.name.as_bytes().to_vec(rt.alloc())?;
-                for field in &command.fields {
-                    out.extend_from_slice(&[b' ', b'0' + *field as u8])?;
-                }
-                Ok(out)
-            }
-            Err(fault) => Err(fault),
-        };
-        agrees(&rt, line, shown, answer);
-    }
-    Ok(())
+    rows_agree(&rt, rt.alloc(), Tool::Svstat, SVSTAT)
 }
 
 // With the Nth growth refused (`rt try --test --fail-alloc N`) each call answers as it should, or NoMemory.
 #[test]
 fn a_refused_growth_is_told(rt: HostRuntime) {
-    match compile_svwait(rt.alloc(), &["-U", "-t", "5", "a", "b"]) {
-        Ok(wait) => assert_eq!(rt; (wait.timeout, wait.names.len()), (5, 2)),
-        Err(fault) => assert_eq!(rt; fault, UsageFault::NoMemory),
-    }
-    match compile_svlisten(rt.alloc(), &["-r", "a", "--", "prog", "x"]) {
-        Ok(command) => assert_eq!(rt; (command.wait.names.len(), command.program.len()), (1, 2)),
-        Err(fault) => assert_eq!(rt; fault, UsageFault::NoMemory),
-    }
-    match compile_svstat(rt.alloc(), &["-o", "up,pid", "web"]) {
-        Ok(command) => assert_eq!(rt; command.fields.len(), 2),
-        Err(fault) => assert_eq!(rt; fault, UsageFault::NoMemory),
+    let rows = [
+        (Tool::Svwait, ["-U", "-t", "5", "a", "b"].as_slice()),
+        (Tool::Svlisten, &["-r", "a", "--", "prog", "x"]),
+        (Tool::Svstat, &["-o", "up,pid", "web"]),
+    ];
+    for (tool, words) in rows {
+        let answer = show(rt.alloc(), tool, words, &mut Shown::new());
+        assert!(rt;
+            matches!(answer, Ok(()) | Err(UsageFault::NoMemory)),
+            "{tool:?}"
+        );
     }
 }
 
@@ -384,10 +324,16 @@ fn faults_tell_what_to_change(rt: HostRuntime) -> Result<(), Fail> {
         (UsageFault::NoMemory, 7, "out of memory"),
     ];
     for (fault, number, part) in texts {
-        assert_eq!(rt; fault as u8, number);
-        assert!(rt; format!(in rt.alloc(); "{fault}")?.as_str().contains(part));
+        let text = format!(in rt.alloc(); "{fault}")?;
+        assert_eq!(rt; (fault as u8, text.as_str().contains(part)), (number, true));
     }
     Ok(())
+}
+
+// The letter that a byte is read as, as it is written, and its signal.
+fn letter(byte: u8) -> Option<(u8, Option<u8>)> {
+    let letter = ControlLetter::of_byte(byte)?;
+    Some((letter.byte(), letter.signal()))
 }
 
 #[test]
@@ -412,11 +358,9 @@ fn letters_stand_for_their_signals(rt: HostRuntime) {
         (b'x', None),
     ];
     for (byte, signal) in rows {
-        let letter = ControlLetter::of_byte(byte);
-        assert_eq!(rt; letter.map(|l| l.byte()), Some(byte));
-        assert_eq!(rt; letter.map(|l| l.signal()), Some(signal));
+        assert_eq!(rt; letter(byte), Some((byte, signal)));
     }
     for byte in *b"oUDz-" {
-        assert_eq!(rt; ControlLetter::of_byte(byte), None);
+        assert_eq!(rt; letter(byte), None);
     }
 }

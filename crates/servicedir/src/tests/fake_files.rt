@@ -1,18 +1,20 @@
-ghost use Rattle.std.specs.Prelude.{◌≡◌, ◌≤◌, IsTrue, None, length, IfOk, IfErr, option_map, find, take};
+ghost use Rattle.std.specs.Prelude.{◌≡◌, ◌≤◌, IsTrue, None, length, IfOk, option_map, find, take};
 
 use crate::{Files, ReadFault, ServiceFile};
 use s6_events::Name;
-use std::alloc::Allocator;
+use std::alloc::{AllocError, Allocator};
 
 /// The most bytes of a file that one reading gives.
 const READING_LIMIT: usize = 4097;
 
-/// Directories in memory: each service has these files. The first reading of the file `failing` fails.
+/// Directories in memory: each service has these files. The first reading of the file `failing` fails, and refused growths are
+/// counted.
 #[derive(Drop)]
 pub struct FakeFiles<'a> {
     pub files: &'a [(ServiceFile, &'a [u8])],
     pub failing: Option<ServiceFile>,
     pub failed: Option<ServiceFile>,
+    pub refused: u64,
 }
 
 impl<'a> FakeFiles<'a> {
@@ -21,6 +23,7 @@ impl<'a> FakeFiles<'a> {
             files,
             failing: None,
             failed: None,
+            refused: 0,
         }
     }
 
@@ -50,6 +53,8 @@ impl<'a> Files for FakeFiles<'a> {
 
     ghost failed = { λ f. f.failed };
 
+    ghost refused = { λ f. f.refused };
+
     fn has(&mut self, _name: Name, file: ServiceFile) -> Result<bool, ReadFault> {
         if self.fails(file) {
             self.failed = Some(file);
@@ -69,7 +74,13 @@ impl<'a> Files for FakeFiles<'a> {
             return Err(ReadFault::Io);
         }
         match self.find(file) {
-            Some(text) => Ok(Some(copied(alloc, front(text, READING_LIMIT))?)),
+            Some(text) => match copied(alloc, front(text, READING_LIMIT)) {
+                Ok(bytes) => Ok(Some(bytes)),
+                Err(_) => {
+                    self.refused = self.refused.wrapping_add(1);
+                    Err(ReadFault::NoMemory)
+                }
+            },
             None => Ok(None),
         }
     }
@@ -87,14 +98,10 @@ fn front(text: &[u8], limit: usize) -> &[u8]
     }
 }
 
-fn copied<A: Allocator + Copy>(alloc: A, text: &[u8]) -> Result<Vec<u8, A>, ReadFault>
+fn copied<A: Allocator + Copy>(alloc: A, text: &[u8]) -> Result<Vec<u8, A>, AllocError>
     ensures ok { IfOk result (λ v. v.items ≡ text.now) }
-    ensures err { IfErr result (λ fault. fault ≡ ReadFault.NoMemory) }
 {
     let mut bytes = Vec::new(alloc);
-    if bytes.reserve(text.len()).is_err() {
-        return Err(ReadFault::NoMemory);
-    }
-    bytes.extend_from_slice(text).unwrap();
+    bytes.extend_from_slice(text)?;
     Ok(bytes)
 }
