@@ -53,7 +53,8 @@ fn block_text<A: Allocator + Copy>(
     Ok(text)
 }
 
-// Writes all of the bytes. The only fault is `Write`: then some of them were written, from the front on, and not all.
+/// Writes all of the bytes. The only fault is `Write`: then some of them were written, from the front on, and not all. The writer is
+/// not flushed. Takes no memory.
 pub fn write_whole<W: Write>(writer: &mut W, bytes: &[u8]) -> Result<(), WriteFault>
     ensures ok { OnOk result (Appends (W.contents writer.old) (W.contents writer.new) bytes.now) }
     ensures write { IfErr result (λ fault. (fault ≡ WriteFault.Write)

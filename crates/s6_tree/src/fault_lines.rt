@@ -1,12 +1,11 @@
 //! The line on standard error and the exit status of each fault.
-ghost use Rattle.std.specs.Prelude.{◌≡◌, ℕ, take, IfOk};
+ghost use Rattle.std.specs.Prelude.{◌≡◌, ℕ, take, IfOk, OnOk};
 ghost use Rattle.std.specs.Io.KnownBytes.{Appends};
 ghost use Rattle.s6_tree.specs.FaultLines.{status_of, fault_line};
 
-use arrayvec::ArrayString;
+use arrayvec::ArrayVec;
 use s6_replay::{ReplayFault, write_whole};
-use std::fmt::{self, Write as _};
-use std::io::Write;
+use std::io::{self, Write};
 
 /// The status of a program that was not used as it says, or whose input is no script.
 pub const USAGE_STATUS: u8 = 100;
@@ -20,21 +19,36 @@ pub const NO_TOOL: &[u8] = b"s6_tree: unknown tool\n";
 /// The line for a word after `replay`.
 pub const REPLAY_USAGE: &[u8] = b"replay: usage\n";
 
-// The line of a fault. The longest has 44 bytes.
-fn line_of(fault: &ReplayFault) -> Result<ArrayString<64>, fmt::Error>
-    ensures { IfOk result (λ line. line.bytes ≡ fault_line fault.now) }
+fn write_line<W: Write>(fault: &ReplayFault, writer: &mut W) -> io::Result<()>
+    ensures { OnOk result (Appends (W.contents writer.old) (W.contents writer.new) (fault_line fault.now)) }
 {
-    let mut line = ArrayString::new();
     match fault {
-        ReplayFault::Head => line.push_str("replay: no head line\n"),
-        ReplayFault::Line(number) => write!(line, "replay: line {number}\n")?,
-        ReplayFault::Pattern(number) => write!(line, "replay: pattern in line {number}\n")?,
-        ReplayFault::Truncated => line.push_str("replay: truncated\n"),
-        ReplayFault::Read => line.push_str("replay: read\n"),
-        ReplayFault::Write => line.push_str("replay: write\n"),
-        ReplayFault::NoMemory => line.push_str("replay: no memory\n"),
+        ReplayFault::Head => writer.write_all(b"replay: no head line\n"),
+        ReplayFault::Line(number) => write!(writer, "replay: line {number}\n"),
+        ReplayFault::Pattern(number) => write!(writer, "replay: pattern in line {number}\n"),
+        ReplayFault::Truncated => writer.write_all(b"replay: truncated\n"),
+        ReplayFault::Read => writer.write_all(b"replay: read\n"),
+        ReplayFault::Write => writer.write_all(b"replay: write\n"),
+        ReplayFault::NoMemory => writer.write_all(b"replay: no memory\n"),
     }
+}
+
+// The line of a fault. The longest has 45 bytes.
+fn line_of(fault: &ReplayFault) -> io::Result<ArrayVec<u8, 64>>
+    ensures { IfOk result (λ line. line.items ≡ fault_line fault.now) }
+{
+    let mut line = ArrayVec::new();
+    write_line(fault, &mut line)?;
     Ok(line)
+}
+
+// Writes the line of a fault, or as much of it as the writer takes.
+fn tell<W: Write>(fault: &ReplayFault, writer: &mut W)
+    ensures { (n : ℕ) × Appends (W.contents writer.old) (W.contents writer.new) (take n (fault_line fault.now)) }
+{
+    if let Ok(line) = line_of(fault) {
+        let _ = write_whole(writer, line.as_slice());
+    }
 }
 
 /// Writes the line that tells of a fault of `replay`, and answers the exit status: 100 where the input is no script, 111 where the
@@ -44,9 +58,7 @@ pub fn replay_fault<W: Write>(fault: &ReplayFault, writer: &mut W) -> u8
     ensures status { result ≡ status_of fault.now }
     ensures line { (n : ℕ) × Appends (W.contents writer.old) (W.contents writer.new) (take n (fault_line fault.now)) }
 {
-    if let Ok(line) = line_of(fault) {
-        let _ = write_whole(writer, line.as_str().as_bytes());
-    }
+    tell(fault, writer);
     match fault {
         ReplayFault::Head
         | ReplayFault::Line(_)

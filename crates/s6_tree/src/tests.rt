@@ -45,6 +45,7 @@ fn tells_of_each_fault_with_its_status(rt: HostRuntime) {
 }
 
 // The words of a command line, behind the program's name.
+#[derive(Drop)]
 struct Words<'a>(&'a [&'a [u8]]);
 
 // Copies the word to the front of the buffer.
@@ -159,7 +160,7 @@ fn tells_that_memory_ran_out(rt: HostRuntime) -> Result<(), Fail> {
         (0, Some(111)),
         (8_000, Some(111)),
         (8_300, Some(111)),
-        (16_500, Some(111)),
+        (16_384, Some(111)),
         (1_000_000, Some(0)),
     ];
     for (bytes, status) in sizes {

@@ -31,7 +31,7 @@ fn is_word(env: &impl Env, place: usize, text: &[u8]) -> bool {
     }
 }
 
-fn asked(env: &impl Env) -> Asked {
+fn asked_tool(env: &impl Env) -> Asked {
     if !is_word(env, 1, b"replay") {
         return Asked::Unknown;
     }
@@ -58,7 +58,7 @@ pub fn run_tool<A: Allocator + Copy, R: Read + Drop, W: Write + Drop, E: Write>(
     output: W,
     errors: &mut E,
 ) -> u8 {
-    match asked(env) {
+    match asked_tool(env) {
         Asked::Replay => match replay(alloc, input, output) {
             Ok(()) => 0,
             Err(fault) => replay_fault(&fault, errors),
