@@ -2,6 +2,7 @@
 #![tactic(auto)]
 
 mod fault_lines;
+mod help_texts;
 mod replay_tool;
 #[cfg(test)]
 mod tests;

@@ -97,11 +97,14 @@ const NO_TOOL: &[u8] = b"s6_tree: unknown tool\n";
 
 #[test]
 fn refuses_strange_words(rt: HostRuntime) {
-    let tools: [&[u8]; 7] = [
+    let tools: [&[u8]; 10] = [
         b"",
         b"Replay",
         b"replay ",
         b"replays",
+        b"-h",
+        b"--hel",
+        b"--help ",
         b"s6_tree",
         b"\xff",
         b"a word that is longer than each known one",
@@ -110,8 +113,10 @@ fn refuses_strange_words(rt: HostRuntime) {
     for tool in tools {
         check_run(&rt, rt.alloc(), &[tool], SCRIPT, (100, b"", NO_TOOL));
     }
-    let words: [&[u8]; 2] = [b"tick", b"replay"];
-    check_run(&rt, rt.alloc(), &words, SCRIPT, (100, b"", NO_TOOL));
+    for further in [b"replay".as_slice(), b"--help", b"--version"] {
+        let words: [&[u8]; 2] = [b"--help", further];
+        check_run(&rt, rt.alloc(), &words, SCRIPT, (100, b"", NO_TOOL));
+    }
 }
 
 #[test]
@@ -127,6 +132,85 @@ fn refuses_a_word_after_replay(rt: HostRuntime) {
         let wanted = (100, b"".as_slice(), b"replay: usage\n".as_slice());
         check_run(&rt, rt.alloc(), &words, SCRIPT, wanted);
     }
+}
+
+const HELP: &str = "usage: s6_tree replay < SCRIPT
+       s6_tree --help | --version
+       s6_tree replay --help
+
+The programs of a proved s6 supervision tree.
+
+tools:
+  replay      read a script of inputs, write what the tree answers
+
+options:
+  --help      print this text
+  --version   print the version
+
+exit status:
+  0           done
+  100         wrong usage, or the input is no script
+  111         the system refused a read, a write or memory
+";
+
+const REPLAY_HELP: &str = "usage: s6_tree replay < SCRIPT
+
+Reads a script on standard input and writes its transcript to standard
+output: for each input line a reply, and then its events and orders.
+
+limits:
+  65,536 bytes an input line, with its newline
+  1,000,000 input lines
+
+exit status, and the line on standard error:
+  0           the whole script was replayed
+  100         replay: no head line
+              replay: line N
+              replay: pattern in line N
+              replay: truncated
+              replay: usage
+  111         replay: read
+              replay: write
+              replay: no memory
+Lines are counted from 1, the head line included. At a fault the
+transcript of the inputs before it was written.
+";
+
+#[test]
+fn prints_help_and_version(rt: HostRuntime) {
+    let help: [&[u8]; 1] = [b"--help"];
+    let version: [&[u8]; 1] = [b"--version"];
+    let replay_help: [&[u8]; 2] = [b"replay", b"--help"];
+    check_run(&rt, rt.alloc(), &help, SCRIPT, (0, HELP.as_bytes(), b""));
+    let line = b"s6_tree (Reskjavin) 0.1.0\n";
+    check_run(&rt, rt.alloc(), &version, SCRIPT, (0, line, b""));
+    check_run(
+        &rt,
+        rt.alloc(),
+        &replay_help,
+        SCRIPT,
+        (0, REPLAY_HELP.as_bytes(), b""),
+    );
+    let further: [&[u8]; 3] = [b"replay", b"--help", b"--help"];
+    check_run(
+        &rt,
+        rt.alloc(),
+        &further,
+        SCRIPT,
+        (100, b"", b"replay: usage\n"),
+    );
+}
+
+// The text that can't be written is told, with the status.
+#[test]
+fn help_that_is_not_written_is_told(rt: HostRuntime) {
+    let mut errors = Vec::new(rt.alloc());
+    let words: [&[u8]; 1] = [b"--help"];
+    let status = run_tool(&Words(&words), rt.alloc(), SCRIPT, Unflushed, &mut errors);
+    assert_eq!(rt;
+        (status, errors.as_slice()),
+        (111, b"s6_tree: write\n".as_slice())
+    );
 }
 
 #[test]

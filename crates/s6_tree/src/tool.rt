@@ -1,5 +1,6 @@
-//! Which tool the command line asks for, and running it. The first word is the tool; today there is `replay`.
-use super::fault_lines::{NO_TOOL, REPLAY_USAGE, USAGE_STATUS, replay_fault};
+//! Which tool the command line asks for, and running it. The first word is the tool, today `replay`, or `--help` or `--version`.
+use super::fault_lines::{NO_TOOL, REPLAY_USAGE, SYSTEM_STATUS, USAGE_STATUS, replay_fault};
+use super::help_texts::{HELP, REPLAY_HELP, VERSION};
 use super::replay_tool::replay;
 use std::alloc::Allocator;
 use std::env::{Env, FillError};
@@ -11,7 +12,10 @@ const LONGEST_WORD: usize = 16;
 // What the command line asks for.
 #[derive(Clone, Copy, Debug, PartialEq, Eq)]
 enum Asked {
+    Help,
+    Version,
     Replay,
+    ReplayHelp,
     ReplayUsage,
     Unknown,
 }
@@ -31,15 +35,42 @@ fn is_word(env: &impl Env, place: usize, text: &[u8]) -> bool {
     }
 }
 
+// What the words behind `replay` ask for.
+fn asked_of_replay(env: &impl Env) -> Asked {
+    if !has_word(env, 2) {
+        Asked::Replay
+    } else if is_word(env, 2, b"--help") && !has_word(env, 3) {
+        Asked::ReplayHelp
+    } else {
+        Asked::ReplayUsage
+    }
+}
+
 fn asked_tool(env: &impl Env) -> Asked {
-    if !is_word(env, 1, b"replay") {
-        return Asked::Unknown;
+    if is_word(env, 1, b"replay") {
+        return asked_of_replay(env);
     }
     if has_word(env, 2) {
-        Asked::ReplayUsage
+        Asked::Unknown
+    } else if is_word(env, 1, b"--help") {
+        Asked::Help
+    } else if is_word(env, 1, b"--version") {
+        Asked::Version
     } else {
-        Asked::Replay
+        Asked::Unknown
     }
+}
+
+// Prints a text. Where it can't be written whole, that is told.
+fn print<W: Write, E: Write>(mut output: W, errors: &mut E, text: &[u8]) -> u8
+where
+    W: Drop,
+{
+    if output.write_all(text).is_ok() && output.flush().is_ok() {
+        return 0;
+    }
+    let _ = errors.write_all(b"s6_tree: write\n");
+    SYSTEM_STATUS
 }
 
 // Tells that the program was not used as it says.
@@ -59,6 +90,9 @@ pub fn run_tool<A: Allocator + Copy, R: Read + Drop, W: Write + Drop, E: Write>(
     errors: &mut E,
 ) -> u8 {
     match asked_tool(env) {
+        Asked::Help => print(output, errors, HELP),
+        Asked::Version => print(output, errors, VERSION),
+        Asked::ReplayHelp => print(output, errors, REPLAY_HELP),
         Asked::Replay => match replay(alloc, input, output) {
             Ok(()) => 0,
             Err(fault) => replay_fault(&fault, errors),
