@@ -13,8 +13,8 @@ use Rattle.s6_events.specs.Name.{is_name}
 use Rattle.servicedir.specs.Config.{plain_config, is_served}
 use Rattle.servicedir.specs.declared.config.Config.{Config}
 use Rattle.tree_core.specs.declared.input.Entry.{Entry}
-use Rattle.s6_replay.specs.declared.setting.Setting.{Setting}
-use Rattle.s6_replay.specs.declared.setting.Setting.TheVariants.{Down, Finish, Notify, Kill, FinishTime, Tally, Signal}
+use Rattle.s6_replay.specs.declared.entry_options.Setting.{Setting}
+use Rattle.s6_replay.specs.declared.entry_options.Setting.TheVariants.{Down, Finish, Notify, Kill, FinishTime, Tally, Signal}
 use Rattle.s6_replay.specs.Options.{where_so, descriptor_setting, number_setting, settings, option_word, option_words, behind_name, entry_text, with_setting, IsSetting, IsConfig, IsEntry, ends_part}
 use Rattle.s6_replay.proofs.Joined.{is_no_space, has_no_space, lacks, lacking, split_joined}
 use Rattle.s6_replay.proofs.Plain.{is_plain, digits_plain, name_plain, no_space_in, no_end_in}

@@ -6,7 +6,6 @@ use Rattle.std.proofs.lemmas.List.Splits.{slice_split_none, slice_split_at}
 use Rattle.std.specs.List.{join_with_byte, flat_map, slice_split, list_all}
 use Rattle.std.proofs.lemmas.Bool.{and_parts}
 use Rattle.tree_core.specs.declared.input.Act.{Act}
-use Rattle.tree_core.specs.declared.input.Act.TheVariants.{Scan, Svc, Started, StartFailed, Notify, Death, FinishEnded, Status, Tick}
 use Rattle.tree_core.specs.declared.input.Entry.{Entry}
 use Rattle.s6_replay.specs.Options.{entry_text}
 use Rattle.s6_replay.specs.Spelling.{act_words}
@@ -16,15 +15,7 @@ join_entries word [] = sym (append-nil word)
 join_entries word (e ∷ entries) = ap (λ rest. word ++ (32 ∷ rest)) (join_entries (entry_text e) entries)
 
 pub join_act : {A : Type 0} (word : List ℕ) (act : Act A) → join_with_byte 32 (word ∷ act_words act) ≡ word ++ (32 ∷ join_with_byte 32 (act_words act))
-join_act word (Scan listing) = refl
-join_act word (Svc name letters) = refl
-join_act word (Started sid generation pid) = refl
-join_act word (StartFailed sid generation) = refl
-join_act word (Notify sid generation bytes) = refl
-join_act word (FinishEnded sid generation exit) = refl
-join_act word (Death sid generation exit) = refl
-join_act word (Status name) = refl
-join_act word Tick = refl
+join_act word act = refl
 
 -- the byte is no space
 abbrev pub is_no_space : ℕ → Bool

@@ -11,8 +11,8 @@ use Rattle.s6_replay.specs.declared.parse.Verb.{Verb}
 use Rattle.s6_replay.specs.declared.parse.Verb.TheVariants.{Scan as ScanVerb}
 use Rattle.tree_core.specs.declared.input.Entry.{Entry}
 use Rattle.s6_replay.specs.Options.{entry_text, IsEntry}
-use Rattle.s6_replay.specs.Spelling.{IsSpelt, IsExit, IsAct, exit_words, act_words, input_words, spelling}
-use Rattle.s6_replay.specs.Verb.{verb_word, verb_of_act, details}
+use Rattle.s6_replay.specs.Spelling.{IsSpelt, IsExit, IsAct, act_words, input_words, spelling}
+use Rattle.s6_replay.specs.Verb.{exit_words, verb_word, verb_of_act, details}
 use Rattle.svc_commands.specs.ControlLetter.{byte_of}
 use Rattle.svc_commands.specs.declared.control_letter.ControlLetter.{ControlLetter}
 use Rattle.s6_replay.proofs.Hexadecimal.{hex_plain}
@@ -31,17 +31,6 @@ scan_read texts listing reads (FinishEnded sid generation exit) h v d = cc
 scan_read texts listing reads (Death sid generation exit) h v d = cc
 scan_read texts listing reads (Status name) h v d = cc
 scan_read texts listing reads Tick h v d = cc
-
-act_begins : {A : Type 0} (act : Act A) → act_words act ≡ verb_word (verb_of_act act) ∷ details act
-act_begins (Scan listing) = refl
-act_begins (Svc name letters) = refl
-act_begins (Started sid generation pid) = refl
-act_begins (StartFailed sid generation) = refl
-act_begins (Notify sid generation bytes) = refl
-act_begins (FinishEnded sid generation exit) = refl
-act_begins (Death sid generation exit) = refl
-act_begins (Status name) = refl
-act_begins Tick = refl
 
 -- decimal digits are no spaces
 digits_no_space : (n : ℕ) → n < 2 ^ 64 → has_no_space (decimal n) ≡ true
@@ -87,8 +76,7 @@ pub input_read : {A : Type 0} (at actor : ℕ) (verb : Verb) (act : Act A) (w0 w
     → ((a : Act A) → IsAct a → verb ≡ verb_of_act a → rest ≡ details a → act ≡ a)
     → (i : Input A) → IsSpelt i → texts ≡ input_words i → record { actor = actor; at = at; act = act } ≡ i
 input_read at actor verb act w0 w1 w2 rest texts e0 e1 e2 er reads_at reads_actor reads_verb reads_act i s e =
-    let words : texts ≡ decimal i.at ∷ decimal i.actor ∷ verb_word (verb_of_act i.act) ∷ details i.act =
-    e ∙ ap (λ more. decimal i.at ∷ decimal i.actor ∷ more) (act_begins i.act) in
+    let words : texts ≡ decimal i.at ∷ decimal i.actor ∷ verb_word (verb_of_act i.act) ∷ details i.act = e in
     let same_at : at ≡ i.at = reads_at i.at s.at (e0 ∙ ap (λ ws. slice_index_or ws 0 []) words) in
     let same_actor : actor ≡ i.actor = reads_actor i.actor s.actor (e1 ∙ ap (λ ws. slice_index_or ws 1 []) words) in
     let same_verb : verb ≡ verb_of_act i.act = reads_verb (verb_of_act i.act) (e2 ∙ ap (λ ws. slice_index_or ws 2 []) words) in

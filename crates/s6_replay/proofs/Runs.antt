@@ -122,7 +122,7 @@ unread A (Line n) a b c x y z tree number counts inputs done few t same = (
   inputs,
   kept a b x y z tree number counts inputs done (omega arith) same,
   omega (arith, t.0, done.many),
-  (t.1.0, t.1.1 (length inputs), Consumes-trans a b c _ _ done.read t.1.2),
+  (t.1.0, t.1.1 (length inputs) (omega (arith, done.many)), Consumes-trans a b c _ _ done.read t.1.2),
 )
 unread A (Pattern n) a b c x y z tree number counts inputs done few t same = absurd t
 unread A Truncated a b c x y z tree number counts inputs done few t same = (
@@ -133,9 +133,13 @@ unread A Truncated a b c x y z tree number counts inputs done few t same = (
   (t.1.0, t.1.1, t.1.2, Consumes-trans a b c _ _ done.read t.1.3),
 )
 unread A Read a b c x y z tree number counts inputs done few t same =
-    inl (inputs, kept a b x y z tree number counts inputs done (omega arith) same, (t.0, t.1, reads_on inputs a b c t.0 done.read t.2))
+    inl (
+      inputs,
+      kept a b x y z tree number counts inputs done (omega arith) same,
+      (t.0, t.1, λ last. absurd (omega (arith, last, done.many)), reads_on inputs a b c t.0 done.read t.2),
+    )
 unread A NoMemory a b c x y z tree number counts inputs done few t same =
-    (inputs, kept a b x y z tree number counts inputs done (omega arith) same, (t.0, t.1, reads_on inputs a b c t.0 done.read t.2))
+    (inputs, kept a b x y z tree number counts inputs done (omega arith) same, omega (arith, done.many), (t.0, t.1, reads_on inputs a b c t.0 done.read t.2))
 unread A Write a b c x y z tree number counts inputs done few t same = absurd t
 
 -- where an input was read and not answered, the run so far is left, at a failed write with some of one more block
@@ -150,7 +154,8 @@ unanswered A Read a b c x y z tree number counts inputs done few i h plain read 
 unanswered A NoMemory a b c x y z tree number counts inputs done few i h plain read t = (
   inputs,
   kept a b x y z tree number counts inputs done (omega arith) t,
-  (input_line i, inr (spelling i, plain, refl), reads_on inputs a b c (input_line i) done.read read),
+  omega (arith, done.many),
+  (input_line i, inr (spelling i, plain, omega (arith, h.within, length-append (spelling i) (10 ∷ [])), refl), reads_on inputs a b c (input_line i) done.read read),
 )
 unanswered A Write a b c x y z tree number counts inputs done few i h plain read t =
     let place : number + 1 ≡ length inputs + 1 = omega (arith, done.many) in (
@@ -161,6 +166,7 @@ unanswered A Write a b c x y z tree number counts inputs done few i h plain read
           y,
           record {
             whole = kept a b x y y tree number counts inputs done (omega arith) refl;
+            room = omega (arith, done.many);
             line = h;
             some = subst (λ (k : ℕ). AppendsFront y z (block k (outcome (after_all new_machine inputs) i))) place (t (after_all new_machine inputs) done.stands);
           },
@@ -177,20 +183,6 @@ stops_after A fault a b c x y z tree number counts inputs done few (inl t) =
 stops_after A fault a b c x y z tree number counts inputs done few (inr t) =
     unanswered A fault a b c x y z tree number counts inputs done few t.0 t.1 t.2 t.3 t.4
 
--- the end came
-pub ends_after : (A : Type 0) (a b c x y z : Option (List ℕ)) (tree : Stored) (number : ℕ) (counts : Counts) (inputs : List (Input A))
-    → RunsTo a b x y tree number counts inputs → number ≤ 1000000 → Consumes b c [] → IsAtEnd c → z ≡ y
-    → (all : List (Input A)) × IsWhole all counts a c x z
-ends_after A a b c x y z tree number counts inputs done few none end same = (
-  inputs,
-  record {
-    answered = kept a b x y z tree number counts inputs done few same;
-    read = subst (Consumes a c) (append-nil (script inputs)) (Consumes-trans a b c (script inputs) [] done.read none);
-    ended = end;
-    counted = done.counted;
-  },
-)
-
 -- there was something behind the last line, or the reader failed there
 pub stops_at_end : (A : Type 0) (fault : ReplayFault) (a b c x y : Option (List ℕ)) (tree : Stored) (number : ℕ) (counts : Counts) (inputs : List (Input A))
     → RunsTo a b x y tree number counts inputs → number ≡ 1000000 → EndStops fault b c → Stops A fault a c x y
@@ -204,7 +196,7 @@ stops_at_end A (Line n) a b c x y tree number counts inputs done last t = (
 stops_at_end A (Pattern n) a b c x y tree number counts inputs done last t = absurd t
 stops_at_end A Truncated a b c x y tree number counts inputs done last t = absurd t
 stops_at_end A Read a b c x y tree number counts inputs done last t =
-    inl (inputs, kept a b x y y tree number counts inputs done (omega arith) refl, ([], record { plain = search rules; within = omega arith }, reads_on inputs a b c [] done.read t))
+    inl (inputs, kept a b x y y tree number counts inputs done (omega arith) refl, ([], record { plain = search rules; within = omega arith }, λ _. refl, reads_on inputs a b c [] done.read t))
 stops_at_end A NoMemory a b c x y tree number counts inputs done last t = absurd t
 stops_at_end A Write a b c x y tree number counts inputs done last t = absurd t
 

@@ -1,6 +1,6 @@
 pub mod Options
-pub mod Spelling
 pub mod Verb
+pub mod Spelling
 pub mod Transcript
 pub mod Lines
 pub mod Replay

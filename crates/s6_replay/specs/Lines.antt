@@ -1,5 +1,5 @@
 -- What reading a line takes from a reader, and writing gives to a writer.
-use Rattle.std.specs.Prelude.{◌≡◌, ◌≢◌, ℕ, ◌≤◌, List, [], ◌∷◌, ◌++◌, All, length, take, Option, ◌⊎◌}
+use Rattle.std.specs.Prelude.{◌≡◌, ◌≢◌, ℕ, ◌<◌, ◌≤◌, List, [], ◌∷◌, ◌++◌, All, length, take, Option, ◌⊎◌}
 use Rattle.std.specs.Io.KnownBytes.{Consumes, Appends, IsAtEnd}
 use Rattle.s6_replay.specs.declared.line.Ended.{Ended}
 use Rattle.s6_replay.specs.declared.line.Ended.TheVariants.{Newline, End, TooLong}
@@ -13,9 +13,9 @@ pub record IsPart (line : List ℕ) : Type 0 where
   pub plain : HasNoNewline line
   pub within : length line ≤ 65536
 
--- at most one line: its newline has not come, or is the last byte
+-- at most one line, within the limit: its newline has not come, or is the last byte
 abbrev pub IsWithinLine : List ℕ → Type 0
-IsWithinLine bytes = IsPart bytes ⊎ ((line : List ℕ) × HasNoNewline line × (bytes ≡ line ++ 10 ∷ []))
+IsWithinLine bytes = IsPart bytes ⊎ ((line : List ℕ) × HasNoNewline line × (length line ≤ 65535) × (bytes ≡ line ++ 10 ∷ []))
 
 -- how a line ended: by its newline, within the limit; by the end of the input; or it went on beyond the limit
 abbrev pub EndsAs : Ended → Option (List ℕ) → Option (List ℕ) → List ℕ → Type 0
@@ -23,6 +23,6 @@ EndsAs Newline old new line = HasNoNewline line × (length line ≤ 65535) × Co
 EndsAs End old new line = HasNoNewline line × (length line ≤ 65536) × Consumes old new line × IsAtEnd new
 EndsAs TooLong old new line = HasNoNewline line × (length line ≡ 65536) × ((b : ℕ) × Consumes old new (line ++ b ∷ []))
 
--- the writer got some of the bytes, from the front on
+-- the writer got some of the bytes, from the front on, and not all
 abbrev pub AppendsFront : Option (List ℕ) → Option (List ℕ) → List ℕ → Type 0
-AppendsFront old new bytes = (n : ℕ) × Appends old new (take n bytes)
+AppendsFront old new bytes = (n : ℕ) × (n < length bytes) × Appends old new (take n bytes)

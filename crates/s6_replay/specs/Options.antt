@@ -5,8 +5,8 @@ use Rattle.s6_events.specs.Name.{is_name}
 use Rattle.servicedir.specs.Config.{plain_config, is_served}
 use Rattle.servicedir.specs.declared.config.Config.{Config}
 use Rattle.tree_core.specs.declared.input.Entry.{Entry}
-use Rattle.s6_replay.specs.declared.setting.Setting.{Setting}
-use Rattle.s6_replay.specs.declared.setting.Setting.TheVariants.{Down, Finish, Notify, Kill, FinishTime, Tally, Signal}
+use Rattle.s6_replay.specs.declared.entry_options.Setting.{Setting}
+use Rattle.s6_replay.specs.declared.entry_options.Setting.TheVariants.{Down, Finish, Notify, Kill, FinishTime, Tally, Signal}
 
 -- the setting, where it is so
 abbrev pub where_so : Bool → Setting → List Setting

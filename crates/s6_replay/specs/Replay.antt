@@ -62,10 +62,10 @@ pub record SpellsNothing (A : Type 0) (line : List ℕ) : Type 0 where
   pub within : length line ≤ 65535
   pub none : (i : Input A) → Spells line i → ⊥
 
--- what is no input line after so many inputs: it holds nothing that is spelled, or is too long, or is one line too many
+-- what is no input line after so many inputs: a line that spells no input, or is too long, where a line may follow; else any byte
 pub data IsNoInputLine (A : Type 0) (before : ℕ) (bytes : List ℕ) : Type 0 where
-  spells_nothing : (line : List ℕ) → SpellsNothing A line → bytes ≡ line ++ 10 ∷ [] → IsNoInputLine A before bytes
-  too_long : HasNoNewline (take 65536 bytes) → length bytes ≡ 65537 → IsNoInputLine A before bytes
+  spells_nothing : before < input_limit → (line : List ℕ) → SpellsNothing A line → bytes ≡ line ++ 10 ∷ [] → IsNoInputLine A before bytes
+  too_long : before < input_limit → HasNoNewline (take 65536 bytes) → length bytes ≡ 65537 → IsNoInputLine A before bytes
   too_many : before ≡ input_limit → length bytes ≡ 1 → IsNoInputLine A before bytes
 
 -- the script of the inputs was read, and then these bytes
@@ -79,11 +79,16 @@ ReadsHead left left' = (n : ℕ) × Consumes left left' (take n head_line)
 -- the transcript of the inputs was written, and some of the block of one more
 pub record WritesInto {A : Type 0} (inputs : List (Input A)) (last : Input A) (held between held' : Option (List ℕ)) : Type 0 where
   pub whole : Written inputs held between
+  pub room : length inputs < input_limit
   pub line : HasLine last
   pub some : AppendsFront between held' (block (length inputs + 1) (outcome (after_all new_machine inputs) last))
 
--- where a script stopped, and the transcript of the inputs before it: no more than some of one line was read behind these, for
--- want of memory perhaps all of it; at a failed write there is one input more, and some of its block was written
+-- of bytes behind so many inputs: none behind the last line that a script may have
+abbrev pub NoneAfterLast : ℕ → List ℕ → Type 0
+NoneAfterLast before bytes = before ≡ input_limit → bytes ≡ []
+
+-- where a script stopped, and the transcript of the inputs before it: no more than some of one line was read behind these, at
+-- NoMemory perhaps all of it; at a failed write there is one input more, and some of its block was written, and not all
 abbrev pub Stops : (A : Type 0) → ReplayFault → (left left' held held' : Option (List ℕ)) → Type 0
 Stops A Head left left' held held' = ((rest : List ℕ) → left ≢ Some (head_line ++ rest)) × (held' ≡ held)
 Stops A (Line n) left left' held held' =
@@ -94,10 +99,11 @@ Stops A Truncated left left' held held' =
     (inputs : List (Input A)) × Written inputs held held' × (length inputs < input_limit) × IsAtEnd left'
     × ((line : List ℕ) × IsPart line × (line ≢ []) × Consumes left left' (script inputs ++ line))
 Stops A Read left left' held held' =
-    ((inputs : List (Input A)) × Written inputs held held' × ((part : List ℕ) × IsPart part × ReadsOn inputs part left left'))
+    ((inputs : List (Input A)) × Written inputs held held' × ((part : List ℕ) × IsPart part × NoneAfterLast (length inputs) part × ReadsOn inputs part left left'))
     ⊎ (ReadsHead left left' × (held' ≡ held))
 Stops A NoMemory left left' held held' =
-    (inputs : List (Input A)) × Written inputs held held' × ((bytes : List ℕ) × IsWithinLine bytes × ReadsOn inputs bytes left left')
+    (inputs : List (Input A)) × Written inputs held held' × (length inputs < input_limit)
+    × ((bytes : List ℕ) × IsWithinLine bytes × ReadsOn inputs bytes left left')
 Stops A Write left left' held held' =
     (inputs : List (Input A)) × ((last : Input A) × ((between : Option (List ℕ)) × WritesInto inputs last held between held')
     × ReadsOn inputs (input_line last) left left')

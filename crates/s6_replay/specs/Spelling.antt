@@ -1,33 +1,20 @@
 -- How an input is spelled.
-use Rattle.std.specs.Prelude.{◌≡◌, ℕ, ◌^◌, ◌<◌, ◌≤◌, List, [], ◌∷◌, codes, decimal, IsTrue, All, map, length}
+use Rattle.std.specs.Prelude.{◌≡◌, ℕ, ◌^◌, ◌<◌, ◌≤◌, List, [], ◌∷◌, decimal, IsTrue, All, length}
 use Rattle.std.specs.List.{join_with_byte}
-use Rattle.hex.specs.Hex.{encode_lower, IsBytes}
+use Rattle.hex.specs.Hex.{IsBytes}
 use Rattle.s6_events.specs.declared.exit.Exit.{Exit}
 use Rattle.s6_events.specs.declared.exit.Exit.TheVariants.{Code, Killed}
 use Rattle.s6_events.specs.At.{last_moment}
 use Rattle.s6_events.specs.Name.{is_name}
-use Rattle.svc_commands.specs.ControlLetter.{byte_of}
 use Rattle.tree_core.specs.declared.input.Act.{Act}
 use Rattle.tree_core.specs.declared.input.Act.TheVariants.{Scan, Svc, Started, StartFailed, Notify, Death, FinishEnded, Status, Tick}
 use Rattle.tree_core.specs.declared.input.Input.{Input}
-use Rattle.s6_replay.specs.Options.{entry_text, IsEntry}
+use Rattle.s6_replay.specs.Options.{IsEntry}
+use Rattle.s6_replay.specs.Verb.{verb_word, verb_of_act, details}
 
--- the words of an exit
-abbrev pub exit_words : Exit → List (List ℕ)
-exit_words (Code n) = codes "code" ∷ decimal n ∷ []
-exit_words (Killed n) = codes "signal" ∷ decimal n ∷ []
-
--- the words of an act
+-- the words of an act: its verb, and the words behind it
 abbrev pub act_words : {A : Type 0} → Act A → List (List ℕ)
-act_words (Scan listing) = codes "scan" ∷ map entry_text listing
-act_words (Svc name letters) = codes "svc" ∷ name ∷ map byte_of letters.items ∷ []
-act_words (Started sid generation pid) = codes "started" ∷ decimal sid ∷ decimal generation ∷ decimal pid ∷ []
-act_words (StartFailed sid generation) = codes "startfailed" ∷ decimal sid ∷ decimal generation ∷ []
-act_words (Notify sid generation bytes) = codes "notify" ∷ decimal sid ∷ decimal generation ∷ encode_lower bytes.items ∷ []
-act_words (Death sid generation exit) = codes "death" ∷ decimal sid ∷ decimal generation ∷ exit_words exit
-act_words (FinishEnded sid generation exit) = codes "finished" ∷ decimal sid ∷ decimal generation ∷ exit_words exit
-act_words (Status name) = codes "status" ∷ name ∷ []
-act_words Tick = codes "tick" ∷ []
+act_words act = verb_word (verb_of_act act) ∷ details act
 
 -- the words of an input: its moment, its actor, its act
 abbrev pub input_words : {A : Type 0} → Input A → List (List ℕ)

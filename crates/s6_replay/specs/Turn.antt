@@ -41,7 +41,7 @@ WasRead None left left' = Consumes left left' [] × IsAtEnd left'
 -- why no input was read
 abbrev pub ReadingStops : (A : Type 0) → ReplayFault → ℕ → Option (List ℕ) → Option (List ℕ) → Type 0
 ReadingStops A (Line n) number left left' =
-    (n ≡ number + 1) × ((bytes : List ℕ) × ((before : ℕ) → IsNoInputLine A before bytes) × Consumes left left' bytes)
+    (n ≡ number + 1) × ((bytes : List ℕ) × ((before : ℕ) → before < input_limit → IsNoInputLine A before bytes) × Consumes left left' bytes)
 ReadingStops A Truncated number left left' = IsAtEnd left' × ((line : List ℕ) × IsPart line × (line ≢ []) × Consumes left left' line)
 ReadingStops A Read number left left' = (part : List ℕ) × IsPart part × Consumes left left' part
 ReadingStops A NoMemory number left left' = (bytes : List ℕ) × IsWithinLine bytes × Consumes left left' bytes

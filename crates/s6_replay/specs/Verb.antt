@@ -1,13 +1,14 @@
--- The verb of an act, and the words behind it.
+-- The words of an act: its verb, and the words behind it.
 use Rattle.std.specs.Prelude.{ℕ, List, [], ◌∷◌, codes, decimal, map}
 use Rattle.hex.specs.Hex.{encode_lower}
+use Rattle.s6_events.specs.declared.exit.Exit.{Exit}
+use Rattle.s6_events.specs.declared.exit.Exit.TheVariants.{Code, Killed}
 use Rattle.svc_commands.specs.ControlLetter.{byte_of}
 use Rattle.tree_core.specs.declared.input.Act.{Act}
 use Rattle.tree_core.specs.declared.input.Act.TheVariants.{Scan, Svc, Started, StartFailed, Notify, Death, FinishEnded, Status, Tick}
 use Rattle.s6_replay.specs.declared.parse.Verb.{Verb}
 use Rattle.s6_replay.specs.declared.parse.Verb.TheVariants.{Scan as ScanVerb, Svc as SvcVerb, Started as StartedVerb, StartFailed as StartFailedVerb, Notify as NotifyVerb, Death as DeathVerb, Finished as FinishedVerb, Status as StatusVerb, Tick as TickVerb}
 use Rattle.s6_replay.specs.Options.{entry_text}
-use Rattle.s6_replay.specs.Spelling.{exit_words}
 
 -- the word of a verb
 abbrev pub verb_word : Verb → List ℕ
@@ -32,6 +33,11 @@ verb_of_act (Death sid generation exit) = DeathVerb
 verb_of_act (FinishEnded sid generation exit) = FinishedVerb
 verb_of_act (Status name) = StatusVerb
 verb_of_act Tick = TickVerb
+
+-- the words of an exit
+abbrev pub exit_words : Exit → List (List ℕ)
+exit_words (Code n) = codes "code" ∷ decimal n ∷ []
+exit_words (Killed n) = codes "signal" ∷ decimal n ∷ []
 
 -- the words of an act behind its verb
 abbrev pub details : {A : Type 0} → Act A → List (List ℕ)

@@ -1,13 +1,12 @@
-//! The block of a step.
-ghost use Rattle.std.specs.Prelude.{◌≡◌, Err, IfOk, OnOk, OnErr};
+//! The block of a step: its text, and writing all of it.
+ghost use Rattle.std.specs.Prelude.{◌≡◌, Err, IfOk, IfErr, OnOk};
 ghost use Rattle.std.specs.Io.KnownBytes.{Appends};
 ghost use Rattle.s6_replay.specs.Lines.{AppendsFront};
 ghost use Rattle.s6_replay.specs.Transcript.{block};
 ghost use Rattle.tree_core.specs.Effect.{outcome_of};
 
-use super::lists::{push_events, push_matches, push_orders, push_releases};
-use super::replies::push_reply;
-use super::whole::{NotWritten, write_whole};
+use super::effect_lines::{push_events, push_matches, push_orders, push_releases};
+use super::reply_text::push_reply;
 use std::alloc::{AllocError, Allocator};
 use std::io::Write;
 use thiserror::Error;
@@ -16,7 +15,8 @@ use tree_core::Effect;
 /// Why the block of a step was not written whole.
 #[derive(Clone, Copy, Debug, PartialEq, Eq, Error)]
 pub enum WriteFault {
-    /// The writer answered an error, or took no byte. The beginning of the block may have been written.
+    /// The writer answered an error, or took no byte. A part of the block was written, from its beginning on: none of it, or some, which
+    /// may end within a line, but never all.
     #[error("the transcript was not written")]
     Write = 1,
     /// A growth was refused. Nothing was written.
@@ -24,7 +24,17 @@ pub enum WriteFault {
     NoMemory = 2,
 }
 
-// The block of a step.
+impl From<AllocError> for WriteFault {
+    ghost use Rattle.s6_replay.specs.declared.block.WriteFault.TheVariants.{NoMemory};
+
+    ghost from_gives = { λ _ fault. fault ≡ NoMemory };
+
+    fn from(_refused: AllocError) -> WriteFault {
+        WriteFault::NoMemory
+    }
+}
+
+// The text of the block.
 fn block_text<A: Allocator + Copy>(
     alloc: A,
     number: u64,
@@ -43,9 +53,26 @@ fn block_text<A: Allocator + Copy>(
     Ok(text)
 }
 
+/// Writes all of the bytes. The only fault is `Write`: then some of them were written, from the front on, and not all. The writer is
+/// not flushed. Takes no memory.
+pub fn write_whole<W: Write>(writer: &mut W, bytes: &[u8]) -> Result<(), WriteFault>
+    ensures ok { OnOk result (Appends (W.contents writer.old) (W.contents writer.new) bytes.now) }
+    ensures write { IfErr result (λ fault. (fault ≡ WriteFault.Write)
+        × AppendsFront (W.contents writer.old) (W.contents writer.new) bytes.now) }
+{
+    let mut at = 0;
+    while at < bytes.len() {
+        match writer.write(&bytes[at..]) {
+            Err(_) | Ok(0) => return Err(WriteFault::Write),
+            Ok(n) => at += n,
+        }
+    }
+    Ok(())
+}
+
 /// Writes the block of a step, which begins with this number: a line for the reply, then one for each event, order, match and
-/// release. The block is made whole in memory first, so that at `NoMemory` nothing of it was written; at `Write` its beginning
-/// was, which may end anywhere. The format of a block is this project's own.
+/// release. The block is made whole in memory first, so that at `NoMemory` nothing of it was written; at `Write` a part of it was,
+/// from its beginning on, which may end within a line. The writer is not flushed.
 pub fn write_effect<A: Allocator + Copy, W: Write>(
     alloc: A,
     number: u64,
@@ -53,14 +80,10 @@ pub fn write_effect<A: Allocator + Copy, W: Write>(
     writer: &mut W,
 ) -> Result<(), WriteFault>
     ensures ok { OnOk result (Appends (W.contents writer.old) (W.contents writer.new) (block number (outcome_of effect.now))) }
-    ensures err { OnErr result (AppendsFront (W.contents writer.old) (W.contents writer.new) (block number (outcome_of effect.now))) }
+    ensures write { result ≡ Err WriteFault.Write → AppendsFront (W.contents writer.old) (W.contents writer.new)
+        (block number (outcome_of effect.now)) }
     ensures no_memory { result ≡ Err WriteFault.NoMemory → W.contents writer.new ≡ W.contents writer.old }
 {
-    let Ok(text) = block_text(alloc, number, effect) else {
-        return Err(WriteFault::NoMemory);
-    };
-    match write_whole(writer, text.as_slice()) {
-        Ok(()) => Ok(()),
-        Err(NotWritten) => Err(WriteFault::Write),
-    }
+    let text = block_text(alloc, number, effect)?;
+    write_whole(writer, text.as_slice())
 }

@@ -4,22 +4,20 @@
 
 mod block;
 mod counts;
+mod effect_lines;
+mod entry_options;
 mod fault;
 mod line;
-mod lists;
-mod options;
 mod parse;
 mod replay;
-mod replies;
-mod setting;
+mod reply_text;
 mod spelling;
 #[cfg(test)]
 mod tests;
 mod turn;
-mod whole;
 mod words;
 
-pub use block::{WriteFault, write_effect};
+pub use block::{WriteFault, write_effect, write_whole};
 pub use counts::Counts;
 pub use fault::ReplayFault;
 pub use parse::{LineFault, parse_line};

@@ -1,13 +1,14 @@
-//! Reading an input line. A line is first read as the input that it comes closest to; that input is spelled again, and only
-//! where this gives the line it is answered. So each form that is no input of the page is refused with no case of its own.
+//! Reading an input line. Each function here, and in `words.rt` and `entry_options.rt`, reads what its words spell, and from other words
+//! any value of its type. The input that comes of this is spelled again, and answered only where this gives the line. So each line
+//! that spells no input is refused with no case of its own.
 ghost use Rattle.std.specs.Prelude.{◌≡◌, ◌≢◌, ℕ, ◌≤◌, ◌<◌, ◌∷◌, ◌++◌, [], List, Bool, Err, IfOk, decimal, map, ◌==◌, length};
 ghost use Rattle.hex.specs.Hex.{IsBytes, encode_lower};
-ghost use Rattle.s6_replay.specs.Spelling.{IsSpelt, IsExit, IsAct, Spells, exit_words, input_words};
+ghost use Rattle.s6_replay.specs.Spelling.{IsSpelt, IsExit, IsAct, Spells, input_words};
 ghost use Rattle.svc_commands.specs.ControlLetter.{byte_of};
 ghost use Rattle.svc_commands.specs.declared.control_letter.ControlLetter.{ControlLetter};
-ghost use Rattle.s6_replay.specs.Verb.{verb_word, verb_of_act, details};
+ghost use Rattle.s6_replay.specs.Verb.{exit_words, verb_word, verb_of_act, details};
 
-use super::options::entries_of;
+use super::entry_options::entries_of;
 use super::spelling::spell;
 use super::words::{is_word, name_of, number, word_at, words_from, words_of};
 use arrayvec::ArrayVec;
@@ -31,6 +32,16 @@ pub enum LineFault {
     NoMemory = 3,
 }
 
+impl From<AllocError> for LineFault {
+    ghost use Rattle.s6_replay.specs.declared.parse.LineFault.TheVariants.{NoMemory};
+
+    ghost from_gives = { λ _ fault. fault ≡ NoMemory };
+
+    fn from(_refused: AllocError) -> LineFault {
+        LineFault::NoMemory
+    }
+}
+
 // The first word of an act.
 #[derive(Clone, Copy, Debug, PartialEq, Eq)]
 pub enum Verb {
@@ -45,7 +56,7 @@ pub enum Verb {
     Tick,
 }
 
-// The exit that two words spell, or another one.
+// Reads an exit from its two words.
 fn exit_of(kind: &[u8], word: &[u8]) -> Exit
     ensures spelled { (e : Exit) → IsExit e → kind.now ∷ word.now ∷ [] ≡ exit_words e → result ≡ e }
     ensures fits { IsExit result }
@@ -57,7 +68,7 @@ fn exit_of(kind: &[u8], word: &[u8]) -> Exit
     }
 }
 
-// The verb that a word spells, or another one.
+// Reads a verb.
 fn verb_of(word: &[u8]) -> Verb
     ensures { (v : Verb) → word.now ≡ verb_word v → result ≡ v }
 {
@@ -82,7 +93,7 @@ fn verb_of(word: &[u8]) -> Verb
     }
 }
 
-// The process number that a word spells, or another one.
+// Reads a process number.
 fn process_of(word: &[u8]) -> u32
     ensures spelled { (n : ℕ) → 1 ≤ n → n ≤ 2147483647 → word.now ≡ decimal n → result ≡ n }
     ensures low { 1 ≤ result }
@@ -91,7 +102,7 @@ fn process_of(word: &[u8]) -> u32
     number(word, 2_147_483_647).max(1) as u32
 }
 
-// Adds the letter that is written as this byte, where there is one and it has room.
+// Adds the letter of this byte, where there is one; after 63 letters nothing.
 fn add_letter(letters: &mut Letters, byte: u8)
     requires { length letters.old.items ≤ 63 }
     ensures spelled { (letter : ControlLetter) → length letters.old.items < 63 → byte ≡ byte_of letter → letters.new.items ≡ letters.old.items ++ letter ∷ [] }
@@ -105,7 +116,7 @@ fn add_letter(letters: &mut Letters, byte: u8)
     }
 }
 
-// The letters that a word spells, or other ones.
+// Reads letters; there is always one.
 fn letters_of(word: &[u8]) -> Letters
     ensures spelled { (letters : List ControlLetter) → 1 ≤ length letters → length letters ≤ 63 → word.now ≡ map byte_of letters → result.items ≡ letters }
     ensures some { 1 ≤ length result.items }
@@ -121,7 +132,7 @@ fn letters_of(word: &[u8]) -> Letters
     letters
 }
 
-// The bytes that a word spells, or other ones.
+// Reads bytes from their digits; there is always one.
 fn bytes_of(word: &[u8]) -> ArrayVec<u8, 64>
     ensures spelled { (bytes : List ℕ) → 1 ≤ length bytes → length bytes ≤ 64 → IsBytes bytes → word.now ≡ encode_lower bytes → result.items ≡ bytes }
     ensures some { 1 ≤ length result.items }
@@ -144,7 +155,7 @@ fn bytes_of(word: &[u8]) -> ArrayVec<u8, 64>
     bytes
 }
 
-// The act that a verb and the words after it spell, or another one.
+// Reads an act from its verb and the words behind it.
 fn act_of<A: Allocator + Copy>(alloc: A, verb: Verb, words: &[&[u8]]) -> Result<Act<A>, AllocError>
     ensures spelled { IfOk result (λ found. (act : Act A) → IsAct act → verb ≡ verb_of_act act
         → map (λ w. w.now) words.now ≡ details act → found ≡ act) }
@@ -168,7 +179,7 @@ fn act_of<A: Allocator + Copy>(alloc: A, verb: Verb, words: &[&[u8]]) -> Result<
     }
 }
 
-// The moment that a word spells, or another one.
+// Reads a moment.
 fn moment_of(word: &[u8]) -> At
     ensures spelled { (n : ℕ) → n ≤ 1000000000000000 → word.now ≡ decimal n → result ≡ n }
     ensures fits { result ≤ 1000000000000000 }
@@ -176,7 +187,7 @@ fn moment_of(word: &[u8]) -> At
     At::new(number(word, 1_000_000_000_000_000)).unwrap_or(At::zero())
 }
 
-// The actor that a word spells, or another one.
+// Reads an actor.
 fn actor_of(word: &[u8]) -> Actor
     ensures spelled { (n : ℕ) → n ≤ 15 → word.now ≡ decimal n → result ≡ n }
     ensures fits { result ≤ 15 }
@@ -184,7 +195,7 @@ fn actor_of(word: &[u8]) -> Actor
     Actor::new(number(word, 15) as u8).unwrap()
 }
 
-// The input that the words spell, or another one.
+// Reads an input.
 fn input_of<A: Allocator + Copy>(alloc: A, words: &[&[u8]]) -> Result<Input<A>, AllocError>
     ensures spelled { IfOk result (λ found. (i : Input A) → IsSpelt i → map (λ w. w.now) words.now ≡ input_words i → found ≡ i) }
     ensures fits { IfOk result IsSpelt }
@@ -196,22 +207,17 @@ fn input_of<A: Allocator + Copy>(alloc: A, words: &[&[u8]]) -> Result<Input<A>, 
     Ok(Input { actor, at, act })
 }
 
-/// The input that a line spells; the line is given without its newline. At any error nothing else is left of it.
+/// The input that a line spells; the line is given without its newline, and of any length. `Line` comes where the line spells no
+/// input, `NoMemory` where a growth was refused; on error nothing is kept. `Pattern` is not answered today.
 pub fn parse_line<A: Allocator + Copy>(alloc: A, line: &[u8]) -> Result<Input<A>, LineFault>
     ensures found { IfOk result (Spells line.now) }
     ensures only { IfOk result (λ found. (i : Input A) → Spells line.now i → found ≡ i) }
     ensures line { result ≡ Err LineFault.Line → (i : Input A) → Spells line.now i → ⊥ }
     ensures pattern { result ≢ Err LineFault.Pattern }
 {
-    let Ok(words) = words_of(alloc, line) else {
-        return Err(LineFault::NoMemory);
-    };
-    let Ok(input) = input_of(alloc, words.as_slice()) else {
-        return Err(LineFault::NoMemory);
-    };
-    let Ok(text) = spell(alloc, &input) else {
-        return Err(LineFault::NoMemory);
-    };
+    let words = words_of(alloc, line)?;
+    let input = input_of(alloc, words.as_slice())?;
+    let text = spell(alloc, &input)?;
     if text.as_slice() == line {
         Ok(input)
     } else {

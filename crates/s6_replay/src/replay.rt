@@ -49,13 +49,15 @@ fn read_end<R: BufRead>(reader: &mut R) -> Result<(), ReplayFault>
 
 /// Replays a script: reads its inputs one after the other, hands each to a new tree, and writes what the tree answers. The script is
 /// read through the reader's own buffer and written a block at a time, so hand in a buffered writer; it is not flushed here.
-/// The format of scripts and transcripts is this project's own.
 ///
 /// An input line has at most 65,536 bytes with its newline, and a script at most 1,000,000 of them. These limits are looked at before
-/// what a line holds, and before its end. `Head` comes where the input does not begin with the head line, however long that is;
-/// `Line`, `Truncated`, `Read` and `NoMemory` after the transcript of all inputs before, with no more than some of one line read behind
-/// them, or at `NoMemory` all of it; `Write` after that transcript and some of the block of one input more. `Pattern` is not answered
-/// today.
+/// what a line holds, and before its end.
+///
+/// `Head` comes where the input does not begin with the head line, however long that is; nothing was written. `Line`, `Truncated`,
+/// `Read` and `NoMemory` come after the transcript of all inputs before, and nothing more was written. Behind these inputs no more
+/// than some of one line was read, at `Line` perhaps one byte beyond the limit, and at `NoMemory` perhaps all of the line; behind the
+/// last input that a script may have, one byte at `Line`, and none at `Read`. `Write` comes after that transcript and some of the block
+/// of one input more, which was read, and never with all of that block. `Pattern` is not answered today.
 pub fn run<A: Allocator + Copy, R: BufRead, W: Write>(
     alloc: A,
     reader: &mut R,
@@ -76,7 +78,7 @@ pub fn run<A: Allocator + Copy, R: BufRead, W: Write>(
         match take_turn(alloc, reader, writer, &mut tree, &mut line, done + 1) {
             Err(fault) => return Err(fault),
             Ok(Turn::End) => return Ok(counts),
-            Ok(Turn::Done(events, orders)) => counts = counts.with_input(events, orders),
+            Ok(Turn::Done { events, orders }) => counts = counts.with_input(events, orders),
         }
     }
     match read_end(reader) {

@@ -4,9 +4,10 @@ ghost use Rattle.std.specs.List.{join_with_byte};
 ghost use Rattle.hex.specs.Hex.{encode_lower};
 ghost use Rattle.svc_commands.specs.ControlLetter.{byte_of};
 ghost use Rattle.s6_replay.specs.Options.{entry_text};
-ghost use Rattle.s6_replay.specs.Spelling.{exit_words, act_words, spelling};
+ghost use Rattle.s6_replay.specs.Spelling.{act_words, spelling};
+ghost use Rattle.s6_replay.specs.Verb.{exit_words};
 
-use super::options::push_entries;
+use super::entry_options::push_entries;
 use s6_events::{Exit, Name, Sid};
 use std::alloc::{AllocError, Allocator};
 use svc_commands::ControlLetter;

@@ -1,5 +1,5 @@
 use super::*;
-use std::alloc::{AllocError, Allocator};
+use std::alloc::Allocator;
 use std::process::Abort;
 
 mod cut;
@@ -10,7 +10,7 @@ mod printing;
 mod refused;
 mod rows;
 
-// The script of the first row, and the blocks of its transcript.
+// The script of the row `restart-after-pause`, and the blocks of its transcript.
 const SCRIPT: &str =
     "s6-script 1\n0 1 scan web\n0 1 started 1 1 500\n300 1 death 1 1 code 1\n1299 1 tick\n1300 1 tick\n";
 
@@ -22,49 +22,43 @@ const BLOCKS: [&str; 5] = [
     "5 done\no run 1 2\n",
 ];
 
-// What a replay of a script in memory answers, and what it writes.
-fn replayed<A: Allocator + Copy>(
-    alloc: A,
-    script: &[u8],
-) -> Result<(Result<Counts, ReplayFault>, Vec<u8, A>), AllocError> {
+// What a replay answers, and what it wrote.
+#[derive(Drop)]
+struct Replayed<A: Allocator> {
+    answer: Result<Counts, ReplayFault>,
+    written: Vec<u8, A>,
+}
+
+// A replay of a script in memory.
+fn replay_in_memory<A: Allocator + Copy>(alloc: A, script: &[u8]) -> Replayed<A> {
     let mut reader = script;
     let mut written = Vec::new(alloc);
     let answer = run(alloc, &mut reader, &mut written);
-    Ok((answer, written))
+    Replayed { answer, written }
 }
 
-// The first of some blocks, one after the other.
-fn joined<A: Allocator + Copy>(
-    alloc: A,
-    blocks: &[&str],
-    count: usize,
-) -> Result<Vec<u8, A>, AllocError> {
-    let mut text = Vec::new(alloc);
-    for block in blocks.iter().take(count) {
-        text.extend_from_slice(block.as_bytes())?;
+// How many of the blocks the text is, or None where it isn't a number of whole ones.
+fn count_blocks(blocks: &[&str], text: &[u8]) -> Option<usize> {
+    let mut rest = text;
+    for (count, block) in blocks.iter().enumerate() {
+        if rest.is_empty() {
+            return Some(count);
+        }
+        rest = rest.strip_prefix(block.as_bytes())?;
     }
-    Ok(text)
+    if rest.is_empty() {
+        Some(blocks.len())
+    } else {
+        None
+    }
 }
 
-// The first of the blocks of the script.
-fn first_blocks<A: Allocator + Copy>(alloc: A, count: usize) -> Result<Vec<u8, A>, AllocError> {
-    joined(alloc, &BLOCKS, count)
-}
-
-// How many newlines there are.
-fn newlines(text: &[u8]) -> usize {
-    text.iter().filter(|b| **b == b'\n').count()
-}
-
-// A replay stopped with this fault, or with none, and has written these bytes.
+// A replay has stopped with this fault, or with none, after so many whole blocks.
 fn stops(
     rt: &impl Abort,
     place: usize,
-    fault: Option<ReplayFault>,
-    wanted: Option<ReplayFault>,
-    written: &[u8],
-    blocks: &[u8],
+    found: (Option<ReplayFault>, Option<usize>),
+    wanted: (Option<ReplayFault>, Option<usize>),
 ) {
-    assert_eq!(rt; fault, wanted, "at {place}");
-    assert_eq!(rt; written, blocks, "at {place}");
+    assert_eq!(rt; found, wanted, "at {place}");
 }

@@ -1,4 +1,4 @@
-//! The words of a line, and what single words are.
+//! The words of a line, and reading single words.
 ghost use Rattle.std.specs.Prelude.{◌≡◌, ℕ, ◌≤◌, [], IfOk, decimal, map, bytes_eq, drop, slice_index_or, ◌==◌, true};
 ghost use Rattle.std.specs.List.{slice_split};
 ghost use Rattle.s6_events.specs.Name.{is_name};
@@ -35,7 +35,7 @@ pub fn words_from<'a, 'b>(words: &'b [&'a [u8]], place: usize) -> &'b [&'a [u8]]
     }
 }
 
-// The number that a word spells, or another one where it spells none.
+// Reads a number of at most so much.
 pub fn number(word: &[u8], most: u64) -> u64
     ensures spelled { (n : ℕ) → n ≤ most → word.now ≡ decimal n → result ≡ n }
     ensures fits { result ≤ most }
@@ -56,7 +56,7 @@ pub fn is_word(word: &[u8], text: &[u8]) -> bool
     word == text
 }
 
-// The name that a word is, or another one.
+// Reads a name.
 pub fn name_of(word: &[u8]) -> Name
     ensures spelled { is_name word.now ≡ true → result ≡ word.now }
     ensures fits { is_name result ≡ true }

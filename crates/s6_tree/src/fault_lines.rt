@@ -1,8 +1,10 @@
-ghost use Rattle.std.specs.Prelude.{◌≡◌, OnOk};
+//! The line on standard error and the exit status of each fault.
+ghost use Rattle.std.specs.Prelude.{◌≡◌, ℕ, take, IfOk, OnOk};
 ghost use Rattle.std.specs.Io.KnownBytes.{Appends};
 ghost use Rattle.s6_tree.specs.FaultLines.{status_of, fault_line};
 
-use s6_replay::ReplayFault;
+use arrayvec::ArrayVec;
+use s6_replay::{ReplayFault, write_whole};
 use std::io::{self, Write};
 
 /// The status of a program that was not used as it says, or whose input is no script.
@@ -17,23 +19,6 @@ pub const NO_TOOL: &[u8] = b"s6_tree: unknown tool\n";
 /// The line for a word after `replay`.
 pub const REPLAY_USAGE: &[u8] = b"replay: usage\n";
 
-/// Writes the line that tells of a fault of `replay`, and answers the exit status: 100 where the input is no script, 111 where the
-/// system refused something. Where the line cannot be written, the status is answered all the same. The lines and statuses are
-/// this project's own, after the exit codes of s6's programs.
-pub fn replay_fault<W: Write>(fault: &ReplayFault, writer: &mut W) -> u8
-    ensures { result ≡ status_of fault.now }
-{
-    let _ = write_line(fault, writer);
-    match fault {
-        ReplayFault::Head
-        | ReplayFault::Line(_)
-        | ReplayFault::Pattern(_)
-        | ReplayFault::Truncated => USAGE_STATUS,
-        ReplayFault::Read | ReplayFault::Write | ReplayFault::NoMemory => SYSTEM_STATUS,
-    }
-}
-
-// Writes the line of a fault.
 fn write_line<W: Write>(fault: &ReplayFault, writer: &mut W) -> io::Result<()>
     ensures { OnOk result (Appends (W.contents writer.old) (W.contents writer.new) (fault_line fault.now)) }
 {
@@ -45,5 +30,40 @@ fn write_line<W: Write>(fault: &ReplayFault, writer: &mut W) -> io::Result<()>
         ReplayFault::Read => writer.write_all(b"replay: read\n"),
         ReplayFault::Write => writer.write_all(b"replay: write\n"),
         ReplayFault::NoMemory => writer.write_all(b"replay: no memory\n"),
+    }
+}
+
+// The line of a fault. The longest has 45 bytes.
+fn line_of(fault: &ReplayFault) -> io::Result<ArrayVec<u8, 64>>
+    ensures { IfOk result (λ line. line.items ≡ fault_line fault.now) }
+{
+    let mut line = ArrayVec::new();
+    write_line(fault, &mut line)?;
+    Ok(line)
+}
+
+// Writes the line of a fault, or as much of it as the writer takes.
+fn tell<W: Write>(fault: &ReplayFault, writer: &mut W)
+    ensures { (n : ℕ) × Appends (W.contents writer.old) (W.contents writer.new) (take n (fault_line fault.now)) }
+{
+    if let Ok(line) = line_of(fault) {
+        let _ = write_whole(writer, line.as_slice());
+    }
+}
+
+/// Writes the line that tells of a fault of `replay`, and answers the exit status: 100 where the input is no script, 111 where the
+/// system refused something. Where the line cannot be written whole, its beginning may be, and the status is answered all the same.
+/// Takes no memory. The lines and statuses are this project's own, after the exit codes of s6's programs.
+pub fn replay_fault<W: Write>(fault: &ReplayFault, writer: &mut W) -> u8
+    ensures status { result ≡ status_of fault.now }
+    ensures line { (n : ℕ) × Appends (W.contents writer.old) (W.contents writer.new) (take n (fault_line fault.now)) }
+{
+    tell(fault, writer);
+    match fault {
+        ReplayFault::Head
+        | ReplayFault::Line(_)
+        | ReplayFault::Pattern(_)
+        | ReplayFault::Truncated => USAGE_STATUS,
+        ReplayFault::Read | ReplayFault::Write | ReplayFault::NoMemory => SYSTEM_STATUS,
     }
 }

@@ -1,109 +1,108 @@
 //! The first row cut at each byte, and with a reader or a writer that fails at each byte.
 use super::fakes::{FailingReader, FailingWriter};
-use super::{SCRIPT, first_blocks, newlines, replayed, stops};
-use crate::{Counts, ReplayFault, run};
+use super::{BLOCKS, SCRIPT, count_blocks, replay_in_memory, stops};
+use crate::{ReplayFault, run};
+use std::alloc::Global;
 use std::io::BufReader;
+use std::process::Abort;
 use std::test::Fail;
 
+// How many input lines there are whole, behind the head line.
+fn whole_lines(part: &[u8]) -> usize {
+    let lines = part.iter().filter(|b| **b == b'\n').count();
+    lines.saturating_sub(1)
+}
+
+// Where a script that is cut stops.
+fn fault_of(part: &[u8]) -> Option<ReplayFault> {
+    if !part.contains(&b'\n') {
+        Some(ReplayFault::Head)
+    } else if part.ends_with(b"\n") {
+        None
+    } else {
+        Some(ReplayFault::Truncated)
+    }
+}
+
 #[test]
-fn a_script_that_is_cut_at_each_byte(rt: HostRuntime) -> Result<(), Fail> {
-    let script = SCRIPT.as_bytes();
-    for cut in 0..script.len() + 1 {
-        let part = &script[..cut];
-        let lines = newlines(part);
-        let (answer, written) = replayed(rt.alloc(), part)?;
-        let whole = first_blocks(rt.alloc(), lines.saturating_sub(1))?;
-        let fault = if lines == 0 {
-            Some(ReplayFault::Head)
-        } else if part.ends_with(b"\n") {
-            None
-        } else {
-            Some(ReplayFault::Truncated)
-        };
+fn a_script_that_is_cut_at_each_byte(rt: HostRuntime) {
+    for cut in 0..SCRIPT.len() + 1 {
+        let part = &SCRIPT.as_bytes()[..cut];
+        let replay = replay_in_memory(rt.alloc(), part);
+        let blocks = count_blocks(&BLOCKS, replay.written.as_slice());
         stops(
             &rt,
             cut,
-            answer.err(),
-            fault,
-            written.as_slice(),
-            whole.as_slice(),
+            (replay.answer.err(), blocks),
+            (fault_of(part), Some(whole_lines(part))),
         );
+    }
+}
+
+// What a replay answers whose reader gives so many bytes before it fails, and how many whole blocks it writes.
+fn replay_of_failing_reader(
+    alloc: Global,
+    good: usize,
+) -> Result<(Option<ReplayFault>, Option<usize>), Fail> {
+    let fake = FailingReader {
+        bytes: SCRIPT.as_bytes(),
+        good,
+    };
+    let mut reader = BufReader::new(alloc, fake)?;
+    let mut written = Vec::new(alloc);
+    let answer = run(alloc, &mut reader, &mut written);
+    Ok((answer.err(), count_blocks(&BLOCKS, written.as_slice())))
+}
+
+// The last call finds the end of the script.
+#[test]
+fn each_read_fails_in_turn(rt: HostRuntime) -> Result<(), Fail> {
+    for good in 0..SCRIPT.len() + 2 {
+        let found = replay_of_failing_reader(rt.alloc(), good)?;
+        let wanted = if good > SCRIPT.len() {
+            (None, Some(5))
+        } else {
+            let part = &SCRIPT.as_bytes()[..good];
+            (Some(ReplayFault::Read), Some(whole_lines(part)))
+        };
+        stops(&rt, good, found, wanted);
     }
     Ok(())
 }
 
-#[test]
-fn each_read_fails_in_turn(rt: HostRuntime) -> Result<(), Fail> {
-    let script = SCRIPT.as_bytes();
-    for good in 0..script.len() + 1 {
-        let fake = FailingReader {
-            bytes: script,
-            good,
-        };
-        let mut reader = BufReader::new(rt.alloc(), fake)?;
-        let mut written = Vec::new(rt.alloc());
-        let answer = run(rt.alloc(), &mut reader, &mut written);
-        let whole = first_blocks(rt.alloc(), newlines(&script[..good]).saturating_sub(1))?;
-        let fault = Some(ReplayFault::Read);
-        stops(
-            &rt,
-            good,
-            answer.err(),
-            fault,
-            written.as_slice(),
-            whole.as_slice(),
-        );
+// A replay into a writer that takes so many bytes ends so, and its bytes are the front of the blocks.
+fn check_failing_writer(
+    rt: &impl Abort,
+    alloc: Global,
+    room: usize,
+    fails: bool,
+    wanted: Option<ReplayFault>,
+) -> Result<(), Fail> {
+    let mut whole = Vec::new(alloc);
+    for block in BLOCKS {
+        whole.extend_from_slice(block.as_bytes())?;
     }
+    let mut reader = SCRIPT.as_bytes();
+    let mut writer = FailingWriter {
+        taken: Vec::new(alloc),
+        room,
+        fails,
+    };
+    let fault = run(alloc, &mut reader, &mut writer).err();
+    let taken = writer.taken.as_slice();
+    assert!(rt;
+        fault == wanted && taken.len() == room && whole.as_slice().starts_with(taken),
+        "at {room}"
+    );
     Ok(())
 }
 
 #[test]
 fn each_write_fails_in_turn(rt: HostRuntime) -> Result<(), Fail> {
-    let transcript = first_blocks(rt.alloc(), 5)?;
-    for fails in [true, false] {
-        for room in 0..transcript.len() {
-            let mut reader = SCRIPT.as_bytes();
-            let mut writer = FailingWriter {
-                taken: Vec::new(rt.alloc()),
-                room,
-                fails,
-            };
-            let answer = run(rt.alloc(), &mut reader, &mut writer);
-            let fault = Some(ReplayFault::Write);
-            stops(
-                &rt,
-                room,
-                answer.err(),
-                fault,
-                writer.taken.as_slice(),
-                &transcript[..room],
-            );
-        }
+    let all: usize = 89;
+    for room in 0..all {
+        check_failing_writer(&rt, rt.alloc(), room, true, Some(ReplayFault::Write))?;
+        check_failing_writer(&rt, rt.alloc(), room, false, Some(ReplayFault::Write))?;
     }
-    Ok(())
-}
-
-#[test]
-fn nothing_fails_where_there_is_room(rt: HostRuntime) -> Result<(), Fail> {
-    let transcript = first_blocks(rt.alloc(), 5)?;
-    let script = SCRIPT.as_bytes();
-    let fake = FailingReader {
-        bytes: script,
-        good: script.len() + 1,
-    };
-    let mut reader = BufReader::new(rt.alloc(), fake)?;
-    let mut writer = FailingWriter {
-        taken: Vec::new(rt.alloc()),
-        room: transcript.len(),
-        fails: true,
-    };
-    let answer = run(rt.alloc(), &mut reader, &mut writer);
-    let counts = Counts {
-        inputs: 5,
-        events: 4,
-        orders: 2,
-    };
-    assert_eq!(rt; answer, Ok(counts));
-    assert_eq!(rt; writer.taken.as_slice(), transcript.as_slice());
-    Ok(())
+    check_failing_writer(&rt, rt.alloc(), all, true, None)
 }

@@ -1,5 +1,5 @@
-//! The limits of a line.
-use super::{replayed, stops};
+//! The limits of a line, and scripts with many lines.
+use super::rows::check_replay;
 use crate::ReplayFault;
 use std::test::Fail;
 
@@ -15,6 +15,7 @@ fn long_line(count: usize, end: &[u8], rt: &HostRuntime) -> Result<Vec<u8>, Fail
     Ok(script)
 }
 
+// The fifth is the worked row `line-beyond-its-limit-without-newline`.
 #[test]
 fn lines_at_and_beyond_their_limit(rt: HostRuntime) -> Result<(), Fail> {
     let rows = [
@@ -27,48 +28,75 @@ fn lines_at_and_beyond_their_limit(rt: HostRuntime) -> Result<(), Fail> {
     ];
     for (count, end, fault) in rows {
         let script = long_line(count, end, &rt)?;
-        let (answer, written) = replayed(rt.alloc(), script.as_slice())?;
-        stops(
+        check_replay(
             &rt,
-            count,
-            answer.err(),
-            Some(fault),
-            written.as_slice(),
+            rt.alloc(),
+            script.as_slice(),
+            Err(fault),
             b"",
+            "a long line",
         );
     }
     Ok(())
 }
 
-// A scan of 65,536 bytes with its newline is an input, and one byte more is none.
+// A script with one scan of 65,536 bytes with its newline, and of these more.
+fn long_scan(more: &[u8], rt: &HostRuntime) -> Result<Vec<u8>, Fail> {
+    let mut script = Vec::from_slice(rt.alloc(), HEAD)?;
+    script.extend_from_slice(b"0 1 scan")?;
+    for _ in 0..1008u32 {
+        script.push(b' ')?;
+        script.extend_from_slice(&[b'a'; 64])?;
+    }
+    script.extend_from_slice(b" bbbbbb")?;
+    script.extend_from_slice(more)?;
+    script.push(b'\n')?;
+    Ok(script)
+}
+
 #[test]
 fn the_longest_line_is_an_input(rt: HostRuntime) -> Result<(), Fail> {
-    for more in [false, true] {
-        let mut script = Vec::from_slice(rt.alloc(), HEAD)?;
-        script.extend_from_slice(b"0 1 scan")?;
-        for _ in 0..1008u32 {
-            script.push(b' ')?;
-            script.extend_from_slice(&[b'a'; 64])?;
-        }
-        script.extend_from_slice(b" bbbbbb")?;
-        if more {
-            script.push(b'b')?;
-        }
-        script.push(b'\n')?;
-        let (answer, written) = replayed(rt.alloc(), script.as_slice())?;
-        let (fault, block) = if more {
-            (Some(ReplayFault::Line(2)), b"".as_slice())
-        } else {
-            (None, b"1 refused Repeated\n".as_slice())
-        };
-        stops(
-            &rt,
-            script.len(),
-            answer.err(),
-            fault,
-            written.as_slice(),
-            block,
-        );
+    let longest = long_scan(b"", &rt)?;
+    let counts = Ok((1, 0, 0));
+    let block = b"1 refused Repeated\n";
+    check_replay(
+        &rt,
+        rt.alloc(),
+        longest.as_slice(),
+        counts,
+        block,
+        "the longest",
+    );
+    let longer = long_scan(b"b", &rt)?;
+    let fault = Err(ReplayFault::Line(2));
+    check_replay(
+        &rt,
+        rt.alloc(),
+        longer.as_slice(),
+        fault,
+        b"",
+        "one byte more",
+    );
+    Ok(())
+}
+
+#[test]
+fn many_inputs_are_read(rt: HostRuntime) -> Result<(), Fail> {
+    let mut script = Vec::from_slice(rt.alloc(), HEAD)?;
+    let mut blocks = Vec::new(rt.alloc());
+    for number in 1..1001u32 {
+        script.extend_from_slice(b"0 1 tick\n")?;
+        let block = format!(in rt.alloc(); "{number} done\n")?;
+        blocks.extend_from_slice(block.as_bytes())?;
     }
+    let counts = Ok((1000, 0, 0));
+    check_replay(
+        &rt,
+        rt.alloc(),
+        script.as_slice(),
+        counts,
+        blocks.as_slice(),
+        "many ticks",
+    );
     Ok(())
 }

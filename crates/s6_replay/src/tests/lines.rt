@@ -1,10 +1,15 @@
 //! Which lines are inputs, and which input they are.
 use crate::{LineFault, ReplayFault, parse_line};
-use s6_events::Exit;
 use servicedir::Config;
-use std::alloc::Allocator;
+use std::alloc::{Allocator, Global};
+use std::process::Abort;
 use std::test::Fail;
 use tree_core::{Act, Entry};
+
+// A line is an input, or is none for this fault.
+fn check_line(rt: &impl Abort, alloc: Global, line: &[u8], wanted: Option<LineFault>) {
+    assert_eq!(rt; parse_line(alloc, line).err(), wanted, "{line:?}");
+}
 
 #[test]
 fn lines_that_spell_no_input(rt: HostRuntime) {
@@ -95,106 +100,31 @@ fn lines_that_spell_no_input(rt: HostRuntime) {
         b"\xff 1 tick",
     ];
     for line in lines {
-        let answer = parse_line(rt.alloc(), line);
-        assert!(rt; matches!(answer, Err(LineFault::Line)), "{line:?}");
-    }
-}
-
-// The numbers of an act: which one, and how many names it has, or the serial, generation and process number, code or signal.
-fn numbers<A: Allocator>(act: &Act<A>) -> (u8, u64, u64, u32) {
-    match act {
-        Act::Scan(listing) => (0, listing.entries().len() as u64, 0, 0),
-        Act::Started(sid, generation, pid) => (1, sid.0, *generation, *pid),
-        Act::Death(sid, generation, Exit::Code(code)) => (2, sid.0, *generation, u32::from(*code)),
-        Act::Death(sid, generation, Exit::Killed(signal)) => (
-            3,
-            sid.0,
-            *generation,
-            u32::from(*signal),
-        ),
-        Act::Tick => (4, 0, 0, 0),
-        Act::Svc(_, letters) => (8, letters.len() as u64, 0, 0),
-        Act::StartFailed(sid, generation) => (5, sid.0, *generation, 0),
-        Act::Status(name) => (10, name.as_bytes().len() as u64, 0, 0),
-        Act::Notify(_, _, bytes) => (9, bytes.len() as u64, 0, 0),
-        Act::FinishEnded(sid, generation, Exit::Code(code)) => (
-            6,
-            sid.0,
-            *generation,
-            u32::from(*code),
-        ),
-        Act::FinishEnded(sid, generation, Exit::Killed(signal)) => (
-            7,
-            sid.0,
-            *generation,
-            u32::from(*signal),
-        ),
+        check_line(&rt, rt.alloc(), line, Some(LineFault::Line));
     }
 }
 
 #[test]
-fn lines_that_spell_an_input(rt: HostRuntime) -> Result<(), Fail> {
-    let rows = [
-        (
-            b"1000000000000000 15 tick".as_slice(),
-            1_000_000_000_000_000,
-            15,
-            (4, 0, 0, 0),
-        ),
-        (
-            b"0 0 started 18446744073709551615 0 2147483647",
-            0,
-            0,
-            (1, u64::MAX, 0, 2_147_483_647),
-        ),
-        (b"7 1 death 2 3 code 255", 7, 1, (2, 2, 3, 255)),
-        (b"7 1 death 2 3 signal 64", 7, 1, (3, 2, 3, 64)),
-        (b"7 1 startfailed 2 3", 7, 1, (5, 2, 3, 0)),
-        (b"7 1 notify 2 3 0a", 7, 1, (9, 1, 0, 0)),
-        (
-            b"7 1 notify 2 3 0f0f0f0f0f0f0f0f0f0f0f0f0f0f0f0f0f0f0f0f0f0f0f0f0f0f0f0f0f0f0f0f0f0f0f0f0f0f0f0f0f0f0f0f0f0f0f0f0f0f0f0f0f0f0f0f0f0f0f0f0f0f0f0f",
-            7,
-            1,
-            (9, 64, 0, 0),
-        ),
-        (b"7 1 finished 2 3 code 125", 7, 1, (6, 2, 3, 125)),
-        (b"7 1 finished 2 3 signal 0", 7, 1, (7, 2, 3, 0)),
-        (b"0 1 svc web abqhkti12pcyudOrx", 0, 1, (8, 17, 0, 0)),
-        (b"0 1 status web", 0, 1, (10, 3, 0, 0)),
-        (b"0 1 scan", 0, 1, (0, 0, 0, 0)),
-        (
-            b"0 1 scan web:down,finish,notify=3,kill=1,fintime=0,tally=0,signal=64",
-            0,
-            1,
-            (0, 1, 0, 0),
-        ),
-        (b"0 1 scan web @-_.9 web", 0, 1, (0, 3, 0, 0)),
+fn lines_that_spell_an_input(rt: HostRuntime) {
+    let lines = [
+        b"1000000000000000 15 tick".as_slice(),
+        b"0 0 started 18446744073709551615 0 2147483647",
+        b"7 1 death 2 3 code 255",
+        b"7 1 death 2 3 signal 64",
+        b"7 1 startfailed 2 3",
+        b"7 1 notify 2 3 0a",
+        b"7 1 notify 2 3 0f0f0f0f0f0f0f0f0f0f0f0f0f0f0f0f0f0f0f0f0f0f0f0f0f0f0f0f0f0f0f0f0f0f0f0f0f0f0f0f0f0f0f0f0f0f0f0f0f0f0f0f0f0f0f0f0f0f0f0f0f0f0f0f",
+        b"7 1 finished 2 3 code 125",
+        b"7 1 finished 2 3 signal 0",
+        b"0 1 svc web abqhkti12pcyudOrx",
+        b"0 1 status web",
+        b"0 1 scan",
+        b"0 1 scan web:down,finish,notify=3,kill=1,fintime=0,tally=0,signal=64",
+        b"0 1 scan web @-_.9 web",
     ];
-    for (line, at, actor, act) in rows {
-        let input = parse_line(rt.alloc(), line).ok().ok_or("an input")?;
-        let read = (input.at.millis(), input.actor.number(), numbers(&input.act));
-        assert_eq!(rt; read, (at, actor, act), "{line:?}");
+    for line in lines {
+        check_line(&rt, rt.alloc(), line, None);
     }
-    Ok(())
-}
-
-#[test]
-fn a_line_has_its_names(rt: HostRuntime) -> Result<(), Fail> {
-    let input = parse_line(rt.alloc(), b"0 1 scan web @-_.9 web")
-        .ok()
-        .ok_or("an input")?;
-    let Act::Scan(listing) = &input.act else {
-        return Err("a scan".into());
-    };
-    let entries = listing.entries();
-    assert_eq!(rt; entries.len(), 3);
-    assert_eq!(rt; entries[0].name.as_bytes(), b"web".as_slice());
-    assert_eq!(rt; entries[1].name.as_bytes(), b"@-_.9".as_slice());
-    assert_eq!(rt; entries[2].name.as_bytes(), b"web".as_slice());
-    for entry in entries {
-        assert!(rt; entry.config == Config::plain());
-    }
-    Ok(())
 }
 
 // The first entry of a scan that this line spells.
@@ -204,6 +134,14 @@ fn first_entry<A: Allocator + Copy>(alloc: A, line: &[u8]) -> Result<Entry, Fail
         return Err("a scan".into());
     };
     Ok(*listing.entries().first().ok_or("an entry")?)
+}
+
+// A line is a scan whose first entry is `web` with this configuration.
+fn check_entry(rt: &impl Abort, alloc: Global, line: &[u8], config: Config) -> Result<(), Fail> {
+    let entry = first_entry(alloc, line)?;
+    let is_web = entry.name.as_bytes() == b"web".as_slice();
+    assert!(rt; is_web && entry.config == config, "{line:?}");
+    Ok(())
 }
 
 #[test]
@@ -245,9 +183,7 @@ fn an_entry_has_its_options(rt: HostRuntime) -> Result<(), Fail> {
         ),
     ];
     for (line, config) in rows {
-        let entry = first_entry(rt.alloc(), line)?;
-        assert_eq!(rt; entry.name.as_bytes(), b"web".as_slice(), "{line:?}");
-        assert!(rt; entry.config == config, "{line:?}");
+        check_entry(&rt, rt.alloc(), line, config)?;
     }
     Ok(())
 }
@@ -262,6 +198,18 @@ fn a_line_has_its_bytes(rt: HostRuntime) -> Result<(), Fail> {
     };
     assert_eq!(rt; (sid.0, *generation), (2, 3));
     assert_eq!(rt; bytes.as_slice(), [0, 10, 127, 128, 255].as_slice());
+    Ok(())
+}
+
+fn check_text(
+    rt: &impl Abort,
+    alloc: Global,
+    fault: ReplayFault,
+    number: u8,
+    text: &str,
+) -> Result<(), Fail> {
+    let found = format!(in alloc; "{fault}")?;
+    assert_eq!(rt; (fault.number(), found.as_str()), (number, text));
     Ok(())
 }
 
@@ -281,8 +229,7 @@ fn faults_have_their_numbers_and_texts(rt: HostRuntime) -> Result<(), Fail> {
         (ReplayFault::NoMemory, 7, "out of memory"),
     ];
     for (fault, number, text) in rows {
-        assert_eq!(rt; fault.number(), number);
-        assert_eq!(rt; format!(in rt.alloc(); "{fault}")?.as_str(), text);
+        check_text(&rt, rt.alloc(), fault, number, text)?;
     }
     Ok(())
 }

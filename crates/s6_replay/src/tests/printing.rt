@@ -2,8 +2,9 @@
 use super::fakes::FailingWriter;
 use crate::{WriteFault, write_effect};
 use arrayvec::ArrayVec;
+use linked_list_allocator::LocalHeap;
 use s6_events::{Letter, Mark, Name, Order, Sid, SubId, WaitId};
-use std::alloc::Global;
+use std::alloc::{Allocator, Global};
 use std::process::Abort;
 use std::test::Fail;
 use tree_core::{Effect, Event, Hit, Match, Refusal, Release, Reply, Verdict};
@@ -70,37 +71,78 @@ fn effect(rt: &HostRuntime) -> Result<Effect<Global>, Fail> {
     Ok(made)
 }
 
+// An effect that is this reply alone.
+fn reply_alone<A: Allocator + Copy>(alloc: A, reply: Reply<A>) -> Effect<A> {
+    Effect {
+        reply,
+        events: Vec::new(alloc),
+        orders: ArrayVec::new(),
+        matched: Vec::new(alloc),
+        released: Vec::new(alloc),
+    }
+}
+
 // The block of the effect under this number is this text.
-fn is_printed(rt: &impl Abort, alloc: Global, number: u64, effect: &Effect<Global>, text: &str) {
+fn check_block(rt: &impl Abort, alloc: Global, number: u64, effect: &Effect<Global>, text: &str) {
     let mut written = Vec::new(alloc);
-    assert_eq!(rt; write_effect(alloc, number, effect, &mut written), Ok(()));
-    assert_eq!(rt; written.as_slice(), text.as_bytes());
+    let answer = write_effect(alloc, number, effect, &mut written);
+    assert_eq!(rt; (answer, written.as_slice()), (Ok(()), text.as_bytes()));
 }
 
 #[test]
 fn a_block_has_lines_of_each_kind(rt: HostRuntime) -> Result<(), Fail> {
-    is_printed(&rt, rt.alloc(), 12, &effect(&rt)?, TEXT);
+    check_block(&rt, rt.alloc(), 12, &effect(&rt)?, TEXT);
     Ok(())
+}
+
+// So many bytes of the block are written, and then the writer fails.
+fn check_part(rt: &impl Abort, alloc: Global, effect: &Effect<Global>, room: usize) {
+    let mut writer = FailingWriter {
+        taken: Vec::new(alloc),
+        room,
+        fails: true,
+    };
+    let answer = write_effect(alloc, 12, effect, &mut writer);
+    let taken = writer.taken.as_slice();
+    let is_front = taken.len() == room && TEXT.as_bytes().starts_with(taken);
+    assert!(rt; is_front && answer == Err(WriteFault::Write), "at {room}");
 }
 
 #[test]
 fn a_block_that_is_not_written_whole(rt: HostRuntime) -> Result<(), Fail> {
     let made = effect(&rt)?;
     for room in 0..TEXT.len() {
-        let mut writer = FailingWriter {
-            taken: Vec::new(rt.alloc()),
-            room,
-            fails: true,
-        };
-        let answer = write_effect(rt.alloc(), 12, &made, &mut writer);
-        assert_eq!(rt; answer, Err(WriteFault::Write));
-        assert_eq!(rt; writer.taken.as_slice(), &TEXT.as_bytes()[..room]);
+        check_part(&rt, rt.alloc(), &made, room);
     }
     Ok(())
 }
 
+// What writing a block on a heap of so many bytes answers, and how many bytes it writes.
+fn write_on_heap(alloc: Global, bytes: usize) -> Result<(Result<(), WriteFault>, usize), Fail> {
+    let heap = LocalHeap::new(alloc, bytes)?;
+    let made = reply_alone(&heap, Reply::Refused(Refusal::NoService));
+    let mut written = Vec::new(alloc);
+    let answer = write_effect(&heap, 12, &made, &mut written);
+    Ok((answer, written.len()))
+}
+
 #[test]
-fn refusals_have_their_names(rt: HostRuntime) -> Result<(), Fail> {
+fn a_block_without_memory(rt: HostRuntime) -> Result<(), Fail> {
+    let mut done = 0u32;
+    let mut refused = 0u32;
+    for step in 0..40usize {
+        match write_on_heap(rt.alloc(), 16 * step)? {
+            (Ok(()), 21) => done = done.saturating_add(1),
+            (Err(WriteFault::NoMemory), 0) => refused = refused.saturating_add(1),
+            _ => return Err("neither whole nor refused".into()),
+        }
+    }
+    assert!(rt; done > 2 && refused > 2);
+    Ok(())
+}
+
+#[test]
+fn refusals_have_their_names(rt: HostRuntime) {
     let rows = [
         (Refusal::NoService, "1 refused NoService\n"),
         (Refusal::Stale, "1 refused Stale\n"),
@@ -115,14 +157,7 @@ fn refusals_have_their_names(rt: HostRuntime) -> Result<(), Fail> {
         (Refusal::Spent, "1 refused Spent\n"),
     ];
     for (refusal, text) in rows {
-        let made = Effect {
-            reply: Reply::Refused(refusal),
-            events: Vec::new(rt.alloc()),
-            orders: ArrayVec::new(),
-            matched: Vec::new(rt.alloc()),
-            released: Vec::new(rt.alloc()),
-        };
-        is_printed(&rt, rt.alloc(), 1, &made, text);
+        let made = reply_alone(rt.alloc(), Reply::Refused(refusal));
+        check_block(&rt, rt.alloc(), 1, &made, text);
     }
-    Ok(())
 }

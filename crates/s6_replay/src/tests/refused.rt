@@ -1,6 +1,6 @@
 //! Growths that are refused.
-use super::{BLOCKS, SCRIPT, joined};
-use crate::{Counts, LineFault, ReplayFault, parse_line, run};
+use super::{BLOCKS, SCRIPT, count_blocks};
+use crate::{LineFault, ReplayFault, parse_line, run};
 use linked_list_allocator::LocalHeap;
 use std::alloc::Global;
 use std::process::Abort;
@@ -30,94 +30,73 @@ const FINISH_BLOCKS: [&str; 5] = [
     "5 done\ne 1 O\ne 1 D\n",
 ];
 
-// How many of the blocks were written, where that is a number of whole ones.
-fn whole_blocks(alloc: Global, blocks: &[&str], written: &[u8]) -> Result<Option<usize>, Fail> {
-    for count in 0..6usize {
-        if written == joined(alloc, blocks, count)?.as_slice() {
-            return Ok(Some(count));
-        }
-    }
-    Ok(None)
-}
-
 // What a replay on a heap of so many bytes answers, and how many whole blocks it writes.
-fn replay_with(
+fn replay_on_heap(
     alloc: Global,
     script: &str,
     blocks: &[&str],
     bytes: usize,
-) -> Result<(Result<Counts, ReplayFault>, Option<usize>), Fail> {
+) -> Result<(Option<ReplayFault>, Option<usize>), Fail> {
     let heap = LocalHeap::new(alloc, bytes)?;
     let mut reader = script.as_bytes();
     let mut written = Vec::new(alloc);
     let answer = run(&heap, &mut reader, &mut written);
-    Ok((answer, whole_blocks(alloc, blocks, written.as_slice())?))
+    Ok((answer.err(), count_blocks(blocks, written.as_slice())))
 }
 
-// On heaps of a growing size each growth is the first one refused: how many replays were done, and how many wrote no block.
+// On heaps of a growing size each growth is the first one refused: some replays are done, some stop before their first block, and
+// each of the others stops between two blocks.
 fn refuse_in_turn(
     rt: &impl Abort,
     alloc: Global,
     script: &str,
     blocks: &[&str],
-) -> Result<(u32, u32), Fail> {
+) -> Result<(), Fail> {
     let mut done = 0u32;
     let mut stopped = 0u32;
     for step in 0..400usize {
-        let (answer, written) = replay_with(alloc, script, blocks, 16 * step)?;
-        assert!(rt; written.is_some(), "at {step}");
-        match answer {
-            Ok(_) => {
-                done = done.saturating_add(1);
-                assert_eq!(rt; written, Some(5));
-            }
-            Err(fault) => {
-                assert_eq!(rt; fault, ReplayFault::NoMemory, "at {step}");
-                if written == Some(0) {
-                    stopped = stopped.saturating_add(1);
-                }
-            }
+        match replay_on_heap(alloc, script, blocks, 16 * step)? {
+            (None, Some(5)) => done = done.saturating_add(1),
+            (Some(ReplayFault::NoMemory), Some(0)) => stopped = stopped.saturating_add(1),
+            (Some(ReplayFault::NoMemory), Some(_)) => {}
+            _ => return Err("neither whole nor refused".into()),
         }
     }
-    Ok((done, stopped))
+    assert!(rt; done > 2 && stopped > 2);
+    Ok(())
 }
 
 #[test]
 fn each_growth_is_refused_in_turn(rt: HostRuntime) -> Result<(), Fail> {
     let scripts = [
-        (SCRIPT, BLOCKS.as_slice()),
-        (LETTERS, LETTERS_BLOCKS.as_slice()),
-        (FINISH, FINISH_BLOCKS.as_slice()),
+        (SCRIPT, BLOCKS),
+        (LETTERS, LETTERS_BLOCKS),
+        (FINISH, FINISH_BLOCKS),
     ];
     for (script, blocks) in scripts {
-        let (done, stopped) = refuse_in_turn(&rt, rt.alloc(), script, blocks)?;
-        assert!(rt; done > 2);
-        assert!(rt; stopped > 2);
+        refuse_in_turn(&rt, rt.alloc(), script, &blocks)?;
     }
+    Ok(())
+}
+
+// On heaps of a growing size the line is an input, or memory runs out, and each of these happens.
+fn refuse_line_in_turn(rt: &impl Abort, alloc: Global, line: &[u8]) -> Result<(), Fail> {
+    let mut done = 0u32;
+    let mut refused = 0u32;
+    for step in 0..80usize {
+        let heap = LocalHeap::new(alloc, 16 * step)?;
+        match parse_line(&heap, line).err() {
+            None => done = done.saturating_add(1),
+            Some(LineFault::NoMemory) => refused = refused.saturating_add(1),
+            Some(_) => return Err("no fault of the line".into()),
+        }
+    }
+    assert!(rt; done > 2 && refused > 2, "{line:?}");
     Ok(())
 }
 
 #[test]
 fn a_line_without_memory(rt: HostRuntime) -> Result<(), Fail> {
-    let lines = [
-        b"0 1 scan web:finish,kill=7 other".as_slice(),
-        b"0 1 notify 1 1 0a0a",
-    ];
-    for line in lines {
-        let mut refused = 0u32;
-        let mut done = 0u32;
-        for step in 0..80usize {
-            let heap = LocalHeap::new(rt.alloc(), 16 * step)?;
-            match parse_line(&heap, line) {
-                Ok(_) => done = done.saturating_add(1),
-                Err(fault) => {
-                    refused = refused.saturating_add(1);
-                    assert_eq!(rt; fault, LineFault::NoMemory, "at {step}");
-                }
-            }
-        }
-        assert!(rt; done > 2, "{line:?}");
-        assert!(rt; refused > 2, "{line:?}");
-    }
-    Ok(())
+    refuse_line_in_turn(&rt, rt.alloc(), b"0 1 scan web:finish,kill=7 other")?;
+    refuse_line_in_turn(&rt, rt.alloc(), b"0 1 notify 1 1 0a0a")
 }

@@ -1,25 +1,27 @@
-//! The worked rows: scripts with their whole transcripts and faults.
-use super::replayed;
+//! The worked rows: scripts with their whole transcripts and what the replay answers.
+use super::replay_in_memory;
 use crate::{Counts, ReplayFault};
-use std::test::Fail;
+use std::alloc::Global;
+use std::process::Abort;
 
-// A script, all that it writes, its fault, and of a script without fault how many inputs, events and orders it has.
+// What a replay answers: how many inputs, events and orders there were, or why it stopped.
+type Answer = Result<(u64, u128, u128), ReplayFault>;
+
+// A script, all that is written, and the answer.
 #[derive(Clone, Copy)]
 struct Row {
     name: &'static str,
     script: &'static str,
     transcript: &'static str,
-    fault: Option<ReplayFault>,
-    counts: (u64, u128, u128),
+    answer: Answer,
 }
 
-const ROWS: [Row; 25] = [
+const ROWS: [Row; 26] = [
     Row {
         name: "restart-after-pause",
         script: "s6-script 1\n0 1 scan web\n0 1 started 1 1 500\n300 1 death 1 1 code 1\n1299 1 tick\n1300 1 tick\n",
         transcript: "1 scanned +1:web\ne 1 s\no run 1 1\n2 done\ne 1 u\n3 done\ne 1 d\ne 1 D\n4 done\n5 done\no run 1 2\n",
-        fault: None,
-        counts: (5, 4, 2),
+        answer: Ok((5, 4, 2)),
     },
     Row {
         name: "scan-beyond-sixty-four-services",
@@ -44,141 +46,121 @@ const ROWS: [Row; 25] = [
         o run 44 1\no run 45 1\no run 46 1\no run 47 1\no run 48 1\no run 49 1\no run 50 1\no run 51 1\no run 52 1\n\
         o run 53 1\no run 54 1\no run 55 1\no run 56 1\no run 57 1\no run 58 1\no run 59 1\no run 60 1\no run 61 1\n\
         o run 62 1\no run 63 1\no run 64 1\n",
-        fault: None,
-        counts: (1, 64, 64),
+        answer: Ok((1, 64, 64)),
     },
     Row {
         name: "empty-script",
         script: "",
         transcript: "",
-        fault: Some(ReplayFault::Head),
-        counts: (0, 0, 0),
+        answer: Err(ReplayFault::Head),
     },
     Row {
         name: "head-line-alone",
         script: "s6-script 1\n",
         transcript: "",
-        fault: None,
-        counts: (0, 0, 0),
+        answer: Ok((0, 0, 0)),
     },
     Row {
         name: "last-line-without-newline",
         script: "s6-script 1\n0 1 tick\n0 1 tick",
         transcript: "1 done\n",
-        fault: Some(ReplayFault::Truncated),
-        counts: (1, 0, 0),
+        answer: Err(ReplayFault::Truncated),
     },
     Row {
         name: "head-line-with-a-space-after-it",
         script: "s6-script 1 \n",
         transcript: "",
-        fault: Some(ReplayFault::Head),
-        counts: (0, 0, 0),
+        answer: Err(ReplayFault::Head),
     },
     Row {
         name: "empty-line",
         script: "s6-script 1\n\n",
         transcript: "",
-        fault: Some(ReplayFault::Line(2)),
-        counts: (0, 0, 0),
+        answer: Err(ReplayFault::Line(2)),
     },
     Row {
         name: "actor-over-fifteen",
         script: "s6-script 1\n0 16 tick\n",
         transcript: "",
-        fault: Some(ReplayFault::Line(2)),
-        counts: (0, 0, 0),
+        answer: Err(ReplayFault::Line(2)),
     },
     Row {
         name: "actor-with-a-leading-zero",
         script: "s6-script 1\n0 1 tick\n0 01 tick\n",
         transcript: "1 done\n",
-        fault: Some(ReplayFault::Line(3)),
-        counts: (1, 0, 0),
+        answer: Err(ReplayFault::Line(3)),
     },
     Row {
         name: "moment-over-the-greatest",
         script: "s6-script 1\n1000000000000001 1 tick\n",
         transcript: "",
-        fault: Some(ReplayFault::Line(2)),
-        counts: (0, 0, 0),
+        answer: Err(ReplayFault::Line(2)),
     },
     Row {
         name: "greatest-moment",
         script: "s6-script 1\n1000000000000000 1 tick\n",
         transcript: "1 done\n",
-        fault: None,
-        counts: (1, 0, 0),
+        answer: Ok((1, 0, 0)),
     },
     Row {
         name: "signal-over-sixty-four",
         script: "s6-script 1\n0 1 death 1 1 signal 65\n",
         transcript: "",
-        fault: Some(ReplayFault::Line(2)),
-        counts: (0, 0, 0),
+        answer: Err(ReplayFault::Line(2)),
     },
     Row {
         name: "letter-o-in-a-script",
         script: "s6-script 1\n0 1 svc web o\n",
         transcript: "",
-        fault: Some(ReplayFault::Line(2)),
-        counts: (0, 0, 0),
+        answer: Err(ReplayFault::Line(2)),
     },
     Row {
         name: "upper-case-hex",
         script: "s6-script 1\n0 1 notify 1 1 0A\n",
         transcript: "",
-        fault: Some(ReplayFault::Line(2)),
-        counts: (0, 0, 0),
+        answer: Err(ReplayFault::Line(2)),
     },
     Row {
         name: "option-at-its-default",
         script: "s6-script 1\n0 1 scan web:kill=0\n",
         transcript: "",
-        fault: Some(ReplayFault::Line(2)),
-        counts: (0, 0, 0),
+        answer: Err(ReplayFault::Line(2)),
     },
     Row {
         name: "option-with-leading-zeros",
         script: "s6-script 1\n0 1 scan web:kill=007\n",
         transcript: "",
-        fault: Some(ReplayFault::Line(2)),
-        counts: (0, 0, 0),
+        answer: Err(ReplayFault::Line(2)),
     },
     Row {
         name: "options-out-of-order",
         script: "s6-script 1\n0 1 scan web:finish,down\n",
         transcript: "",
-        fault: Some(ReplayFault::Line(2)),
-        counts: (0, 0, 0),
+        answer: Err(ReplayFault::Line(2)),
     },
     Row {
         name: "notify-on-descriptor-two",
         script: "s6-script 1\n0 1 scan web:notify=2\n",
         transcript: "",
-        fault: Some(ReplayFault::Line(2)),
-        counts: (0, 0, 0),
+        answer: Err(ReplayFault::Line(2)),
     },
     Row {
         name: "ready-service-restarts-at-once",
         script: "s6-script 1\n0 1 scan web:notify=3\n0 1 started 1 1 500\n100 1 notify 1 1 610a0a\n1101 1 death 1 1 code 0\n",
         transcript: "1 scanned +1:web\ne 1 s\no run 1 1 fd 3\n2 done\ne 1 u\n3 done\ne 1 U\n4 done\ne 1 d\ne 1 D\no run 1 2 fd 3\n",
-        fault: None,
-        counts: (4, 5, 2),
+        answer: Ok((4, 5, 2)),
     },
     Row {
         name: "exit-while-down-and-a-new-supervisor",
         script: "s6-script 1\n0 1 scan web:down\n5 1 svc web x\n6 1 svc web u\n1005 1 tick\n",
         transcript: "1 scanned +1:web\ne 1 s\n2 done\ne 1 x\n3 refused Ended\n4 done\ne 1 s\n",
-        fault: None,
-        counts: (4, 3, 0),
+        answer: Ok((4, 3, 0)),
     },
     Row {
         name: "once-letters-and-row-after-death",
         script: "s6-script 1\n0 1 scan web:down\n1 1 svc web uO\n2 1 started 1 1 500\n5000 1 death 1 1 code 0\n9000 1 status web\n",
         transcript: "1 scanned +1:web\ne 1 s\n2 done\no run 1 1\n3 done\ne 1 u\n4 done\ne 1 d\ne 1 D\n5 row 1 web false false false true false -1 0 -1 4 4\n",
-        fault: None,
-        counts: (5, 4, 1),
+        answer: Ok((5, 4, 1)),
     },
     Row {
         name: "report-of-an-old-life-is-stale",
@@ -186,29 +168,33 @@ const ROWS: [Row; 25] = [
         1350 1 started 1 2 501\n1400 1 death 1 1 code 1\n",
         transcript: "1 scanned +1:web\ne 1 s\no run 1 1\n2 done\ne 1 u\n3 done\ne 1 d\ne 1 D\n4 done\n5 done\no run 1 2\n6 done\ne 1 u\n\
         7 refused Stale\n",
-        fault: None,
-        counts: (7, 5, 2),
+        answer: Ok((7, 5, 2)),
     },
     Row {
         name: "down-before-the-spawn-waits-for-it",
         script: "s6-script 1\n0 1 scan web\n5 1 svc web d\n8 1 started 1 1 500\n",
         transcript: "1 scanned +1:web\ne 1 s\no run 1 1\n2 done\n3 done\ne 1 u\no signal 1 1 15\no signal 1 1 18\n",
-        fault: None,
-        counts: (3, 2, 3),
+        answer: Ok((3, 2, 3)),
     },
     Row {
         name: "failed-spawn-is-tried-after-a-minute",
         script: "s6-script 1\n0 1 scan web\n0 1 startfailed 1 1\n59999 1 tick\n60000 1 tick\n",
         transcript: "1 scanned +1:web\ne 1 s\no run 1 1\n2 done\n3 done\n4 done\no run 1 2\n",
-        fault: None,
-        counts: (4, 1, 2),
+        answer: Ok((4, 1, 2)),
     },
     Row {
-        name: "end of a finish that was not started",
-        script: "s6-script 1\n0 1 scan web\n0 1 finished 1 1 code 125\n0 1 finished 2 1 signal 9\n",
-        transcript: "1 scanned +1:web\ne 1 s\no run 1 1\n2 refused Stale\n3 refused NoService\n",
-        fault: None,
-        counts: (3, 1, 1),
+        name: "reports of no service, of no generation and of no finish",
+        script: "s6-script 1\n0 1 scan web\n0 1 finished 1 1 code 125\n0 1 finished 2 1 signal 9\n0 1 startfailed 2 1\n0 1 startfailed 1 2\n\
+        0 1 notify 2 1 0a\n0 1 notify 1 2 0a\n0 1 death 2 1 code 0\n0 1 death 1 2 code 0\n0 1 started 2 1 5\n0 1 started 1 2 5\n",
+        transcript: "1 scanned +1:web\ne 1 s\no run 1 1\n2 refused Stale\n3 refused NoService\n4 refused NoService\n5 refused Stale\n\
+        6 refused NoService\n7 refused Stale\n8 refused NoService\n9 refused Stale\n10 refused NoService\n11 refused Stale\n",
+        answer: Ok((11, 1, 1)),
+    },
+    Row {
+        name: "line with a byte zero",
+        script: "s6-script 1\n0 1 tick\n0 1 ti\0ck\n",
+        transcript: "1 done\n",
+        answer: Err(ReplayFault::Line(3)),
     },
 ];
 
@@ -241,34 +227,44 @@ const ENDS: [(&str, &str, &str); 5] = [
     ),
 ];
 
-#[test]
-fn the_ends_of_worked_rows(rt: HostRuntime) -> Result<(), Fail> {
-    for (name, script, end) in ENDS {
-        let (answer, written) = replayed(rt.alloc(), script.as_bytes())?;
-        assert!(rt; answer.is_ok(), "{name}");
-        assert!(rt; written.as_slice().ends_with(end.as_bytes()), "{name}");
-    }
-    Ok(())
+// A replay of the script writes this transcript, and answers so.
+pub fn check_replay(
+    rt: &impl Abort,
+    alloc: Global,
+    script: &[u8],
+    wanted: Answer,
+    transcript: &[u8],
+    name: &str,
+) {
+    let replay = replay_in_memory(alloc, script);
+    let answer = replay.answer.map(|counts| counts_of(&counts));
+    let written = replay.written.as_slice();
+    assert_eq!(rt; (answer, written), (wanted, transcript), "{name}");
+}
+
+fn counts_of(counts: &Counts) -> (u64, u128, u128) {
+    (counts.inputs, counts.events, counts.orders)
 }
 
 #[test]
-fn the_worked_rows(rt: HostRuntime) -> Result<(), Fail> {
+fn the_worked_rows(rt: HostRuntime) {
     for row in ROWS {
-        let name = row.name;
-        let (answer, written) = replayed(rt.alloc(), row.script.as_bytes())?;
-        assert_eq!(rt; written.as_slice(), row.transcript.as_bytes(), "{name}");
-        let wanted = match row.fault {
-            None => {
-                let (inputs, events, orders) = row.counts;
-                Ok(Counts {
-                    inputs,
-                    events,
-                    orders,
-                })
-            }
-            Some(fault) => Err(fault),
-        };
-        assert_eq!(rt; answer, wanted, "{name}");
+        let script = row.script.as_bytes();
+        let transcript = row.transcript.as_bytes();
+        check_replay(&rt, rt.alloc(), script, row.answer, transcript, row.name);
     }
-    Ok(())
+}
+
+// A replay of the script has no fault, and its transcript ends so.
+fn check_end(rt: &impl Abort, alloc: Global, name: &str, script: &[u8], end: &[u8]) {
+    let replay = replay_in_memory(alloc, script);
+    let ends = replay.written.as_slice().ends_with(end);
+    assert!(rt; ends && replay.answer.is_ok(), "{name}");
+}
+
+#[test]
+fn the_ends_of_worked_rows(rt: HostRuntime) {
+    for (name, script, end) in ENDS {
+        check_end(&rt, rt.alloc(), name, script.as_bytes(), end.as_bytes());
+    }
 }

@@ -1,7 +1,0 @@
-use Rattle.std.proofs.Common.{◌≡◌, ◌++◌, take}
-use Rattle.std.specs.List.{flat_map}
-use Rattle.s6_replay.specs.Transcript.{listed_text}
-use Rattle.s6_replay.proofs.replies.push_all_listed.Given as goal
-
-abbrev pub invariant-loop-listed : goal.invariant-loop-listed
-invariant-loop-listed g l = l.text.items ≡ l.fn.text.items ++ flat_map listed_text (take l.listed-index l.all)
