@@ -1,5 +1,5 @@
 -- How the marks of a service grow with the history.
-use Rattle.std.proofs.Common.{◌≡◌, refl, sym, ap, ◌∙◌, ℕ, List, [], ◌∷◌, ◌++◌, reverse, Bool, true, false, not, cond, ◌==◌, fold, if◌then◌else◌, take_while, find, rules}
+use Rattle.std.proofs.Common.{◌≡◌, refl, ap, ◌∙◌, ℕ, List, [], ◌∷◌, ◌++◌, reverse, Bool, true, false, not, cond, ◌==◌, fold, if◌then◌else◌, take_while, rules}
 use Rattle.std.proofs.lemmas.List.{reverse-append, append-nil}
 use Rattle.std.proofs.lemmas.List.Sums.{take_while-cons}
 use Rattle.s6_events.specs.declared.mark.Mark.{Mark}
