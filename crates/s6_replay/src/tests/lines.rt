@@ -146,7 +146,6 @@ fn check_entry(rt: &impl Abort, alloc: Global, line: &[u8], config: Config) -> R
 
 #[test]
 fn an_entry_has_its_options(rt: HostRuntime) -> Result<(), Fail> {
-    let plain = Config::plain();
     let all = Config {
         down: true,
         finish: true,
@@ -157,47 +156,27 @@ fn an_entry_has_its_options(rt: HostRuntime) -> Result<(), Fail> {
         down_signal: 64,
     };
     let most = Config {
+        down: false,
+        finish: false,
         notification_fd: Some(1),
         timeout_kill: 4_294_967_295,
         timeout_finish: 4_294_967_295,
         max_death_tally: 4096,
         down_signal: 1,
-        ..plain
     };
     let rows = [
-        (b"0 1 scan web".as_slice(), plain),
         (
-            b"0 1 scan web:down,finish,notify=3,kill=1,fintime=0,tally=0,signal=64",
+            b"0 1 scan web:down,finish,notify=3,kill=1,fintime=0,tally=0,signal=64".as_slice(),
             all,
         ),
         (
             b"0 1 scan web:notify=1,kill=4294967295,fintime=4294967295,tally=4096,signal=1",
             most,
         ),
-        (
-            b"0 1 scan web:finish log",
-            Config {
-                finish: true,
-                ..plain
-            },
-        ),
     ];
     for (line, config) in rows {
         check_entry(&rt, rt.alloc(), line, config)?;
     }
-    Ok(())
-}
-
-#[test]
-fn a_line_has_its_bytes(rt: HostRuntime) -> Result<(), Fail> {
-    let input = parse_line(rt.alloc(), b"0 1 notify 2 3 000a7f80ff")
-        .ok()
-        .ok_or("an input")?;
-    let Act::Notify(sid, generation, bytes) = &input.act else {
-        return Err("a notification".into());
-    };
-    assert_eq!(rt; (sid.0, *generation), (2, 3));
-    assert_eq!(rt; bytes.as_slice(), [0, 10, 127, 128, 255].as_slice());
     Ok(())
 }
 

@@ -55,6 +55,9 @@ fn refuse_in_turn(
     let mut done = 0u32;
     let mut stopped = 0u32;
     for step in 0..400usize {
+        if done == 3 {
+            break;
+        }
         match replay_on_heap(alloc, script, blocks, 16 * step)? {
             (None, Some(5)) => done = done.saturating_add(1),
             (Some(ReplayFault::NoMemory), Some(0)) => stopped = stopped.saturating_add(1),
@@ -84,6 +87,9 @@ fn refuse_line_in_turn(rt: &impl Abort, alloc: Global, line: &[u8]) -> Result<()
     let mut done = 0u32;
     let mut refused = 0u32;
     for step in 0..80usize {
+        if done == 3 {
+            break;
+        }
         let heap = LocalHeap::new(alloc, 16 * step)?;
         match parse_line(&heap, line).err() {
             None => done = done.saturating_add(1),
