@@ -2,7 +2,7 @@
 use Rattle.std.proofs.Common.{◌≡◌, ℕ, ◌+◌, ◌*◌, ◌^◌, ◌<◌, ◌≤◌, List, [], ◌∷◌, ◌++◌, length, refl, sym, ap, ◌∙◌, subst, append_assoc, append-nil, arith, rules, inl, inr}
 use Rattle.std.specs.Prelude.{Option}
 use Rattle.std.specs.List.{flat_map, AllByRecursion}
-use Rattle.std.specs.Io.KnownBytes.{Consumes, Appends, IsAtEnd}
+use Rattle.std.specs.Io.KnownBytes.{Consumes, Appends}
 use Rattle.std.proofs.KnownBytes.{Consumes-trans, Appends-trans, Appends-nil}
 use Rattle.std.proofs.lemmas.List.{length-append}
 use Rattle.tree_core.specs.declared.input.Input.{Input}
@@ -10,7 +10,7 @@ use Rattle.tree_core.specs.Machine.{Machine, Outcome, new_machine}
 use Rattle.tree_core.specs.Run.{after, outcome, outcomes, after_all}
 use Rattle.tree_core.specs.StandsFor.{Stored, StandsFor}
 use Rattle.s6_replay.specs.Lines.{HasNoNewline, AppendsFront}
-use Rattle.s6_replay.specs.Replay.{HasLine, Written, IsWhole, CountsOf, ReadsOn, Stops, head_line, input_line, script, transcript}
+use Rattle.s6_replay.specs.Replay.{HasLine, Written, CountsOf, ReadsOn, Stops, head_line, input_line, script, transcript}
 use Rattle.s6_replay.specs.Replay.IsNoInputLine.{too_many}
 use Rattle.s6_replay.specs.Spelling.{spelling}
 use Rattle.s6_replay.specs.Transcript.{block, blocks}
