@@ -5,4 +5,4 @@ use Rattle.deadlines.specs.declared.timer.Timer.{Timer}
 -- the timers that are set, in rising serial, and how many more fit with no growth
 pub record Armed : Type 0 where
   pub timers : List Timer
-  pub room : ℕ
+  pub spare_capacity : ℕ

@@ -78,7 +78,7 @@ impl<A: Allocator + Copy> Deadlines<A> {
     pub fn set(&mut self, sid: Sid, at: At) -> Result<(), NoMemory>
         ensures ok { OnOk result (self.new.timers ≡ set_to sid at self.old.timers) }
         ensures err { OnErr result (self.new.timers ≡ self.old.timers) }
-        ensures succeeds { 0 < self.old.room → IsOk result }
+        ensures succeeds { 0 < self.old.spare_capacity → IsOk result }
     {
         self.timers.reserve(1)?;
         self.put(sid, at);
@@ -87,9 +87,9 @@ impl<A: Allocator + Copy> Deadlines<A> {
 
     // Sets a timer for which there is room.
     fn put(&mut self, sid: Sid, at: At)
-        requires { 0 < self.old.room }
+        requires { 0 < self.old.spare_capacity }
         ensures timers { self.new.timers ≡ set_to sid at self.old.timers }
-        ensures room { self.old.room ≤ self.new.room + 1 }
+        ensures room { self.old.spare_capacity ≤ self.new.spare_capacity + 1 }
     {
         let place = place_of(&self.timers, sid);
         let timer = Timer { sid, at };
@@ -103,7 +103,7 @@ impl<A: Allocator + Copy> Deadlines<A> {
     /// Clears the timer of a service, where it was set. Takes no memory.
     pub fn clear(&mut self, sid: Sid)
         ensures timers { self.new.timers ≡ cleared sid self.old.timers }
-        ensures room { self.old.room ≤ self.new.room }
+        ensures room { self.old.spare_capacity ≤ self.new.spare_capacity }
     {
         let place = place_of(&self.timers, sid);
         if is_at(&self.timers, place, sid) {
@@ -131,7 +131,7 @@ impl<A: Allocator + Copy> Deadlines<A> {
     /// is nothing to change.
     pub fn prepare(&mut self, changes: &[TimerChange]) -> Result<Plan<A>, NoMemory>
         ensures ok { IfOk result (λ plan. plan ≡ changes.now) }
-        ensures room { OnOk result (length changes.now ≤ self.new.room) }
+        ensures room { OnOk result (length changes.now ≤ self.new.spare_capacity) }
         ensures timers { self.new.timers ≡ self.old.timers }
         ensures quiet { changes.now ≡ [] → IsOk result }
     {
@@ -144,7 +144,7 @@ impl<A: Allocator + Copy> Deadlines<A> {
 
     /// Makes the changes of a plan that these deadlines made, where nothing changed in between. Takes no memory.
     pub fn commit(&mut self, plan: Plan<A>)
-        requires { length plan ≤ self.old.room }
+        requires { length plan ≤ self.old.spare_capacity }
         ensures { self.new.timers ≡ changed_all plan self.old.timers }
     {
         for change in &plan.changes {
@@ -154,9 +154,9 @@ impl<A: Allocator + Copy> Deadlines<A> {
 
     // One change, for which there is room.
     fn make(&mut self, change: &TimerChange)
-        requires { 0 < self.old.room }
+        requires { 0 < self.old.spare_capacity }
         ensures timers { self.new.timers ≡ changed self.old.timers change.now }
-        ensures room { self.old.room ≤ self.new.room + 1 }
+        ensures room { self.old.spare_capacity ≤ self.new.spare_capacity + 1 }
     {
         match change {
             TimerChange::Set(sid, at) => self.put(*sid, *at),

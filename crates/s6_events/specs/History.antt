@@ -6,7 +6,7 @@ use Rattle.s6_events.specs.declared.moment.Moment.{Moment}
 pub record Recorded : Type 0 where
   pub forgotten : ℕ
   pub kept : List Moment
-  pub room : ℕ
+  pub spare_capacity : ℕ
 
 -- the place after the last moment
 abbrev pub end_of : Recorded → ℕ

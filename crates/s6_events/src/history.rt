@@ -74,7 +74,7 @@ impl<A: Allocator + Copy> History<A> {
         ensures ok { OnOk result (self.new.kept ≡ self.old.kept ++ moment ∷ []) }
         ensures err { OnErr result (self.new.kept ≡ self.old.kept) }
         ensures forgotten { self.new.forgotten ≡ self.old.forgotten }
-        ensures succeeds { 0 < self.old.room → IsOk result }
+        ensures succeeds { 0 < self.old.spare_capacity → IsOk result }
     {
         self.moments.push(moment)?;
         Ok(())
@@ -98,7 +98,7 @@ impl<A: Allocator + Copy> History<A> {
     /// there is nothing to push.
     pub fn prepare(&mut self, moments: &[Moment]) -> Result<Plan<A>, NoMemory>
         ensures ok { IfOk result (λ plan. plan ≡ moments.now) }
-        ensures room { OnOk result (length moments.now ≤ self.new.room) }
+        ensures room { OnOk result (length moments.now ≤ self.new.spare_capacity) }
         ensures forgotten { self.new.forgotten ≡ self.old.forgotten }
         ensures kept { self.new.kept ≡ self.old.kept }
         ensures quiet { moments.now ≡ [] → IsOk result }
@@ -112,7 +112,7 @@ impl<A: Allocator + Copy> History<A> {
 
     /// Makes the pushes of a plan that this history made, where nothing was pushed in between. Takes no memory.
     pub fn commit(&mut self, plan: Plan<A>)
-        requires room { length plan ≤ self.old.room }
+        requires room { length plan ≤ self.old.spare_capacity }
         requires count { end_of self.old + length plan < 2 ^ 63 }
         ensures forgotten { self.new.forgotten ≡ self.old.forgotten }
         ensures kept { self.new.kept ≡ self.old.kept ++ plan }

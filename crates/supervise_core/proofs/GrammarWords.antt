@@ -9,7 +9,7 @@ use Rattle.supervise_core.specs.declared.chart.ChartState.{ChartState}
 use Rattle.supervise_core.specs.declared.out.Out.{Out}
 use Rattle.supervise_core.specs.Chart.{changed_by}
 use Rattle.supervise_core.specs.Moves.{begin_supervisor}
-use Rattle.supervise_core.specs.Gives.{Gives}
+use Rattle.supervise_core.specs.MatchesMove.{MatchesMove}
 use Rattle.supervise_core.proofs.Grammar.{walks_changed}
 
 -- how the rest of a word goes on: whether the present run becomes ready and fails for good, and the runs and supervisors after it
@@ -82,7 +82,7 @@ begins_word marks q h =
 
 -- the marks of a change lead on from where the service stood
 pub leads_after : (change : Change) (now : ℕ) (c after : ChartState) (out : Out) (marks : List Mark)
-    → Gives (changed_by change now c) after out → LeadsTo marks c → LeadsTo (marks ++ out.events.items) after
+    → MatchesMove (changed_by change now c) after out → LeadsTo marks c → LeadsTo (marks ++ out.events.items) after
 leads_after change now c after out marks gives leads =
     let place : walk SupervisorEnded (marks ++ out.events.items) ≡ Some (place_of after) =
     fold-append step_on (Some SupervisorEnded) marks out.events.items
@@ -95,7 +95,7 @@ walks_begin : (c : ChartState) → walk SupervisorEnded (begin_supervisor c).mar
 walks_begin c = search rules
 
 -- the marks of a supervisor that begins lead to where its service stands
-pub leads_begun : (c after : ChartState) (out : Out) → Gives (begin_supervisor c) after out → LeadsTo out.events.items after
+pub leads_begun : (c after : ChartState) (out : Out) → MatchesMove (begin_supervisor c) after out → LeadsTo out.events.items after
 leads_begun c after out gives =
     let place : walk SupervisorEnded out.events.items ≡ Some (place_of after) =
     ap (λ ms. walk SupervisorEnded ms) gives.marks ∙ (walks_begin c ∙ ap (λ (x : ChartState). Some (place_of x)) (sym gives.chart)) in

@@ -7,7 +7,7 @@ pub mod EventGrammar
 pub mod Timer
 pub mod Listed
 pub mod Chart
-pub mod Gives
+pub mod MatchesMove
 pub mod Status
 pub mod StatusRow
 pub mod Service

@@ -2,7 +2,7 @@ ghost use Rattle.std.specs.Prelude.{◌≡◌, ◌+◌, ◌<◌, ◌≤◌, ◌^
 ghost use Rattle.supervise_core.specs.ChartState.{new_service};
 ghost use Rattle.supervise_core.specs.Moves.{begin_supervisor};
 ghost use Rattle.supervise_core.specs.Chart.{set_active as with_activity, set_config as with_config, changed_by};
-ghost use Rattle.supervise_core.specs.Gives.{Gives, most_orders};
+ghost use Rattle.supervise_core.specs.MatchesMove.{MatchesMove, most_orders};
 
 use super::change::Change;
 use super::moves::SUPERVISOR_PAUSE;
@@ -81,7 +81,7 @@ impl ChartState {
     /// A new active service, whose supervisor starts: mark `s`, and the first run is ordered unless the directory has `down`.
     /// Page `s6-supervise`, "Detailed operation".
     pub fn begin(sid: Sid, name: Name, config: Config) -> (ChartState, Out)
-        ensures gives { Gives (begin_supervisor (new_service sid name config)) result.0 result.1 }
+        ensures gives { MatchesMove (begin_supervisor (new_service sid name config)) result.0 result.1 }
         ensures few { length result.1.orders.items ≤ 1 }
     {
         let mut chart = ChartState::new(sid, name, config);
@@ -93,7 +93,7 @@ impl ChartState {
     /// Takes any of the changes.
     pub fn change(&mut self, change: &Change, now: At) -> Out
         requires { self.old.generation + 1 < 2 ^ 64 }
-        ensures gives { Gives (changed_by change.now now self.old) self.new result }
+        ensures gives { MatchesMove (changed_by change.now now self.old) self.new result }
         ensures sid { self.new.sid ≡ self.old.sid }
         ensures few { length result.orders.items ≤ most_orders change.now }
     {

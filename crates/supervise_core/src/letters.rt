@@ -1,6 +1,6 @@
 ghost use Rattle.std.specs.Prelude.{◌≡◌, ◌+◌, ◌<◌, ◌≤◌, ◌^◌, length};
 ghost use Rattle.supervise_core.specs.ControlLetters.{take_letter as letter_move, told_up, told_down, told_signal, not_wanted, control as control_move};
-ghost use Rattle.supervise_core.specs.Gives.{Gives, Adds};
+ghost use Rattle.supervise_core.specs.MatchesMove.{MatchesMove, AppendsMove};
 ghost use Rattle.svc_commands.specs.ControlLetter.{signal_of};
 ghost use Rattle.supervise_core.specs.LetterBounds.{marks_left, runs_left};
 
@@ -16,7 +16,7 @@ impl ChartState {
     /// does anything. Page `s6-svc`; that they are done in the order written is this project's own rule.
     pub fn control(&mut self, letters: &Letters, now: At) -> Out
         requires { self.old.generation + 1 < 2 ^ 64 }
-        ensures gives { Gives (control_move letters.now.items now self.old) self.new result }
+        ensures gives { MatchesMove (control_move letters.now.items now self.old) self.new result }
         ensures sid { self.new.sid ≡ self.old.sid }
     {
         let mut out = Out::new();
@@ -31,7 +31,7 @@ impl ChartState {
         requires marks { length out.old.events.items < 4 }
         requires room { length out.old.orders.items + 2 ≤ 126 }
         requires next { self.old.generation + runs_left self.old.phase < 2 ^ 64 }
-        ensures gives { Adds (letter_move now letter self.old) self.new out.old out.new }
+        ensures gives { AppendsMove (letter_move now letter self.old) self.new out.old out.new }
         ensures sid { self.new.sid ≡ self.old.sid }
         ensures few { length out.new.orders.items ≤ length out.old.orders.items + 2 }
         ensures marks { length out.new.events.items + marks_left self.new.phase ≤ length out.old.events.items + marks_left self.old.phase }
@@ -68,7 +68,7 @@ impl ChartState {
     fn be_told_up(&mut self, out: &mut Out)
         requires room { length out.old.orders.items < 126 }
         requires next { self.old.generation + runs_left self.old.phase < 2 ^ 64 }
-        ensures { Adds (told_up self.old) self.new out.old out.new }
+        ensures { AppendsMove (told_up self.old) self.new out.old out.new }
     {
         if self.exit_requested {
             return;
@@ -82,7 +82,7 @@ impl ChartState {
     // `d`: it is no longer wanted up, and gets its down signal now or once it is spawned.
     fn be_told_down(&mut self, now: At, out: &mut Out)
         requires { length out.old.orders.items < 125 }
-        ensures { Adds (told_down self.old.phase now (not_wanted self.old)) self.new out.old out.new }
+        ensures { AppendsMove (told_down self.old.phase now (not_wanted self.old)) self.new out.old out.new }
     {
         self.wanted_up = false;
         match self.phase {
@@ -96,7 +96,7 @@ impl ChartState {
     // A letter that stands for a signal, which `run` gets where it is there.
     fn pass_signal(&mut self, letter: ControlLetter, out: &mut Out)
         requires { length out.old.orders.items < 126 }
-        ensures gives { Adds (told_signal (signal_of letter) letter self.old) self.new out.old out.new }
+        ensures gives { AppendsMove (told_signal (signal_of letter) letter self.old) self.new out.old out.new }
         ensures few { length out.new.orders.items ≤ length out.old.orders.items + 1 }
         ensures marks { out.new.events.items ≡ out.old.events.items }
         ensures phase { self.new.phase ≡ self.old.phase }

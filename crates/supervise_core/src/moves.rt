@@ -1,6 +1,6 @@
 ghost use Rattle.std.specs.Prelude.{◌≡◌, ◌+◌, ◌<◌, ◌≤◌, ◌^◌, ◌++◌, length};
 ghost use Rattle.supervise_core.specs.Moves.{start_run as start_move, begin_supervisor as begin_move, send_down_signal as down_move, kill_timer, end_supervisor as end_move, settle as settle_move, start_finish as finish_move};
-ghost use Rattle.supervise_core.specs.Gives.{Adds};
+ghost use Rattle.supervise_core.specs.MatchesMove.{AppendsMove};
 
 use super::chart::ChartState;
 use super::out::Out;
@@ -23,7 +23,7 @@ impl ChartState {
     pub(crate) fn start_run(&mut self, out: &mut Out)
         requires room { length out.old.orders.items < 126 }
         requires next { self.old.generation + 1 < 2 ^ 64 }
-        ensures { Adds (start_move self.old) self.new out.old out.new }
+        ensures { AppendsMove (start_move self.old) self.new out.old out.new }
     {
         self.generation += 1;
         self.phase = Phase::Starting;
@@ -39,7 +39,7 @@ impl ChartState {
         requires marks { length out.old.events.items < 4 }
         requires room { length out.old.orders.items < 126 }
         requires next { self.old.generation + 1 < 2 ^ 64 }
-        ensures { Adds (begin_move self.old) self.new out.old out.new }
+        ensures { AppendsMove (begin_move self.old) self.new out.old out.new }
     {
         out.events.push(Mark::SupervisorStarted);
         self.phase = Phase::Down;
@@ -57,7 +57,7 @@ impl ChartState {
     // `run` gets its down signal and SIGCONT.
     pub(crate) fn send_down_signal(&mut self, now: At, out: &mut Out)
         requires { length out.old.orders.items < 125 }
-        ensures { Adds (down_move now self.old) self.new out.old out.new }
+        ensures { AppendsMove (down_move now self.old) self.new out.old out.new }
     {
         out.orders.push(Order::Signal(self.sid, self.generation, self.config.down_signal));
         out.orders
@@ -80,7 +80,7 @@ impl ChartState {
     // `finish` is ordered for a run that ended so.
     pub(crate) fn start_finish(&mut self, exit: Exit, now: At, out: &mut Out)
         requires { length out.old.orders.items < 126 }
-        ensures { Adds (finish_move exit now self.old) self.new out.old out.new }
+        ensures { AppendsMove (finish_move exit now self.old) self.new out.old out.new }
     {
         let (code, signal) = finish_args(exit);
         self.phase = Phase::Finish;
@@ -95,7 +95,7 @@ impl ChartState {
     // The supervisor ends.
     pub(crate) fn end_supervisor(&mut self, now: At, out: &mut Out)
         requires { length out.old.events.items < 4 }
-        ensures { Adds (end_move now self.old) self.new out.old out.new }
+        ensures { AppendsMove (end_move now self.old) self.new out.old out.new }
     {
         out.events.push(Mark::SupervisorEnded);
         self.phase = Phase::Gone;
@@ -111,7 +111,7 @@ impl ChartState {
         requires marks { length out.old.events.items < 4 }
         requires room { length out.old.orders.items < 126 }
         requires next { self.old.generation + 1 < 2 ^ 64 }
-        ensures { Adds (settle_move now self.old) self.new out.old out.new }
+        ensures { AppendsMove (settle_move now self.old) self.new out.old out.new }
     {
         let due = restart_due(self.ready_since, self.died_at, now);
         self.phase = Phase::Down;

@@ -1,7 +1,7 @@
 ghost use Rattle.std.specs.Prelude.{◌≡◌, ◌+◌, ◌<◌, ◌≤◌, ◌^◌, ◌++◌, length};
 ghost use Rattle.supervise_core.specs.Reports.{started as started_move, start_failed as start_failed_move, notified as notified_move, death as death_move, finish_ended as finish_ended_move, finish_done, not_spawned, is_awaiting, is_running, is_in_finish, says_ready};
 ghost use Rattle.finish_core.specs.ExitVerdict.{verdict_of};
-ghost use Rattle.supervise_core.specs.Gives.{Gives, Adds};
+ghost use Rattle.supervise_core.specs.MatchesMove.{MatchesMove, AppendsMove};
 
 use super::chart::ChartState;
 use super::out::Out;
@@ -45,7 +45,7 @@ impl ChartState {
     /// `run` was spawned: mark `u`. Where it was told to go down meanwhile, the down signal follows. Stale unless its start was
     /// under way. Page `s6-supervise`, "Events".
     pub fn started(&mut self, generation: u64, pid: u32, now: At) -> Out
-        ensures gives { Gives (started_move generation pid now self.old) self.new result }
+        ensures gives { MatchesMove (started_move generation pid now self.old) self.new result }
         ensures sid { self.new.sid ≡ self.old.sid }
         ensures few { length result.orders.items ≤ 2 }
     {
@@ -72,7 +72,7 @@ impl ChartState {
     /// none is this project's own rule.
     pub fn start_failed(&mut self, generation: u64, now: At) -> Out
         requires { self.old.generation + 1 < 2 ^ 64 }
-        ensures gives { Gives (start_failed_move generation now self.old) self.new result }
+        ensures gives { MatchesMove (start_failed_move generation now self.old) self.new result }
         ensures sid { self.new.sid ≡ self.old.sid }
         ensures few { length result.orders.items ≤ 1 }
     {
@@ -91,7 +91,7 @@ impl ChartState {
     // The run could not be spawned.
     fn miss_spawn(&mut self, now: At, out: &mut Out)
         requires { length out.old.events.items < 4 }
-        ensures gives { Adds (not_spawned now self.old) self.new out.old out.new }
+        ensures gives { AppendsMove (not_spawned now self.old) self.new out.old out.new }
         ensures quiet { out.new.orders.items ≡ out.old.orders.items }
     {
         self.phase = Phase::Down;
@@ -106,7 +106,7 @@ impl ChartState {
     /// `run` wrote these bytes to its notification descriptor: mark `U` at the first newline of this run, and else nothing.
     /// Stale unless it was up. Page `notifywhenup`.
     pub fn notify(&mut self, generation: u64, bytes: &[u8], now: At) -> Out
-        ensures gives { Gives (notified_move generation bytes.now now self.old) self.new result }
+        ensures gives { MatchesMove (notified_move generation bytes.now now self.old) self.new result }
         ensures sid { self.new.sid ≡ self.old.sid }
         ensures few { length result.orders.items ≤ 0 }
     {
@@ -127,7 +127,7 @@ impl ChartState {
     /// up. Pages `s6-supervise`, "Detailed operation", and `servicedir`, "finish"; the length of the pause is this project's own.
     pub fn death(&mut self, generation: u64, exit: Exit, now: At) -> Out
         requires { self.old.generation + 1 < 2 ^ 64 }
-        ensures gives { Gives (death_move generation exit now self.old) self.new result }
+        ensures gives { MatchesMove (death_move generation exit now self.old) self.new result }
         ensures sid { self.new.sid ≡ self.old.sid }
         ensures few { length result.orders.items ≤ 1 }
     {
@@ -155,7 +155,7 @@ impl ChartState {
     /// "finish", and `s6-supervise`, "Events".
     pub fn finish_ended(&mut self, generation: u64, exit: Exit, now: At) -> Out
         requires { self.old.generation + 1 < 2 ^ 64 }
-        ensures gives { Gives (finish_ended_move generation exit now self.old) self.new result }
+        ensures gives { MatchesMove (finish_ended_move generation exit now self.old) self.new result }
         ensures sid { self.new.sid ≡ self.old.sid }
         ensures few { length result.orders.items ≤ 1 }
     {

@@ -3,7 +3,7 @@ ghost use Rattle.s6_events.specs.declared.moment.Moment.{Moment};
 ghost use Rattle.supervise_core.specs.ChartState.{new_service, still};
 ghost use Rattle.supervise_core.specs.Moves.{begin_supervisor};
 ghost use Rattle.supervise_core.specs.Chart.{started as started_move, start_failed as start_failed_move, notified as notified_move, death as death_move, finish_ended as finish_ended_move, control as control_move, fire as fire_move, set_active as with_activity, set_config as with_config, changed_by};
-ghost use Rattle.supervise_core.specs.Gives.{Gives};
+ghost use Rattle.supervise_core.specs.MatchesMove.{MatchesMove};
 ghost use Rattle.supervise_core.specs.EventGrammar.{LeadsTo};
 ghost use Rattle.s6_events.specs.declared.mark.Mark.{Mark};
 ghost use Rattle.supervise_core.specs.Status.{events_of};
@@ -46,7 +46,7 @@ impl Service {
         config: Config,
         _now: At,
     ) -> Result<(Service, Out), NoMemory>
-        ensures gives { IfOk result (λ made. Gives (begin_supervisor (new_service sid name config)) made.0.chart made.1) }
+        ensures gives { IfOk result (λ made. MatchesMove (begin_supervisor (new_service sid name config)) made.0.chart made.1) }
         ensures grammar { IfOk result (λ made. LeadsTo made.1.events.items made.0.chart) }
         ensures agrees { (history : List Moment) → IfOk result (λ made. AgreesWith made.0 (history ++ events_of sid made.1.events.items)) }
     {
@@ -102,11 +102,11 @@ impl Service {
 
     /// `run` of this generation was spawned: mark `u`. Stale unless its start was under way. Page `s6-supervise`, "Events".
     pub fn started(&mut self, generation: u64, pid: u32, now: At) -> Out
-        ensures gives { Gives (started_move generation pid now self.old.chart) self.new.chart result }
+        ensures gives { MatchesMove (started_move generation pid now self.old.chart) self.new.chart result }
         ensures agrees { KeepsAgreeing now result.events.items self.old self.new }
     {
         let out = self.chart.started(generation, pid, now);
-        self.status.tell_all(out.events.as_slice(), now);
+        self.status.record_marks(out.events.as_slice(), now);
         out
     }
 
@@ -115,22 +115,22 @@ impl Service {
     /// is this project's own rule.
     pub fn start_failed(&mut self, generation: u64, now: At) -> Out
         requires { self.old.chart.generation + 1 < 2 ^ 64 }
-        ensures gives { Gives (start_failed_move generation now self.old.chart) self.new.chart result }
+        ensures gives { MatchesMove (start_failed_move generation now self.old.chart) self.new.chart result }
         ensures agrees { KeepsAgreeing now result.events.items self.old self.new }
     {
         let out = self.chart.start_failed(generation, now);
-        self.status.tell_all(out.events.as_slice(), now);
+        self.status.record_marks(out.events.as_slice(), now);
         out
     }
 
     /// `run` of this generation wrote these bytes to its notification descriptor: mark `U` at its first newline. Stale unless it was
     /// up. Page `notifywhenup`.
     pub fn notify(&mut self, generation: u64, bytes: &[u8], now: At) -> Out
-        ensures gives { Gives (notified_move generation bytes.now now self.old.chart) self.new.chart result }
+        ensures gives { MatchesMove (notified_move generation bytes.now now self.old.chart) self.new.chart result }
         ensures agrees { KeepsAgreeing now result.events.items self.old self.new }
     {
         let out = self.chart.notify(generation, bytes, now);
-        self.status.tell_all(out.events.as_slice(), now);
+        self.status.record_marks(out.events.as_slice(), now);
         out
     }
 
@@ -138,11 +138,11 @@ impl Service {
     /// `s6-supervise`, "Detailed operation".
     pub fn death(&mut self, generation: u64, exit: Exit, now: At) -> Out
         requires { self.old.chart.generation + 1 < 2 ^ 64 }
-        ensures gives { Gives (death_move generation exit now self.old.chart) self.new.chart result }
+        ensures gives { MatchesMove (death_move generation exit now self.old.chart) self.new.chart result }
         ensures agrees { KeepsAgreeing now result.events.items self.old self.new }
     {
         let out = self.chart.death(generation, exit, now);
-        self.status.tell_all(out.events.as_slice(), now);
+        self.status.record_marks(out.events.as_slice(), now);
         out
     }
 
@@ -150,11 +150,11 @@ impl Service {
     /// there. Pages `servicedir`, "finish", and `s6-supervise`, "Events".
     pub fn finish_ended(&mut self, generation: u64, exit: Exit, now: At) -> Out
         requires { self.old.chart.generation + 1 < 2 ^ 64 }
-        ensures gives { Gives (finish_ended_move generation exit now self.old.chart) self.new.chart result }
+        ensures gives { MatchesMove (finish_ended_move generation exit now self.old.chart) self.new.chart result }
         ensures agrees { KeepsAgreeing now result.events.items self.old self.new }
     {
         let out = self.chart.finish_ended(generation, exit, now);
-        self.status.tell_all(out.events.as_slice(), now);
+        self.status.record_marks(out.events.as_slice(), now);
         out
     }
 
@@ -162,22 +162,22 @@ impl Service {
     /// `s6-svc`.
     pub fn control(&mut self, letters: &Letters, now: At) -> Out
         requires { self.old.chart.generation + 1 < 2 ^ 64 }
-        ensures gives { Gives (control_move letters.now.items now self.old.chart) self.new.chart result }
+        ensures gives { MatchesMove (control_move letters.now.items now self.old.chart) self.new.chart result }
         ensures agrees { KeepsAgreeing now result.events.items self.old self.new }
     {
         let out = self.chart.control(letters, now);
-        self.status.tell_all(out.events.as_slice(), now);
+        self.status.record_marks(out.events.as_slice(), now);
         out
     }
 
     /// Its timer goes off where its moment has come: a start, a SIGKILL or a new supervisor. Page `s6-supervise`.
     pub fn fire(&mut self, now: At) -> Out
         requires { self.old.chart.generation + 1 < 2 ^ 64 }
-        ensures gives { Gives (fire_move now self.old.chart) self.new.chart result }
+        ensures gives { MatchesMove (fire_move now self.old.chart) self.new.chart result }
         ensures agrees { KeepsAgreeing now result.events.items self.old self.new }
     {
         let out = self.chart.fire(now);
-        self.status.tell_all(out.events.as_slice(), now);
+        self.status.record_marks(out.events.as_slice(), now);
         out
     }
 
@@ -185,18 +185,18 @@ impl Service {
     /// are the beginning of a word of (`s` (`u` `U`? `d` `O`? `D`)* `x`)*. Page `s6-supervise`, "Events".
     pub fn change(&mut self, change: &Change, now: At) -> Out
         requires { self.old.chart.generation + 1 < 2 ^ 64 }
-        ensures gives { Gives (changed_by change.now now self.old.chart) self.new.chart result }
+        ensures gives { MatchesMove (changed_by change.now now self.old.chart) self.new.chart result }
         ensures grammar { (marks : List Mark) → LeadsTo marks self.old.chart → LeadsTo (marks ++ result.events.items) self.new.chart }
         ensures agrees { KeepsAgreeing now result.events.items self.old self.new }
     {
         let out = self.chart.change(change, now);
-        self.status.tell_all(out.events.as_slice(), now);
+        self.status.record_marks(out.events.as_slice(), now);
         out
     }
 
     /// Its directory is listed, or no longer listed. Page `s6-svscan`.
     pub fn set_active(&mut self, active: bool, now: At) -> Out
-        ensures gives { Gives (still (with_activity active now self.old.chart)) self.new.chart result }
+        ensures gives { MatchesMove (still (with_activity active now self.old.chart)) self.new.chart result }
         ensures agrees { (history : List Moment) → AgreesWith self.old history → AgreesWith self.new history }
     {
         self.chart.set_active(active, now);
@@ -205,7 +205,7 @@ impl Service {
 
     /// Its directory was read again, and says this now; the number of deaths that are kept stays as it was. Page `servicedir`.
     pub fn set_config(&mut self, config: Config) -> Out
-        ensures gives { Gives (still (with_config config self.old.chart)) self.new.chart result }
+        ensures gives { MatchesMove (still (with_config config self.old.chart)) self.new.chart result }
         ensures agrees { (history : List Moment) → AgreesWith self.old history → AgreesWith self.new history }
     {
         self.chart.set_config(config);

@@ -45,7 +45,7 @@ impl Status {
     }
 
     /// A mark of the service is told, at a moment.
-    pub fn tell(&mut self, mark: Mark, now: At)
+    pub fn record_mark(&mut self, mark: Mark, now: At)
         ensures { self.new ≡ told_at now self.old mark }
     {
         match mark {
@@ -63,12 +63,12 @@ impl Status {
     }
 
     /// The marks of a change are told, all at one moment.
-    pub fn tell_all(&mut self, marks: &[Mark], now: At)
+    pub fn record_marks(&mut self, marks: &[Mark], now: At)
         ensures told { self.new ≡ told_all now marks.now self.old }
         ensures agrees { (sid : ℕ) → (history : List Moment) → Agrees sid self.old history → clock_of history ≡ now → Agrees sid self.new (history ++ events_of sid marks.now) }
     {
         for mark in marks {
-            self.tell(*mark, now);
+            self.record_mark(*mark, now);
         }
     }
 

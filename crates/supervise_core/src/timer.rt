@@ -1,6 +1,6 @@
 ghost use Rattle.std.specs.Prelude.{◌≡◌, ◌+◌, ◌<◌, ◌≤◌, ◌^◌, false, length};
 ghost use Rattle.supervise_core.specs.Timer.{fire as fire_move, timer_rule, is_due};
-ghost use Rattle.supervise_core.specs.Gives.{Gives, Adds};
+ghost use Rattle.supervise_core.specs.MatchesMove.{MatchesMove, AppendsMove};
 
 use super::chart::ChartState;
 use super::moves::KILL;
@@ -21,7 +21,7 @@ impl ChartState {
     /// supervisor. Pages `s6-supervise` and `servicedir`, "timeout-kill" and "timeout-finish".
     pub fn fire(&mut self, now: At) -> Out
         requires { self.old.generation + 1 < 2 ^ 64 }
-        ensures gives { Gives (fire_move now self.old) self.new result }
+        ensures gives { MatchesMove (fire_move now self.old) self.new result }
         ensures sid { self.new.sid ≡ self.old.sid }
         ensures few { length result.orders.items ≤ 1 }
         ensures fresh { result.stale ≡ false }
@@ -38,7 +38,7 @@ impl ChartState {
         requires marks { length out.old.events.items < 4 }
         requires room { length out.old.orders.items < 126 }
         requires next { self.old.generation + 1 < 2 ^ 64 }
-        ensures { Adds (timer_rule self.old.phase self.old) self.new out.old out.new }
+        ensures { AppendsMove (timer_rule self.old.phase self.old) self.new out.old out.new }
     {
         match self.phase {
             Phase::Down => self.start_run(out),

@@ -21,7 +21,7 @@ use Rattle.tree_core.specs.Acts.Work.{leave, change_one, change_named, apply_lis
 use Rattle.tree_core.specs.Listing.{is_listed, config_in, names_in, repeats, in_byte_order}
 use Rattle.tree_core.specs.Moves.{event, events_of, services_after}
 use Rattle.tree_core.specs.Scan.{ScanState, looked_at, looked_up, stays, stands, service_limit, config_for, with_service, with_name, with_names}
-use Rattle.tree_core.specs.Told.{charts_of}
+use Rattle.tree_core.specs.RecordedMarks.{charts_of}
 use Rattle.tree_core.proofs.Names.{keeps_either, keeps_still, keeps_look}
 use Rattle.tree_core.proofs.Recall.{begins, is_known}
 use Rattle.tree_core.proofs.Truth.{either_left, either_right}

@@ -16,7 +16,7 @@ use Rattle.tree_core.specs.Moves.{services_after, events_after, orders_after, mo
 use Rattle.tree_core.specs.Plan.{Present, IsNow, machine_with_history, planned, Plans}
 use Rattle.tree_core.specs.StandsFor.{AllAgree}
 use Rattle.tree_core.specs.Step.{step, timed, clocked, step_limit, clock_moments}
-use Rattle.tree_core.specs.Told.{charts_of, all_with_status}
+use Rattle.tree_core.specs.RecordedMarks.{charts_of, all_with_status}
 use Rattle.tree_core.proofs.Known.{AllKnown, known_before, known_fired, known_work, known_with}
 use Rattle.tree_core.proofs.Reading.{reading-clocked}
 use Rattle.tree_core.proofs.Recall.{all_clocked, recalled}

@@ -22,7 +22,7 @@ use Rattle.tree_core.specs.declared.effect.Event.{Event}
 use Rattle.tree_core.specs.Moves.{moment_of}
 use Rattle.tree_core.specs.StandsFor.{AllAgree}
 use Rattle.tree_core.specs.Step.{clock_moments}
-use Rattle.tree_core.specs.Told.{told_event, told_events, status_in, status_found, status_after, with_status, all_with_status}
+use Rattle.tree_core.specs.RecordedMarks.{told_event, told_events, status_in, status_found, status_after, with_status, all_with_status}
 use Rattle.tree_core.proofs.Reading.{reading-marks}
 
 -- one event joins

@@ -4,7 +4,7 @@ use Rattle.s6_events.specs.declared.moment.Moment.{Moment}
 use Rattle.supervise_core.specs.declared.chart.ChartState.{ChartState}
 use Rattle.supervise_core.specs.Service.{Supervised, AgreesWith}
 use Rattle.tree_core.specs.StandsFor.{AllAgree}
-use Rattle.tree_core.specs.Told.{charts_of}
+use Rattle.tree_core.specs.RecordedMarks.{charts_of}
 
 -- the state of a service that is found is the state that is found
 pub find_charts : {X : Type 0} (f : ChartState → X) (p : ChartState → Bool) (services : List Supervised)

@@ -15,7 +15,7 @@ use Rattle.tree_core.specs.Run.{after, outcome}
 use Rattle.tree_core.specs.Sound.{IsRecorded}
 use Rattle.tree_core.specs.StandsFor.{Stored, StandsFor, AllAgree}
 use Rattle.tree_core.specs.Timers.{TimersAgree}
-use Rattle.tree_core.specs.Told.{charts_of}
+use Rattle.tree_core.specs.RecordedMarks.{charts_of}
 use Rattle.tree_core.proofs.Reading.{step-reads}
 use Rattle.tree_core.proofs.TimersDue.{none_for_quiet}
 

@@ -12,7 +12,7 @@ use Rattle.deadlines.proofs.Rising.{rises_set_to, rises_cleared}
 use Rattle.supervise_core.specs.declared.chart.ChartState.{ChartState}
 use Rattle.supervise_core.specs.Service.{Supervised}
 use Rattle.tree_core.specs.Sound.{serials_of}
-use Rattle.tree_core.specs.Told.{charts_of}
+use Rattle.tree_core.specs.RecordedMarks.{charts_of}
 use Rattle.tree_core.proofs.Truth.{neither_left, neither_right, neither_of, second, both_left, both_right}
 use Rattle.tree_core.specs.Timers.{has_serial, in_reach, timer_in, set_in, TimersAgree, change_to, left, moved, changes_of}
 

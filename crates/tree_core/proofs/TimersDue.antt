@@ -19,7 +19,7 @@ use Rattle.tree_core.specs.Sound.{serials_of, IsNumbered}
 use Rattle.tree_core.specs.StandsFor.{Stored}
 use Rattle.tree_core.proofs.Quiet.{clock_stays}
 use Rattle.tree_core.proofs.SerialsRise.{rising_before}
-use Rattle.tree_core.specs.Told.{charts_of}
+use Rattle.tree_core.specs.RecordedMarks.{charts_of}
 use Rattle.tree_core.specs.Timers.{has_serial, in_reach, timer_in, set_in, TimersAgree, change_to, left, moved, changes_of, AreDue}
 use Rattle.tree_core.proofs.Truth.{both_left, both_right, either_right, neither_left, neither_right}
 use Rattle.tree_core.proofs.TimersAgree.{one_number, itself, later_other, earlier_other}

@@ -7,7 +7,7 @@ pub mod Rows
 pub mod Acts
 pub mod Step
 pub mod Run
-pub mod Told
+pub mod RecordedMarks
 pub mod StandsFor
 pub mod Effect
 pub mod Views

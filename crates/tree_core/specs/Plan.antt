@@ -17,7 +17,7 @@ use Rattle.tree_core.specs.Effect.{outcome_of}
 use Rattle.tree_core.specs.Machine.{Machine, DeathOf}
 use Rattle.tree_core.specs.StandsFor.{AllAgree}
 use Rattle.tree_core.specs.Step.{step}
-use Rattle.tree_core.specs.Told.{charts_of}
+use Rattle.tree_core.specs.RecordedMarks.{charts_of}
 
 -- what an act looks at: what is there now, and the history so far
 abbrev pub machine_before_act : Bool → ℕ → List ChartState → ℕ → List Moment → Machine

@@ -4,7 +4,7 @@ use Rattle.s6_events.specs.Clock.{clock_of}
 use Rattle.s6_events.specs.declared.moment.Moment.{Moment}
 use Rattle.supervise_core.specs.Service.{Supervised, AgreesWith}
 use Rattle.tree_core.specs.Machine.{Machine}
-use Rattle.tree_core.specs.Told.{charts_of}
+use Rattle.tree_core.specs.RecordedMarks.{charts_of}
 
 -- what a tree stores: all that is there now, with what each service stores of its marks, how many moments it forgot, and those
 -- after them

@@ -4,7 +4,7 @@ use Rattle.tree_core.specs.Sound.{IsSound, IsRecorded}
 use Rattle.tree_core.specs.Machine.{Machine}
 use Rattle.tree_core.specs.StandsFor.{Stored, StandsFor}
 use Rattle.tree_core.specs.Timers.{TimersAgree}
-use Rattle.tree_core.specs.Told.{charts_of}
+use Rattle.tree_core.specs.RecordedMarks.{charts_of}
 
 -- its services, its numbers and its history
 abbrev pub stored : {A : Type 0} → Inside A → Stored

@@ -1,6 +1,6 @@
 ghost use Rattle.std.specs.Prelude.{◌≡◌, ◌+◌, ◌<◌, ◌≤◌, ◌^◌, ◌==◌, length, All, IfOk, IsOk, ℕ, Bool, List, [], true, false};
 ghost use Rattle.s6_events.specs.declared.moment.Moment.{Moment};
-ghost use Rattle.supervise_core.specs.Gives.{most_orders};
+ghost use Rattle.supervise_core.specs.MatchesMove.{most_orders};
 ghost use Rattle.tree_core.specs.Acts.{report_reply as reply_by, reply_to_report, has_ended as is_ended, left_alone, worked, doing, refused_letters, refused_listing, reply_unless, work_unless, scan_reply, row_reply as reply_of_row, acted};
 ghost use Rattle.tree_core.specs.declared.reply.Reply.TheVariants.{Done};
 ghost use Rattle.tree_core.specs.Acts.Work.{change_one, change_named, apply_listing as listing_work};
@@ -10,7 +10,7 @@ ghost use Rattle.tree_core.specs.Sound.{names_of};
 ghost use Rattle.tree_core.specs.Plan.{machine_before_act, machine_with_history, is_reading, FitsBuffers};
 ghost use Rattle.tree_core.specs.Rows.{row_named};
 ghost use Rattle.tree_core.specs.StandsFor.{AllAgree};
-ghost use Rattle.tree_core.specs.Told.{all_with_status};
+ghost use Rattle.tree_core.specs.RecordedMarks.{all_with_status};
 ghost use Rattle.tree_core.specs.Views.{acted_of};
 
 use super::charts::{Charts, find_name, has_name, has_serial};

@@ -4,7 +4,7 @@ ghost use Rattle.s6_events.specs.declared.moment.Moment.{Moment};
 ghost use Rattle.tree_core.specs.Machine.{Machine};
 ghost use Rattle.tree_core.specs.Moves.{moment_of};
 ghost use Rattle.tree_core.specs.Plan.{present, IsNow, planned, Plans, IsQuiet};
-ghost use Rattle.tree_core.specs.Told.{charts_of as states_of};
+ghost use Rattle.tree_core.specs.RecordedMarks.{charts_of as states_of};
 ghost use Rattle.tree_core.specs.Listing.{repeats};
 ghost use Rattle.tree_core.specs.Sound.{IsSound, IsNumbered, names_of};
 ghost use Rattle.tree_core.specs.Timers.{AreDue, TimersAgree};

@@ -2,7 +2,7 @@ ghost use Rattle.std.specs.Prelude.{◌≡◌, ◌≤◌, map, length, find, byt
 ghost use Rattle.s6_events.specs.declared.moment.Moment.{Moment};
 ghost use Rattle.supervise_core.specs.StatusRow.{status_row};
 ghost use Rattle.tree_core.specs.StandsFor.{AllAgree};
-ghost use Rattle.tree_core.specs.Told.{charts_of};
+ghost use Rattle.tree_core.specs.RecordedMarks.{charts_of};
 
 use arrayvec::ArrayVec;
 use s6_events::{At, Name};

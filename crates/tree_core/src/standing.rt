@@ -1,6 +1,6 @@
 ghost use Rattle.std.specs.Prelude.{◌≡◌, ◌≤◌, map, length, find, ◌==◌, option_copied};
 ghost use Rattle.tree_core.specs.Plan.{supervised_of};
-ghost use Rattle.tree_core.specs.Told.{status_in, status_after, told_events, all_with_status};
+ghost use Rattle.tree_core.specs.RecordedMarks.{status_in, status_after, told_events, all_with_status};
 
 use super::effect::Event;
 use arrayvec::ArrayVec;
@@ -42,13 +42,13 @@ fn status_of(services: &[Service], sid: Sid) -> Status
 }
 
 // The events of a service are told to it, all at one moment.
-fn tell_events(status: Status, sid: Sid, events: &[Event], now: At) -> Status
+fn record_events(status: Status, sid: Sid, events: &[Event], now: At) -> Status
     ensures { result ≡ told_events sid now events.now status }
 {
     let mut told = status;
     for event in events {
         if event.sid == sid {
-            told.tell(event.mark, now);
+            told.record_mark(event.mark, now);
         }
     }
     told
@@ -58,7 +58,7 @@ fn tell_events(status: Status, sid: Sid, events: &[Event], now: At) -> Status
 pub fn status_once_told(services: &[Service], events: &[Event], sid: Sid, now: At) -> Status
     ensures { result ≡ status_after sid now events.now services.now }
 {
-    tell_events(status_of(services, sid), sid, events, now)
+    record_events(status_of(services, sid), sid, events, now)
 }
 
 /// The states, each with what its service stores of its marks once these events were told.

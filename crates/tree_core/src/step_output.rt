@@ -1,7 +1,7 @@
 ghost use Rattle.std.specs.Prelude.{◌≡◌, ◌+◌, ◌*◌, ◌<◌, ◌≤◌, ◌^◌, [], ◌∷◌, ◌++◌, map, length, All, IsOk, OnOk, IfOk, false, true, ◌||◌, ◌==◌, bytes_eq};
 ghost use Rattle.std.specs.List.{list_any};
 ghost use Rattle.supervise_core.specs.Chart.{is_due as is_timer_due, fire, changed_by};
-ghost use Rattle.supervise_core.specs.Gives.{most_orders};
+ghost use Rattle.supervise_core.specs.MatchesMove.{most_orders};
 ghost use Rattle.tree_core.specs.Acts.{changed_at, changed_named};
 ghost use Rattle.tree_core.specs.Listing.{repeats};
 ghost use Rattle.tree_core.specs.Scan.{stands};

@@ -2,7 +2,7 @@ ghost use Rattle.std.specs.Prelude.{◌≡◌, ◌++◌, [], List, IsOk, IsOkAnd
 ghost use Rattle.deadlines.specs.declared.timer.Timer.{Timer};
 ghost use Rattle.deadlines.specs.Timers.{changed_all, is_rising};
 ghost use Rattle.tree_core.specs.Sound.{serials_of};
-ghost use Rattle.tree_core.specs.Told.{charts_of};
+ghost use Rattle.tree_core.specs.RecordedMarks.{charts_of};
 ghost use Rattle.tree_core.specs.Timers.{in_reach, timer_in as moment_in, change_to as to_moment, left, moved, changes_of, TimersAgree};
 
 use super::charts::has_serial;

@@ -3,7 +3,7 @@ ghost use Rattle.tree_core.specs.Effect.{outcome_of};
 ghost use Rattle.tree_core.specs.Machine.{new_machine, Machine};
 ghost use Rattle.tree_core.specs.Plan.{supervised_of, IsQuiet};
 ghost use Rattle.tree_core.specs.Rows.{row_named, rows_of as all_rows};
-ghost use Rattle.tree_core.specs.Told.{charts_of};
+ghost use Rattle.tree_core.specs.RecordedMarks.{charts_of};
 ghost use Rattle.tree_core.specs.StandsFor.{StandsFor};
 ghost use Rattle.tree_core.specs.Run.{after, outcome};
 ghost use Rattle.tree_core.specs.Step.{step_limit, spent_outcome};

@@ -24,6 +24,36 @@ const ROWS: &[Row] = &[
         answer: Ok((5, 4, 2)),
     },
     Row {
+        name: "each-timer-at-its-own-moment",
+        script: "s6-script 1\n0 1 scan b a\n0 1 started 1 1 10\n0 1 started 2 1 20\n100 1 death 2 1 code 0\n200 1 death 1 1 code 0\n1100 1 tick\n1150 1 svc a d\n1300 1 tick\n1300 1 svc a u\n1300 1 started 2 2 21\n1350 1 started 1 2 11\n1400 1 death 2 2 code 0\n1450 1 death 1 2 code 0\n2500 1 tick\n",
+        transcript: "1 scanned +1:a +2:b\ne 1 s\ne 2 s\no run 1 1\no run 2 1\n2 done\ne 1 u\n3 done\ne 2 u\n4 done\ne 2 d\ne 2 D\n5 done\ne 1 d\ne 1 D\n6 done\no run 2 2\n7 done\n8 done\n9 done\no run 1 2\n10 done\ne 2 u\n11 done\ne 1 u\n12 done\ne 2 d\ne 2 D\n13 done\ne 1 d\ne 1 D\n14 done\no run 1 3\no run 2 3\n",
+        answer: Ok((14, 14, 6)),
+    },
+    Row {
+        name: "timer-past-the-greatest-moment",
+        script: "s6-script 1\n0 1 scan web\n0 1 started 1 1 500\n999999999999500 1 death 1 1 code 0\n1000000000000000 1 tick\n1000000000000000 1 svc web u\n",
+        transcript: "1 scanned +1:web\ne 1 s\no run 1 1\n2 done\ne 1 u\n3 done\ne 1 d\ne 1 D\n4 done\n5 done\no run 1 2\n",
+        answer: Ok((5, 4, 2)),
+    },
+    Row {
+        name: "names-in-the-order-of-their-bytes",
+        script: "s6-script 1\n5 1 scan b a b\n5 1 scan b a B\n4 1 scan a\n6 1 death 9 1 code 0\n6 1 death 1 1 code 0\n",
+        transcript: "1 refused Repeated\n2 scanned +1:B +2:a +3:b\ne 1 s\ne 2 s\ne 3 s\no run 1 1\no run 2 1\no run 3 1\n3 scanned\n4 refused NoService\n5 refused Stale\n",
+        answer: Ok((5, 3, 3)),
+    },
+    Row {
+        name: "next-supervisor-reads-the-new-configuration",
+        script: "s6-script 1\n0 1 scan web:down\n1 1 scan web\n2 1 svc web x\n1001 1 tick\n1002 1 tick\n",
+        transcript: "1 scanned +1:web\ne 1 s\n2 scanned\n3 done\ne 1 x\n4 done\n5 done\ne 1 s\no run 1 1\n",
+        answer: Ok((5, 3, 1)),
+    },
+    Row {
+        name: "finish-that-was-added-later",
+        script: "s6-script 1\n0 1 scan web\n0 1 started 1 1 500\n1 1 scan web:finish\n2 1 death 1 1 code 1\n",
+        transcript: "1 scanned +1:web\ne 1 s\no run 1 1\n2 done\ne 1 u\n3 scanned\n4 done\ne 1 d\no finish 1 1 1 0\n",
+        answer: Ok((4, 3, 2)),
+    },
+    Row {
         name: "scan-beyond-sixty-four-services",
         script: "s6-script 1\n\
         0 1 scan n01 n02 n03 n04 n05 n06 n07 n08 n09 n10 n11 n12 n13 n14 n15 n16 n17 n18 n19 n20 n21 n22 n23 n24 n25\

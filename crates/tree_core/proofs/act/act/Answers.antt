@@ -5,7 +5,7 @@ use Rattle.tree_core.specs.Acts.{Acted, left_alone, row_reply}
 use Rattle.tree_core.specs.Plan.{machine_before_act}
 use Rattle.tree_core.specs.Rows.{row_named}
 use Rattle.tree_core.specs.StandsFor.{AllAgree}
-use Rattle.tree_core.specs.Told.{all_with_status}
+use Rattle.tree_core.specs.RecordedMarks.{all_with_status}
 use Rattle.tree_core.proofs.act.act.Goals as goal
 
 pub returns-in-Started-clause-given : goal.returns-in-Started-clause-given

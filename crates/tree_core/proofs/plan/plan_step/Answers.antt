@@ -8,7 +8,7 @@ use Rattle.deadlines.specs.Timers.{is_rising}
 use Rattle.tree_core.specs.Sound.{names_of, serials_of}
 use Rattle.tree_core.specs.Moves.{services_after, events_after}
 use Rattle.tree_core.specs.Plan.{supervised_of, present, Plans}
-use Rattle.tree_core.specs.Told.{charts_of}
+use Rattle.tree_core.specs.RecordedMarks.{charts_of}
 use Rattle.tree_core.specs.Acts.{work_of}
 use Rattle.tree_core.proofs.ActGrows.{work_grows}
 use Rattle.tree_core.proofs.Generations.{all_fire}

@@ -2,7 +2,7 @@ use Rattle.std.proofs.Common.{◌≡◌, List, take, map, length}
 use Rattle.s6_events.specs.declared.moment.Moment.{Moment}
 use Rattle.supervise_core.specs.StatusRow.{status_row}
 use Rattle.tree_core.specs.StandsFor.{AllAgree}
-use Rattle.tree_core.specs.Told.{charts_of}
+use Rattle.tree_core.specs.RecordedMarks.{charts_of}
 use Rattle.tree_core.proofs.rows.rows_of.Given as goal
 
 abbrev pub invariant-loop-service : goal.invariant-loop-service

@@ -1,6 +1,6 @@
 use Rattle.std.proofs.Common.{◌≡◌, take, map}
 use Rattle.tree_core.specs.Plan.{supervised_of}
-use Rattle.tree_core.specs.Told.{all_with_status}
+use Rattle.tree_core.specs.RecordedMarks.{all_with_status}
 use Rattle.tree_core.proofs.standing.standing_after.Given as goal
 
 abbrev pub invariant-loop-chart : goal.invariant-loop-chart

@@ -2,7 +2,7 @@
 use Rattle.std.proofs.Common.{◌≡◌, ◌∙◌, ap, flat_map, true, false}
 use Rattle.supervise_core.specs.Service.{Supervised}
 use Rattle.tree_core.specs.Timers.{left, moved}
-use Rattle.tree_core.specs.Told.{charts_of}
+use Rattle.tree_core.specs.RecordedMarks.{charts_of}
 use Rattle.tree_core.proofs.TimersDue.{none_here, first_empty, rest_empty, of_charts}
 use Rattle.tree_core.proofs.timers.all_changes.Goals as goal
 

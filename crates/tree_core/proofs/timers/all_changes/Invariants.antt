@@ -1,6 +1,6 @@
 use Rattle.std.proofs.Common.{◌≡◌, ◌++◌, take, flat_map}
 use Rattle.tree_core.specs.Timers.{left, moved}
-use Rattle.tree_core.specs.Told.{charts_of}
+use Rattle.tree_core.specs.RecordedMarks.{charts_of}
 use Rattle.tree_core.proofs.timers.all_changes.Given as goal
 
 abbrev pub invariant-loop-service : goal.invariant-loop-service

@@ -2,7 +2,7 @@ use Rattle.std.proofs.Common.{◌≡◌, ◌∙◌, ap, sym, subst, List, true, 
 use Rattle.deadlines.specs.declared.timer.TimerChange.{TimerChange}
 use Rattle.deadlines.specs.Timers.{changed_all}
 use Rattle.tree_core.specs.Timers.{changes_of, TimersAgree}
-use Rattle.tree_core.specs.Told.{charts_of}
+use Rattle.tree_core.specs.RecordedMarks.{charts_of}
 use Rattle.tree_core.proofs.TimersAgree.{agrees_changed}
 use Rattle.tree_core.proofs.TimersDue.{nothing_changes}
 use Rattle.tree_core.proofs.timers.changes_between.Goals as goal

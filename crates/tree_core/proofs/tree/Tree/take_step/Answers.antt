@@ -5,7 +5,7 @@ use Rattle.tree_core.specs.Plan.{planned, supervised_of, IsQuiet}
 use Rattle.deadlines.specs.declared.timer.Timer.{Timer}
 use Rattle.deadlines.specs.Timers.{changed_all}
 use Rattle.tree_core.specs.Timers.{TimersAgree}
-use Rattle.tree_core.specs.Told.{charts_of}
+use Rattle.tree_core.specs.RecordedMarks.{charts_of}
 use Rattle.tree_core.proofs.TimersDue.{due_now, none_for_quiet}
 use Rattle.tree_core.specs.Machine.{Machine}
 use Rattle.tree_core.specs.Run.{after}

@@ -7,14 +7,14 @@ use Rattle.supervise_core.specs.declared.out.Out.{Out}
 use Rattle.supervise_core.specs.ChartState.{Moved}
 
 -- the state and the answer are those of the move
-pub record Gives (moved : Moved) (after : ChartState) (out : Out) : Type 0 where
+pub record MatchesMove (moved : Moved) (after : ChartState) (out : Out) : Type 0 where
   pub chart : after ≡ moved.chart
   pub marks : out.events.items ≡ moved.marks
   pub orders : out.orders.items ≡ moved.orders
   pub stale : out.stale ≡ moved.stale
 
 -- the state is that of the move, whose marks and orders follow those that were there
-pub record Adds (moved : Moved) (after : ChartState) (old new : Out) : Type 0 where
+pub record AppendsMove (moved : Moved) (after : ChartState) (old new : Out) : Type 0 where
   pub chart : after ≡ moved.chart
   pub marks : new.events.items ≡ old.events.items ++ moved.marks
   pub orders : new.orders.items ≡ old.orders.items ++ moved.orders

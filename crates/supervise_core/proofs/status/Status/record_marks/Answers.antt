@@ -3,7 +3,7 @@ use Rattle.std.proofs.lemmas.List.{take_all}
 use Rattle.supervise_core.specs.declared.status.Status.{Status}
 use Rattle.supervise_core.specs.Status.{Agrees, events_of, told_all}
 use Rattle.supervise_core.proofs.Agreement.{agrees_after}
-use Rattle.supervise_core.proofs.status.Status.tell_all.Goals as goal
+use Rattle.supervise_core.proofs.status.Status.record_marks.Goals as goal
 
 pub returns-clause-agrees : goal.returns-clause-agrees
 returns-clause-agrees c =
