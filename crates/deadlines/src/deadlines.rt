@@ -60,7 +60,7 @@ fn place_of(timers: &[Timer], sid: Sid) -> usize
 fn is_at(timers: &[Timer], place: usize, sid: Sid) -> bool
     ensures { result ≡ is_of sid (slice_get timers.now place) }
 {
-    timers.get(place).is_some_and(|timer| timer.sid.0 == sid.0)
+    timers.get(place).is_some_and(|timer| timer.sid == sid)
 }
 
 impl<A: Allocator + Copy> Deadlines<A> {
