@@ -10,6 +10,7 @@ mod phase;
 mod reports;
 mod row;
 mod service;
+mod standing;
 mod status;
 #[cfg(test)]
 mod tests;
@@ -21,4 +22,5 @@ pub use out::Out;
 pub use phase::Phase;
 pub use row::Row;
 pub use service::Service;
+pub use standing::Standing;
 pub use status::Status;

@@ -14,6 +14,7 @@ use super::change::Change;
 use super::chart::ChartState;
 use super::out::Out;
 use super::row::Row;
+use super::standing::Standing;
 use super::status::Status;
 use s6_events::{At, Exit, Name, NoMemory, Sid};
 use servicedir::Config;
@@ -91,6 +92,21 @@ impl Service {
     {
         let Service { status, .. } = self;
         *status
+    }
+
+    /// Its state and what it stores of its marks, in a copy that takes the same changes.
+    pub fn standing(&self) -> Standing
+        ensures { result ≡ self.now }
+    {
+        Standing::new(self.chart, self.status)
+    }
+
+    /// Takes this state and this status, which were made from its own by changes.
+    pub fn adopt(&mut self, standing: Standing)
+        ensures { self.new ≡ standing }
+    {
+        self.chart = standing.chart();
+        self.status = standing.status();
     }
 
     /// Its status row: that of each history which agrees with what it stores. Page `s6-svstat`.

@@ -1,0 +1,98 @@
+ghost use Rattle.std.specs.Prelude.{◌≡◌, ◌+◌, ◌<◌, ◌≤◌, ◌^◌, length};
+ghost use Rattle.supervise_core.specs.Chart.{set_active as with_activity, set_config as with_config, changed_by};
+ghost use Rattle.supervise_core.specs.MatchesMove.{MatchesMove, most_orders};
+ghost use Rattle.supervise_core.specs.Service.{KeepsAgreeing};
+
+use super::change::Change;
+use super::chart::ChartState;
+use super::out::Out;
+use super::status::Status;
+use s6_events::{At, Sid};
+use servicedir::Config;
+use std::marker::Model;
+
+/// What stands of a service beside its deaths: its state, and what it stores of its marks. It is copyable and takes each change as
+/// its service does, so that a change is known before it is made. No change takes memory. This project's own.
+#[derive(Clone, Copy)]
+pub struct Standing {
+    chart: ChartState,
+    status: Status,
+}
+
+impl Model for Standing {
+    ghost use Rattle.supervise_core.specs.Service.{Supervised};
+
+    ghost Value = { Supervised };
+
+    ghost view = { λ s. record { chart = s.chart; status = s.status } };
+
+    ghost inverse = { λ s. record { chart = s.chart; status = s.status } };
+}
+
+impl Standing {
+    // This state, and this status.
+    pub(crate) fn new(chart: ChartState, status: Status) -> Standing
+        ensures chart { result.chart ≡ chart }
+        ensures status { result.status ≡ status }
+    {
+        Standing { chart, status }
+    }
+
+    /// Its state.
+    pub fn chart(&self) -> ChartState
+        ensures { result ≡ self.now.chart }
+    {
+        let Standing { chart, .. } = self;
+        *chart
+    }
+
+    /// What is stored of its marks, for its status row.
+    pub fn status(&self) -> Status
+        ensures { result ≡ self.now.status }
+    {
+        let Standing { status, .. } = self;
+        *status
+    }
+
+    /// The serial of its service.
+    pub fn sid(&self) -> Sid
+        ensures { result ≡ self.now.chart.sid }
+    {
+        self.chart.sid
+    }
+
+    /// The number of the moment at which its timer goes off.
+    pub fn timer(&self) -> Option<u64>
+        ensures { result ≡ self.now.chart.timer }
+    {
+        self.chart.timer
+    }
+
+    /// Takes any of the changes, as its service does.
+    pub fn change(&mut self, change: &Change, now: At) -> Out
+        requires { self.old.chart.generation + 1 < 2 ^ 64 }
+        ensures gives { MatchesMove (changed_by change.now now self.old.chart) self.new.chart result }
+        ensures agrees { KeepsAgreeing now result.events.items self.old self.new }
+        ensures sid { self.new.chart.sid ≡ self.old.chart.sid }
+        ensures name { self.new.chart.name ≡ self.old.chart.name }
+        ensures few { length result.orders.items ≤ most_orders change.now }
+    {
+        let out = self.chart.change(change, now);
+        self.status.record_marks(out.events.as_slice(), now);
+        out
+    }
+
+    /// Its directory is listed, or no longer listed. Page `s6-svscan`.
+    pub fn set_active(&mut self, active: bool, now: At)
+        ensures { self.new ≡ record self.old { chart = with_activity active now self.old.chart } }
+    {
+        self.chart.set_active(active, now);
+    }
+
+    /// Its directory was read again, and says this now; the number of deaths that are kept stays as it was. Page `servicedir`.
+    pub fn set_config(&mut self, config: Config)
+        ensures { self.new ≡ record self.old { chart = with_config config self.old.chart } }
+    {
+        self.chart.set_config(config);
+    }
+}
