@@ -1,0 +1,4 @@
+pub mod Table
+pub mod Names
+pub mod Held
+pub mod SlotFields

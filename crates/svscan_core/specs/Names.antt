@@ -1,0 +1,12 @@
+-- Names in a list.
+use Rattle.std.specs.Prelude.{ℕ, List, [], ◌∷◌, Bool, false, ◌||◌, bytes_eq}
+use Rattle.std.specs.List.{list_any}
+
+-- the name is in the list
+abbrev pub lists : List (List ℕ) → List ℕ → Bool
+lists names name = list_any (bytes_eq name) names
+
+-- a name is in the list twice
+abbrev pub repeats : List (List ℕ) → Bool
+repeats [] = false
+repeats (name ∷ names) = lists names name || repeats names

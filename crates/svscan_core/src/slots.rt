@@ -1,0 +1,142 @@
+ghost use Rattle.std.specs.Prelude.{◌≡◌, [], ◌∷◌, ◌++◌, ◌+◌, ◌<◌, ◌≤◌, false, length, find, bytes_eq, slice_get, slice_set, option_map, Some, IsSomeAnd, OnOk, IsOk};
+ghost use Rattle.std.specs.List.{list_any};
+ghost use Rattle.slab.specs.Slab.{get, slab_len, Updates};
+ghost use Rattle.supervise_core.specs.Service.{Supervised};
+ghost use Rattle.svscan_core.specs.Names.{repeats};
+ghost use Rattle.svscan_core.specs.Table.{charts_of, names_of, without_name};
+
+use indexmap::IndexMap;
+use s6_events::{Name, NoMemory};
+use slab::Slab;
+use std::alloc::Allocator;
+use std::hash::{BuildHasherDefault, FoldHasher};
+use std::marker::Model;
+use supervise_core::{Service, Standing};
+
+/// The services that stand, each in a slot of its own, and an index from their names to the slots, in the order in which they were
+/// added.
+#[derive(Drop)]
+pub struct Slots<A: Allocator> {
+    slots: Slab<Service, A>,
+    index: IndexMap<Name, usize, BuildHasherDefault<FoldHasher>, A>,
+}
+
+impl<A: Allocator> Model for Slots<A> {
+    ghost use Rattle.svscan_core.specs.Held.{Held};
+
+    ghost Value = { Held };
+
+    ghost use Rattle.svscan_core.specs.SlotFields.{held, IsHeld};
+
+    ghost view = { held };
+
+    ghost invariant = { IsHeld };
+}
+
+// The service in this slot takes this state and this status.
+fn adopt_in<A: Allocator + Copy>(slots: &mut Slab<Service, A>, slot: usize, standing: Standing)
+    ensures updates { (s : Supervised) → get slots.old slot ≡ Some s → Updates slots.old slots.new slot (Some standing) }
+    ensures count { slab_len slots.new ≡ slab_len slots.old }
+    ensures capacity { slots.new.capacity ≡ slots.old.capacity }
+{
+    if let Some(service) = slots.get_mut(slot) {
+        service.adopt(standing);
+    }
+}
+
+impl<A: Allocator + Copy> Slots<A> {
+    /// None stands; this takes no memory.
+    pub fn new(alloc: A) -> Slots<A>
+        ensures services { result.services ≡ [] }
+    {
+        Slots {
+            slots: Slab::new(alloc),
+            index: IndexMap::new(alloc),
+        }
+    }
+
+    /// How many stand.
+    pub fn len(&self) -> usize
+        ensures count { result ≡ length self.now.services }
+        ensures names { repeats (names_of (charts_of self.now.services)) ≡ false }
+    {
+        self.index.len()
+    }
+
+    /// The one at this place, in the order in which they were added.
+    pub fn nth(&self, place: usize) -> Option<&Service>
+        ensures { option_map (λ s. s.now) result ≡ slice_get self.now.services place }
+    {
+        let (_, slot) = self.index.get_index(place)?;
+        self.slots.get(*slot)
+    }
+
+    /// The one of this name.
+    pub fn find(&self, name: &Name) -> Option<&Service>
+        ensures { option_map (λ s. s.now) result ≡ find (λ s. bytes_eq name.now s.chart.name) self.now.services }
+    {
+        let slot = self.index.get(name)?;
+        self.slots.get(*slot)
+    }
+
+    /// Whether one of this name stands.
+    pub fn has(&self, name: &Name) -> bool
+        ensures { result ≡ list_any (λ s. bytes_eq name.now s.chart.name) self.now.services }
+    {
+        self.index.contains_key(name)
+    }
+
+    /// The one at this place takes this state and this status; its name stays.
+    pub fn adopt(&mut self, place: usize, standing: Standing)
+        requires name { IsSomeAnd (slice_get self.old.services place) (λ s. s.chart.name ≡ standing.chart.name) }
+        ensures services { self.new.services ≡ slice_set self.old.services place standing }
+        ensures room { self.new.room ≡ self.old.room }
+    {
+        let _count = self.index.len();
+        if let Some((_, slot)) = self.index.get_index(place) {
+            adopt_in(&mut self.slots, *slot, standing);
+        }
+    }
+
+    /// Takes out the one of this name, if one stands; the others keep their order.
+    pub fn remove(&mut self, name: Name)
+        ensures services { self.new.services ≡ without_name self.old.services name }
+        ensures room { self.old.room ≤ self.new.room }
+    {
+        let _count = self.index.len();
+        if let Some(slot) = self.index.shift_remove(&name) {
+            let _removed = self.slots.try_remove(slot);
+        }
+    }
+
+    /// Makes room for this many more. `NoMemory` where the memory for them is refused; those that stand stay as they are.
+    pub fn reserve(&mut self, count: usize) -> Result<(), NoMemory>
+        ensures services { self.new.services ≡ self.old.services }
+        ensures room { OnOk result (count ≤ self.new.room) }
+        ensures quiet { count ≡ 0 → IsOk result }
+    {
+        if count == 0 {
+            return Ok(());
+        }
+        self.slots.reserve(count)?;
+        self.index.reserve(count)?;
+        Ok(())
+    }
+
+    /// One more under a new name goes last; there is room for it.
+    pub fn add(&mut self, service: Service)
+        requires room { 0 < self.old.room }
+        requires absent { list_any (λ s. bytes_eq service.chart.name s.chart.name) self.old.services ≡ false }
+        ensures services { self.new.services ≡ self.old.services ++ service ∷ [] }
+        ensures room { self.old.room ≤ self.new.room + 1 }
+    {
+        let name = service.chart().name;
+        let slot = self.slots.insert_reserved(service);
+        let _old = self.index.insert(name, slot).unwrap();
+    }
+
+    /// Where its memory comes from.
+    pub fn allocator(&self) -> A {
+        *self.index.allocator()
+    }
+}
