@@ -1,4 +1,4 @@
-ghost use Rattle.std.specs.Prelude.{◌≡◌, [], ◌∷◌, ◌++◌, ◌+◌, ◌<◌, ◌≤◌, false, length, find, bytes_eq, slice_get, slice_set, option_map, Some, IsSomeAnd, OnOk, IsOk};
+ghost use Rattle.std.specs.Prelude.{◌≡◌, [], ◌∷◌, ◌++◌, ◌+◌, ◌<◌, ◌≤◌, false, length, find, bytes_eq, slice_get, slice_set, option_map, vec_capacity, Some, IsSomeAnd, OnOk, IsOk};
 ghost use Rattle.std.specs.List.{list_any};
 ghost use Rattle.slab.specs.Slab.{get, slab_len, Updates};
 ghost use Rattle.supervise_core.specs.Service.{Supervised};
@@ -133,6 +133,19 @@ impl<A: Allocator + Copy> Slots<A> {
         let name = service.chart().name;
         let slot = self.slots.insert_reserved(service);
         let _old = self.index.insert(name, slot).unwrap();
+    }
+
+    /// All of these go last, in their order; there is room for them. `added` is empty then, and keeps its memory.
+    pub fn add_all(&mut self, added: &mut Vec<Service, A>)
+        requires room { length added.old.items ≤ self.old.room }
+        requires names { repeats (names_of (charts_of (self.old.services ++ added.old.items))) ≡ false }
+        ensures services { self.new.services ≡ self.old.services ++ added.old.items }
+        ensures added { added.new.items ≡ [] }
+        ensures capacity { vec_capacity added.new ≡ vec_capacity added.old }
+    {
+        for service in added.drain(..) {
+            self.add(service);
+        }
     }
 
     /// Where its memory comes from.
