@@ -2,3 +2,5 @@
 #![tactic(auto)]
 
 mod slots;
+#[cfg(test)]
+mod tests;
