@@ -8,11 +8,8 @@ use Rattle.std.specs.Map.{keys_of}
 use Rattle.slab.specs.Slab.{Slab, get, Updates}
 use Rattle.supervise_core.specs.Service.{Supervised}
 use Rattle.svscan_core.specs.SlotFields.{services_in, AreHeld}
-use Rattle.svscan_core.proofs.Held.{held_first}
+use Rattle.svscan_core.proofs.Held.{Pairs, held_first}
 use Rattle.svscan_core.proofs.Removed.{apart_of, kept_others}
-
-abbrev Pairs : Type 0
-Pairs = List (List ℕ × ℕ)
 
 -- what holds of all keys holds of the one at a place
 key_at : (P : List ℕ → Type 0) (ps : Pairs) (i : ℕ) (p : List ℕ × ℕ) → AllByRecursion P (keys_of ps) → slice_get ps i ≡ Some p → P p.0

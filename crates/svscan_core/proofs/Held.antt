@@ -11,7 +11,8 @@ use Rattle.svscan_core.specs.Names.{lists, repeats}
 use Rattle.svscan_core.specs.Table.{charts_of, names_of}
 use Rattle.svscan_core.specs.SlotFields.{services_in, AreHeld}
 
-abbrev Pairs : Type 0
+-- the names of an index and their slots
+abbrev pub Pairs : Type 0
 Pairs = List (List ℕ × ℕ)
 
 opened : (o : Option Supervised) (P : Supervised → Type 0) → IsSomeAnd o P → (s : Supervised) × (o ≡ Some s) × P s

@@ -10,10 +10,7 @@ use Rattle.slab.specs.Slab.{Slab, get, Updates}
 use Rattle.supervise_core.specs.Service.{Supervised}
 use Rattle.svscan_core.specs.Table.{without_name}
 use Rattle.svscan_core.specs.SlotFields.{services_in, AreHeld}
-use Rattle.svscan_core.proofs.Held.{held_first}
-
-abbrev Pairs : Type 0
-Pairs = List (List ℕ × ℕ)
+use Rattle.svscan_core.proofs.Held.{Pairs, held_first}
 
 -- the slot that the index has for a name holds a service of that name
 pub held_named : (slots : Slab Supervised) (ps : Pairs) (name : List ℕ) (key : ℕ) → AreHeld slots ps → lookup (bytes_eq name) ps ≡ Some key

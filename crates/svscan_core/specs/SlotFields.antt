@@ -24,5 +24,6 @@ held s = record {
   room = min (s.slots.capacity - slab_len s.slots) (spare s.index);
 }
 
+-- each service stands in the slot of its name
 abbrev pub IsHeld : {A : Type 0} → Inside A → Type 0
 IsHeld s = AreHeld s.slots s.index.entries

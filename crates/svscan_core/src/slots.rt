@@ -14,7 +14,7 @@ use std::marker::Model;
 use supervise_core::{Service, Standing};
 
 /// The services that stand, each in a slot of its own, and an index from their names to the slots, in the order in which they were
-/// added.
+/// added. This project's own.
 #[derive(Drop)]
 pub struct Slots<A: Allocator> {
     slots: Slab<Service, A>,
@@ -92,6 +92,7 @@ impl<A: Allocator + Copy> Slots<A> {
         ensures services { self.new.services ≡ slice_set self.old.services place standing }
         ensures room { self.new.room ≡ self.old.room }
     {
+        // For the proof: its clause says that no two names are equal.
         let _count = self.index.len();
         if let Some((_, slot)) = self.index.get_index(place) {
             adopt_in(&mut self.slots, *slot, standing);
@@ -103,6 +104,7 @@ impl<A: Allocator + Copy> Slots<A> {
         ensures services { self.new.services ≡ without_name self.old.services name }
         ensures room { self.old.room ≤ self.new.room }
     {
+        // For the proof: its clause says that no two names are equal.
         let _count = self.index.len();
         if let Some(slot) = self.index.shift_remove(&name) {
             let _removed = self.slots.try_remove(slot);
