@@ -2,3 +2,10 @@ pub mod Table
 pub mod Names
 pub mod Held
 pub mod SlotFields
+pub mod Moves
+pub mod Listing
+pub mod Scan
+pub mod Work
+pub mod Sound
+pub mod Visit
+pub mod Moving

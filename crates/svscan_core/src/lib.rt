@@ -1,6 +1,14 @@
-//! The services of a scan directory: which stand, and what a look at the directory makes of them.
+//! The services of a scan directory: what a listing, a report, letters and an order for all of them make of the table.
 #![tactic(auto)]
 
+mod entry;
+mod event;
+mod listing;
+mod moves;
 mod slots;
 #[cfg(test)]
 mod tests;
+mod visit;
+
+pub use entry::{Entry, Listed, ScanOrder};
+pub use event::Event;

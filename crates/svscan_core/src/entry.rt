@@ -1,0 +1,30 @@
+use s6_events::{Name, Sid};
+use servicedir::Config;
+
+/// A name that a look at the scan directory found, and what the files of its directory said; None where the directory is there and
+/// couldn't be read. Page `s6-svscan`; that a directory may be there and not be read is this project's own.
+#[derive(Clone, Copy, PartialEq, Eq, Debug)]
+pub struct Entry {
+    pub name: Name,
+    pub config: Option<Config>,
+}
+
+/// What became of a listed name for which no service stood. This project's own.
+#[derive(Clone, Copy, Debug, PartialEq, Eq)]
+pub enum Listed {
+    /// It has a new service, of this serial.
+    Added(Sid, Name),
+    /// 64 services stood.
+    Full(Name),
+    /// Its directory couldn't be read.
+    Unread(Name),
+}
+
+/// What a user orders of all services at once. Page `s6-svscanctl`.
+#[derive(Clone, Copy, Debug, PartialEq, Eq)]
+pub enum ScanOrder {
+    /// `-n`: each inactive service is told to end and to go down.
+    Nuke,
+    /// `-t`: every service becomes inactive, and is told to end and to go down.
+    Terminate,
+}

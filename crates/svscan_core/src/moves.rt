@@ -1,0 +1,113 @@
+ghost use Rattle.std.specs.Prelude.{◌≡◌, ◌+◌, ◌<◌, ◌≤◌, ◌^◌, ◌++◌, ◌∷◌, [], map, length, All, OnOk, Some, slice_get, true};
+ghost use Rattle.supervise_core.specs.declared.chart.ChartState.{ChartState};
+ghost use Rattle.svscan_core.specs.Moves.{event};
+ghost use Rattle.svscan_core.specs.Moving.{with_touched, moving_of, TakesAt, Takes};
+ghost use Rattle.svscan_core.specs.Table.{charts_of};
+ghost use Rattle.svscan_core.specs.Visit.{visited};
+ghost use Rattle.svscan_core.specs.Work.{changed_at};
+
+use super::event::Event;
+use super::slots::Slots;
+use super::visit::Visit;
+use arrayvec::ArrayVec;
+use s6_events::{At, Mark, NoMemory, Order, Sid};
+use std::alloc::Allocator;
+use supervise_core::{Change, Out, Standing};
+
+/// What a step gives the service at a place.
+#[derive(Clone, Copy)]
+pub struct Touched {
+    pub place: usize,
+    pub standing: Standing,
+}
+
+/// The services that a step changes, and what it gives. The lists keep their memory from step to step.
+#[derive(Drop)]
+pub struct Moves<A: Allocator> {
+    pub touched: Vec<Touched, A>,
+    pub events: Vec<Event, A>,
+    pub orders: ArrayVec<Order, 256>,
+}
+
+/// The service at a place, as the step has it so far.
+pub fn standing_at<A: Allocator + Copy>(
+    slots: &Slots<A>,
+    touched: &[Touched],
+    place: usize,
+) -> Option<Standing>
+    ensures { result ≡ slice_get (with_touched slots.now.services touched.now) place }
+{
+    let mut standing = slots.nth(place)?.standing();
+    for other in touched {
+        if other.place == place {
+            standing = other.standing;
+        }
+    }
+    Some(standing)
+}
+
+// Adds the marks of a service as events.
+fn add_events<A: Allocator>(
+    events: &mut Vec<Event, A>,
+    sid: Sid,
+    marks: &[Mark],
+) -> Result<(), NoMemory>
+    ensures events { OnOk result (events.new.items ≡ events.old.items ++ map (event sid) marks.now) }
+{
+    for mark in marks {
+        events.push(Event { sid, mark: *mark })?;
+    }
+    Ok(())
+}
+
+impl<A: Allocator + Copy> Moves<A> {
+    /// Nothing yet. Takes no memory.
+    pub fn new(alloc: A) -> Moves<A>
+        ensures touched { result.touched.items ≡ [] }
+        ensures events { result.events.items ≡ [] }
+        ensures orders { result.orders.items ≡ [] }
+    {
+        Moves {
+            touched: Vec::new(alloc),
+            events: Vec::new(alloc),
+            orders: ArrayVec::new(),
+        }
+    }
+
+    /// Nothing again, in the same memory.
+    pub fn clear(&mut self)
+        ensures touched { self.new.touched.items ≡ [] }
+        ensures events { self.new.events.items ≡ [] }
+        ensures orders { self.new.orders.items ≡ [] }
+    {
+        self.touched.clear();
+        self.events.clear();
+        self.orders.clear();
+    }
+
+    /// Adds the marks and orders of a service.
+    pub fn give(&mut self, sid: Sid, out: &Out) -> Result<(), NoMemory>
+        requires { length self.old.orders.items + length out.now.orders.items ≤ 256 }
+        ensures touched { self.new.touched.items ≡ self.old.touched.items }
+        ensures events { OnOk result (self.new.events.items ≡ self.old.events.items ++ map (event sid) out.now.events.items) }
+        ensures orders { OnOk result (self.new.orders.items ≡ self.old.orders.items ++ out.now.orders.items) }
+    {
+        let orders = out.orders.as_slice();
+        if self.orders.try_extend_from_slice(orders).is_err() {
+            unreachable!()
+        }
+        add_events(&mut self.events, sid, out.events.as_slice())
+    }
+
+    // The service at a place becomes this, with the marks and orders that led to it.
+    fn touch(&mut self, place: usize, standing: Standing, out: &Out) -> Result<(), NoMemory>
+        requires { length self.old.orders.items + length out.now.orders.items ≤ 256 }
+        ensures touched { OnOk result (self.new.touched.items ≡ self.old.touched.items ++ (record { place = place; standing = standing }) ∷ []) }
+        ensures events { OnOk result (self.new.events.items ≡ self.old.events.items ++ map (event standing.chart.sid) out.now.events.items) }
+        ensures orders { OnOk result (self.new.orders.items ≡ self.old.orders.items ++ out.now.orders.items) }
+    {
+        self.give(standing.sid(), out)?;
+        self.touched.push(Touched { place, standing })?;
+        Ok(())
+    }
+}
