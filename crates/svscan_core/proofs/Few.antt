@@ -11,7 +11,7 @@ use Rattle.supervise_core.specs.Chart.{fire}
 use Rattle.svscan_core.specs.declared.entry.Entry.{Entry}
 use Rattle.svscan_core.specs.Listing.{in_byte_order, names_in, config_in}
 use Rattle.svscan_core.specs.Moves.{services_after}
-use Rattle.svscan_core.specs.Scan.{ScanState, looked_at, looked_up, stays, stands, service_limit, with_service, with_new_name, with_name, with_names}
+use Rattle.svscan_core.specs.Scan.{ScanState, looked_at, looked_up, stays, stands, service_limit, scan_state_from, with_service, with_new_name, with_name, with_names}
 use Rattle.svscan_core.specs.Work.{Work, worked, stepped, changed_at, commanded}
 use Rattle.svscan_core.specs.Work.Work.{leave, change_one, apply_listing, command}
 
@@ -79,7 +79,7 @@ work_next leave now cs next few = omega arith
 work_next (change_one sid change) now cs next few = omega arith
 work_next (command order) now cs next few = omega arith
 work_next (apply_listing listing) now cs next few =
-    let g = names_grew listing _ (in_byte_order (names_in listing)) (few_stay listing now cs few) in
+    let g = names_grew listing (scan_state_from (filter stays (looked_up listing now cs)) next) (in_byte_order (names_in listing)) (few_stay listing now cs few) in
     let a = g.few in let b = g.next in omega (arith, a, b)
 
 fired_few : (now : ℕ) (cs : List ChartState) → length cs ≤ 64 → length (services_after (fire now) cs) ≤ 64
