@@ -2,7 +2,7 @@ ghost use Rattle.std.specs.Prelude.{◌≡◌, ◌+◌, ◌<◌, ◌≤◌, ◌^
 ghost use Rattle.supervise_core.specs.ChartState.{new_service};
 ghost use Rattle.supervise_core.specs.Moves.{begin_supervisor};
 ghost use Rattle.supervise_core.specs.Chart.{set_active as with_activity, set_config as with_config, changed_by};
-ghost use Rattle.supervise_core.specs.MatchesMove.{MatchesMove, most_orders};
+ghost use Rattle.supervise_core.specs.MatchesMove.{MatchesMove, AppendsMove, most_marks, most_orders};
 
 use super::change::Change;
 use super::moves::SUPERVISOR_PAUSE;
@@ -97,22 +97,35 @@ impl ChartState {
         ensures sid { self.new.sid ≡ self.old.sid }
         ensures few { length result.orders.items ≤ most_orders change.now }
     {
+        let mut out = Out::new();
+        self.change_onto(change, now, &mut out);
+        out
+    }
+
+    /// `change`, whose marks and orders are added to what is in `out`. For letters `out` has to hold no order, whatever their
+    /// number. This project's own.
+    pub fn change_onto(&mut self, change: &Change, now: At, out: &mut Out)
+        requires marks { length out.old.events.items + most_marks change.now ≤ 4 }
+        requires room { length out.old.orders.items + most_orders change.now ≤ 126 }
+        requires next { self.old.generation + 1 < 2 ^ 64 }
+        ensures gives { AppendsMove (changed_by change.now now self.old) self.new out.old out.new }
+        ensures sid { self.new.sid ≡ self.old.sid }
+        ensures few { length out.new.orders.items ≤ length out.old.orders.items + most_orders change.now }
+    {
         match change {
-            Change::Started(generation, pid) => self.started(*generation, *pid, now),
-            Change::StartFailed(generation) => self.start_failed(*generation, now),
-            Change::Notify(generation, bytes) => self.notify(*generation, bytes.as_slice(), now),
-            Change::Death(generation, exit) => self.death(*generation, *exit, now),
-            Change::FinishEnded(generation, exit) => self.finish_ended(*generation, *exit, now),
-            Change::Control(letters) => self.control(letters, now),
-            Change::Fire => self.fire(now),
-            Change::SetConfig(config) => {
-                self.set_config(*config);
-                Out::new()
+            Change::Started(generation, pid) => self.started_onto(*generation, *pid, now, out),
+            Change::StartFailed(generation) => self.start_failed_onto(*generation, now, out),
+            Change::Notify(generation, bytes) => {
+                self.notify_onto(*generation, bytes.as_slice(), now, out)
             }
-            Change::SetActive(active) => {
-                self.set_active(*active, now);
-                Out::new()
+            Change::Death(generation, exit) => self.death_onto(*generation, *exit, now, out),
+            Change::FinishEnded(generation, exit) => {
+                self.finish_ended_onto(*generation, *exit, now, out)
             }
+            Change::Control(letters) => self.take_letters(letters.as_slice(), now, out),
+            Change::Fire => self.fire_onto(now, out),
+            Change::SetConfig(config) => self.set_config(*config),
+            Change::SetActive(active) => self.set_active(*active, now),
         }
     }
 

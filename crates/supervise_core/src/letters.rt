@@ -1,4 +1,4 @@
-ghost use Rattle.std.specs.Prelude.{◌≡◌, ◌+◌, ◌<◌, ◌≤◌, ◌^◌, length};
+ghost use Rattle.std.specs.Prelude.{◌≡◌, ◌+◌, ◌<◌, ◌≤◌, ◌^◌, ◌*◌, length};
 ghost use Rattle.supervise_core.specs.ControlLetters.{take_letter as letter_move, told_up, told_down, told_signal, not_wanted, control as control_move};
 ghost use Rattle.supervise_core.specs.MatchesMove.{MatchesMove, AppendsMove};
 ghost use Rattle.svc_commands.specs.ControlLetter.{signal_of};
@@ -20,15 +20,40 @@ impl ChartState {
         ensures sid { self.new.sid ≡ self.old.sid }
     {
         let mut out = Out::new();
-        for letter in letters.iter() {
-            self.take_letter(*letter, now, &mut out);
-        }
+        self.take_letters(letters.as_slice(), now, &mut out);
         out
+    }
+
+    /// `control`, whose mark, one at most, and whose orders, two for each letter at most, are added to what is in `out`. This
+    /// project's own.
+    pub fn control_onto(&mut self, letters: &Letters, now: At, out: &mut Out)
+        requires marks { length out.old.events.items < 4 }
+        requires room { length out.old.orders.items + 2 * length letters.now.items ≤ 126 }
+        requires next { self.old.generation + 1 < 2 ^ 64 }
+        ensures gives { AppendsMove (control_move letters.now.items now self.old) self.new out.old out.new }
+        ensures sid { self.new.sid ≡ self.old.sid }
+        ensures few { length out.new.orders.items ≤ length out.old.orders.items + 2 * length letters.now.items }
+    {
+        self.take_letters(letters.as_slice(), now, out);
+    }
+
+    // These letters, one after the other.
+    pub(crate) fn take_letters(&mut self, letters: &[ControlLetter], now: At, out: &mut Out)
+        requires marks { length out.old.events.items < 4 }
+        requires room { length out.old.orders.items + 2 * length letters.now ≤ 126 }
+        requires next { self.old.generation + 1 < 2 ^ 64 }
+        ensures gives { AppendsMove (control_move letters.now now self.old) self.new out.old out.new }
+        ensures sid { self.new.sid ≡ self.old.sid }
+        ensures few { length out.new.orders.items ≤ length out.old.orders.items + 2 * length letters.now }
+    {
+        for letter in letters {
+            self.take_letter(*letter, now, out);
+        }
     }
 
     // One letter.
     fn take_letter(&mut self, letter: ControlLetter, now: At, out: &mut Out)
-        requires marks { length out.old.events.items < 4 }
+        requires marks { length out.old.events.items + marks_left self.old.phase ≤ 4 }
         requires room { length out.old.orders.items + 2 ≤ 126 }
         requires next { self.old.generation + runs_left self.old.phase < 2 ^ 64 }
         ensures gives { AppendsMove (letter_move now letter self.old) self.new out.old out.new }

@@ -25,4 +25,15 @@ impl Out {
             stale: false,
         }
     }
+
+    /// Empties it: no mark, no order, not stale. This project's own.
+    pub fn clear(&mut self)
+        ensures events { self.new.events.items ≡ [] }
+        ensures orders { self.new.orders.items ≡ [] }
+        ensures stale { self.new.stale ≡ false }
+    {
+        self.events.clear();
+        self.orders.clear();
+        self.stale = false;
+    }
 }

@@ -50,9 +50,21 @@ impl ChartState {
         ensures few { length result.orders.items ≤ 2 }
     {
         let mut out = Out::new();
+        self.started_onto(generation, pid, now, &mut out);
+        out
+    }
+
+    /// `started`, whose mark and whose orders, two at most, are added to what is in `out`. This project's own.
+    pub fn started_onto(&mut self, generation: u64, pid: u32, now: At, out: &mut Out)
+        requires marks { length out.old.events.items < 4 }
+        requires room { length out.old.orders.items + 2 ≤ 126 }
+        ensures gives { AppendsMove (started_move generation pid now self.old) self.new out.old out.new }
+        ensures sid { self.new.sid ≡ self.old.sid }
+        ensures few { length out.new.orders.items ≤ length out.old.orders.items + 2 }
+    {
         if !self.is_awaiting(generation) {
             out.stale = true;
-            return out;
+            return;
         }
         self.phase = Phase::Up;
         self.pid = pid;
@@ -61,9 +73,8 @@ impl ChartState {
         out.events.push(Mark::Spawned);
         if self.down_pending {
             self.down_pending = false;
-            self.send_down_signal(now, &mut out);
+            self.send_down_signal(now, out);
         }
-        out
     }
 
     /// A spawn failed. Of `run`: it is tried again after 60000 ms, unless it is no longer wanted up; where its supervisor was
@@ -77,15 +88,27 @@ impl ChartState {
         ensures few { length result.orders.items ≤ 1 }
     {
         let mut out = Out::new();
+        self.start_failed_onto(generation, now, &mut out);
+        out
+    }
+
+    /// `start_failed`, whose marks, two at most, and whose order are added to what is in `out`. This project's own.
+    pub fn start_failed_onto(&mut self, generation: u64, now: At, out: &mut Out)
+        requires marks { length out.old.events.items + 2 ≤ 4 }
+        requires room { length out.old.orders.items < 126 }
+        requires next { self.old.generation + 1 < 2 ^ 64 }
+        ensures gives { AppendsMove (start_failed_move generation now self.old) self.new out.old out.new }
+        ensures sid { self.new.sid ≡ self.old.sid }
+        ensures few { length out.new.orders.items ≤ length out.old.orders.items + 1 }
+    {
         if self.is_awaiting(generation) {
-            self.miss_spawn(now, &mut out);
+            self.miss_spawn(now, out);
         } else if self.is_in_finish(generation) {
             out.events.push(Mark::FinishDone);
-            self.settle(now, &mut out);
+            self.settle(now, out);
         } else {
             out.stale = true;
         }
-        out
     }
 
     // The run could not be spawned.
@@ -111,15 +134,25 @@ impl ChartState {
         ensures few { length result.orders.items ≤ 0 }
     {
         let mut out = Out::new();
+        self.notify_onto(generation, bytes, now, &mut out);
+        out
+    }
+
+    /// `notify`, whose mark is added to what is in `out`. It gives no order. This project's own.
+    pub fn notify_onto(&mut self, generation: u64, bytes: &[u8], now: At, out: &mut Out)
+        requires { length out.old.events.items < 4 }
+        ensures gives { AppendsMove (notified_move generation bytes.now now self.old) self.new out.old out.new }
+        ensures sid { self.new.sid ≡ self.old.sid }
+        ensures few { length out.new.orders.items ≤ length out.old.orders.items }
+    {
         if !self.is_running(generation) {
             out.stale = true;
-            return out;
+            return;
         }
         if self.says_ready(bytes) {
             self.ready_since = Some(now);
             out.events.push(Mark::Ready);
         }
-        out
     }
 
     /// `run` died: mark `d`, and `finish` is ordered where there is one. Else mark `D` and what comes next: the end of the
@@ -132,9 +165,22 @@ impl ChartState {
         ensures few { length result.orders.items ≤ 1 }
     {
         let mut out = Out::new();
+        self.death_onto(generation, exit, now, &mut out);
+        out
+    }
+
+    /// `death`, whose marks, three at most, and whose order are added to what is in `out`. This project's own.
+    pub fn death_onto(&mut self, generation: u64, exit: Exit, now: At, out: &mut Out)
+        requires marks { length out.old.events.items + 3 ≤ 4 }
+        requires room { length out.old.orders.items < 126 }
+        requires next { self.old.generation + 1 < 2 ^ 64 }
+        ensures gives { AppendsMove (death_move generation exit now self.old) self.new out.old out.new }
+        ensures sid { self.new.sid ≡ self.old.sid }
+        ensures few { length out.new.orders.items ≤ length out.old.orders.items + 1 }
+    {
         if !self.is_running(generation) {
             out.stale = true;
-            return out;
+            return;
         }
         out.events.push(Mark::Died);
         self.died_at = now;
@@ -142,12 +188,11 @@ impl ChartState {
         self.paused = false;
         self.timer = None;
         if self.config.finish {
-            self.start_finish(exit, now, &mut out);
+            self.start_finish(exit, now, out);
         } else {
             out.events.push(Mark::FinishDone);
-            self.settle(now, &mut out);
+            self.settle(now, out);
         }
-        out
     }
 
     /// `finish` ended: mark `D` and what comes next, as after a death without `finish`. With the exit code 125 the service has
@@ -160,16 +205,28 @@ impl ChartState {
         ensures few { length result.orders.items ≤ 1 }
     {
         let mut out = Out::new();
+        self.finish_ended_onto(generation, exit, now, &mut out);
+        out
+    }
+
+    /// `finish_ended`, whose marks, three at most, and whose order are added to what is in `out`. This project's own.
+    pub fn finish_ended_onto(&mut self, generation: u64, exit: Exit, now: At, out: &mut Out)
+        requires marks { length out.old.events.items + 3 ≤ 4 }
+        requires room { length out.old.orders.items < 126 }
+        requires next { self.old.generation + 1 < 2 ^ 64 }
+        ensures gives { AppendsMove (finish_ended_move generation exit now self.old) self.new out.old out.new }
+        ensures sid { self.new.sid ≡ self.old.sid }
+        ensures few { length out.new.orders.items ≤ length out.old.orders.items + 1 }
+    {
         if !self.is_in_finish(generation) {
             out.stale = true;
-            return out;
+            return;
         }
         if verdict(exit) == Verdict125::Permanent {
             out.events.push(Mark::PermanentFailure);
             self.wanted_up = false;
         }
         out.events.push(Mark::FinishDone);
-        self.settle(now, &mut out);
-        out
+        self.settle(now, out);
     }
 }

@@ -1,6 +1,6 @@
 ghost use Rattle.std.specs.Prelude.{◌≡◌, ◌+◌, ◌<◌, ◌≤◌, ◌^◌, length};
 ghost use Rattle.supervise_core.specs.Chart.{set_active as with_activity, set_config as with_config, changed_by};
-ghost use Rattle.supervise_core.specs.MatchesMove.{MatchesMove, most_orders};
+ghost use Rattle.supervise_core.specs.MatchesMove.{MatchesMove, AppendsMove, most_marks, most_orders};
 ghost use Rattle.supervise_core.specs.Service.{KeepsAgreeing};
 
 use super::change::Change;
@@ -77,9 +77,27 @@ impl Standing {
         ensures name { self.new.chart.name ≡ self.old.chart.name }
         ensures few { length result.orders.items ≤ most_orders change.now }
     {
-        let out = self.chart.change(change, now);
-        self.status.record_marks(out.events.as_slice(), now);
+        let mut out = Out::new();
+        self.change_onto(change, now, &mut out);
         out
+    }
+
+    /// `change`, whose marks and orders are added to what is in `out`. For letters `out` has to hold no order, whatever their
+    /// number. This project's own.
+    pub fn change_onto(&mut self, change: &Change, now: At, out: &mut Out)
+        requires marks { length out.old.events.items + most_marks change.now ≤ 4 }
+        requires room { length out.old.orders.items + most_orders change.now ≤ 126 }
+        requires next { self.old.chart.generation + 1 < 2 ^ 64 }
+        ensures gives { AppendsMove (changed_by change.now now self.old.chart) self.new.chart out.old out.new }
+        ensures agrees { KeepsAgreeing now (changed_by change.now now self.old.chart).marks self.old self.new }
+        ensures sid { self.new.chart.sid ≡ self.old.chart.sid }
+        ensures name { self.new.chart.name ≡ self.old.chart.name }
+        ensures few { length out.new.orders.items ≤ length out.old.orders.items + most_orders change.now }
+    {
+        let before = out.events.len();
+        self.chart.change_onto(change, now, out);
+        self.status
+            .record_marks(&out.events.as_slice()[before..], now);
     }
 
     /// Its directory is listed, or no longer listed. Page `s6-svscan`.

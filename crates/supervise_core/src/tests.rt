@@ -175,3 +175,50 @@ fn a_service_with_a_file_down_begins_without_a_run(rt: HostRuntime) -> Result<()
     );
     Ok(())
 }
+
+#[test]
+fn a_change_is_added_to_what_is_there(rt: HostRuntime) -> Result<(), Fail> {
+    let (web, log) = (
+        Name::new(b"web").ok_or("web")?,
+        Name::new(b"log").ok_or("log")?,
+    );
+    let (_, mut out) = Service::begin(rt.alloc(), Sid(1), web, Config::plain(), at(0)?)?;
+    let (mut service, _) = Service::begin(rt.alloc(), Sid(2), log, Config::plain(), at(0)?)?;
+    let run = Order::Run(Sid(1), 1, web, None);
+    let marks = [Mark::SupervisorStarted, Mark::Spawned];
+    gives(&rt, &out, 0, &marks[..1], &[run], false);
+
+    let mut standing = service.standing();
+    for (pid, stale) in [(70, false), (71, true)] {
+        assert!(rt;
+            standing.chart().generation < 9 && out.events.len() < 4 && out.orders.len() < 9
+        );
+        standing.change_onto(&Change::Started(1, pid), at(5)?, &mut out);
+        gives(&rt, &out, 5, &marks, &[run], stale);
+    }
+
+    let mut letters = Letters::new();
+    letters.try_push(ControlLetter::Hangup).map_err(|_| "h")?;
+    let mut chart = standing.chart();
+    assert!(rt;
+        chart.generation < 9 && out.events.len() < 4 && out.orders.len() < 9 && letters.len() < 9
+    );
+    chart.control_onto(&letters, at(6)?, &mut out);
+    gives(
+        &rt,
+        &out,
+        6,
+        &marks,
+        &[run, Order::Signal(Sid(2), 1, 1)],
+        true,
+    );
+
+    out.clear();
+    gives(&rt, &out, 7, &[], &[], false);
+    service.adopt(standing);
+    assert_eq!(rt;
+        (service.chart().pid, service.status().letter),
+        (70, Mark::Spawned)
+    );
+    Ok(())
+}

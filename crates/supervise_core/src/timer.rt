@@ -27,10 +27,23 @@ impl ChartState {
         ensures fresh { result.stale ≡ false }
     {
         let mut out = Out::new();
-        if self.is_due(now) {
-            self.take_timer_rule(&mut out);
-        }
+        self.fire_onto(now, &mut out);
         out
+    }
+
+    /// `fire`, whose mark and whose order are added to what is in `out`. This project's own.
+    pub fn fire_onto(&mut self, now: At, out: &mut Out)
+        requires marks { length out.old.events.items < 4 }
+        requires room { length out.old.orders.items < 126 }
+        requires next { self.old.generation + 1 < 2 ^ 64 }
+        ensures gives { AppendsMove (fire_move now self.old) self.new out.old out.new }
+        ensures sid { self.new.sid ≡ self.old.sid }
+        ensures few { length out.new.orders.items ≤ length out.old.orders.items + 1 }
+        ensures fresh { out.new.stale ≡ out.old.stale }
+    {
+        if self.is_due(now) {
+            self.take_timer_rule(out);
+        }
     }
 
     // What the timer does, by the phase.

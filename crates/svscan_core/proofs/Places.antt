@@ -72,3 +72,10 @@ pub stands_at : {X : Type 0} (xs : List X) (p : ℕ) → p < length xs → Stand
 stands_at [] p lt = absurd (omega (arith, lt))
 stands_at (x ∷ xs) zero lt = record { item = x; there = refl }
 stands_at (x ∷ xs) (suc p) lt = let rest = stands_at xs p (omega (arith, lt)) in record { item = rest.item; there = rest.there }
+
+-- nothing stands past the end, whatever is put within
+pub get_set_none : {X : Type 0} (xs : List X) (p q : ℕ) (x : X) → slice_get xs p ≡ None → slice_get (slice_set xs q x) p ≡ None
+get_set_none [] p q x e = refl
+get_set_none (z ∷ xs) zero q x e = search rules
+get_set_none (z ∷ xs) (suc p) zero x e = e
+get_set_none (z ∷ xs) (suc p) (suc q) x e = get_set_none xs p q x e

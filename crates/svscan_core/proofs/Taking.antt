@@ -1,8 +1,8 @@
 -- A step that touches one service after the other.
-use Rattle.std.proofs.Common.{◌≡◌, ℕ, zero, suc, ◌+◌, ◌<◌, List, [], ◌∷◌, ◌++◌, refl, sym, ◌∙◌, ap, map, flat_map, subst, take, drop, append-nil, append_assoc, length, rules, arith}
-use Rattle.std.specs.Prelude.{Some, slice_get, slice_set, IsSomeAnd, unwrap_or}
+use Rattle.std.proofs.Common.{◌≡◌, ◌≢◌, ℕ, zero, suc, ◌+◌, ◌<◌, List, [], ◌∷◌, ◌++◌, refl, sym, ◌∙◌, ap, map, flat_map, get_or, subst, true, take, drop, append-nil, append_assoc, length, rules, arith}
+use Rattle.std.specs.Prelude.{Some, None, slice_get, slice_set, IsSomeAnd, unwrap_or}
 use Rattle.std.proofs.lemmas.List.{map-append, map-set}
-use Rattle.std.proofs.lemmas.List.Sums.{fold-append}
+use Rattle.std.proofs.lemmas.List.Sums.{fold-append, fold_more}
 use Rattle.std.proofs.Math.Numerals.{add-one}
 use Rattle.deadlines.specs.Timers.{is_rising}
 use Rattle.s6_events.specs.Clock.{clock_of}
@@ -22,7 +22,7 @@ use Rattle.svscan_core.specs.Moving.{Moving, with_one, with_touched, KeepNames, 
 use Rattle.svscan_core.specs.Sound.{AllAgree}
 use Rattle.svscan_core.specs.Table.{charts_of, serials_of}
 use Rattle.svscan_core.proofs.Agreeing.{moments_of_marks, clock_with_events, place_agrees}
-use Rattle.svscan_core.proofs.Places.{get_map, set_itself, half_get, half_set, half_none, half_all, flat_more}
+use Rattle.svscan_core.proofs.Places.{get_map, set_itself, half_get, half_set, half_none, half_all, flat_more, get_set_none, get_set_same, get_set_other}
 
 -- one more is touched
 pub touched_more : (services : List Supervised) (ts : List Touched) (t : Touched) → with_touched services (ts ++ t ∷ []) ≡ with_one (with_touched services ts) t
@@ -48,12 +48,12 @@ pub touched_takes : (now place : ℕ) (services new_services : List Supervised) 
     → MatchesMove moved after.chart out → KeepsAgreeing now out.events.items before after → after.chart.sid ≡ before.chart.sid
     → new_services ≡ slice_set services place after → new_events ≡ events ++ map (event after.chart.sid) out.events.items → new_orders ≡ orders ++ out.orders.items
     → TakesAt now place before.chart moved (record { services = services; events = events; orders = orders }) (record { services = new_services; events = new_events; orders = new_orders })
-touched_takes now place services new_services events new_events orders new_orders before after moved out there rising gives keeps same ns ne no =
+touched_takes now place services new_services events new_events orders new_orders before after moved out there rising gives keeps same ns ne os =
     let own : new_events ≡ events ++ map (event before.chart.sid) out.events.items = ne ∙ ap (λ n. events ++ map (event n) out.events.items) same in
     record {
       services = ap charts_of ns ∙ (map-set (λ (s : Supervised). s.chart) services place after ∙ ap (λ c. slice_set (charts_of services) place c) gives.chart);
       events = own ∙ ap (λ ms. events ++ map (event before.chart.sid) ms) gives.marks;
-      orders = no ∙ ap (λ os. orders ++ os) gives.orders;
+      orders = os ∙ ap (λ xs. orders ++ xs) gives.orders;
       agrees = λ h at all.
           let clock = clock_with_events h events ∙ at in
           let agreed : AllAgree (slice_set services place after) ((h ++ map moment_of events) ++ map (λ mark. EventOf before.chart.sid mark) out.events.items) =
@@ -135,3 +135,38 @@ takes_all now move old new up = by (length-charts old.services)
           orders = up.orders ∙ ap (λ x. old.orders ++ orders_after move x) all;
           agrees = up.agrees;
         }
+
+-- what stands at a place, once one more is touched
+pub none_touched : (services : List Supervised) (ts : List Touched) (p : ℕ) → slice_get services p ≡ None → slice_get (with_touched services ts) p ≡ None
+none_touched services [] p e = e
+none_touched services (t ∷ ts) p e = none_touched (with_one services t) ts p (get_set_none services p t.place t.standing e)
+
+pub own_touched : (services : List Supervised) (t : Touched) (p : ℕ) (old : Supervised) → t.place ≡ p → slice_get services p ≡ Some old → slice_get (with_one services t) p ≡ Some t.standing
+own_touched services t p old e h = ap (λ q. slice_get (slice_set services q t.standing) p) e ∙ get_set_same services p t.standing old h
+
+pub other_touched : (services : List Supervised) (t : Touched) (p : ℕ) (old : Supervised) → t.place ≢ p → slice_get services p ≡ Some old → slice_get (with_one services t) p ≡ Some old
+other_touched services t p old n h = get_set_other services p t.place t.standing n ∙ h
+
+pub touched_first : (services : List Supervised) (ts : List Touched) (i : ℕ) (d : Touched) → i < length ts
+    → with_touched services (take (i + 1) ts) ≡ with_one (with_touched services (take i ts)) (get_or ts i d)
+touched_first services ts i d lt = fold_more with_one services ts i d lt
+
+pub length_touched : (services : List Supervised) (ts : List Touched) → length (with_touched services ts) ≡ length services
+length_touched services [] = refl
+length_touched services (t ∷ ts) = length_touched (with_one services t) ts ∙ length-set services t.place t.standing
+  where
+    length-set : (ss : List Supervised) (p : ℕ) (s : Supervised) → length (slice_set ss p s) ≡ length ss
+    length-set [] p s = refl
+    length-set (x ∷ ss) zero s = refl
+    length-set (x ∷ ss) (suc p) s = ap suc (length-set ss p s)
+
+-- a touched service keeps its serial
+pub serials_touched : (services : List Supervised) (p : ℕ) (before after : Supervised) → slice_get services p ≡ Some before → after.chart.sid ≡ before.chart.sid
+    → serials_of (charts_of (slice_set services p after)) ≡ serials_of (charts_of services)
+serials_touched [] p before after e same = refl
+serials_touched (s ∷ services) zero before after e same = ap (λ n. n ∷ serials_of (charts_of services)) (same ∙ sym (ap (λ o. (unwrap_or o s).chart.sid) e))
+serials_touched (s ∷ services) (suc p) before after e same = ap (λ ns. s.chart.sid ∷ ns) (serials_touched services p before after e same)
+
+-- the state of the service at a place
+pub chart_there : (services : List Supervised) (p : ℕ) (s : Supervised) (c : ChartState) → slice_get services p ≡ Some s → slice_get (charts_of services) p ≡ Some c → s.chart ≡ c
+chart_there services p s c there e = ap (λ o. unwrap_or o s.chart) (sym (get_map (λ (t : Supervised). t.chart) services p s there) ∙ e)

@@ -1,10 +1,10 @@
-ghost use Rattle.std.specs.Prelude.{◌≡◌, ◌+◌, ◌<◌, ◌≤◌, ◌^◌, ◌++◌, ◌∷◌, [], map, length, All, OnOk, Some, slice_get, true};
+ghost use Rattle.std.specs.Prelude.{◌≡◌, ◌+◌, ◌<◌, ◌≤◌, ◌^◌, ◌*◌, ◌++◌, ◌∷◌, [], map, length, All, OnOk, Some, slice_get, true};
+ghost use Rattle.deadlines.specs.Timers.{is_rising};
 ghost use Rattle.supervise_core.specs.declared.chart.ChartState.{ChartState};
 ghost use Rattle.svscan_core.specs.Moves.{event};
-ghost use Rattle.svscan_core.specs.Moving.{with_touched, moving_of, TakesAt, Takes};
-ghost use Rattle.svscan_core.specs.Table.{charts_of};
+ghost use Rattle.svscan_core.specs.Moving.{with_touched, moving_of, KeepNames, TakesAt, Takes};
+ghost use Rattle.svscan_core.specs.Table.{charts_of, serials_of};
 ghost use Rattle.svscan_core.specs.Visit.{visited};
-ghost use Rattle.svscan_core.specs.Work.{changed_at};
 
 use super::event::Event;
 use super::slots::Slots;
@@ -108,6 +108,50 @@ impl<A: Allocator + Copy> Moves<A> {
     {
         self.give(standing.sid(), out)?;
         self.touched.push(Touched { place, standing })?;
+        Ok(())
+    }
+
+    // The service at a place takes it, unless it leaves the service as it stands.
+    fn visit_at(
+        &mut self,
+        slots: &Slots<A>,
+        visit: Visit,
+        place: usize,
+        now: At,
+    ) -> Result<(), NoMemory>
+        requires orders { length self.old.orders.items + 2 ≤ 256 }
+        requires next { (c : ChartState) → slice_get (charts_of (with_touched slots.now.services self.old.touched.items)) place ≡ Some c → c.generation + 1 < 2 ^ 64 }
+        requires order { is_rising (serials_of (charts_of (with_touched slots.now.services self.old.touched.items))) ≡ true }
+        ensures takes { OnOk result ((c : ChartState) → slice_get (charts_of (with_touched slots.now.services self.old.touched.items)) place ≡ Some c
+            → TakesAt now place c (visited visit.entry now c) (moving_of slots.now.services self.old) (moving_of slots.now.services self.new)) }
+        ensures serials { OnOk result (serials_of (charts_of (with_touched slots.now.services self.new.touched.items)) ≡ serials_of (charts_of (with_touched slots.now.services self.old.touched.items))) }
+        ensures names { KeepNames slots.now.services self.old.touched.items → OnOk result (KeepNames slots.now.services self.new.touched.items) }
+        ensures few { OnOk result (length self.new.orders.items ≤ length self.old.orders.items + 2) }
+    {
+        let Some(before) = standing_at(slots, self.touched.as_slice(), place) else {
+            return Ok(());
+        };
+        if visit.passes(&before, now) {
+            return Ok(());
+        }
+        let mut after = before;
+        let out = visit.make(&mut after, now);
+        self.touch(place, after, &out)?;
+        Ok(())
+    }
+
+    /// Each service in turn takes it.
+    pub fn visit_all(&mut self, slots: &Slots<A>, visit: Visit, now: At) -> Result<(), NoMemory>
+        requires orders { length self.old.orders.items + 2 * length slots.now.services ≤ 256 }
+        requires generations { All (λ c. c.generation + 1 < 2 ^ 64) (charts_of (with_touched slots.now.services self.old.touched.items)) }
+        requires order { is_rising (serials_of (charts_of (with_touched slots.now.services self.old.touched.items))) ≡ true }
+        ensures takes { OnOk result (Takes now (visited visit.entry now) (moving_of slots.now.services self.old) (moving_of slots.now.services self.new)) }
+        ensures names { KeepNames slots.now.services self.old.touched.items → OnOk result (KeepNames slots.now.services self.new.touched.items) }
+        ensures few { OnOk result (length self.new.orders.items ≤ length self.old.orders.items + 2 * length slots.now.services) }
+    {
+        for place in 0..slots.len() {
+            self.visit_at(slots, visit, place, now)?;
+        }
         Ok(())
     }
 }

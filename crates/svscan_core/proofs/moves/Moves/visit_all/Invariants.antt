@@ -1,0 +1,11 @@
+use Rattle.std.proofs.Common.{◌≡◌, ◌≤◌, ◌+◌, ◌*◌, length}
+use Rattle.svscan_core.specs.Moving.{moving_of, KeepNames, TakesUpTo}
+use Rattle.svscan_core.specs.Visit.{visited}
+use Rattle.svscan_core.proofs.moves.Moves.visit_all.Given as goal
+
+abbrev pub invariant-loop-place : goal.invariant-loop-place
+invariant-loop-place g l = record {
+  takes : TakesUpTo l.now (visited l.visit l.now) l.place (moving_of l.slots.services l.fn.self) (moving_of l.slots.services l.self);
+  names : KeepNames l.slots.services l.fn.self.touched.items → KeepNames l.slots.services l.self.touched.items;
+  few : length l.self.orders.items ≤ length l.fn.self.orders.items + 2 * l.place;
+}
