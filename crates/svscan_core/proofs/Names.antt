@@ -71,7 +71,7 @@ pub looked_names : (listing : List Entry) (now : ℕ) (cs : List ChartState) →
 looked_names listing now cs = names_moved (λ c. still (looked_at listing now c)) (keeps_look listing now) cs
 
 -- fewer services have fewer names
-unlisted_filtered : (p : ChartState → Bool) (q : List ℕ) (cs : List ChartState) → lists (names_of cs) q ≡ false → lists (names_of (filter p cs)) q ≡ false
+pub unlisted_filtered : (p : ChartState → Bool) (q : List ℕ) (cs : List ChartState) → lists (names_of cs) q ≡ false → lists (names_of (filter p cs)) q ≡ false
 unlisted_filtered p q [] h = refl
 unlisted_filtered p q (c ∷ cs) h = by (p c) (unlisted_filtered p q cs (neither_right (bytes_eq q c.name) _ h))
   where
