@@ -7,6 +7,7 @@ ghost use Rattle.svscan_core.specs.Moves.{event};
 ghost use Rattle.svscan_core.specs.Moving.{with_touched, moving_of, KeepNames, TakesAt, Takes};
 ghost use Rattle.svscan_core.specs.Table.{charts_of, serials_of};
 ghost use Rattle.svscan_core.specs.Visit.{visited};
+ghost use Rattle.svscan_core.specs.declared.visit.Visit.TheVariants.{Fire};
 
 use super::event::Event;
 use super::slots::Slots;
@@ -141,6 +142,7 @@ impl<A: Allocator + Copy> Moves<A> {
         ensures serials { OnOk result (serials_of (charts_of (with_touched slots.now.services self.new.touched.items)) ≡ serials_of (charts_of (with_touched slots.now.services self.old.touched.items))) }
         ensures names { KeepNames slots.now.services self.old.touched.items → OnOk result (KeepNames slots.now.services self.new.touched.items) }
         ensures few { OnOk result (length self.new.orders.items ≤ length self.old.orders.items + 2) }
+        ensures fires { visit.entry ≡ Fire → OnOk result (length self.new.orders.items ≤ length self.old.orders.items + 1) }
     {
         let Some(before) = standing_at(slots, self.touched.as_slice(), place) else {
             return Ok(());
@@ -162,6 +164,7 @@ impl<A: Allocator + Copy> Moves<A> {
         ensures takes { OnOk result (Takes now (visited visit.entry now) (moving_of slots.now.services self.old) (moving_of slots.now.services self.new)) }
         ensures names { KeepNames slots.now.services self.old.touched.items → OnOk result (KeepNames slots.now.services self.new.touched.items) }
         ensures few { OnOk result (length self.new.orders.items ≤ length self.old.orders.items + 2 * length slots.now.services) }
+        ensures fires { visit.entry ≡ Fire → OnOk result (length self.new.orders.items ≤ length self.old.orders.items + length slots.now.services) }
     {
         for place in 0..slots.len() {
             self.visit_at(slots, visit, place, now)?;

@@ -5,6 +5,7 @@ ghost use Rattle.supervise_core.specs.MatchesMove.{MatchesMove, most_orders};
 ghost use Rattle.supervise_core.specs.Service.{KeepsAgreeing};
 ghost use Rattle.svscan_core.specs.Scan.{looked_at};
 ghost use Rattle.svscan_core.specs.Visit.{visited};
+ghost use Rattle.svscan_core.specs.declared.visit.Visit.TheVariants.{Fire};
 ghost use Rattle.svscan_core.specs.Work.{leaving, nuked, terminated};
 
 use super::entry::{Entry, ScanOrder};
@@ -52,7 +53,7 @@ fn fire_timer(standing: &mut Standing, now: At, out: &mut Out)
     ensures agrees { KeepsAgreeing now out.new.events.items standing.old standing.new }
     ensures sid { standing.new.chart.sid ≡ standing.old.chart.sid }
     ensures name { standing.new.chart.name ≡ standing.old.chart.name }
-    ensures few { length out.new.orders.items ≤ 2 }
+    ensures few { length out.new.orders.items ≤ 1 }
 {
     take(standing, &Change::Fire, now, out);
 }
@@ -129,6 +130,7 @@ impl Visit<'_> {
         ensures sid { standing.new.chart.sid ≡ standing.old.chart.sid }
         ensures name { standing.new.chart.name ≡ standing.old.chart.name }
         ensures few { length out.new.orders.items ≤ 2 }
+        ensures fires { self.entry ≡ Fire → length out.new.orders.items ≤ 1 }
     {
         match self {
             Visit::Fire => fire_timer(standing, now, out),

@@ -29,6 +29,7 @@ loop-place-preserved g c =
       serials = c.in_ok-visit_at.ensures.serials ∙ c.loop-place.invariant.serials;
       names = λ h. c.in_ok-visit_at.ensures.names (c.loop-place.invariant.names h);
       few = omega (arith, c.in_ok-visit_at.ensures.few, c.loop-place.invariant.few);
+      fires = λ e. omega (arith, c.in_ok-visit_at.ensures.fires e, c.loop-place.invariant.fires e);
     }
 
 pub returns-clause-takes : goal.returns-clause-takes

@@ -1,6 +1,7 @@
 use Rattle.std.proofs.Common.{◌≡◌, ◌≤◌, ◌+◌, ◌*◌, length}
 use Rattle.svscan_core.specs.Moving.{moving_of, with_touched, KeepNames, TakesUpTo}
 use Rattle.svscan_core.specs.Table.{charts_of, serials_of}
+use Rattle.svscan_core.specs.declared.visit.Visit.TheVariants.{Fire}
 use Rattle.svscan_core.specs.Visit.{visited}
 use Rattle.svscan_core.proofs.moves.Moves.visit_all.Given as goal
 
@@ -10,4 +11,5 @@ invariant-loop-place g l = record {
   serials : serials_of (charts_of (with_touched l.slots.services l.self.touched.items)) ≡ serials_of (charts_of (with_touched l.slots.services l.fn.self.touched.items));
   names : KeepNames l.slots.services l.fn.self.touched.items → KeepNames l.slots.services l.self.touched.items;
   few : length l.self.orders.items ≤ length l.fn.self.orders.items + 2 * l.place;
+  fires : l.visit ≡ Fire → length l.self.orders.items ≤ length l.fn.self.orders.items + l.place;
 }
