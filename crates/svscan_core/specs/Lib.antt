@@ -9,3 +9,7 @@ pub mod Work
 pub mod Sound
 pub mod Visit
 pub mod Moving
+pub mod Scanning
+pub mod Asked
+pub mod Registry
+pub mod Pending
