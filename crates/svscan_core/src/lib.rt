@@ -6,6 +6,7 @@ mod event;
 mod listing;
 mod moves;
 mod pending;
+mod place;
 mod scan;
 mod slots;
 #[cfg(test)]

@@ -3,13 +3,16 @@ ghost use Rattle.deadlines.specs.Timers.{is_rising};
 ghost use Rattle.supervise_core.specs.declared.chart.ChartState.{ChartState};
 ghost use Rattle.supervise_core.specs.Chart.{changed_by};
 ghost use Rattle.supervise_core.specs.MatchesMove.{most_orders};
+ghost use Rattle.std.specs.List.{list_any};
 ghost use Rattle.svscan_core.specs.Moves.{event};
+ghost use Rattle.svscan_core.specs.Work.{changed_at};
 ghost use Rattle.svscan_core.specs.Moving.{with_touched, moving_of, KeepNames, TakesAt, Takes};
 ghost use Rattle.svscan_core.specs.Table.{charts_of, serials_of};
 ghost use Rattle.svscan_core.specs.Visit.{visited};
 ghost use Rattle.svscan_core.specs.declared.visit.Visit.TheVariants.{Fire};
 
 use super::event::Event;
+use super::place::place_of;
 use super::slots::Slots;
 use super::visit::{Visit, take};
 use arrayvec::ArrayVec;
@@ -196,6 +199,30 @@ impl<A: Allocator + Copy> Moves<A> {
         take(&mut after, change, now, &mut self.out);
         let stale = self.out.stale;
         self.touch(place, after)?;
+        Ok(stale)
+    }
+
+    /// The service of the serial takes the change, and no other one is looked at; answers whether that was a stale report.
+    pub fn change_one(
+        &mut self,
+        slots: &Slots<A>,
+        sid: Sid,
+        change: &Change,
+        now: At,
+    ) -> Result<bool, NoMemory>
+        requires orders { length self.old.orders.items + most_orders change.now ≤ 256 }
+        requires generations { All (λ c. c.generation + 1 < 2 ^ 64) (charts_of (with_touched slots.now.services self.old.touched.items)) }
+        requires order { is_rising (serials_of (charts_of slots.now.services)) ≡ true }
+        requires serials { serials_of (charts_of (with_touched slots.now.services self.old.touched.items)) ≡ serials_of (charts_of slots.now.services) }
+        ensures takes { OnOk result (Takes now (changed_at sid change.now now) (moving_of slots.now.services self.old) (moving_of slots.now.services self.new)) }
+        ensures stale { IfOk result (λ stale. stale ≡ list_any (λ c. (changed_at sid change.now now c).stale) (charts_of (with_touched slots.now.services self.old.touched.items))) }
+        ensures names { KeepNames slots.now.services self.old.touched.items → OnOk result (KeepNames slots.now.services self.new.touched.items) }
+        ensures few { OnOk result (length self.new.orders.items ≤ length self.old.orders.items + most_orders change.now) }
+    {
+        let Some(place) = place_of(slots, sid) else {
+            return Ok(false);
+        };
+        let stale = self.change_at(slots, place, change, now)?;
         Ok(stale)
     }
 }
