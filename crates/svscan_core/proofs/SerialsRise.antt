@@ -34,7 +34,7 @@ rising_before (x ∷ xs) n h =
     (rising_before xs n (both_right _ (is_rising (xs ++ n ∷ [])) h))
 
 -- and they rise up to the next one
-last_above : (x n : ℕ) (xs : List ℕ) → list_all (λ m. nat_lt x m) (xs ++ n ∷ []) ≡ true → nat_lt x n ≡ true
+pub last_above : (x n : ℕ) (xs : List ℕ) → list_all (λ m. nat_lt x m) (xs ++ n ∷ []) ≡ true → nat_lt x n ≡ true
 last_above x n [] h = both_left (nat_lt x n) true h
 last_above x n (y ∷ xs) h = last_above x n xs (both_right (nat_lt x y) _ h)
 
@@ -44,7 +44,7 @@ next_above x n h = grind (arith, nat_tests)
 above_itself : (n : ℕ) → nat_lt n (n + 1) ≡ true
 above_itself n = grind (arith, nat_tests)
 
-rising_next : (xs : List ℕ) (n : ℕ) → is_rising (xs ++ n ∷ []) ≡ true → is_rising ((xs ++ n ∷ []) ++ (n + 1) ∷ []) ≡ true
+pub rising_next : (xs : List ℕ) (n : ℕ) → is_rising (xs ++ n ∷ []) ≡ true → is_rising ((xs ++ n ∷ []) ++ (n + 1) ∷ []) ≡ true
 rising_next [] n h = both_of _ true (both_of (nat_lt n (n + 1)) true (above_itself n) refl) refl
 rising_next (x ∷ xs) n h =
     let all = both_left _ (is_rising (xs ++ n ∷ [])) h in

@@ -1,14 +1,31 @@
-ghost use Rattle.std.specs.Prelude.{◌≡◌, ◌++◌, ◌∷◌, [], map, filter, length, IfOk, OnOk};
-ghost use Rattle.svscan_core.specs.Moving.{with_touched};
-ghost use Rattle.svscan_core.specs.Scan.{stays, leaves};
+ghost use Rattle.std.specs.Prelude.{◌≡◌, ℕ, ◌+◌, ◌*◌, ◌<◌, ◌≤◌, ◌^◌, ◌++◌, ◌∷◌, [], List, map, filter, length, bytes_eq, All, IfOk, OnOk, true, false};
+ghost use Rattle.std.specs.List.{list_any};
+ghost use Rattle.deadlines.specs.Timers.{is_rising};
+ghost use Rattle.s6_events.specs.Clock.{clock_of};
+ghost use Rattle.s6_events.specs.declared.moment.Moment.{Moment};
+ghost use Rattle.supervise_core.specs.Service.{Supervised};
+ghost use Rattle.supervise_core.specs.declared.chart.ChartState.{ChartState};
+ghost use Rattle.svscan_core.specs.Adding.{adding_of, state_behind, GoesOn, Grows};
+ghost use Rattle.svscan_core.specs.Listing.{names_in};
+ghost use Rattle.svscan_core.specs.Moves.{moment_of};
+ghost use Rattle.svscan_core.specs.Moving.{with_touched, KeepNames};
+ghost use Rattle.svscan_core.specs.Names.{lists, repeats};
+ghost use Rattle.svscan_core.specs.Scan.{scanned, dropped_by, stays, leaves, stands, with_service, with_new_name, with_name, with_names};
+ghost use Rattle.svscan_core.specs.Scanning.{prepared_services};
+ghost use Rattle.svscan_core.specs.Sound.{AllAgree, IsNumbered};
 ghost use Rattle.svscan_core.specs.Table.{charts_of, names_of, serials_of};
 
-use super::entry::Listed;
-use super::moves::{Touched, standing_at};
+use super::entry::{Entry, Listed};
+use super::listing::config_in;
+use super::moves::{Moves, Touched, standing_at};
 use super::slots::Slots;
-use s6_events::{Name, NoMemory, Sid};
+use s6_events::{At, Name, NoMemory, Sid};
+use servicedir::Config;
 use std::alloc::Allocator;
 use supervise_core::{ChartState, Phase, Service};
+
+// The most services that stand.
+const SERVICE_LIMIT: usize = 64;
 
 /// What a listing drops and adds, before anything is changed. The lists keep their memory from step to step. This project's own.
 #[derive(Drop)]
@@ -36,7 +53,7 @@ pub fn plan_drops<A: Allocator + Copy>(
     scan: &mut Scanning<A>,
 ) -> Result<usize, NoMemory>
     ensures dropped { OnOk result (scan.new.dropped.items ≡ scan.old.dropped.items ++ names_of (filter leaves (charts_of (with_touched slots.now.services touched.now)))) }
-    ensures sids { OnOk result (scan.new.dropped_sids.items ≡ scan.old.dropped_sids.items ++ serials_of (filter leaves (charts_of (with_touched slots.now.services touched.now)))) }
+    ensures dropped_sids { OnOk result (scan.new.dropped_sids.items ≡ scan.old.dropped_sids.items ++ serials_of (filter leaves (charts_of (with_touched slots.now.services touched.now)))) }
     ensures retained { IfOk result (λ retained. retained ≡ length (filter stays (charts_of (with_touched slots.now.services touched.now)))) }
     ensures added { scan.new.added.items ≡ scan.old.added.items }
     ensures listed { scan.new.listed.items ≡ scan.old.listed.items }
@@ -60,7 +77,7 @@ impl<A: Allocator + Copy> Scanning<A> {
     /// Nothing yet, where this is the next serial. Takes no memory.
     pub fn new(alloc: A, next_sid: u64) -> Scanning<A>
         ensures dropped { result.dropped.items ≡ [] }
-        ensures sids { result.dropped_sids.items ≡ [] }
+        ensures dropped_sids { result.dropped_sids.items ≡ [] }
         ensures added { result.added.items ≡ [] }
         ensures listed { result.listed.items ≡ [] }
         ensures next_sid { result.next_sid ≡ next_sid }
@@ -77,7 +94,7 @@ impl<A: Allocator + Copy> Scanning<A> {
     /// Nothing again, in the same memory, where this is the next serial.
     pub fn clear(&mut self, next_sid: u64)
         ensures dropped { self.new.dropped.items ≡ [] }
-        ensures sids { self.new.dropped_sids.items ≡ [] }
+        ensures dropped_sids { self.new.dropped_sids.items ≡ [] }
         ensures added { self.new.added.items ≡ [] }
         ensures listed { self.new.listed.items ≡ [] }
         ensures next_sid { self.new.next_sid ≡ next_sid }
@@ -92,7 +109,7 @@ impl<A: Allocator + Copy> Scanning<A> {
     // The service leaves.
     fn drop_service(&mut self, chart: &ChartState) -> Result<(), NoMemory>
         ensures dropped { OnOk result (self.new.dropped.items ≡ self.old.dropped.items ++ chart.now.name ∷ []) }
-        ensures sids { OnOk result (self.new.dropped_sids.items ≡ self.old.dropped_sids.items ++ chart.now.sid ∷ []) }
+        ensures dropped_sids { OnOk result (self.new.dropped_sids.items ≡ self.old.dropped_sids.items ++ chart.now.sid ∷ []) }
         ensures added { self.new.added.items ≡ self.old.added.items }
         ensures listed { self.new.listed.items ≡ self.old.listed.items }
         ensures next_sid { self.new.next_sid ≡ self.old.next_sid }
@@ -101,4 +118,156 @@ impl<A: Allocator + Copy> Scanning<A> {
         self.dropped_sids.push(chart.sid)?;
         Ok(())
     }
+
+    // The name gets a service of the next serial, whose supervisor starts with this configuration.
+    fn add_service(
+        &mut self,
+        alloc: A,
+        moves: &mut Moves<A>,
+        name: &Name,
+        config: Config,
+        now: At,
+    ) -> Result<(), NoMemory>
+        requires orders { length moves.old.orders.items + 1 ≤ 256 }
+        requires next { self.old.next_sid + 1 < 2 ^ 64 }
+        ensures state { OnOk result ((retained : List ChartState) → state_behind retained (adding_of self.new moves.new) ≡ with_service config (state_behind retained (adding_of self.old moves.old)) name.now) }
+        ensures goes_on { (services : List Supervised) → IsNumbered self.old.next_sid (charts_of (services ++ self.old.added.items)) → OnOk result (GoesOn services (adding_of self.old moves.old) (adding_of self.new moves.new)) }
+        ensures count { OnOk result (length self.new.added.items ≡ length self.old.added.items + 1) }
+        ensures orders { OnOk result (length moves.new.orders.items ≤ length moves.old.orders.items + 1) }
+        ensures next { OnOk result (self.new.next_sid ≡ self.old.next_sid + 1) }
+        ensures dropped { self.new.dropped.items ≡ self.old.dropped.items }
+        ensures dropped_sids { self.new.dropped_sids.items ≡ self.old.dropped_sids.items }
+        ensures touched { moves.new.touched.items ≡ moves.old.touched.items }
+    {
+        let sid = Sid(self.next_sid);
+        let (service, out) = Service::begin(alloc, sid, *name, config, now)?;
+        moves.give(sid, &out)?;
+        self.added.push(service)?;
+        self.listed.push(Listed::Added(sid, *name))?;
+        self.next_sid += 1;
+        Ok(())
+    }
+
+    // A name for which no service stands gets one, unless its directory couldn't be read or the limit is reached.
+    fn add_new_name(
+        &mut self,
+        alloc: A,
+        moves: &mut Moves<A>,
+        retained: usize,
+        name: &Name,
+        found: Option<Config>,
+        now: At,
+    ) -> Result<(), NoMemory>
+        requires few { retained + length self.old.added.items ≤ 64 }
+        requires orders { length moves.old.orders.items + 1 ≤ 256 }
+        requires next { self.old.next_sid + 1 < 2 ^ 64 }
+        ensures state { OnOk result ((services : List ChartState) → length services ≡ retained → state_behind services (adding_of self.new moves.new) ≡ with_new_name found (state_behind services (adding_of self.old moves.old)) name.now) }
+        ensures goes_on { (services : List Supervised) → IsNumbered self.old.next_sid (charts_of (services ++ self.old.added.items)) → OnOk result (GoesOn services (adding_of self.old moves.old) (adding_of self.new moves.new)) }
+        ensures grows { OnOk result (Grows retained (adding_of self.old moves.old) (adding_of self.new moves.new)) }
+        ensures dropped { self.new.dropped.items ≡ self.old.dropped.items }
+        ensures dropped_sids { self.new.dropped_sids.items ≡ self.old.dropped_sids.items }
+        ensures touched { moves.new.touched.items ≡ moves.old.touched.items }
+    {
+        let Some(config) = found else {
+            self.listed.push(Listed::Unread(*name))?;
+            return Ok(());
+        };
+        if retained + self.added.len() >= SERVICE_LIMIT {
+            self.listed.push(Listed::Full(*name))?;
+            return Ok(());
+        }
+        self.add_service(alloc, moves, name, config, now)
+    }
+
+    // A name for which a service stands is passed over.
+    fn add_name(
+        &mut self,
+        slots: &Slots<A>,
+        moves: &mut Moves<A>,
+        retained: usize,
+        name: &Name,
+        listing: &[Entry],
+        now: At,
+    ) -> Result<(), NoMemory>
+        requires few { retained + length self.old.added.items ≤ 64 }
+        requires orders { length moves.old.orders.items + 1 ≤ 256 }
+        requires next { self.old.next_sid + 1 < 2 ^ 64 }
+        ensures state { OnOk result ((services : List ChartState) → length services ≡ retained
+            → stands name.now (services ++ charts_of self.old.added.items) ≡ list_any (λ s. bytes_eq name.now s.chart.name) slots.now.services
+            → state_behind services (adding_of self.new moves.new) ≡ with_name listing.now (state_behind services (adding_of self.old moves.old)) name.now) }
+        ensures goes_on { (services : List Supervised) → IsNumbered self.old.next_sid (charts_of (services ++ self.old.added.items)) → OnOk result (GoesOn services (adding_of self.old moves.old) (adding_of self.new moves.new)) }
+        ensures grows { OnOk result (Grows retained (adding_of self.old moves.old) (adding_of self.new moves.new)) }
+        ensures dropped { self.new.dropped.items ≡ self.old.dropped.items }
+        ensures dropped_sids { self.new.dropped_sids.items ≡ self.old.dropped_sids.items }
+        ensures touched { moves.new.touched.items ≡ moves.old.touched.items }
+    {
+        if slots.has(name) {
+            return Ok(());
+        }
+        let found = config_in(listing, name);
+        self.add_new_name(slots.allocator(), moves, retained, name, found, now)
+    }
+
+    // Additions: one name after the other, behind so many services that stay. Page `s6-svscan`.
+    fn add_names(
+        &mut self,
+        slots: &Slots<A>,
+        moves: &mut Moves<A>,
+        retained: usize,
+        names: &[Name],
+        listing: &[Entry],
+        now: At,
+    ) -> Result<(), NoMemory>
+        requires once { repeats names.now ≡ false }
+        requires few { retained + length self.old.added.items ≤ 64 }
+        requires orders { length moves.old.orders.items ≤ 64 }
+        requires next { self.old.next_sid + 65 < 2 ^ 64 }
+        ensures state { OnOk result ((services : List ChartState) → length services ≡ retained
+            → ((name : List ℕ) → lists names.now name ≡ true → stands name (services ++ charts_of self.old.added.items) ≡ list_any (λ s. bytes_eq name s.chart.name) slots.now.services)
+            → state_behind services (adding_of self.new moves.new) ≡ with_names listing.now (state_behind services (adding_of self.old moves.old)) names.now) }
+        ensures goes_on { (services : List Supervised) → IsNumbered self.old.next_sid (charts_of (services ++ self.old.added.items)) → OnOk result (GoesOn services (adding_of self.old moves.old) (adding_of self.new moves.new)) }
+        ensures grows { OnOk result (Grows retained (adding_of self.old moves.old) (adding_of self.new moves.new)) }
+        ensures dropped { self.new.dropped.items ≡ self.old.dropped.items }
+        ensures dropped_sids { self.new.dropped_sids.items ≡ self.old.dropped_sids.items }
+        ensures touched { moves.new.touched.items ≡ moves.old.touched.items }
+    {
+        for name in names {
+            self.add_name(slots, moves, retained, name, listing, now)?;
+        }
+        Ok(())
+    }
+}
+
+pub fn plan_scan<A: Allocator + Copy>(
+    slots: &Slots<A>,
+    moves: &mut Moves<A>,
+    scan: &mut Scanning<A>,
+    listing: &[Entry],
+    now: At,
+) -> Result<(), NoMemory>
+    requires dropped { scan.old.dropped.items ≡ [] }
+    requires dropped_sids { scan.old.dropped_sids.items ≡ [] }
+    requires added { scan.old.added.items ≡ [] }
+    requires listed { scan.old.listed.items ≡ [] }
+    requires names { repeats (names_of (charts_of (with_touched slots.now.services moves.old.touched.items))) ≡ false }
+    requires order { IsNumbered scan.old.next_sid (charts_of (with_touched slots.now.services moves.old.touched.items)) }
+    requires few { length slots.now.services ≤ 64 }
+    requires stand { names_of (charts_of (with_touched slots.now.services moves.old.touched.items)) ≡ names_of (charts_of slots.now.services) }
+    requires listing { repeats (names_in listing.now) ≡ false }
+    requires room { length moves.old.orders.items ≤ 64 }
+    requires next { scan.old.next_sid + 65 < 2 ^ 64 }
+    requires generations { All (λ c. c.generation + 1 < 2 ^ 64) (charts_of (with_touched slots.now.services moves.old.touched.items)) }
+    ensures services { OnOk result (charts_of (prepared_services slots.now.services moves.new.touched.items scan.new.dropped.items scan.new.added.items)
+        ≡ (scanned listing.now now (charts_of (with_touched slots.now.services moves.old.touched.items)) scan.old.next_sid).services) }
+    ensures next_sid { OnOk result (scan.new.next_sid ≡ (scanned listing.now now (charts_of (with_touched slots.now.services moves.old.touched.items)) scan.old.next_sid).next_sid) }
+    ensures events { OnOk result (moves.new.events.items ≡ moves.old.events.items ++ (scanned listing.now now (charts_of (with_touched slots.now.services moves.old.touched.items)) scan.old.next_sid).events) }
+    ensures orders { OnOk result (moves.new.orders.items ≡ moves.old.orders.items ++ (scanned listing.now now (charts_of (with_touched slots.now.services moves.old.touched.items)) scan.old.next_sid).orders) }
+    ensures dropped { OnOk result (scan.new.dropped_sids.items ≡ dropped_by listing.now now (charts_of (with_touched slots.now.services moves.old.touched.items))) }
+    ensures listed { OnOk result (scan.new.listed.items ≡ (scanned listing.now now (charts_of (with_touched slots.now.services moves.old.touched.items)) scan.old.next_sid).listed) }
+    ensures agrees { OnOk result ((history : List Moment) → clock_of history ≡ now → AllAgree (with_touched slots.now.services moves.old.touched.items) (history ++ map moment_of moves.old.events.items)
+        → AllAgree (prepared_services slots.now.services moves.new.touched.items scan.new.dropped.items scan.new.added.items) (history ++ map moment_of moves.new.events.items)) }
+    ensures names { KeepNames slots.now.services moves.old.touched.items → OnOk result (KeepNames slots.now.services moves.new.touched.items) }
+    ensures few { OnOk result (length scan.new.added.items ≤ 64) }
+{
+    Err(NoMemory)
 }

@@ -32,7 +32,7 @@ loop-place-preserved g c =
       | in-Some+else-is_retained+in_ok-drop_service w ↦
           let there : slice_get (charts_of ss) c.loop-place.place ≡ Some w.chart-chart.result = at w.in-Some.standing w.in-Some.is ∙ ap Some (sym w.chart-chart.ensures) in
           let ends = w.in_ok-drop_service.ensures in
-          rw (w.scan-is, w.retained-is, ends.dropped, ends.sids) (record {
+          rw (w.scan-is, w.retained-is, ends.dropped, ends.dropped_sids) (record {
             planned =
                 one_leaves (charts_of ss) c.loop-place.place w.chart-chart.result c.args.scan.now.dropped.items c.loop-place.scan.dropped.items c.args.scan.now.dropped_sids.items c.loop-place.scan.dropped_sids.items
                 c.loop-place.retained there (sym w.is_retained.ensures ∙ w.if-is_retained.false) so_far.planned;
@@ -60,8 +60,8 @@ whole g c =
 pub returns-clause-dropped : goal.returns-clause-dropped
 returns-clause-dropped g c = c.loop-place.invariant.planned.their_names ∙ ap (λ cs. c.args.scan.now.dropped.items ++ names_of (filter leaves cs)) (whole g c)
 
-pub returns-clause-sids : goal.returns-clause-sids
-returns-clause-sids g c = c.loop-place.invariant.planned.their_sids ∙ ap (λ cs. c.args.scan.now.dropped_sids.items ++ serials_of (filter leaves cs)) (whole g c)
+pub returns-clause-dropped_sids : goal.returns-clause-dropped_sids
+returns-clause-dropped_sids g c = c.loop-place.invariant.planned.their_sids ∙ ap (λ cs. c.args.scan.now.dropped_sids.items ++ serials_of (filter leaves cs)) (whole g c)
 
 pub returns-clause-retained : goal.returns-clause-retained
 returns-clause-retained g c = c.loop-place.invariant.planned.count ∙ ap (λ cs. length (filter stays cs)) (whole g c)
