@@ -71,7 +71,7 @@ impl<A: Allocator + Copy> Pending<A> {
     }
 
     // The work is done on the services as the step has them so far.
-    fn do_work(&mut self, slots: &Slots<A>, work: Work, now: At) -> Result<(), NoMemory>
+    fn do_work(&mut self, slots: &Slots<A>, work: &Work, now: At) -> Result<(), NoMemory>
         requires dropped { self.old.scan.dropped.items ≡ [] }
         requires dropped_sids { self.old.scan.dropped_sids.items ≡ [] }
         requires added { self.old.scan.added.items ≡ [] }
@@ -82,27 +82,28 @@ impl<A: Allocator + Copy> Pending<A> {
         requires generations { All (λ c. c.generation + 1 < 2 ^ 64) (charts_of (with_touched slots.now.services self.old.moves.touched.items)) }
         requires order { IsNumbered self.old.scan.next_sid (charts_of (with_touched slots.now.services self.old.moves.touched.items)) }
         requires names { repeats (names_of (charts_of (with_touched slots.now.services self.old.moves.touched.items))) ≡ false }
+        requires rising { is_rising (serials_of (charts_of slots.now.services)) ≡ true }
         requires serials { serials_of (charts_of (with_touched slots.now.services self.old.moves.touched.items)) ≡ serials_of (charts_of slots.now.services) }
         requires stand { names_of (charts_of (with_touched slots.now.services self.old.moves.touched.items)) ≡ names_of (charts_of slots.now.services) }
-        requires listing { IsOrderly (asked_by work) }
+        requires listing { IsOrderly (asked_by work.now) }
         requires next { self.old.scan.next_sid + 65 < 2 ^ 64 }
         ensures worked { OnOk result (worked_of (prepared_of slots.now.services self.new) ≡ given_before self.old.moves.events.items self.old.moves.orders.items
-            (worked (asked_by work.entry) now (charts_of (with_touched slots.now.services self.old.moves.touched.items)) self.old.scan.next_sid)) }
+            (worked (asked_by work.now) now (charts_of (with_touched slots.now.services self.old.moves.touched.items)) self.old.scan.next_sid)) }
         ensures agrees { OnOk result ((history : List Moment) → clock_of history ≡ now
             → AllAgree (with_touched slots.now.services self.old.moves.touched.items) (history ++ map moment_of self.old.moves.events.items)
             → AllAgree (prepared_of slots.now.services self.new).services (history ++ map moment_of self.new.moves.events.items)) }
         ensures touched { KeepNames slots.now.services self.old.moves.touched.items → OnOk result (KeepNames slots.now.services self.new.moves.touched.items) }
         ensures added { OnOk result (length self.new.scan.added.items ≤ 64) }
-        ensures quiet { asked_by work.entry ≡ leave → IsOk result }
+        ensures quiet { asked_by work.now ≡ leave → IsOk result }
     {
         match work {
             Work::Leave => Ok(()),
             Work::Change(sid, change) => {
-                self.stale = self.moves.change_one(slots, sid, change, now)?;
+                self.stale = self.moves.change_one(slots, *sid, change, now)?;
                 Ok(())
             }
             Work::Command(order) => {
-                self.moves.visit_all(slots, Visit::Command(order), now)?;
+                self.moves.visit_all(slots, Visit::Command(*order), now)?;
                 Ok(())
             }
             Work::Listing(listing) => {
@@ -118,7 +119,7 @@ impl<A: Allocator + Copy> Pending<A> {
         slots: &Slots<A>,
         next_sid: u64,
         due: &[Sid],
-        work: Work,
+        work: &Work,
         now: At,
     ) -> Result<(), NoMemory>
         requires few { length slots.now.services ≤ 64 }
@@ -126,14 +127,14 @@ impl<A: Allocator + Copy> Pending<A> {
         requires order { IsNumbered next_sid (charts_of slots.now.services) }
         requires names { repeats (names_of (charts_of slots.now.services)) ≡ false }
         requires due { AreDue due.now now (charts_of slots.now.services) }
-        requires listing { IsOrderly (asked_by work) }
+        requires listing { IsOrderly (asked_by work.now) }
         requires next { next_sid + 65 < 2 ^ 64 }
-        ensures worked { OnOk result (worked_of (prepared_of slots.now.services self.new) ≡ stepped (asked_by work.entry) now (charts_of slots.now.services) next_sid) }
+        ensures worked { OnOk result (worked_of (prepared_of slots.now.services self.new) ≡ stepped (asked_by work.now) now (charts_of slots.now.services) next_sid) }
         ensures agrees { OnOk result ((history : List Moment) → clock_of history ≡ now → AllAgree slots.now.services history
             → AllAgree (prepared_of slots.now.services self.new).services (history ++ map moment_of self.new.moves.events.items)) }
         ensures touched { OnOk result (KeepNames slots.now.services self.new.moves.touched.items) }
         ensures added { OnOk result (length self.new.scan.added.items ≤ 64) }
-        ensures quiet { due.now ≡ [] → asked_by work.entry ≡ leave → IsOk result }
+        ensures quiet { due.now ≡ [] → asked_by work.now ≡ leave → IsOk result }
     {
         self.clear(next_sid);
         fire_due(slots, &mut self.moves, due, now)?;
