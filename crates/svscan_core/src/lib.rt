@@ -5,6 +5,7 @@ mod entry;
 mod event;
 mod listing;
 mod moves;
+mod place;
 mod slots;
 #[cfg(test)]
 mod tests;
