@@ -9,3 +9,4 @@ pub mod Work
 pub mod Sound
 pub mod Visit
 pub mod Moving
+pub mod Scanning
