@@ -10,7 +10,7 @@ use Rattle.s6_events.specs.declared.order.Order.{Order}
 use Rattle.servicedir.specs.declared.config.Config.{Config}
 use Rattle.supervise_core.specs.declared.chart.ChartState.{ChartState}
 use Rattle.supervise_core.specs.declared.phase.Phase.{Phase}
-use Rattle.supervise_core.specs.ChartState.{new_service, is_gone}
+use Rattle.supervise_core.specs.ChartState.{new_service, is_gone, still}
 use Rattle.supervise_core.specs.Chart.{set_active}
 use Rattle.supervise_core.specs.Moves.{begin_supervisor}
 use Rattle.supervise_core.specs.Service.{Supervised}
@@ -19,6 +19,7 @@ use Rattle.svscan_core.specs.declared.event.Event.{Event}
 use Rattle.svscan_core.specs.Adding.{Adding, state_behind, GoesOn}
 use Rattle.svscan_core.specs.Listing.{names_in, is_listed, config_in, in_byte_order}
 use Rattle.svscan_core.specs.Moves.{moment_of, events_of}
+use Rattle.svscan_core.specs.Moving.{Moving, Takes}
 use Rattle.svscan_core.specs.Names.{lists, repeats}
 use Rattle.svscan_core.specs.Scan.{ScanState, configured, looked_at, looked_up, stays, leaves, stands, service_limit, scan_state_from, with_service, with_new_name, with_name, with_names, scanned}
 use Rattle.svscan_core.specs.Scanning.{without_names}
@@ -186,6 +187,16 @@ leads_to_scanned listing now next slots standing visited dropped sorted mid new 
         λ i. record { services = e i; next_sid = at i; listed = unlisted i; events = es i; orders = os i }
 
 -- a look at a directory gives nothing
-pub looks_give : {X : Type 0} (none : List X) (cs : List ChartState) → none ≡ [] → flat_map (λ (c : ChartState). none) cs ≡ []
+looks_give : {X : Type 0} (none : List X) (cs : List ChartState) → none ≡ [] → flat_map (λ (c : ChartState). none) cs ≡ []
 looks_give none [] h = refl
 looks_give none (c ∷ cs) h = ap (λ xs. xs ++ flat_map (λ (d : ChartState). none) cs) h ∙ looks_give none cs h
+
+pub same_events : (now : ℕ) (listing : List Entry) (old new : Moving) → Takes now (λ c. still (looked_at listing now c)) old new → new.events ≡ old.events
+same_events now listing old new takes =
+    let none : List Event = [] in
+    takes.events ∙ (ap (λ es. old.events ++ es) (looks_give none (charts_of old.services) refl) ∙ append-nil old.events)
+
+pub same_orders : (now : ℕ) (listing : List Entry) (old new : Moving) → Takes now (λ c. still (looked_at listing now c)) old new → new.orders ≡ old.orders
+same_orders now listing old new takes =
+    let none : List Order = [] in
+    takes.orders ∙ (ap (λ os. old.orders ++ os) (looks_give none (charts_of old.services) refl) ∙ append-nil old.orders)

@@ -1,6 +1,7 @@
 //! The services of a scan directory: what a listing, a report, letters and an order for all of them make of the table.
 #![tactic(auto)]
 
+mod commit;
 mod entry;
 mod event;
 mod listing;

@@ -69,6 +69,78 @@ impl<A: Allocator + Copy> Pending<A> {
         self.scan.clear(next_sid);
         self.stale = false;
     }
+
+    // The work is done on the services as the step has them so far.
+    fn do_work(&mut self, slots: &Slots<A>, work: &Work, now: At) -> Result<(), NoMemory>
+        requires dropped { self.old.scan.dropped.items ≡ [] }
+        requires dropped_sids { self.old.scan.dropped_sids.items ≡ [] }
+        requires added { self.old.scan.added.items ≡ [] }
+        requires listed { self.old.scan.listed.items ≡ [] }
+        requires stale { self.old.stale ≡ false }
+        requires few { length slots.now.services ≤ 64 }
+        requires room { length self.old.moves.orders.items ≤ 64 }
+        requires generations { All (λ c. c.generation + 1 < 2 ^ 64) (charts_of (with_touched slots.now.services self.old.moves.touched.items)) }
+        requires order { IsNumbered self.old.scan.next_sid (charts_of (with_touched slots.now.services self.old.moves.touched.items)) }
+        requires names { repeats (names_of (charts_of (with_touched slots.now.services self.old.moves.touched.items))) ≡ false }
+        requires rising { is_rising (serials_of (charts_of slots.now.services)) ≡ true }
+        requires serials { serials_of (charts_of (with_touched slots.now.services self.old.moves.touched.items)) ≡ serials_of (charts_of slots.now.services) }
+        requires stand { names_of (charts_of (with_touched slots.now.services self.old.moves.touched.items)) ≡ names_of (charts_of slots.now.services) }
+        requires listing { IsOrderly (asked_by work.now) }
+        requires next { self.old.scan.next_sid + 65 < 2 ^ 64 }
+        ensures worked { OnOk result (worked_of (prepared_of slots.now.services self.new) ≡ given_before self.old.moves.events.items self.old.moves.orders.items
+            (worked (asked_by work.now) now (charts_of (with_touched slots.now.services self.old.moves.touched.items)) self.old.scan.next_sid)) }
+        ensures agrees { OnOk result ((history : List Moment) → clock_of history ≡ now
+            → AllAgree (with_touched slots.now.services self.old.moves.touched.items) (history ++ map moment_of self.old.moves.events.items)
+            → AllAgree (prepared_of slots.now.services self.new).services (history ++ map moment_of self.new.moves.events.items)) }
+        ensures touched { KeepNames slots.now.services self.old.moves.touched.items → OnOk result (KeepNames slots.now.services self.new.moves.touched.items) }
+        ensures added { OnOk result (length self.new.scan.added.items ≤ 64) }
+        ensures quiet { asked_by work.now ≡ leave → IsOk result }
+    {
+        match work {
+            Work::Leave => Ok(()),
+            Work::Change(sid, change) => {
+                self.stale = self.moves.change_one(slots, *sid, change, now)?;
+                Ok(())
+            }
+            Work::Command(order) => {
+                self.moves.visit_all(slots, Visit::Command(*order), now)?;
+                Ok(())
+            }
+            Work::Listing(listing) => {
+                plan_scan(slots, &mut self.moves, &mut self.scan, listing, now)?;
+                Ok(())
+            }
+        }
+    }
+
+    /// The whole step: the due timers first, and then the work.
+    pub fn work_out(
+        &mut self,
+        slots: &Slots<A>,
+        next_sid: u64,
+        due: &[Sid],
+        work: &Work,
+        now: At,
+    ) -> Result<(), NoMemory>
+        requires few { length slots.now.services ≤ 64 }
+        requires generations { All (λ c. c.generation + 2 < 2 ^ 64) (charts_of slots.now.services) }
+        requires order { IsNumbered next_sid (charts_of slots.now.services) }
+        requires names { repeats (names_of (charts_of slots.now.services)) ≡ false }
+        requires due { AreDue due.now now (charts_of slots.now.services) }
+        requires listing { IsOrderly (asked_by work.now) }
+        requires next { next_sid + 65 < 2 ^ 64 }
+        ensures worked { OnOk result (worked_of (prepared_of slots.now.services self.new) ≡ stepped (asked_by work.now) now (charts_of slots.now.services) next_sid) }
+        ensures agrees { OnOk result ((history : List Moment) → clock_of history ≡ now → AllAgree slots.now.services history
+            → AllAgree (prepared_of slots.now.services self.new).services (history ++ map moment_of self.new.moves.events.items)) }
+        ensures touched { OnOk result (KeepNames slots.now.services self.new.moves.touched.items) }
+        ensures added { OnOk result (length self.new.scan.added.items ≤ 64) }
+        ensures quiet { due.now ≡ [] → asked_by work.now ≡ leave → IsOk result }
+    {
+        self.clear(next_sid);
+        fire_due(slots, &mut self.moves, due, now)?;
+        self.do_work(slots, work, now)?;
+        Ok(())
+    }
 }
 
 // Each service whose timer is due takes its rule: where none is due, no service is looked at.

@@ -16,9 +16,10 @@ ghost use Rattle.svscan_core.specs.Sound.{AllAgree, IsNumbered};
 ghost use Rattle.svscan_core.specs.Table.{charts_of, names_of, serials_of};
 
 use super::entry::{Entry, Listed};
-use super::listing::config_in;
+use super::listing::{config_in, sort_listing};
 use super::moves::{Moves, Touched, standing_at};
 use super::slots::Slots;
+use super::visit::Visit;
 use s6_events::{At, Name, NoMemory, Sid};
 use servicedir::Config;
 use std::alloc::Allocator;
@@ -238,6 +239,9 @@ impl<A: Allocator + Copy> Scanning<A> {
     }
 }
 
+/// What the listing does to the services as the step has them: each is looked at, those of which directory and supervisor are both
+/// gone leave, and each listed name for which none stands gets a new one, in the order of the names' bytes, while fewer than 64 stand.
+/// Nothing of it is done yet. `NoMemory` where memory for the plan is refused. Page `s6-svscan`.
 pub fn plan_scan<A: Allocator + Copy>(
     slots: &Slots<A>,
     moves: &mut Moves<A>,
@@ -269,5 +273,10 @@ pub fn plan_scan<A: Allocator + Copy>(
     ensures names { KeepNames slots.now.services moves.old.touched.items → OnOk result (KeepNames slots.now.services moves.new.touched.items) }
     ensures few { OnOk result (length scan.new.added.items ≤ 64) }
 {
-    Err(NoMemory)
+    moves.visit_all(slots, Visit::Look(listing), now)?;
+    let retained = plan_drops(slots, moves.touched.as_slice(), scan)?;
+    let sorted = sort_listing(slots.allocator(), listing)?;
+    let names = sorted.names.as_slice();
+    scan.add_names(slots, moves, retained, names, listing, now)?;
+    Ok(())
 }

@@ -1,0 +1,98 @@
+use Rattle.std.proofs.Common.{◌≡◌, ◌∙◌, ◌≤◌, ◌+◌, ◌++◌, sym, ap, subst, refl, length, List, ℕ, arith, append-nil, filter, map, []}
+use Rattle.std.proofs.lemmas.List.{length-map}
+use Rattle.s6_events.specs.declared.order.Order.{Order}
+use Rattle.s6_events.specs.declared.moment.Moment.{Moment}
+use Rattle.supervise_core.specs.Service.{Supervised}
+use Rattle.svscan_core.specs.declared.event.Event.{Event}
+use Rattle.svscan_core.specs.declared.moves.Touched.{Touched}
+use Rattle.svscan_core.specs.Adding.{adding_of}
+use Rattle.svscan_core.specs.Listing.{names_in}
+use Rattle.svscan_core.specs.Moves.{moment_of}
+use Rattle.svscan_core.specs.Moving.{with_touched, moving_of}
+use Rattle.svscan_core.specs.Names.{repeats}
+use Rattle.svscan_core.specs.Scan.{ScanState, stays, leaves, scanned}
+use Rattle.svscan_core.specs.Scanning.{prepared_services}
+use Rattle.svscan_core.specs.Sound.{AllAgree}
+use Rattle.svscan_core.specs.Table.{charts_of, names_of, serials_of}
+use Rattle.svscan_core.proofs.ByteOrder.{order_once}
+use Rattle.svscan_core.proofs.Few.{length-filter}
+use Rattle.svscan_core.proofs.Scanned.{LeadsToScanned, leads_to_scanned, same_events, same_orders}
+use Rattle.svscan_core.proofs.SerialsRise.{rising_before}
+use Rattle.svscan_core.proofs.Taking.{length_touched}
+use Rattle.svscan_core.proofs.scan.plan_scan.Goals as goal
+
+pub visit_all-requires-clause-order : goal.visit_all-requires-clause-order
+visit_all-requires-clause-order g c =
+    rising_before (serials_of (charts_of (with_touched c.args.slots.now.services c.args.moves.now.touched.items))) c.args.scan.now.next_sid c.requires.order
+
+pub add_names-requires-clause-once : goal.add_names-requires-clause-once
+add_names-requires-clause-once g c = ap repeats (c.as_slice-names.ensures.value ∙ c.in_ok-sorted.ensures.names) ∙ order_once (names_in c.args.listing.now)
+
+pub add_names-requires-clause-few : goal.add_names-requires-clause-few
+add_names-requires-clause-few g c =
+    let ss = with_touched c.args.slots.now.services c.as_slice.result.now in
+    let long : length ss ≡ length c.args.slots.now.services = length_touched c.args.slots.now.services c.as_slice.result.now in
+    let as_long : length (charts_of ss) ≡ length ss = length-map ss (λ (s : Supervised). s.chart) in
+    let fewer : length (filter stays (charts_of ss)) ≤ length (charts_of ss) = length-filter stays (charts_of ss) in
+    let retained : c.in_ok-retained.retained ≡ length (filter stays (charts_of ss)) = c.in_ok-retained.ensures.retained in
+    let none : length c.plan_drops.new.scan.added.items ≡ 0 = ap length (c.plan_drops.ensures.added ∙ c.requires.added) in
+    omega (arith, long, as_long, fewer, retained, none, c.requires.few)
+
+pub add_names-requires-clause-orders : goal.add_names-requires-clause-orders
+add_names-requires-clause-orders g c =
+    let same : length c.visit_all.new.self.orders.items ≡ length c.args.moves.now.orders.items = ap length (same_orders c.args.now c.args.listing.now (moving_of c.args.slots.now.services c.args.moves.now) (moving_of c.args.slots.now.services c.visit_all.new.self) c.in_ok-visit_all.ensures.takes) in
+    omega (arith, same, c.requires.room)
+
+leads : (g : _) (c : goal.After-drop-sorted-2 g)
+    → LeadsToScanned c.args.listing.now c.args.now c.args.scan.now.next_sid (with_touched c.args.slots.now.services c.args.moves.now.touched.items)
+    (with_touched c.args.slots.now.services c.visit_all.new.self.touched.items) c.plan_drops.new.scan.dropped.items
+    (adding_of c.plan_drops.new.scan c.visit_all.new.self) (adding_of c.add_names.new.self c.add_names.new.moves)
+leads g c =
+    let slots = c.args.slots.now.services in
+    let standing = with_touched slots c.args.moves.now.touched.items in
+    let visited = with_touched slots c.visit_all.new.self.touched.items in
+    let same : with_touched slots c.as_slice.result.now ≡ visited = ap (with_touched slots) c.as_slice.ensures.value in
+    let drops = c.in_ok-retained.ensures in
+    let retained : c.in_ok-retained.retained ≡ length (filter stays (charts_of visited)) = drops.retained ∙ ap (λ ss. length (filter stays (charts_of ss))) same in
+    let adds = c.in_ok-add_names.ensures in
+    leads_to_scanned c.args.listing.now c.args.now c.args.scan.now.next_sid slots standing visited c.plan_drops.new.scan.dropped.items c.as_slice-names.result.now
+    (adding_of c.plan_drops.new.scan c.visit_all.new.self) (adding_of c.add_names.new.self c.add_names.new.moves)
+    c.in_ok-visit_all.ensures.takes.services c.requires.names c.requires.order c.requires.stand
+    (drops.dropped ∙ (ap (λ ns. ns ++ names_of (filter leaves (charts_of (with_touched slots c.as_slice.result.now)))) c.requires.dropped ∙ ap (λ ss. names_of (filter leaves (charts_of ss))) same))
+    (c.as_slice-names.ensures.value ∙ c.in_ok-sorted.ensures.names)
+    (c.plan_drops.ensures.added ∙ c.requires.added) c.plan_drops.ensures.next_sid (c.plan_drops.ensures.listed ∙ c.requires.listed)
+    (λ services long finds. adds.state services (long ∙ sym retained) finds)
+    (λ services numbered. adds.goes_on services numbered)
+
+pub returns-clause-services : goal.returns-clause-services
+returns-clause-services g c =
+    ap (λ ts. charts_of (prepared_services c.args.slots.now.services ts c.add_names.new.self.dropped.items c.add_names.new.self.added.items)) c.add_names.ensures.touched
+    ∙ (ap (λ ns. charts_of (prepared_services c.args.slots.now.services c.visit_all.new.self.touched.items ns c.add_names.new.self.added.items)) c.add_names.ensures.dropped
+    ∙ (leads g c).services)
+
+pub returns-clause-next_sid : goal.returns-clause-next_sid
+returns-clause-next_sid g c = ap (λ (s : ScanState). s.next_sid) (leads g c).given
+
+pub returns-clause-events : goal.returns-clause-events
+returns-clause-events g c =
+    ap (λ (s : ScanState). s.events) (leads g c).given
+    ∙ ap (λ es. es ++ (scanned c.args.listing.now c.args.now (charts_of (with_touched c.args.slots.now.services c.args.moves.now.touched.items)) c.args.scan.now.next_sid).events)
+    (same_events c.args.now c.args.listing.now (moving_of c.args.slots.now.services c.args.moves.now) (moving_of c.args.slots.now.services c.visit_all.new.self) c.in_ok-visit_all.ensures.takes)
+
+pub returns-clause-orders : goal.returns-clause-orders
+returns-clause-orders g c =
+    ap (λ (s : ScanState). s.orders) (leads g c).given
+    ∙ ap (λ os. os ++ (scanned c.args.listing.now c.args.now (charts_of (with_touched c.args.slots.now.services c.args.moves.now.touched.items)) c.args.scan.now.next_sid).orders)
+    (same_orders c.args.now c.args.listing.now (moving_of c.args.slots.now.services c.args.moves.now) (moving_of c.args.slots.now.services c.visit_all.new.self) c.in_ok-visit_all.ensures.takes)
+
+pub returns-clause-listed : goal.returns-clause-listed
+returns-clause-listed g c = ap (λ (s : ScanState). s.listed) (leads g c).given
+
+pub returns-clause-agrees : goal.returns-clause-agrees
+returns-clause-agrees g c = λ h at all.
+    let slots = c.args.slots.now.services in
+    let seen = c.in_ok-visit_all.ensures.takes.agrees h at all in
+    subst (λ (ts : List Touched). AllAgree (prepared_services slots ts c.add_names.new.self.dropped.items c.add_names.new.self.added.items) (h ++ map moment_of c.add_names.new.moves.events.items))
+    (sym c.add_names.ensures.touched)
+    (subst (λ (ns : List (List ℕ)). AllAgree (prepared_services slots c.visit_all.new.self.touched.items ns c.add_names.new.self.added.items) (h ++ map moment_of c.add_names.new.moves.events.items))
+    (sym c.add_names.ensures.dropped) ((leads g c).agrees h seen))

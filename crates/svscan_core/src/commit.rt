@@ -1,0 +1,50 @@
+ghost use Rattle.std.specs.Prelude.{◌≡◌, ◌≤◌, [], length, false};
+ghost use Rattle.svscan_core.specs.Moving.{with_touched, KeepNames};
+ghost use Rattle.svscan_core.specs.Names.{repeats};
+ghost use Rattle.svscan_core.specs.Scanning.{without_names, prepared_services};
+ghost use Rattle.svscan_core.specs.Table.{charts_of, names_of};
+
+use super::moves::Touched;
+use super::slots::Slots;
+use s6_events::Name;
+use std::alloc::Allocator;
+use supervise_core::Service;
+
+// Each of these places gets its state and status.
+fn adopt_all<A: Allocator + Copy>(slots: &mut Slots<A>, touched: &[Touched])
+    requires { KeepNames slots.old.services touched.now }
+    ensures services { slots.new.services ≡ with_touched slots.old.services touched.now }
+    ensures room { slots.new.room ≡ slots.old.room }
+{
+    for change in touched {
+        slots.adopt(change.place, change.standing);
+    }
+}
+
+// Those of these names leave.
+fn remove_all<A: Allocator + Copy>(slots: &mut Slots<A>, names: &[Name])
+    ensures services { slots.new.services ≡ without_names slots.old.services names.now }
+    ensures room { slots.old.room ≤ slots.new.room }
+{
+    for name in names {
+        slots.remove(*name);
+    }
+}
+
+/// What a step worked out is made: no memory is taken. `added` is empty then.
+pub fn commit_changes<A: Allocator + Copy>(
+    slots: &mut Slots<A>,
+    touched: &[Touched],
+    dropped: &[Name],
+    added: &mut Vec<Service, A>,
+)
+    requires names { KeepNames slots.old.services touched.now }
+    requires room { length added.old.items ≤ slots.old.room }
+    requires unique { repeats (names_of (charts_of (prepared_services slots.old.services touched.now dropped.now added.old.items))) ≡ false }
+    ensures services { slots.new.services ≡ prepared_services slots.old.services touched.now dropped.now added.old.items }
+    ensures added { added.new.items ≡ [] }
+{
+    adopt_all(slots, touched);
+    remove_all(slots, dropped);
+    slots.add_all(added);
+}
