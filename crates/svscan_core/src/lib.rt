@@ -8,6 +8,7 @@ mod listing;
 mod moves;
 mod place;
 mod slots;
+mod table;
 #[cfg(test)]
 mod tests;
 mod visit;
