@@ -10,3 +10,6 @@ pub mod Sound
 pub mod Visit
 pub mod Moving
 pub mod Scanning
+pub mod Asked
+pub mod Registry
+pub mod Pending

@@ -91,12 +91,14 @@ worked (apply_listing listing) now services next_sid = record {
   listed = (scanned listing now services next_sid).listed;
 }
 
+-- what was given before comes first
+abbrev pub given_before : List Event → List Order → Worked → Worked
+given_before events orders w = record w { events = events ++ w.events; orders = orders ++ w.orders }
+
 -- each service whose timer is due takes its rule, and then the work is done
 abbrev pub stepped : Work → ℕ → List ChartState → ℕ → Worked
-stepped work now services next_sid = record (worked work now (services_after (fire now) services) next_sid) {
-  events = events_after (fire now) services ++ (worked work now (services_after (fire now) services) next_sid).events;
-  orders = orders_after (fire now) services ++ (worked work now (services_after (fire now) services) next_sid).orders;
-}
+stepped work now services next_sid =
+    given_before (events_after (fire now) services) (orders_after (fire now) services) (worked work now (services_after (fire now) services) next_sid)
 
 -- these are the serials of the services whose timers are due
 abbrev pub AreDue : List ℕ → ℕ → List ChartState → Type 0

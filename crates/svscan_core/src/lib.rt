@@ -6,12 +6,16 @@ mod entry;
 mod event;
 mod listing;
 mod moves;
+mod pending;
 mod place;
+mod scan;
 mod slots;
 mod table;
 #[cfg(test)]
 mod tests;
 mod visit;
+mod work;
 
 pub use entry::{Entry, Listed, ScanOrder};
 pub use event::Event;
+pub use work::Work;

@@ -1,14 +1,20 @@
-ghost use Rattle.std.specs.Prelude.{◌≡◌, ◌+◌, ◌<◌, ◌≤◌, ◌^◌, ◌*◌, ◌++◌, ◌∷◌, [], map, length, All, OnOk, Some, slice_get, true};
+ghost use Rattle.std.specs.Prelude.{◌≡◌, ◌+◌, ◌<◌, ◌≤◌, ◌^◌, ◌*◌, ◌++◌, ◌∷◌, [], map, length, All, IfOk, OnOk, Some, slice_get, true};
 ghost use Rattle.deadlines.specs.Timers.{is_rising};
 ghost use Rattle.supervise_core.specs.declared.chart.ChartState.{ChartState};
+ghost use Rattle.supervise_core.specs.Chart.{changed_by};
+ghost use Rattle.supervise_core.specs.MatchesMove.{most_orders};
+ghost use Rattle.std.specs.List.{list_any};
 ghost use Rattle.svscan_core.specs.Moves.{event};
+ghost use Rattle.svscan_core.specs.Work.{changed_at};
 ghost use Rattle.svscan_core.specs.Moving.{with_touched, moving_of, KeepNames, TakesAt, Takes};
 ghost use Rattle.svscan_core.specs.Table.{charts_of, serials_of};
 ghost use Rattle.svscan_core.specs.Visit.{visited};
+ghost use Rattle.svscan_core.specs.declared.visit.Visit.TheVariants.{Fire};
 
 use super::event::Event;
+use super::place::place_of;
 use super::slots::Slots;
-use super::visit::Visit;
+use super::visit::{Visit, take};
 use arrayvec::ArrayVec;
 use s6_events::{At, Mark, NoMemory, Order, Sid};
 use std::alloc::Allocator;
@@ -27,6 +33,8 @@ pub struct Moves<A: Allocator> {
     pub touched: Vec<Touched, A>,
     pub events: Vec<Event, A>,
     pub orders: ArrayVec<Order, 256>,
+    // What the last change of a service gave.
+    out: Out,
 }
 
 /// The service at a place, as the step has it so far.
@@ -60,6 +68,16 @@ fn add_events<A: Allocator>(
     Ok(())
 }
 
+// Adds orders; there is room for them.
+fn add_orders(orders: &mut ArrayVec<Order, 256>, more: &[Order])
+    requires { length orders.old.items + length more.now ≤ 256 }
+    ensures { orders.new.items ≡ orders.old.items ++ more.now }
+{
+    if orders.try_extend_from_slice(more).is_err() {
+        unreachable!()
+    }
+}
+
 impl<A: Allocator + Copy> Moves<A> {
     /// Nothing yet. Takes no memory.
     pub fn new(alloc: A) -> Moves<A>
@@ -71,6 +89,7 @@ impl<A: Allocator + Copy> Moves<A> {
             touched: Vec::new(alloc),
             events: Vec::new(alloc),
             orders: ArrayVec::new(),
+            out: Out::new(),
         }
     }
 
@@ -92,21 +111,20 @@ impl<A: Allocator + Copy> Moves<A> {
         ensures events { OnOk result (self.new.events.items ≡ self.old.events.items ++ map (event sid) out.now.events.items) }
         ensures orders { OnOk result (self.new.orders.items ≡ self.old.orders.items ++ out.now.orders.items) }
     {
-        let orders = out.orders.as_slice();
-        if self.orders.try_extend_from_slice(orders).is_err() {
-            unreachable!()
-        }
+        add_orders(&mut self.orders, out.orders.as_slice());
         add_events(&mut self.events, sid, out.events.as_slice())
     }
 
     // The service at a place becomes this, with the marks and orders that led to it.
-    fn touch(&mut self, place: usize, standing: Standing, out: &Out) -> Result<(), NoMemory>
-        requires { length self.old.orders.items + length out.now.orders.items ≤ 256 }
+    fn touch(&mut self, place: usize, standing: Standing) -> Result<(), NoMemory>
+        requires { length self.old.orders.items + length self.old.out.orders.items ≤ 256 }
         ensures touched { OnOk result (self.new.touched.items ≡ self.old.touched.items ++ (record { place = place; standing = standing }) ∷ []) }
-        ensures events { OnOk result (self.new.events.items ≡ self.old.events.items ++ map (event standing.chart.sid) out.now.events.items) }
-        ensures orders { OnOk result (self.new.orders.items ≡ self.old.orders.items ++ out.now.orders.items) }
+        ensures events { OnOk result (self.new.events.items ≡ self.old.events.items ++ map (event standing.chart.sid) self.old.out.events.items) }
+        ensures orders { OnOk result (self.new.orders.items ≡ self.old.orders.items ++ self.old.out.orders.items) }
     {
-        self.give(standing.sid(), out)?;
+        add_orders(&mut self.orders, self.out.orders.as_slice());
+        let marks = self.out.events.as_slice();
+        add_events(&mut self.events, standing.sid(), marks)?;
         self.touched.push(Touched { place, standing })?;
         Ok(())
     }
@@ -127,6 +145,7 @@ impl<A: Allocator + Copy> Moves<A> {
         ensures serials { OnOk result (serials_of (charts_of (with_touched slots.now.services self.new.touched.items)) ≡ serials_of (charts_of (with_touched slots.now.services self.old.touched.items))) }
         ensures names { KeepNames slots.now.services self.old.touched.items → OnOk result (KeepNames slots.now.services self.new.touched.items) }
         ensures few { OnOk result (length self.new.orders.items ≤ length self.old.orders.items + 2) }
+        ensures fires { visit.entry ≡ Fire → OnOk result (length self.new.orders.items ≤ length self.old.orders.items + 1) }
     {
         let Some(before) = standing_at(slots, self.touched.as_slice(), place) else {
             return Ok(());
@@ -135,8 +154,8 @@ impl<A: Allocator + Copy> Moves<A> {
             return Ok(());
         }
         let mut after = before;
-        let out = visit.make(&mut after, now);
-        self.touch(place, after, &out)?;
+        visit.make(&mut after, now, &mut self.out);
+        self.touch(place, after)?;
         Ok(())
     }
 
@@ -148,10 +167,62 @@ impl<A: Allocator + Copy> Moves<A> {
         ensures takes { OnOk result (Takes now (visited visit.entry now) (moving_of slots.now.services self.old) (moving_of slots.now.services self.new)) }
         ensures names { KeepNames slots.now.services self.old.touched.items → OnOk result (KeepNames slots.now.services self.new.touched.items) }
         ensures few { OnOk result (length self.new.orders.items ≤ length self.old.orders.items + 2 * length slots.now.services) }
+        ensures fires { visit.entry ≡ Fire → OnOk result (length self.new.orders.items ≤ length self.old.orders.items + length slots.now.services) }
     {
         for place in 0..slots.len() {
             self.visit_at(slots, visit, place, now)?;
         }
         Ok(())
+    }
+
+    // The service at a place takes the change; answers whether that was a stale report.
+    fn change_at(
+        &mut self,
+        slots: &Slots<A>,
+        place: usize,
+        change: &Change,
+        now: At,
+    ) -> Result<bool, NoMemory>
+        requires orders { length self.old.orders.items + most_orders change.now ≤ 256 }
+        requires next { (c : ChartState) → slice_get (charts_of (with_touched slots.now.services self.old.touched.items)) place ≡ Some c → c.generation + 1 < 2 ^ 64 }
+        requires order { is_rising (serials_of (charts_of (with_touched slots.now.services self.old.touched.items))) ≡ true }
+        ensures takes { OnOk result ((c : ChartState) → slice_get (charts_of (with_touched slots.now.services self.old.touched.items)) place ≡ Some c
+            → TakesAt now place c (changed_by change.now now c) (moving_of slots.now.services self.old) (moving_of slots.now.services self.new)) }
+        ensures stale { IfOk result (λ stale. (c : ChartState) → slice_get (charts_of (with_touched slots.now.services self.old.touched.items)) place ≡ Some c → stale ≡ (changed_by change.now now c).stale) }
+        ensures names { KeepNames slots.now.services self.old.touched.items → OnOk result (KeepNames slots.now.services self.new.touched.items) }
+        ensures few { OnOk result (length self.new.orders.items ≤ length self.old.orders.items + most_orders change.now) }
+    {
+        let Some(before) = standing_at(slots, self.touched.as_slice(), place) else {
+            return Ok(false);
+        };
+        let mut after = before;
+        take(&mut after, change, now, &mut self.out);
+        let stale = self.out.stale;
+        self.touch(place, after)?;
+        Ok(stale)
+    }
+
+    /// The service of the serial takes the change, and no other one is looked at; answers whether that was a stale report.
+    pub fn change_one(
+        &mut self,
+        slots: &Slots<A>,
+        sid: Sid,
+        change: &Change,
+        now: At,
+    ) -> Result<bool, NoMemory>
+        requires orders { length self.old.orders.items + most_orders change.now ≤ 256 }
+        requires generations { All (λ c. c.generation + 1 < 2 ^ 64) (charts_of (with_touched slots.now.services self.old.touched.items)) }
+        requires order { is_rising (serials_of (charts_of slots.now.services)) ≡ true }
+        requires serials { serials_of (charts_of (with_touched slots.now.services self.old.touched.items)) ≡ serials_of (charts_of slots.now.services) }
+        ensures takes { OnOk result (Takes now (changed_at sid change.now now) (moving_of slots.now.services self.old) (moving_of slots.now.services self.new)) }
+        ensures stale { IfOk result (λ stale. stale ≡ list_any (λ c. (changed_at sid change.now now c).stale) (charts_of (with_touched slots.now.services self.old.touched.items))) }
+        ensures names { KeepNames slots.now.services self.old.touched.items → OnOk result (KeepNames slots.now.services self.new.touched.items) }
+        ensures few { OnOk result (length self.new.orders.items ≤ length self.old.orders.items + most_orders change.now) }
+    {
+        let Some(place) = place_of(slots, sid) else {
+            return Ok(false);
+        };
+        let stale = self.change_at(slots, place, change, now)?;
+        Ok(stale)
     }
 }

@@ -1,10 +1,11 @@
 ghost use Rattle.std.specs.Prelude.{◌≡◌, ◌+◌, ◌<◌, ◌≤◌, ◌^◌, length, true};
 ghost use Rattle.supervise_core.specs.ChartState.{still};
-ghost use Rattle.supervise_core.specs.Chart.{control};
-ghost use Rattle.supervise_core.specs.MatchesMove.{MatchesMove};
+ghost use Rattle.supervise_core.specs.Chart.{control, fire, changed_by};
+ghost use Rattle.supervise_core.specs.MatchesMove.{MatchesMove, most_orders};
 ghost use Rattle.supervise_core.specs.Service.{KeepsAgreeing};
 ghost use Rattle.svscan_core.specs.Scan.{looked_at};
 ghost use Rattle.svscan_core.specs.Visit.{visited};
+ghost use Rattle.svscan_core.specs.declared.visit.Visit.TheVariants.{Fire};
 ghost use Rattle.svscan_core.specs.Work.{leaving, nuked, terminated};
 
 use super::entry::{Entry, ScanOrder};
@@ -32,16 +33,41 @@ fn leaving_letters() -> Letters
     letters
 }
 
-// Its supervisor is told to end, and it is told to go down.
-fn leave(standing: &mut Standing, now: At) -> Out
+/// The service takes a change; `out` has the marks and orders of that change, and nothing else.
+pub fn take(standing: &mut Standing, change: &Change, now: At, out: &mut Out)
     requires { standing.old.chart.generation + 1 < 2 ^ 64 }
-    ensures gives { MatchesMove (control leaving now standing.old.chart) standing.new.chart result }
-    ensures agrees { KeepsAgreeing now result.events.items standing.old standing.new }
+    ensures gives { MatchesMove (changed_by change.now now standing.old.chart) standing.new.chart out.new }
+    ensures agrees { KeepsAgreeing now out.new.events.items standing.old standing.new }
     ensures sid { standing.new.chart.sid ≡ standing.old.chart.sid }
     ensures name { standing.new.chart.name ≡ standing.old.chart.name }
-    ensures few { length result.orders.items ≤ 2 }
+    ensures few { length out.new.orders.items ≤ most_orders change.now }
 {
-    standing.change(&Change::Control(leaving_letters()), now)
+    out.clear();
+    standing.change_onto(change, now, out);
+}
+
+// Its timer goes off where its moment has come.
+fn fire_timer(standing: &mut Standing, now: At, out: &mut Out)
+    requires { standing.old.chart.generation + 1 < 2 ^ 64 }
+    ensures gives { MatchesMove (fire now standing.old.chart) standing.new.chart out.new }
+    ensures agrees { KeepsAgreeing now out.new.events.items standing.old standing.new }
+    ensures sid { standing.new.chart.sid ≡ standing.old.chart.sid }
+    ensures name { standing.new.chart.name ≡ standing.old.chart.name }
+    ensures few { length out.new.orders.items ≤ 1 }
+{
+    take(standing, &Change::Fire, now, out);
+}
+
+// Its supervisor is told to end, and it is told to go down.
+fn leave(standing: &mut Standing, now: At, out: &mut Out)
+    requires { standing.old.chart.generation + 1 < 2 ^ 64 }
+    ensures gives { MatchesMove (control leaving now standing.old.chart) standing.new.chart out.new }
+    ensures agrees { KeepsAgreeing now out.new.events.items standing.old standing.new }
+    ensures sid { standing.new.chart.sid ≡ standing.old.chart.sid }
+    ensures name { standing.new.chart.name ≡ standing.old.chart.name }
+    ensures few { length out.new.orders.items ≤ 2 }
+{
+    take(standing, &Change::Control(leaving_letters()), now, out);
 }
 
 // Its directory is listed or not, and says what was read.
@@ -56,31 +82,32 @@ fn look_at(standing: &mut Standing, listing: &[Entry], now: At)
 }
 
 // An inactive service leaves.
-fn nuke(standing: &mut Standing, now: At) -> Out
+fn nuke(standing: &mut Standing, now: At, out: &mut Out)
     requires { standing.old.chart.generation + 1 < 2 ^ 64 }
-    ensures gives { MatchesMove (nuked now standing.old.chart) standing.new.chart result }
-    ensures agrees { KeepsAgreeing now result.events.items standing.old standing.new }
+    ensures gives { MatchesMove (nuked now standing.old.chart) standing.new.chart out.new }
+    ensures agrees { KeepsAgreeing now out.new.events.items standing.old standing.new }
     ensures sid { standing.new.chart.sid ≡ standing.old.chart.sid }
     ensures name { standing.new.chart.name ≡ standing.old.chart.name }
-    ensures few { length result.orders.items ≤ 2 }
+    ensures few { length out.new.orders.items ≤ 2 }
 {
     if standing.chart().active {
-        return Out::new();
+        out.clear();
+    } else {
+        leave(standing, now, out);
     }
-    leave(standing, now)
 }
 
 // The service becomes inactive, and leaves.
-fn terminate(standing: &mut Standing, now: At) -> Out
+fn terminate(standing: &mut Standing, now: At, out: &mut Out)
     requires { standing.old.chart.generation + 1 < 2 ^ 64 }
-    ensures gives { MatchesMove (terminated now standing.old.chart) standing.new.chart result }
-    ensures agrees { KeepsAgreeing now result.events.items standing.old standing.new }
+    ensures gives { MatchesMove (terminated now standing.old.chart) standing.new.chart out.new }
+    ensures agrees { KeepsAgreeing now out.new.events.items standing.old standing.new }
     ensures sid { standing.new.chart.sid ≡ standing.old.chart.sid }
     ensures name { standing.new.chart.name ≡ standing.old.chart.name }
-    ensures few { length result.orders.items ≤ 2 }
+    ensures few { length out.new.orders.items ≤ 2 }
 {
     standing.set_active(false, now);
-    leave(standing, now)
+    leave(standing, now, out);
 }
 
 impl Visit<'_> {
@@ -95,22 +122,23 @@ impl Visit<'_> {
         }
     }
 
-    /// The service takes it.
-    pub fn make(self, standing: &mut Standing, now: At) -> Out
+    /// The service takes it; `out` has the marks and orders of that, and nothing else.
+    pub fn make(self, standing: &mut Standing, now: At, out: &mut Out)
         requires next { standing.old.chart.generation + 1 < 2 ^ 64 }
-        ensures gives { MatchesMove (visited self.entry now standing.old.chart) standing.new.chart result }
-        ensures agrees { KeepsAgreeing now result.events.items standing.old standing.new }
+        ensures gives { MatchesMove (visited self.entry now standing.old.chart) standing.new.chart out.new }
+        ensures agrees { KeepsAgreeing now out.new.events.items standing.old standing.new }
         ensures sid { standing.new.chart.sid ≡ standing.old.chart.sid }
         ensures name { standing.new.chart.name ≡ standing.old.chart.name }
-        ensures few { length result.orders.items ≤ 2 }
+        ensures few { length out.new.orders.items ≤ 2 }
+        ensures fires { self.entry ≡ Fire → length out.new.orders.items ≤ 1 }
     {
         match self {
-            Visit::Fire => standing.change(&Change::Fire, now),
-            Visit::Command(ScanOrder::Nuke) => nuke(standing, now),
-            Visit::Command(ScanOrder::Terminate) => terminate(standing, now),
+            Visit::Fire => fire_timer(standing, now, out),
+            Visit::Command(ScanOrder::Nuke) => nuke(standing, now, out),
+            Visit::Command(ScanOrder::Terminate) => terminate(standing, now, out),
             Visit::Look(listing) => {
                 look_at(standing, listing, now);
-                Out::new()
+                out.clear();
             }
         }
     }

@@ -1,0 +1,43 @@
+-- Where no timer is due, no service takes its rule.
+use Rattle.std.proofs.Common.{◌≡◌, ◌∙◌, ℕ, zero, suc, ◌<◌, List, [], ◌∷◌, ◌++◌, Bool, true, false, ◌==◌, cond, refl, sym, ap, subst, arith, length, append-nil, rules}
+use Rattle.std.specs.Prelude.{All}
+use Rattle.supervise_core.specs.declared.chart.ChartState.{ChartState}
+use Rattle.supervise_core.specs.ChartState.{still}
+use Rattle.supervise_core.specs.Chart.{fire, is_due, timer_rule}
+use Rattle.svscan_core.specs.Moves.{events_of, services_after, events_after, orders_after}
+use Rattle.svscan_core.specs.Moving.{Moving, Takes}
+use Rattle.svscan_core.specs.Table.{charts_of}
+use Rattle.svscan_core.specs.Work.{AreDue}
+
+pub empty_list : {X : Type 0} (xs : List X) → (length xs == 0) ≡ true → xs ≡ []
+empty_list [] h = refl
+empty_list (x ∷ xs) h = search rules
+
+untouched : (now : ℕ) (c : ChartState) → is_due now c.timer ≡ false → fire now c ≡ still c
+untouched now c h = ap (λ b. cond b (timer_rule c.phase c) (still c)) h
+
+later_ones : (now : ℕ) (c : ChartState) (cs : List ChartState) → AreDue [] now (c ∷ cs) → AreDue [] now cs
+later_ones now c cs h = λ k d lt. h (suc k) d (omega (arith, lt))
+
+unfired : (now : ℕ) (cs : List ChartState) → AreDue [] now cs → services_after (fire now) cs ≡ cs
+unfired now [] h = refl
+unfired now (c ∷ cs) h = λ i. (untouched now c (sym (h zero c (omega arith))) i).chart ∷ unfired now cs (later_ones now c cs h) i
+
+unfired_events : (now : ℕ) (cs : List ChartState) → AreDue [] now cs → events_after (fire now) cs ≡ []
+unfired_events now [] h = refl
+unfired_events now (c ∷ cs) h = (λ i. events_of c.sid (untouched now c (sym (h zero c (omega arith))) i) ++ events_after (fire now) cs) ∙ unfired_events now cs (later_ones now c cs h)
+
+unfired_orders : (now : ℕ) (cs : List ChartState) → AreDue [] now cs → orders_after (fire now) cs ≡ []
+unfired_orders now [] h = refl
+unfired_orders now (c ∷ cs) h = (λ i. (untouched now c (sym (h zero c (omega arith))) i).orders ++ orders_after (fire now) cs) ∙ unfired_orders now cs (later_ones now c cs h)
+
+-- a step in which none is due
+pub none_fires : (now : ℕ) (due : List ℕ) (m : Moving) → due ≡ [] → AreDue due now (charts_of m.services) → Takes now (fire now) m m
+none_fires now due m none h =
+    let nobody = subst (λ (sids : List ℕ). AreDue sids now (charts_of m.services)) none h in
+    record {
+      services = sym (unfired now (charts_of m.services) nobody);
+      events = sym (ap (λ es. m.events ++ es) (unfired_events now (charts_of m.services) nobody) ∙ append-nil m.events);
+      orders = sym (ap (λ os. m.orders ++ os) (unfired_orders now (charts_of m.services) nobody) ∙ append-nil m.orders);
+      agrees = λ history at all. all;
+    }

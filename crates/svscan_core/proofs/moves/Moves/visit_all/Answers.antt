@@ -1,0 +1,41 @@
+use Rattle.std.proofs.Common.{◌≡◌, ◌∙◌, ◌<◌, ◌+◌, refl, sym, ap, subst, arith, true, length, ℕ, List}
+use Rattle.std.proofs.lemmas.List.{length-map}
+use Rattle.std.specs.Prelude.{Some, slice_get}
+use Rattle.deadlines.specs.Timers.{is_rising}
+use Rattle.supervise_core.specs.declared.chart.ChartState.{ChartState}
+use Rattle.supervise_core.specs.Service.{Supervised}
+use Rattle.svscan_core.specs.Moving.{with_touched, moving_of, TakesUpTo}
+use Rattle.svscan_core.specs.Table.{charts_of, serials_of}
+use Rattle.svscan_core.specs.Visit.{visited}
+use Rattle.svscan_core.proofs.Places.{stands_at, half_get}
+use Rattle.svscan_core.proofs.Taking.{takes_none, takes_more, takes_all, length_touched}
+use Rattle.svscan_core.proofs.moves.Moves.visit_all.Goals as goal
+
+pub visit_at-requires-clause-order : goal.visit_at-requires-clause-order
+visit_at-requires-clause-order g c = ap is_rising c.loop-place.invariant.serials ∙ c.requires.order
+
+pub loop-place-preserved : goal.loop-place-preserved
+loop-place-preserved g c =
+    let services = c.args.slots.now.services in
+    let ss = with_touched services c.args.self.now.touched.items in
+    let p = c.loop-place.place in
+    let count : length (charts_of ss) ≡ c.len-place-end.result =
+    length-map ss (λ (s : Supervised). s.chart) ∙ (length_touched services c.args.self.now.touched.items ∙ sym c.len-place-end.ensures.count) in
+    let at = stands_at (charts_of ss) p (subst (λ (n : ℕ). p < n) (sym count) c.loop-place-test.true) in
+    record {
+      takes =
+          takes_more c.args.now (visited c.args.visit c.args.now) p at.item (moving_of services c.args.self.now) (moving_of services c.loop-place.self) (moving_of services c.visit_at.new.self)
+          at.there c.loop-place.invariant.takes (λ there. c.in_ok-visit_at.ensures.takes at.item there);
+      serials = c.in_ok-visit_at.ensures.serials ∙ c.loop-place.invariant.serials;
+      names = λ h. c.in_ok-visit_at.ensures.names (c.loop-place.invariant.names h);
+      few = omega (arith, c.in_ok-visit_at.ensures.few, c.loop-place.invariant.few);
+      fires = λ e. omega (arith, c.in_ok-visit_at.ensures.fires e, c.loop-place.invariant.fires e);
+    }
+
+pub returns-clause-takes : goal.returns-clause-takes
+returns-clause-takes g c =
+    let services = c.args.slots.now.services in
+    let count : length (with_touched services c.args.self.now.touched.items) ≡ c.loop-place.place =
+    length_touched services c.args.self.now.touched.items ∙ (sym c.len-place-end.ensures.count ∙ omega (arith, c.loop-place-test.false, c.loop-place.auto.place-end)) in
+    takes_all c.args.now (visited c.args.visit c.args.now) (moving_of services c.args.self.now) (moving_of services c.loop-place.self)
+    (subst (λ (n : ℕ). TakesUpTo c.args.now (visited c.args.visit c.args.now) n (moving_of services c.args.self.now) (moving_of services c.loop-place.self)) (sym count) c.loop-place.invariant.takes)

@@ -1,0 +1,39 @@
+-- What a contract sees of a registry.
+use Rattle.std.specs.Prelude.{ℕ, List, Bool}
+use Rattle.s6_events.specs.declared.order.Order.{Order}
+use Rattle.supervise_core.specs.Service.{Supervised}
+use Rattle.svscan_core.specs.declared.entry.Listed.{Listed}
+use Rattle.svscan_core.specs.declared.event.Event.{Event}
+use Rattle.svscan_core.specs.Table.{Table, charts_of}
+use Rattle.svscan_core.specs.Work.{Worked}
+
+-- what a commit would leave, and what is answered
+pub record Prepared : Type 0 where
+  pub services : List Supervised
+  pub next_sid : ℕ
+  pub events : List Event
+  pub orders : List Order
+  pub stale : Bool
+  pub dropped : List ℕ
+  pub listed : List Listed
+
+-- what it shows, and what was prepared
+pub record Kept : Type 0 where
+  pub shown : Table
+  pub prepared : Prepared
+
+-- the table that a commit would leave
+abbrev pub table_of : Prepared → Table
+table_of p = record { services = p.services; next_sid = p.next_sid }
+
+-- the states of it, and what is answered
+abbrev pub worked_of : Prepared → Worked
+worked_of p = record {
+  services = charts_of p.services;
+  next_sid = p.next_sid;
+  events = p.events;
+  orders = p.orders;
+  stale = p.stale;
+  dropped = p.dropped;
+  listed = p.listed;
+}

@@ -1,0 +1,166 @@
+ghost use Rattle.std.specs.Prelude.{◌≡◌, ◌+◌, ◌*◌, ◌<◌, ◌≤◌, ◌^◌, ◌++◌, [], List, map, length, All, IfOk, IsOk, OnOk, false, true};
+ghost use Rattle.std.specs.List.{list_any};
+ghost use Rattle.deadlines.specs.Timers.{is_rising};
+ghost use Rattle.s6_events.specs.Clock.{clock_of};
+ghost use Rattle.s6_events.specs.declared.moment.Moment.{Moment};
+ghost use Rattle.supervise_core.specs.Chart.{fire};
+ghost use Rattle.supervise_core.specs.MatchesMove.{most_orders};
+ghost use Rattle.svscan_core.specs.Asked.{asked_by, IsOrderly};
+ghost use Rattle.svscan_core.specs.Moves.{moment_of};
+ghost use Rattle.svscan_core.specs.Moving.{with_touched, moving_of, KeepNames, Takes};
+ghost use Rattle.svscan_core.specs.Names.{repeats};
+ghost use Rattle.svscan_core.specs.Pending.{prepared_of};
+ghost use Rattle.svscan_core.specs.Registry.{worked_of};
+ghost use Rattle.svscan_core.specs.Sound.{AllAgree, IsNumbered};
+ghost use Rattle.svscan_core.specs.Table.{charts_of, names_of, serials_of};
+ghost use Rattle.svscan_core.specs.Work.{AreDue, worked, given_before, stepped};
+ghost use Rattle.svscan_core.specs.Work.Work.{leave};
+
+use super::moves::Moves;
+use super::scan::{Scanning, plan_scan};
+use super::slots::Slots;
+use super::visit::Visit;
+use super::work::Work;
+use s6_events::{At, NoMemory, Sid};
+use std::alloc::Allocator;
+
+/// A step that is worked out, before anything is changed: what the services get, which leave and which come, and what is answered.
+/// The lists keep their memory from step to step.
+#[derive(Drop)]
+pub struct Pending<A: Allocator> {
+    pub moves: Moves<A>,
+    pub scan: Scanning<A>,
+    pub stale: bool,
+}
+
+impl<A: Allocator + Copy> Pending<A> {
+    /// Nothing yet. Takes no memory.
+    pub fn new(alloc: A, next_sid: u64) -> Pending<A>
+        ensures touched { result.moves.touched.items ≡ [] }
+        ensures events { result.moves.events.items ≡ [] }
+        ensures orders { result.moves.orders.items ≡ [] }
+        ensures dropped { result.scan.dropped.items ≡ [] }
+        ensures dropped_sids { result.scan.dropped_sids.items ≡ [] }
+        ensures added { result.scan.added.items ≡ [] }
+        ensures listed { result.scan.listed.items ≡ [] }
+        ensures next_sid { result.scan.next_sid ≡ next_sid }
+        ensures stale { result.stale ≡ false }
+    {
+        Pending {
+            moves: Moves::new(alloc),
+            scan: Scanning::new(alloc, next_sid),
+            stale: false,
+        }
+    }
+
+    /// Nothing again, in the same memory.
+    pub fn clear(&mut self, next_sid: u64)
+        ensures touched { self.new.moves.touched.items ≡ [] }
+        ensures events { self.new.moves.events.items ≡ [] }
+        ensures orders { self.new.moves.orders.items ≡ [] }
+        ensures dropped { self.new.scan.dropped.items ≡ [] }
+        ensures dropped_sids { self.new.scan.dropped_sids.items ≡ [] }
+        ensures added { self.new.scan.added.items ≡ [] }
+        ensures listed { self.new.scan.listed.items ≡ [] }
+        ensures next_sid { self.new.scan.next_sid ≡ next_sid }
+        ensures stale { self.new.stale ≡ false }
+    {
+        self.moves.clear();
+        self.scan.clear(next_sid);
+        self.stale = false;
+    }
+
+    // The work is done on the services as the step has them so far.
+    fn do_work(&mut self, slots: &Slots<A>, work: &Work, now: At) -> Result<(), NoMemory>
+        requires dropped { self.old.scan.dropped.items ≡ [] }
+        requires dropped_sids { self.old.scan.dropped_sids.items ≡ [] }
+        requires added { self.old.scan.added.items ≡ [] }
+        requires listed { self.old.scan.listed.items ≡ [] }
+        requires stale { self.old.stale ≡ false }
+        requires few { length slots.now.services ≤ 64 }
+        requires room { length self.old.moves.orders.items ≤ 64 }
+        requires generations { All (λ c. c.generation + 1 < 2 ^ 64) (charts_of (with_touched slots.now.services self.old.moves.touched.items)) }
+        requires order { IsNumbered self.old.scan.next_sid (charts_of (with_touched slots.now.services self.old.moves.touched.items)) }
+        requires names { repeats (names_of (charts_of (with_touched slots.now.services self.old.moves.touched.items))) ≡ false }
+        requires rising { is_rising (serials_of (charts_of slots.now.services)) ≡ true }
+        requires serials { serials_of (charts_of (with_touched slots.now.services self.old.moves.touched.items)) ≡ serials_of (charts_of slots.now.services) }
+        requires stand { names_of (charts_of (with_touched slots.now.services self.old.moves.touched.items)) ≡ names_of (charts_of slots.now.services) }
+        requires listing { IsOrderly (asked_by work.now) }
+        requires next { self.old.scan.next_sid + 65 < 2 ^ 64 }
+        ensures worked { OnOk result (worked_of (prepared_of slots.now.services self.new) ≡ given_before self.old.moves.events.items self.old.moves.orders.items
+            (worked (asked_by work.now) now (charts_of (with_touched slots.now.services self.old.moves.touched.items)) self.old.scan.next_sid)) }
+        ensures agrees { OnOk result ((history : List Moment) → clock_of history ≡ now
+            → AllAgree (with_touched slots.now.services self.old.moves.touched.items) (history ++ map moment_of self.old.moves.events.items)
+            → AllAgree (prepared_of slots.now.services self.new).services (history ++ map moment_of self.new.moves.events.items)) }
+        ensures touched { KeepNames slots.now.services self.old.moves.touched.items → OnOk result (KeepNames slots.now.services self.new.moves.touched.items) }
+        ensures added { OnOk result (length self.new.scan.added.items ≤ 64) }
+        ensures quiet { asked_by work.now ≡ leave → IsOk result }
+    {
+        match work {
+            Work::Leave => Ok(()),
+            Work::Change(sid, change) => {
+                self.stale = self.moves.change_one(slots, *sid, change, now)?;
+                Ok(())
+            }
+            Work::Command(order) => {
+                self.moves.visit_all(slots, Visit::Command(*order), now)?;
+                Ok(())
+            }
+            Work::Listing(listing) => {
+                plan_scan(slots, &mut self.moves, &mut self.scan, listing, now)?;
+                Ok(())
+            }
+        }
+    }
+
+    /// The whole step: the due timers first, and then the work.
+    pub fn work_out(
+        &mut self,
+        slots: &Slots<A>,
+        next_sid: u64,
+        due: &[Sid],
+        work: &Work,
+        now: At,
+    ) -> Result<(), NoMemory>
+        requires few { length slots.now.services ≤ 64 }
+        requires generations { All (λ c. c.generation + 2 < 2 ^ 64) (charts_of slots.now.services) }
+        requires order { IsNumbered next_sid (charts_of slots.now.services) }
+        requires names { repeats (names_of (charts_of slots.now.services)) ≡ false }
+        requires due { AreDue due.now now (charts_of slots.now.services) }
+        requires listing { IsOrderly (asked_by work.now) }
+        requires next { next_sid + 65 < 2 ^ 64 }
+        ensures worked { OnOk result (worked_of (prepared_of slots.now.services self.new) ≡ stepped (asked_by work.now) now (charts_of slots.now.services) next_sid) }
+        ensures agrees { OnOk result ((history : List Moment) → clock_of history ≡ now → AllAgree slots.now.services history
+            → AllAgree (prepared_of slots.now.services self.new).services (history ++ map moment_of self.new.moves.events.items)) }
+        ensures touched { OnOk result (KeepNames slots.now.services self.new.moves.touched.items) }
+        ensures added { OnOk result (length self.new.scan.added.items ≤ 64) }
+        ensures quiet { due.now ≡ [] → asked_by work.now ≡ leave → IsOk result }
+    {
+        self.clear(next_sid);
+        fire_due(slots, &mut self.moves, due, now)?;
+        self.do_work(slots, work, now)?;
+        Ok(())
+    }
+}
+
+// Each service whose timer is due takes its rule: where none is due, no service is looked at.
+fn fire_due<A: Allocator + Copy>(
+    slots: &Slots<A>,
+    moves: &mut Moves<A>,
+    due: &[Sid],
+    now: At,
+) -> Result<(), NoMemory>
+    requires due { AreDue due.now now (charts_of (with_touched slots.now.services moves.old.touched.items)) }
+    requires orders { length moves.old.orders.items + 2 * length slots.now.services ≤ 256 }
+    requires generations { All (λ c. c.generation + 1 < 2 ^ 64) (charts_of (with_touched slots.now.services moves.old.touched.items)) }
+    requires order { is_rising (serials_of (charts_of (with_touched slots.now.services moves.old.touched.items))) ≡ true }
+    ensures takes { OnOk result (Takes now (fire now) (moving_of slots.now.services moves.old) (moving_of slots.now.services moves.new)) }
+    ensures names { KeepNames slots.now.services moves.old.touched.items → OnOk result (KeepNames slots.now.services moves.new.touched.items) }
+    ensures few { OnOk result (length moves.new.orders.items ≤ length moves.old.orders.items + length slots.now.services) }
+    ensures quiet { due.now ≡ [] → IsOk result }
+{
+    if due.is_empty() {
+        return Ok(());
+    }
+    moves.visit_all(slots, Visit::Fire, now)
+}

@@ -1,0 +1,16 @@
+use super::entry::{Entry, ScanOrder};
+use s6_events::Sid;
+use supervise_core::Change;
+
+/// What a step asks of the services. This project's own.
+#[derive(Clone, Copy)]
+pub enum Work<'a> {
+    /// Nothing.
+    Leave,
+    /// The service of this serial takes this change.
+    Change(Sid, &'a Change),
+    /// The scan directory was listed; no name stands in the listing twice. Page `s6-svscanctl`, `-a`.
+    Listing(&'a [Entry]),
+    /// All services are told to leave. Page `s6-svscanctl`, `-n` and `-t`.
+    Command(ScanOrder),
+}
