@@ -20,7 +20,7 @@ use Rattle.svscan_core.specs.Moves.{event, moment_of, services_after, events_aft
 use Rattle.svscan_core.specs.Sound.{AllAgree}
 use Rattle.svscan_core.specs.Work.{changed_at}
 use Rattle.svscan_core.specs.Table.{charts_of, serials_of}
-use Rattle.svscan_core.proofs.Truth.{both_left, both_right, neither_of, neither_left, neither_right, either_left, either_right}
+use Rattle.svscan_core.proofs.Truth.{both_left, both_right, neither_of, neither_left, neither_right}
 use Rattle.svscan_core.proofs.Places.{get_map}
 use Rattle.svscan_core.proofs.OnePlace.{above_place, one_reported}
 use Rattle.svscan_core.proofs.Serials.{itself, earlier_other}
@@ -104,13 +104,6 @@ own_serial services p sid s e there = unsome s.chart.sid sid (sym (serial_there 
 pub any_chart : (services : List Supervised) (sid : ℕ) → list_any (λ c. c.sid == sid) (charts_of services) ≡ list_any (λ s. s.chart.sid == sid) services
 any_chart [] sid = refl
 any_chart (s ∷ services) sid = ap (λ b. (s.chart.sid == sid) || b) (any_chart services sid)
-
--- some service has the serial at a place
-pub any_found : (services : List Supervised) (p sid : ℕ) → slice_get (serials_of (charts_of services)) p ≡ Some sid → list_any (λ c. c.sid == sid) (charts_of services) ≡ true
-any_found [] p sid e = search rules
-any_found (s ∷ services) zero sid e =
-    either_left (s.chart.sid == sid) (list_any (λ c. c.sid == sid) (charts_of services)) (ap (λ n. n == sid) (unsome s.chart.sid sid e) ∙ itself sid)
-any_found (s ∷ services) (suc p) sid e = either_right (s.chart.sid == sid) (list_any (λ c. c.sid == sid) (charts_of services)) (any_found services p sid e)
 
 -- the first service of a name, by its state
 pub find_chart : (name : List ℕ) (services : List Supervised)

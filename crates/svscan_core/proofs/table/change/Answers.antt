@@ -5,7 +5,8 @@ use Rattle.supervise_core.specs.Service.{Supervised}
 use Rattle.svscan_core.specs.Table.{charts_of}
 use Rattle.svscan_core.proofs.OnePlace.{none_reported}
 use Rattle.svscan_core.proofs.Places.{get_map}
-use Rattle.svscan_core.proofs.Found.{not_empty, read_there, any_chart, any_found, all_at, IsChanged, changed_there}
+use Rattle.svscan_core.proofs.Found.{not_empty, read_there, any_chart, all_at, IsChanged, changed_there}
+use Rattle.svscan_core.proofs.Reported.{any_found}
 use Rattle.svscan_core.proofs.table.change.Given.{Over}
 use Rattle.svscan_core.proofs.table.change.Goals as goal
 
@@ -58,4 +59,4 @@ returns-clause-agrees g c = (changed g c).agrees
 
 pub returns-clause-known : goal.returns-clause-known
 returns-clause-known g c =
-    sym (any_found c.args.slots.now.services c.in_ok-place.place c.args.sid c.in_ok-place.ensures.found)
+    sym (any_found (charts_of c.args.slots.now.services) c.in_ok-place.place c.args.sid c.in_ok-place.ensures.found)
