@@ -11,6 +11,7 @@ mod place;
 mod registry;
 mod scan;
 mod slots;
+mod table;
 #[cfg(test)]
 mod tests;
 mod visit;
