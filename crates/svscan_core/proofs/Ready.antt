@@ -10,7 +10,11 @@ use Rattle.svscan_core.specs.Registry.{Prepared, worked_of}
 use Rattle.svscan_core.specs.RegistryFields.{IsSoundTable}
 use Rattle.svscan_core.specs.Sound.{IsSound}
 use Rattle.svscan_core.specs.Table.{charts_of}
-use Rattle.svscan_core.specs.Work.{Work, Worked, stepped, worked}
+use Rattle.supervise_core.specs.declared.change.Change.{Change}
+use Rattle.supervise_core.specs.declared.chart.ChartState.{ChartState}
+use Rattle.svscan_core.specs.Moves.{services_after}
+use Rattle.svscan_core.specs.Work.{Work, Worked, changed_at, stepped, worked}
+use Rattle.svscan_core.specs.Work.Work.{change_one}
 use Rattle.svscan_core.proofs.Few.{step_few, work_few}
 use Rattle.svscan_core.proofs.Names.{step_names, work_names}
 use Rattle.svscan_core.proofs.SerialsRise.{step_numbers, work_numbers}
@@ -56,3 +60,10 @@ blank_places services next p b = subst (λ (ts : List Touched). KeepNames servic
 
 pub blank_room : {A : Type 0} (room next : ℕ) (p : Pending A) → IsBlank next p → length p.scan.added.items ≤ room
 blank_room room next p b = let none : length p.scan.added.items ≡ 0 = ap length b.added in omega (arith, none)
+
+pub sound_change : (sid : ℕ) (change : Change) (now next : ℕ) (cs : List ChartState) → IsSound next cs → IsSound next (services_after (changed_at sid change now) cs)
+sound_change sid change now next cs s = record {
+  few = work_few (change_one sid change) now cs next s.few;
+  names = work_names (change_one sid change) now cs next s.names;
+  order = work_numbers (change_one sid change) now cs next s.order;
+}

@@ -19,5 +19,5 @@ mod work;
 
 pub use entry::{Entry, Listed, ScanOrder};
 pub use event::Event;
-pub use registry::Registry;
+pub use registry::{Answer, Registry};
 pub use work::Work;
