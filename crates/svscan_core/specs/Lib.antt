@@ -13,3 +13,4 @@ pub mod Scanning
 pub mod Asked
 pub mod Registry
 pub mod Pending
+pub mod RegistryFields

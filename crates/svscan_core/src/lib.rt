@@ -8,6 +8,7 @@ mod listing;
 mod moves;
 mod pending;
 mod place;
+mod registry;
 mod scan;
 mod slots;
 mod table;
@@ -18,4 +19,5 @@ mod work;
 
 pub use entry::{Entry, Listed, ScanOrder};
 pub use event::Event;
+pub use registry::Registry;
 pub use work::Work;
