@@ -68,7 +68,7 @@ pub few_stay : (listing : List Entry) (now : ℕ) (cs : List ChartState) → len
 few_stay listing now cs few =
     let a = length-filter stays (looked_up listing now cs) in let b = length-map cs (looked_at listing now) in omega (arith, a, b, few)
 
-work_few : (work : Work) (now : ℕ) (cs : List ChartState) (next : ℕ) → length cs ≤ 64 → length (worked work now cs next).services ≤ 64
+pub work_few : (work : Work) (now : ℕ) (cs : List ChartState) (next : ℕ) → length cs ≤ 64 → length (worked work now cs next).services ≤ 64
 work_few leave now cs next few = few
 work_few (change_one sid change) now cs next few = let a = length-map cs (λ (c : ChartState). (changed_at sid change now c).chart) in omega (arith, a, few)
 work_few (command order) now cs next few = let a = length-map cs (λ (c : ChartState). (commanded order now c).chart) in omega (arith, a, few)

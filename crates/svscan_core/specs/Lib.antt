@@ -14,3 +14,4 @@ pub mod Adding
 pub mod Asked
 pub mod Registry
 pub mod Pending
+pub mod RegistryFields

@@ -1,5 +1,5 @@
 -- A step under way, as a registry has it.
-use Rattle.std.specs.Prelude.{◌≡◌, ℕ, List}
+use Rattle.std.specs.Prelude.{◌≡◌, ℕ, List, [], false}
 use Rattle.supervise_core.specs.Service.{Supervised}
 use Rattle.svscan_core.specs.declared.pending.Pending.{Pending}
 use Rattle.svscan_core.specs.Registry.{Prepared}
@@ -15,3 +15,15 @@ prepared_of services p = record {
   dropped = p.scan.dropped_sids.items;
   listed = p.scan.listed.items;
 }
+
+-- nothing is worked out yet, where this is the next serial
+pub record IsBlank {A : Type 0} (next : ℕ) (p : Pending A) : Type 0 where
+  pub touched : p.moves.touched.items ≡ []
+  pub events : p.moves.events.items ≡ []
+  pub orders : p.moves.orders.items ≡ []
+  pub dropped : p.scan.dropped.items ≡ []
+  pub dropped_sids : p.scan.dropped_sids.items ≡ []
+  pub added : p.scan.added.items ≡ []
+  pub listed : p.scan.listed.items ≡ []
+  pub next_sid : p.scan.next_sid ≡ next
+  pub stale : p.stale ≡ false

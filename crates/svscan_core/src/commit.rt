@@ -1,4 +1,4 @@
-ghost use Rattle.std.specs.Prelude.{◌≡◌, ◌≤◌, [], length, false};
+ghost use Rattle.std.specs.Prelude.{◌≡◌, ◌≤◌, [], length, false, vec_capacity};
 ghost use Rattle.svscan_core.specs.Moving.{with_touched, KeepNames};
 ghost use Rattle.svscan_core.specs.Names.{repeats};
 ghost use Rattle.svscan_core.specs.Scanning.{without_names, prepared_services};
@@ -31,7 +31,8 @@ fn remove_all<A: Allocator + Copy>(slots: &mut Slots<A>, names: &[Name])
     }
 }
 
-/// What a step worked out is made: no memory is taken. `added` is empty then.
+/// What a step worked out is made: the touched services become what they are to be, the dropped ones leave, and the added ones go last.
+/// No memory is taken, for room was made before. `added` is empty then, and keeps its memory. This project's own.
 pub fn commit_changes<A: Allocator + Copy>(
     slots: &mut Slots<A>,
     touched: &[Touched],
@@ -43,6 +44,7 @@ pub fn commit_changes<A: Allocator + Copy>(
     requires unique { repeats (names_of (charts_of (prepared_services slots.old.services touched.now dropped.now added.old.items))) ≡ false }
     ensures services { slots.new.services ≡ prepared_services slots.old.services touched.now dropped.now added.old.items }
     ensures added { added.new.items ≡ [] }
+    ensures capacity { vec_capacity added.new ≡ vec_capacity added.old }
 {
     adopt_all(slots, touched);
     remove_all(slots, dropped);

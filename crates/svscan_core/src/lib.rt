@@ -8,8 +8,10 @@ mod listing;
 mod moves;
 mod pending;
 mod place;
+mod registry;
 mod scan;
 mod slots;
+mod table;
 #[cfg(test)]
 mod tests;
 mod visit;
@@ -17,4 +19,5 @@ mod work;
 
 pub use entry::{Entry, Listed, ScanOrder};
 pub use event::Event;
+pub use registry::{Answer, Registry};
 pub use work::Work;

@@ -9,7 +9,7 @@ ghost use Rattle.svscan_core.specs.Asked.{asked_by, IsOrderly};
 ghost use Rattle.svscan_core.specs.Moves.{moment_of};
 ghost use Rattle.svscan_core.specs.Moving.{with_touched, moving_of, KeepNames, Takes};
 ghost use Rattle.svscan_core.specs.Names.{repeats};
-ghost use Rattle.svscan_core.specs.Pending.{prepared_of};
+ghost use Rattle.svscan_core.specs.Pending.{prepared_of, IsBlank};
 ghost use Rattle.svscan_core.specs.Registry.{worked_of};
 ghost use Rattle.svscan_core.specs.Sound.{AllAgree, IsNumbered};
 ghost use Rattle.svscan_core.specs.Table.{charts_of, names_of, serials_of};
@@ -36,15 +36,7 @@ pub struct Pending<A: Allocator> {
 impl<A: Allocator + Copy> Pending<A> {
     /// Nothing yet. Takes no memory.
     pub fn new(alloc: A, next_sid: u64) -> Pending<A>
-        ensures touched { result.moves.touched.items ≡ [] }
-        ensures events { result.moves.events.items ≡ [] }
-        ensures orders { result.moves.orders.items ≡ [] }
-        ensures dropped { result.scan.dropped.items ≡ [] }
-        ensures dropped_sids { result.scan.dropped_sids.items ≡ [] }
-        ensures added { result.scan.added.items ≡ [] }
-        ensures listed { result.scan.listed.items ≡ [] }
-        ensures next_sid { result.scan.next_sid ≡ next_sid }
-        ensures stale { result.stale ≡ false }
+        ensures { IsBlank next_sid result }
     {
         Pending {
             moves: Moves::new(alloc),
@@ -55,15 +47,7 @@ impl<A: Allocator + Copy> Pending<A> {
 
     /// Nothing again, in the same memory.
     pub fn clear(&mut self, next_sid: u64)
-        ensures touched { self.new.moves.touched.items ≡ [] }
-        ensures events { self.new.moves.events.items ≡ [] }
-        ensures orders { self.new.moves.orders.items ≡ [] }
-        ensures dropped { self.new.scan.dropped.items ≡ [] }
-        ensures dropped_sids { self.new.scan.dropped_sids.items ≡ [] }
-        ensures added { self.new.scan.added.items ≡ [] }
-        ensures listed { self.new.scan.listed.items ≡ [] }
-        ensures next_sid { self.new.scan.next_sid ≡ next_sid }
-        ensures stale { self.new.stale ≡ false }
+        ensures { IsBlank next_sid self.new }
     {
         self.moves.clear();
         self.scan.clear(next_sid);
@@ -95,6 +79,7 @@ impl<A: Allocator + Copy> Pending<A> {
         ensures touched { KeepNames slots.now.services self.old.moves.touched.items → OnOk result (KeepNames slots.now.services self.new.moves.touched.items) }
         ensures added { OnOk result (length self.new.scan.added.items ≤ 64) }
         ensures quiet { asked_by work.now ≡ leave → IsOk result }
+        ensures none { asked_by work.now ≡ leave → self.new.scan.added.items ≡ self.old.scan.added.items }
     {
         match work {
             Work::Leave => Ok(()),
@@ -111,6 +96,31 @@ impl<A: Allocator + Copy> Pending<A> {
                 Ok(())
             }
         }
+    }
+
+    /// The work alone, with no timers.
+    pub fn work_alone(
+        &mut self,
+        slots: &Slots<A>,
+        next_sid: u64,
+        work: &Work,
+        now: At,
+    ) -> Result<(), NoMemory>
+        requires few { length slots.now.services ≤ 64 }
+        requires generations { All (λ c. c.generation + 1 < 2 ^ 64) (charts_of slots.now.services) }
+        requires order { IsNumbered next_sid (charts_of slots.now.services) }
+        requires names { repeats (names_of (charts_of slots.now.services)) ≡ false }
+        requires listing { IsOrderly (asked_by work.now) }
+        requires next { next_sid + 65 < 2 ^ 64 }
+        ensures worked { OnOk result (worked_of (prepared_of slots.now.services self.new) ≡ worked (asked_by work.now) now (charts_of slots.now.services) next_sid) }
+        ensures agrees { OnOk result ((history : List Moment) → clock_of history ≡ now → AllAgree slots.now.services history
+            → AllAgree (prepared_of slots.now.services self.new).services (history ++ map moment_of self.new.moves.events.items)) }
+        ensures touched { OnOk result (KeepNames slots.now.services self.new.moves.touched.items) }
+        ensures added { OnOk result (length self.new.scan.added.items ≤ 64) }
+    {
+        self.clear(next_sid);
+        self.do_work(slots, work, now)?;
+        Ok(())
     }
 
     /// The whole step: the due timers first, and then the work.
@@ -135,6 +145,7 @@ impl<A: Allocator + Copy> Pending<A> {
         ensures touched { OnOk result (KeepNames slots.now.services self.new.moves.touched.items) }
         ensures added { OnOk result (length self.new.scan.added.items ≤ 64) }
         ensures quiet { due.now ≡ [] → asked_by work.now ≡ leave → IsOk result }
+        ensures none { asked_by work.now ≡ leave → OnOk result (self.new.scan.added.items ≡ []) }
     {
         self.clear(next_sid);
         fire_due(slots, &mut self.moves, due, now)?;

@@ -1,42 +1,42 @@
-use Rattle.std.proofs.Common.{◌≡◌, ◌+◌, ◌-◌, ◌/◌, ◌∙◌, ◌<◌, ◌≤◌, sym, ap, arith, rules, inl, inr}
-use Rattle.std.specs.Prelude.{Some, slice_get}
+use Rattle.std.proofs.Common.{◌≡◌, ◌+◌, ◌-◌, ◌/◌, ◌<◌, ◌≤◌, arith, rules, inl, inr}
 use Rattle.std.proofs.lemmas.Bool.{cases_lt}
 use Rattle.svscan_core.specs.Table.{charts_of, serials_of}
-use Rattle.svscan_core.proofs.Found.{serial_there, lower_up_to, higher_from, in_the_middle, none_there, is_lower, is_higher}
+use Rattle.svscan_core.proofs.Found.{serial_read, lower_up_to, higher_from, in_the_middle, none_there, is_lower, is_higher}
 use Rattle.svscan_core.proofs.place.place_of.Goals as goal
 
 pub returns-then-eq-clause-found : goal.returns-then-eq-clause-found
 returns-then-eq-clause-found g c =
-    let there = serial_there c.args.slots.now.services (c.loop-low.low + (c.loop-low.high - c.loop-low.low) / 2) c.in_ok-nth.field-0.now (sym c.in_ok-nth.ensures) in
-    let same : c.sid-at.result ≡ c.args.sid = search rules in
-    there ∙ ap Some (sym c.sid-at.ensures ∙ same)
+    let middle = c.loop-low.low + (c.loop-low.high - c.loop-low.low) / 2 in
+    let own : c.args.sid ≡ c.in_ok-nth.field-0.now.chart.sid = search rules in
+    serial_read c.args.slots.now.services middle c.args.sid c.in_ok-nth.field-0.now c.in_ok-nth.ensures own
 
 pub loop-low-preserved-then-lt : goal.loop-low-preserved-then-lt
 loop-low-preserved-then-lt g c =
     let middle = c.loop-low.low + (c.loop-low.high - c.loop-low.low) / 2 in
-    let there : slice_get (serials_of (charts_of c.args.slots.now.services)) middle ≡ Some c.sid-at.result =
-    serial_there c.args.slots.now.services middle c.in_ok-nth.field-0.now (sym c.in_ok-nth.ensures) ∙ ap Some (sym c.sid-at.ensures) in
+    let at = c.sid-at.result in
+    let services = c.args.slots.now.services in
     let within : middle < c.loop-low.high = in_the_middle c.loop-low.low c.loop-low.high c.loop-low-test.true in
     record {
       order = omega (arith, within);
       bound = c.loop-low.invariant.bound;
-      below = lower_up_to (serials_of (charts_of c.args.slots.now.services)) middle c.sid-at.result c.args.sid c.requires.order there
-          (is_lower c.sid-at.result c.args.sid (sym c.lt.ensures ∙ c.if-lt.true));
+      below = lower_up_to (serials_of (charts_of services)) middle at c.args.sid c.requires.order
+          (serial_read services middle at c.in_ok-nth.field-0.now c.in_ok-nth.ensures c.sid-at.ensures) (is_lower at c.args.sid c.lt.result c.lt.ensures c.if-lt.true);
       above = c.loop-low.invariant.above;
     }
 
 pub loop-low-preserved : goal.loop-low-preserved
 loop-low-preserved g c =
     let middle = c.loop-low.low + (c.loop-low.high - c.loop-low.low) / 2 in
-    let there : slice_get (serials_of (charts_of c.args.slots.now.services)) middle ≡ Some c.sid-at.result =
-    serial_there c.args.slots.now.services middle c.in_ok-nth.field-0.now (sym c.in_ok-nth.ensures) ∙ ap Some (sym c.sid-at.ensures) in
+    let at = c.sid-at.result in
+    let services = c.args.slots.now.services in
     let within : middle < c.loop-low.high = in_the_middle c.loop-low.low c.loop-low.high c.loop-low-test.true in
     record {
       order = omega arith;
       bound = omega (arith, within, c.loop-low.invariant.bound);
       below = c.loop-low.invariant.below;
-      above = higher_from (serials_of (charts_of c.args.slots.now.services)) middle c.sid-at.result c.args.sid c.requires.order there
-          (is_higher c.sid-at.result c.args.sid (sym c.eq.ensures ∙ c.if-eq.false) (sym c.lt.ensures ∙ c.if-lt.false));
+      above = higher_from (serials_of (charts_of services)) middle at c.args.sid c.requires.order
+          (serial_read services middle at c.in_ok-nth.field-0.now c.in_ok-nth.ensures c.sid-at.ensures)
+          (is_higher at c.args.sid c.eq.result c.lt.result c.eq.ensures c.lt.ensures c.if-eq.false c.if-lt.false);
     }
 
 pub returns-clause-none : goal.returns-clause-none

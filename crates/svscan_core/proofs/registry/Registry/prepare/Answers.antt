@@ -1,0 +1,40 @@
+use Rattle.std.proofs.Common.{◌≡◌, ◌∙◌, ◌≤◌, ◌++◌, sym, ap, subst, List, map, length}
+use Rattle.supervise_core.specs.Service.{Supervised}
+use Rattle.svscan_core.specs.declared.pending.Pending.{Pending}
+use Rattle.svscan_core.specs.Moves.{moment_of}
+use Rattle.svscan_core.specs.Moving.{KeepNames}
+use Rattle.svscan_core.specs.Asked.{asked_by}
+use Rattle.svscan_core.specs.Pending.{prepared_of}
+use Rattle.svscan_core.specs.RegistryFields.{IsSoundTable}
+use Rattle.svscan_core.specs.Sound.{AllAgree, IsSound}
+use Rattle.svscan_core.specs.Table.{charts_of}
+use Rattle.svscan_core.proofs.Ready.{on_ok, sound_step}
+use Rattle.svscan_core.proofs.registry.Registry.prepare.Goals as goal
+
+pub invariant_of-self-2 : goal.invariant_of-self-2
+invariant_of-self-2 g c =
+    let services = c.self.inside.slots.services in
+    let ok = c.in_ok-settle.ensures.ok in
+    let worked = on_ok c.work_out-worked.result _ c.work_out-worked.ensures.worked ok in
+    let places = on_ok c.work_out-worked.result _ c.work_out-worked.ensures.touched ok in
+    let same = sym c.in_ok-settle.ensures.same in
+    let stay = sym c.settle.ensures.services in
+    record {
+      shown = subst (λ (ss : List Supervised). IsSound c.self.inside.next_sid (charts_of ss)) stay c.self.invariant.shown;
+      prepared =
+          subst (λ (ss : List Supervised). IsSoundTable (prepared_of ss c.settle.new.pending)) stay
+          (subst (λ (p : Pending g.row.A.Denot). IsSoundTable (prepared_of services p)) same
+          (sound_step (prepared_of services c.work_out-worked.new.self) (asked_by c.args.work.now) c.args.now c.self.inside.next_sid services c.self.invariant.shown worked));
+      places =
+          subst (λ (ss : List Supervised). KeepNames ss c.settle.new.pending.moves.touched.items) stay
+          (subst (λ (p : Pending g.row.A.Denot). KeepNames services p.moves.touched.items) same places);
+      room = subst (λ (p : Pending g.row.A.Denot). length p.scan.added.items ≤ c.settle.new.slots.room) same c.in_ok-settle.ensures.room;
+    }
+
+pub returns-clause-agrees : goal.returns-clause-agrees
+returns-clause-agrees g c = λ h at all.
+    let services = c.self.inside.slots.services in
+    let agrees = on_ok c.work_out-worked.result _ c.work_out-worked.ensures.agrees c.in_ok-settle.ensures.ok in
+    let start : AllAgree services h = rw (← c.self.view_is) at all in
+    subst (λ (ss : List Supervised). AllAgree (prepared_of ss c.settle.new.pending).services (h ++ map moment_of c.settle.new.pending.moves.events.items)) (sym c.settle.ensures.services)
+    (subst (λ (p : Pending g.row.A.Denot). AllAgree (prepared_of services p).services (h ++ map moment_of p.moves.events.items)) (sym c.in_ok-settle.ensures.same) (agrees h at start))

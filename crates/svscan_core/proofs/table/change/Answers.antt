@@ -1,0 +1,62 @@
+use Rattle.std.proofs.Common.{◌+◌, ◌<◌, ◌^◌, ◌∙◌, sym, ap}
+use Rattle.std.specs.Prelude.{is_some}
+use Rattle.supervise_core.specs.declared.chart.ChartState.{ChartState}
+use Rattle.supervise_core.specs.Service.{Supervised}
+use Rattle.svscan_core.specs.Table.{charts_of}
+use Rattle.svscan_core.proofs.OnePlace.{none_reported}
+use Rattle.svscan_core.proofs.Places.{get_map}
+use Rattle.svscan_core.proofs.Found.{not_empty, read_there, any_chart, all_at, IsChanged, changed_there}
+use Rattle.svscan_core.proofs.Reported.{any_found}
+use Rattle.svscan_core.proofs.table.change.Given.{Over}
+use Rattle.svscan_core.proofs.table.change.Goals as goal
+
+pub returns-in_err-place-clause-services : goal.returns-in_err-place-clause-services
+returns-in_err-place-clause-services g c =
+    let services = c.args.slots.now.services in
+    sym (none_reported c.args.sid c.args.change.now c.args.now (charts_of services) (any_chart services c.args.sid ∙ c.in_err-place.ensures.none)).services
+
+pub returns-in_err-place-clause-known : goal.returns-in_err-place-clause-known
+returns-in_err-place-clause-known g c =
+    ap is_some c.from_residual.ensures ∙ sym (any_chart c.args.slots.now.services c.args.sid ∙ c.in_err-place.ensures.none)
+
+pub returns-in_err-nth-clause-services : goal.returns-in_err-nth-clause-services
+returns-in_err-nth-clause-services g c =
+    absurd (not_empty c.args.slots.now.services c.in_ok-place.place c.args.sid c.in_ok-place.ensures.found c.in_err-nth.ensures)
+
+pub returns-in_err-nth-clause-known : goal.returns-in_err-nth-clause-known
+returns-in_err-nth-clause-known g c =
+    absurd (not_empty c.args.slots.now.services c.in_ok-place.place c.args.sid c.in_ok-place.ensures.found c.in_err-nth.ensures)
+
+pub change-out-requires : goal.change-out-requires
+change-out-requires g c =
+    let services = c.args.slots.now.services in
+    let there = read_there services c.in_ok-place.place c.in_ok-nth.field-0.now c.standing-standing.result c.in_ok-nth.ensures c.standing-standing.ensures in
+    all_at (λ (k : ChartState). k.generation + 1 < 2 ^ 64) (charts_of services) c.in_ok-place.place c.standing-standing.result.chart c.requires.generations
+    (get_map (λ (s : Supervised). s.chart) services c.in_ok-place.place c.standing-standing.result there)
+
+changed : (g : Over) (c : goal.After-adopt g) → IsChanged c.args.sid c.args.now c.args.change.now c.args.slots.now.services c.adopt.new.self.services c.change-out.result
+changed g c =
+    let services = c.args.slots.now.services in
+    let there = read_there services c.in_ok-place.place c.in_ok-nth.field-0.now c.standing-standing.result c.in_ok-nth.ensures c.standing-standing.ensures in
+    changed_there c.args.sid c.args.now c.args.change.now services c.adopt.new.self.services c.in_ok-place.place c.standing-standing.result c.change-out.new.self
+    c.change-out.result c.requires.order c.in_ok-place.ensures.found there c.change-out.ensures.gives c.change-out.ensures.agrees c.change-out.ensures.sid
+    c.adopt.ensures.services
+
+pub returns-clause-services : goal.returns-clause-services
+returns-clause-services g c = (changed g c).services
+
+pub returns-clause-events : goal.returns-clause-events
+returns-clause-events g c = (changed g c).events
+
+pub returns-clause-orders : goal.returns-clause-orders
+returns-clause-orders g c = (changed g c).orders
+
+pub returns-clause-stale : goal.returns-clause-stale
+returns-clause-stale g c = (changed g c).stale
+
+pub returns-clause-agrees : goal.returns-clause-agrees
+returns-clause-agrees g c = (changed g c).agrees
+
+pub returns-clause-known : goal.returns-clause-known
+returns-clause-known g c =
+    sym (any_found (charts_of c.args.slots.now.services) c.in_ok-place.place c.args.sid c.in_ok-place.ensures.found)

@@ -1,0 +1,306 @@
+ghost use Rattle.std.specs.Prelude.{◌≡◌, ◌==◌, ◌+◌, ◌<◌, ◌≤◌, ◌^◌, ◌++◌, ◌∷◌, [], List, map, find, length, slice_get, bytes_eq, is_some, option_map, All, IfSome, IfNone, IfOk, IsOk, OnOk, OnErr, false, true};
+ghost use Rattle.std.specs.List.{list_any};
+ghost use Rattle.s6_events.specs.Clock.{clock_of};
+ghost use Rattle.s6_events.specs.declared.moment.Moment.{Moment};
+ghost use Rattle.svscan_core.specs.Asked.{asked_by, IsOrderly};
+ghost use Rattle.svscan_core.specs.Moves.{event, moment_of, services_after, events_after, orders_after};
+ghost use Rattle.svscan_core.specs.Listing.{names_in};
+ghost use Rattle.svscan_core.specs.Names.{repeats};
+ghost use Rattle.svscan_core.specs.Scan.{scanned, dropped_by};
+ghost use Rattle.svscan_core.specs.Pending.{IsBlank};
+ghost use Rattle.svscan_core.specs.Registry.{table_of, worked_of};
+ghost use Rattle.svscan_core.specs.Sound.{AllAgree, IsSound};
+ghost use Rattle.svscan_core.specs.Table.{new_table, charts_of};
+ghost use Rattle.svscan_core.specs.Work.{AreDue, changed_at, commanded, stepped, worked};
+ghost use Rattle.svscan_core.specs.Work.Work.{leave};
+
+use super::commit::commit_changes;
+use super::entry::{Entry, Listed, ScanOrder};
+use super::event::Event;
+use super::pending::Pending;
+use super::slots::Slots;
+use super::table::{self, find_sid, nth_sid};
+use super::work::Work;
+use s6_events::{At, Name, NoMemory, Order, Sid};
+use std::alloc::Allocator;
+use std::marker::Model;
+use supervise_core::{Change, Out, Service};
+
+/// The services of a scan directory, at most 64, in rising serial. A step is worked out first (`prepare`), which changes nothing
+/// that is shown, and then made (`commit`), which takes no memory; or one thing alone is done at once (`scan`, `control`,
+/// `change`). The memory in which a step is worked out is kept from step to step. Page `s6-svscan`.
+#[derive(Drop)]
+pub struct Registry<A: Allocator> {
+    slots: Slots<A>,
+    next_sid: u64,
+    pending: Pending<A>,
+}
+
+impl<A: Allocator> Model for Registry<A> {
+    ghost use Rattle.svscan_core.specs.Registry.{Kept};
+
+    ghost Value = { Kept };
+
+    ghost use Rattle.svscan_core.specs.RegistryFields.{kept, IsKept};
+
+    ghost view = { kept };
+
+    ghost invariant = { IsKept };
+}
+
+/// What a scan, or an order of all services, gives: the marks and orders of each service in the order made, the serials that were
+/// dropped, and what became of each listed name for which no service stood. This project's own.
+#[derive(Drop)]
+pub struct Answer<A: Allocator> {
+    pub events: Vec<Event, A>,
+    pub orders: Vec<Order, A>,
+    pub dropped: Vec<Sid, A>,
+    pub listed: Vec<Listed, A>,
+}
+
+// What was worked out gets its places; where any memory was refused, nothing is prepared.
+fn settle<A: Allocator + Copy>(
+    slots: &mut Slots<A>,
+    pending: &mut Pending<A>,
+    next_sid: u64,
+    worked: Result<(), NoMemory>,
+) -> Result<(), NoMemory>
+    ensures services { slots.new.services ≡ slots.old.services }
+    ensures ok { OnOk result (IsOk worked) }
+    ensures same { OnOk result (pending.new ≡ pending.old) }
+    ensures room { OnOk result (length pending.old.scan.added.items ≤ slots.new.room) }
+    ensures blank { OnErr result (IsBlank next_sid pending.new) }
+    ensures quiet { IsOk worked → pending.old.scan.added.items ≡ [] → IsOk result }
+{
+    let settled = match worked {
+        Ok(()) => slots.reserve(pending.scan.added.len()),
+        Err(refused) => Err(refused),
+    };
+    if settled.is_err() {
+        pending.clear(next_sid);
+    }
+    settled
+}
+
+impl<A: Allocator + Copy> Registry<A> {
+    /// No service; the first one gets the serial 1. Takes no memory yet.
+    pub fn new(alloc: A) -> Registry<A>
+        ensures { result.shown ≡ new_table }
+    {
+        Registry {
+            slots: Slots::new(alloc),
+            next_sid: 1,
+            pending: Pending::new(alloc, 1),
+        }
+    }
+
+    /// How many services stand: at most 64. No two of them have one name, and their serials rise, below that of the next one.
+    pub fn len(&self) -> usize
+        ensures count { result ≡ length self.now.shown.services }
+        ensures sound { IsSound self.now.shown.next_sid (charts_of self.now.shown.services) }
+    {
+        self.slots.len()
+    }
+
+    /// The serial of the service of this name. Takes no memory.
+    pub fn find(&self, name: Name) -> Option<Sid>
+        ensures { result ≡ option_map (λ c. c.sid) (find (λ c. bytes_eq name c.name) (charts_of self.now.shown.services)) }
+    {
+        find_sid(&self.slots, &name)
+    }
+
+    /// The serial of the service at this place, in rising serial from 0. Takes no memory.
+    pub fn nth(&self, place: usize) -> Option<Sid>
+        ensures { result ≡ option_map (λ c. c.sid) (slice_get (charts_of self.now.shown.services) place) }
+    {
+        nth_sid(&self.slots, place)
+    }
+
+    /// The service of this serial. Takes no memory.
+    pub fn get(&self, sid: Sid) -> Option<&Service>
+        ensures { option_map (λ s. s.now) result ≡ find (λ s. s.chart.sid == sid) self.now.shown.services }
+    {
+        table::get(&self.slots, sid)
+    }
+
+    /// The service of this serial takes a change, at once, and no other one does; None where none has the serial, and then nothing
+    /// changes. What was prepared is prepared no more. Takes no memory.
+    pub fn change(&mut self, sid: Sid, change: &Change, now: At) -> Option<Out>
+        requires { All (λ c. c.generation + 1 < 2 ^ 64) (charts_of self.old.shown.services) }
+        ensures services { charts_of self.new.shown.services ≡ services_after (changed_at sid change.now now) (charts_of self.old.shown.services) }
+        ensures next_sid { self.new.shown.next_sid ≡ self.old.shown.next_sid }
+        ensures known { is_some result ≡ list_any (λ c. c.sid == sid) (charts_of self.old.shown.services) }
+        ensures unknown { IfNone result (self.new.shown ≡ self.old.shown) }
+        ensures events { IfSome result (λ out. map (event sid) out.events.items ≡ events_after (changed_at sid change.now now) (charts_of self.old.shown.services)) }
+        ensures orders { IfSome result (λ out. out.orders.items ≡ orders_after (changed_at sid change.now now) (charts_of self.old.shown.services)) }
+        ensures stale { IfSome result (λ out. out.stale ≡ list_any (λ c. (changed_at sid change.now now c).stale) (charts_of self.old.shown.services)) }
+        ensures agrees { (history : List Moment) → clock_of history ≡ now → AllAgree self.old.shown.services history
+            → IfSome result (λ out. AllAgree self.new.shown.services (history ++ map moment_of (map (event sid) out.events.items))) }
+    {
+        let out = table::change(&mut self.slots, sid, change, now);
+        self.pending.clear(self.next_sid);
+        out
+    }
+
+    /// Works out a step: each service whose timer is due takes its rule, and then the work is done. These are the serials of the
+    /// services whose timers are due. Nothing that is shown changes. `NoMemory` where a growth was refused; then nothing is prepared.
+    pub fn prepare(&mut self, due: &[Sid], work: &Work, now: At) -> Result<(), NoMemory>
+        requires due { AreDue due.now now (charts_of self.old.shown.services) }
+        requires listing { IsOrderly (asked_by work.now) }
+        requires generations { All (λ c. c.generation + 2 < 2 ^ 64) (charts_of self.old.shown.services) }
+        requires next { self.old.shown.next_sid + 65 < 2 ^ 64 }
+        ensures shown { self.new.shown ≡ self.old.shown }
+        ensures prepared { OnOk result (worked_of self.new.prepared ≡ stepped (asked_by work.now) now (charts_of self.old.shown.services) self.old.shown.next_sid) }
+        ensures agrees { OnOk result ((history : List Moment) → clock_of history ≡ now → AllAgree self.old.shown.services history
+            → AllAgree self.new.prepared.services (history ++ map moment_of self.new.prepared.events)) }
+        ensures quiet { due.now ≡ [] → asked_by work.now ≡ leave → IsOk result }
+    {
+        let worked = self.pending.work_out(&self.slots, self.next_sid, due, work, now);
+        settle(&mut self.slots, &mut self.pending, self.next_sid, worked)?;
+        Ok(())
+    }
+
+    /// Makes the step that was prepared. Takes no memory.
+    pub fn commit(&mut self)
+        ensures { self.new.shown ≡ table_of self.old.prepared }
+    {
+        let Pending { moves, scan, .. } = &mut self.pending;
+        commit_changes(
+            &mut self.slots,
+            moves.touched.as_slice(),
+            scan.dropped.as_slice(),
+            &mut scan.added,
+        );
+        self.next_sid = scan.next_sid;
+        self.pending.clear(self.next_sid);
+    }
+
+    /// The marks that were prepared, in the order made.
+    pub fn events(&self) -> &[Event]
+        ensures { result.now ≡ self.now.prepared.events }
+    {
+        self.pending.moves.events.as_slice()
+    }
+
+    /// The orders that were prepared, in the order made: at most 256.
+    pub fn orders(&self) -> &[Order]
+        ensures orders { result.now ≡ self.now.prepared.orders }
+    {
+        self.pending.moves.orders.as_slice()
+    }
+
+    /// Whether what was prepared is a report that was stale.
+    pub fn is_stale(&self) -> bool
+        ensures { result ≡ self.now.prepared.stale }
+    {
+        self.pending.stale
+    }
+
+    /// The serials of the services that a commit will drop, which rise.
+    pub fn dropped(&self) -> &[Sid]
+        ensures { result.now ≡ self.now.prepared.dropped }
+    {
+        self.pending.scan.dropped_sids.as_slice()
+    }
+
+    /// What becomes of each listed name for which no service stood, in the order of the names' bytes.
+    pub fn listed(&self) -> &[Listed]
+        ensures { result.now ≡ self.now.prepared.listed }
+    {
+        self.pending.scan.listed.as_slice()
+    }
+
+    // Works out the work alone, with no timers.
+    fn prepare_alone(&mut self, work: &Work, now: At) -> Result<(), NoMemory>
+        requires listing { IsOrderly (asked_by work.now) }
+        requires generations { All (λ c. c.generation + 1 < 2 ^ 64) (charts_of self.old.shown.services) }
+        requires next { self.old.shown.next_sid + 65 < 2 ^ 64 }
+        ensures shown { self.new.shown ≡ self.old.shown }
+        ensures prepared { OnOk result (worked_of self.new.prepared ≡ worked (asked_by work.now) now (charts_of self.old.shown.services) self.old.shown.next_sid) }
+        ensures agrees { OnOk result ((history : List Moment) → clock_of history ≡ now → AllAgree self.old.shown.services history
+            → AllAgree self.new.prepared.services (history ++ map moment_of self.new.prepared.events)) }
+    {
+        let worked = self
+            .pending
+            .work_alone(&self.slots, self.next_sid, work, now);
+        settle(&mut self.slots, &mut self.pending, self.next_sid, worked)?;
+        Ok(())
+    }
+
+    // What was prepared is answered.
+    fn answer(&self) -> Result<Answer<A>, NoMemory>
+        ensures events { IfOk result (λ answer. answer.events.items ≡ self.now.prepared.events) }
+        ensures orders { IfOk result (λ answer. answer.orders.items ≡ self.now.prepared.orders) }
+        ensures dropped { IfOk result (λ answer. answer.dropped.items ≡ self.now.prepared.dropped) }
+        ensures listed { IfOk result (λ answer. answer.listed.items ≡ self.now.prepared.listed) }
+    {
+        let alloc = self.slots.allocator();
+        Ok(Answer {
+            events: self.events().to_vec(alloc)?,
+            orders: self.orders().to_vec(alloc)?,
+            dropped: self.dropped().to_vec(alloc)?,
+            listed: self.listed().to_vec(alloc)?,
+        })
+    }
+
+    // The work is done at once.
+    fn make(&mut self, work: &Work, now: At) -> Result<Answer<A>, NoMemory>
+        requires listing { IsOrderly (asked_by work.now) }
+        requires generations { All (λ c. c.generation + 1 < 2 ^ 64) (charts_of self.old.shown.services) }
+        requires next { self.old.shown.next_sid + 65 < 2 ^ 64 }
+        ensures services { OnOk result (charts_of self.new.shown.services ≡ (worked (asked_by work.now) now (charts_of self.old.shown.services) self.old.shown.next_sid).services) }
+        ensures next_sid { OnOk result (self.new.shown.next_sid ≡ (worked (asked_by work.now) now (charts_of self.old.shown.services) self.old.shown.next_sid).next_sid) }
+        ensures events { IfOk result (λ answer. answer.events.items ≡ (worked (asked_by work.now) now (charts_of self.old.shown.services) self.old.shown.next_sid).events) }
+        ensures orders { IfOk result (λ answer. answer.orders.items ≡ (worked (asked_by work.now) now (charts_of self.old.shown.services) self.old.shown.next_sid).orders) }
+        ensures dropped { IfOk result (λ answer. answer.dropped.items ≡ (worked (asked_by work.now) now (charts_of self.old.shown.services) self.old.shown.next_sid).dropped) }
+        ensures listed { IfOk result (λ answer. answer.listed.items ≡ (worked (asked_by work.now) now (charts_of self.old.shown.services) self.old.shown.next_sid).listed) }
+        ensures agrees { (history : List Moment) → clock_of history ≡ now → AllAgree self.old.shown.services history
+            → IfOk result (λ answer. AllAgree self.new.shown.services (history ++ map moment_of answer.events.items)) }
+        ensures unchanged { OnErr result (self.new.shown ≡ self.old.shown) }
+    {
+        self.prepare_alone(work, now)?;
+        let answer = self.answer()?;
+        self.commit();
+        Ok(answer)
+    }
+
+    /// Takes a listing of the scan directory, at once: each service whose name is listed becomes active and takes the configuration
+    /// that was read, each other one becomes inactive; an inactive one whose supervisor has ended is dropped; and each name for which
+    /// no service stands gets one, in the order of the names' bytes. No name stands in the listing twice. `NoMemory` where a growth was
+    /// refused; then nothing that is shown changes. Page `s6-svscan`.
+    pub fn scan(&mut self, listing: &[Entry], now: At) -> Result<Answer<A>, NoMemory>
+        requires listing { repeats (names_in listing.now) ≡ false }
+        requires generations { All (λ c. c.generation + 1 < 2 ^ 64) (charts_of self.old.shown.services) }
+        requires next { self.old.shown.next_sid + 65 < 2 ^ 64 }
+        ensures services { OnOk result (charts_of self.new.shown.services ≡ (scanned listing.now now (charts_of self.old.shown.services) self.old.shown.next_sid).services) }
+        ensures next_sid { OnOk result (self.new.shown.next_sid ≡ (scanned listing.now now (charts_of self.old.shown.services) self.old.shown.next_sid).next_sid) }
+        ensures events { IfOk result (λ answer. answer.events.items ≡ (scanned listing.now now (charts_of self.old.shown.services) self.old.shown.next_sid).events) }
+        ensures orders { IfOk result (λ answer. answer.orders.items ≡ (scanned listing.now now (charts_of self.old.shown.services) self.old.shown.next_sid).orders) }
+        ensures dropped { IfOk result (λ answer. answer.dropped.items ≡ dropped_by listing.now now (charts_of self.old.shown.services)) }
+        ensures listed { IfOk result (λ answer. answer.listed.items ≡ (scanned listing.now now (charts_of self.old.shown.services) self.old.shown.next_sid).listed) }
+        ensures agrees { (history : List Moment) → clock_of history ≡ now → AllAgree self.old.shown.services history
+            → IfOk result (λ answer. AllAgree self.new.shown.services (history ++ map moment_of answer.events.items)) }
+        ensures unchanged { OnErr result (self.new.shown ≡ self.old.shown) }
+    {
+        let work = Work::Listing(listing);
+        self.make(&work, now)
+    }
+
+    /// Takes an order of all services, at once: nuke gives each inactive service the letters `x` and `d`; terminate makes each
+    /// service inactive and gives it both. `NoMemory` where a growth was refused; then nothing that is shown changes. Page
+    /// `s6-svscanctl`; which letters they get is this project's own rule.
+    pub fn control(&mut self, order: ScanOrder, now: At) -> Result<Answer<A>, NoMemory>
+        requires generations { All (λ c. c.generation + 1 < 2 ^ 64) (charts_of self.old.shown.services) }
+        requires next { self.old.shown.next_sid + 65 < 2 ^ 64 }
+        ensures services { OnOk result (charts_of self.new.shown.services ≡ services_after (commanded order now) (charts_of self.old.shown.services)) }
+        ensures next_sid { OnOk result (self.new.shown.next_sid ≡ self.old.shown.next_sid) }
+        ensures events { IfOk result (λ answer. answer.events.items ≡ events_after (commanded order now) (charts_of self.old.shown.services)) }
+        ensures orders { IfOk result (λ answer. answer.orders.items ≡ orders_after (commanded order now) (charts_of self.old.shown.services)) }
+        ensures none { IfOk result (λ answer. (answer.dropped.items ≡ []) × (answer.listed.items ≡ [])) }
+        ensures agrees { (history : List Moment) → clock_of history ≡ now → AllAgree self.old.shown.services history
+            → IfOk result (λ answer. AllAgree self.new.shown.services (history ++ map moment_of answer.events.items)) }
+        ensures unchanged { OnErr result (self.new.shown ≡ self.old.shown) }
+    {
+        self.make(&Work::Command(order), now)
+    }
+}

@@ -1,0 +1,64 @@
+ghost use Rattle.std.specs.Prelude.{◌≡◌, ◌+◌, ◌<◌, ◌^◌, ◌++◌, ◌==◌, List, All, true, map, find, bytes_eq, is_some, option_map, slice_get, IfSome, IfNone};
+ghost use Rattle.std.specs.List.{list_any};
+ghost use Rattle.deadlines.specs.Timers.{is_rising};
+ghost use Rattle.s6_events.specs.Clock.{clock_of};
+ghost use Rattle.s6_events.specs.declared.moment.Moment.{Moment};
+ghost use Rattle.svscan_core.specs.Moves.{event, moment_of, services_after, events_after, orders_after};
+ghost use Rattle.svscan_core.specs.Sound.{AllAgree};
+ghost use Rattle.svscan_core.specs.Table.{charts_of, serials_of};
+ghost use Rattle.svscan_core.specs.Work.{changed_at};
+
+use super::place::place_of;
+use super::slots::Slots;
+use s6_events::{At, Name, Sid};
+use std::alloc::Allocator;
+use supervise_core::{Change, Out, Service};
+
+/// The serial of the service of this name, and None where none has it. This project's own.
+pub fn find_sid<A: Allocator + Copy>(slots: &Slots<A>, name: &Name) -> Option<Sid>
+    ensures { result ≡ option_map (λ c. c.sid) (find (λ c. bytes_eq name.now c.name) (charts_of slots.now.services)) }
+{
+    Some(slots.find(name)?.sid())
+}
+
+/// The serial of the service at this place, of those in the order in which they were added; None past the last one. This project's own.
+pub fn nth_sid<A: Allocator + Copy>(slots: &Slots<A>, place: usize) -> Option<Sid>
+    ensures { result ≡ option_map (λ c. c.sid) (slice_get (charts_of slots.now.services) place) }
+{
+    Some(slots.nth(place)?.sid())
+}
+
+/// The service of this serial, and None where none has it. This project's own.
+pub fn get<A: Allocator + Copy>(slots: &Slots<A>, sid: Sid) -> Option<&Service>
+    requires { is_rising (serials_of (charts_of slots.now.services)) ≡ true }
+    ensures { option_map (λ s. s.now) result ≡ find (λ s. s.chart.sid == sid) slots.now.services }
+{
+    slots.nth(place_of(slots, sid)?)
+}
+
+/// The service of this serial takes a change, and what it gives is the answer; None where none has the serial, and then every service
+/// stays as it stands. No memory is taken. This project's own; the changes are those of page `s6-supervise`.
+pub fn change<A: Allocator + Copy>(
+    slots: &mut Slots<A>,
+    sid: Sid,
+    change: &Change,
+    now: At,
+) -> Option<Out>
+    requires order { is_rising (serials_of (charts_of slots.old.services)) ≡ true }
+    requires generations { All (λ c. c.generation + 1 < 2 ^ 64) (charts_of slots.old.services) }
+    ensures services { charts_of slots.new.services ≡ services_after (changed_at sid change.now now) (charts_of slots.old.services) }
+    ensures known { is_some result ≡ list_any (λ c. c.sid == sid) (charts_of slots.old.services) }
+    ensures unknown { IfNone result (slots.new.services ≡ slots.old.services) }
+    ensures events { IfSome result (λ out. map (event sid) out.events.items ≡ events_after (changed_at sid change.now now) (charts_of slots.old.services)) }
+    ensures orders { IfSome result (λ out. out.orders.items ≡ orders_after (changed_at sid change.now now) (charts_of slots.old.services)) }
+    ensures stale { IfSome result (λ out. out.stale ≡ list_any (λ c. (changed_at sid change.now now c).stale) (charts_of slots.old.services)) }
+    ensures agrees { (history : List Moment) → clock_of history ≡ now → AllAgree slots.old.services history
+        → IfSome result (λ out. AllAgree slots.new.services (history ++ map moment_of (map (event sid) out.events.items))) }
+    ensures room { slots.new.room ≡ slots.old.room }
+{
+    let place = place_of(slots, sid)?;
+    let mut standing = slots.nth(place)?.standing();
+    let out = standing.change(change, now);
+    slots.adopt(place, standing);
+    Some(out)
+}
