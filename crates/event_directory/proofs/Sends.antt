@@ -1,0 +1,172 @@
+-- What is stored is what the subscriptions have heard, and is so again after a letter.
+use Rattle.event_directory.specs.declared.hit.Hit.{Hit}
+use Rattle.std.proofs.Common.{true, false, None, Some, cond, subst, ◌==◌, get_or, take, suc, ◌<◌, ◌≡◌, ℕ, ◌+◌, List, [], ◌∷◌, ◌++◌, Bool, length, map, All, Option, refl, sym, ap, ◌∙◌, arith, option_map}
+use Rattle.std.specs.List.{filter_map, cons_option}
+use Rattle.std.proofs.lemmas.List.{append-nil, append_assoc, map-append, take_more}
+use Rattle.std.proofs.lemmas.List.Elements.{All-cons}
+use Rattle.event_directory.specs.SubscriberList.{next}
+use Rattle.event_directory.specs.Sending.{Subscribed, Standing, heard_of, standing_of, grown, Hears, AreAbove, AreRising, made_ids, hit_ids, left_without, without, Sends, Prepares, hit_of_letter, hits_of_letter, with_letter, hit_from, after_letter, hits_from, made_now, subscribed_now, after_letters, hits_from_letters}
+use Rattle.event_directory.proofs.Heard.{heard-next, heard-nothing}
+
+heard_of-next : (test : List ℕ → List ℕ → Bool) (x : ℕ) (s : Subscribed) → heard_of test (grown (x ∷ []) s) ≡ next (test s.pattern) s.repeats x (heard_of test s)
+heard_of-next test x s = heard-next (test s.pattern) s.repeats x s.text
+
+same_stored : (test : List ℕ → List ℕ → Bool) (x : ℕ) (ss : List Subscribed) → map (with_letter test x) (map (standing_of test) ss) ≡ map (standing_of test) (map (grown (x ∷ [])) ss)
+same_stored test x [] = refl
+same_stored test x (s ∷ ss) = rw (heard_of-next test x s, same_stored test x ss) refl
+
+same_hits : (test : List ℕ → List ℕ → Bool) (x : ℕ) (ss : List Subscribed) → filter_map (hit_from test x) (map (standing_of test) ss) ≡ filter_map (hit_of_letter test x) ss
+same_hits test x [] = refl
+same_hits test x (s ∷ ss) = rw (heard_of-next test x s, same_hits test x ss) refl
+
+-- letters change no serial
+ids-grown : (letters : List ℕ) (ss : List Subscribed) → made_ids (map (grown letters) ss) ≡ made_ids ss
+ids-grown letters [] = refl
+ids-grown letters (s ∷ ss) = ap (λ l. s.id ∷ l) (ids-grown letters ss)
+
+grown-nothing : (ss : List Subscribed) → map (grown []) ss ≡ ss
+grown-nothing [] = refl
+grown-nothing (s ∷ ss) = rw (append-nil s.text, grown-nothing ss) refl
+
+grown-more : (x : ℕ) (xs : List ℕ) (ss : List Subscribed) → map (grown xs) (map (grown (x ∷ [])) ss) ≡ map (grown (x ∷ xs)) ss
+grown-more x xs [] = refl
+grown-more x xs (s ∷ ss) = rw (append_assoc s.text (x ∷ []) xs, grown-more x xs ss) refl
+
+-- a letter more
+pub hears_after : (test : List ℕ → List ℕ → Bool) (old new : List Standing) (x : ℕ) → new ≡ after_letter test x old →
+    (subscribed : List Subscribed) → Hears test old subscribed → Hears test new (map (grown (x ∷ [])) subscribed)
+hears_after test old new x e subscribed h = record {
+  rising = subst AreRising (sym (ids-grown (x ∷ []) subscribed)) h.rising;
+  stored_is = e ∙ ap (after_letter test x) h.stored_is ∙ same_stored test x subscribed;
+}
+
+pub hits_as_defined : (test : List ℕ → List ℕ → Bool) (old : List Standing) (x : ℕ) (hits : List (ℕ × Hit)) → hits ≡ hits_from test x old →
+    (subscribed : List Subscribed) → Hears test old subscribed → hits ≡ hits_of_letter test x subscribed
+hits_as_defined test old x hits e subscribed h = e ∙ ap (hits_from test x) h.stored_is ∙ same_hits test x subscribed
+
+-- the hits are in rising serial, as the subscriptions are
+above_one : (test : List ℕ → List ℕ → Bool) (x n : ℕ) (s : Subscribed) (ss : List Subscribed) (o : Option Hit) → n < s.id → AreAbove n (hit_ids (hits_of_letter test x ss)) →
+    AreAbove n (hit_ids (cons_option (option_map (λ h. (s.id, h)) o) (hits_of_letter test x ss)))
+above_one test x n s ss None lt above = above
+above_one test x n s ss (Some h) lt above = (lt, above)
+
+above_hits : (test : List ℕ → List ℕ → Bool) (x n : ℕ) (ss : List Subscribed) → AreAbove n (made_ids ss) → AreAbove n (hit_ids (hits_of_letter test x ss))
+above_hits test x n [] above = tt
+above_hits test x n (s ∷ ss) above = above_one test x n s ss _ above.0 (above_hits test x n ss above.1)
+
+rising_one : (test : List ℕ → List ℕ → Bool) (x : ℕ) (s : Subscribed) (ss : List Subscribed) (o : Option Hit) → AreAbove s.id (made_ids ss) →
+    AreRising (hit_ids (hits_of_letter test x ss)) → AreRising (hit_ids (cons_option (option_map (λ h. (s.id, h)) o) (hits_of_letter test x ss)))
+rising_one test x s ss None above rising = rising
+rising_one test x s ss (Some h) above rising = (above_hits test x s.id ss above, rising)
+
+pub rising_hits : (test : List ℕ → List ℕ → Bool) (x : ℕ) (ss : List Subscribed) → AreRising (made_ids ss) → AreRising (hit_ids (hits_of_letter test x ss))
+rising_hits test x [] rising = tt
+rising_hits test x (s ∷ ss) rising = rising_one test x s ss _ rising.0 (rising_hits test x ss rising.1)
+
+-- all at once, as `send` says
+pub sends : (test : List ℕ → List ℕ → Bool) (old new : List Standing) (x : ℕ) (hits : List (ℕ × Hit)) → hits ≡ hits_from test x old → new ≡ after_letter test x old →
+    (subscribed : List Subscribed) → Hears test old subscribed → Sends test new x subscribed hits
+sends test old new x hits eh en subscribed h =
+    let same : hits ≡ hits_of_letter test x subscribed = hits_as_defined test old x hits eh subscribed h in
+    record { hits_are = same; rising = subst (λ l. AreRising (hit_ids l)) (sym same) (rising_hits test x subscribed h.rising); hears = hears_after test old new x en subscribed h }
+
+-- all at once, as `prepare` says
+pub prepares : (test : List ℕ → List ℕ → Bool) (xs : List ℕ) (old new : List Standing) (plan : List (List (ℕ × Hit))) → plan ≡ hits_from_letters test xs old → new ≡ after_letters test xs old →
+    (subscribed : List Subscribed) → Hears test old subscribed → Prepares test new xs subscribed plan
+prepares test [] old new plan ep en subscribed h = record {
+  hits_are = ep;
+  rising = subst (All (λ hits. AreRising (hit_ids hits))) (sym ep) (λ k d lt. absurd (omega arith));
+  hears = record {
+    rising = subst AreRising (sym (ids-grown [] subscribed)) h.rising;
+    stored_is = en ∙ h.stored_is ∙ ap (map (standing_of test)) (sym (grown-nothing subscribed));
+  };
+}
+prepares test (x ∷ xs) old new plan ep en subscribed h =
+    let one : Sends test (after_letter test x old) x subscribed (hits_from test x old) = sends test old (after_letter test x old) x (hits_from test x old) refl refl subscribed h in
+    let more : Prepares test new xs (map (grown (x ∷ [])) subscribed) (hits_from_letters test xs (after_letter test x old)) =
+    prepares test xs (after_letter test x old) new (hits_from_letters test xs (after_letter test x old)) refl en (map (grown (x ∷ [])) subscribed) one.hears in
+    record {
+      hits_are = ep ∙ ap (λ l. l ∷ hits_from_letters test xs (after_letter test x old)) one.hits_are ∙ ap (λ l. hits_of_letter test x subscribed ∷ l) more.hits_are;
+      rising = subst (All (λ hits. AreRising (hit_ids hits))) (sym ep)
+          (All-cons (λ hits. AreRising (hit_ids hits)) (hits_from test x old) (hits_from_letters test xs (after_letter test x old)) one.rising more.rising);
+      hears = subst (Hears test new) (grown-more x xs subscribed) more.hears;
+    }
+
+above_push : (n m : ℕ) (ns : List ℕ) → AreAbove n ns → n < m → AreAbove n (ns ++ m ∷ [])
+above_push n m [] above lt = (lt, tt)
+above_push n m (k ∷ ks) above lt = (above.0, above_push n m ks above.1 lt)
+
+rising_push : (test : List ℕ → List ℕ → Bool) (x : Subscribed) (ss : List Subscribed) → AreRising (made_ids ss) → All (λ s. s.id < x.id) (map (standing_of test) ss) → AreRising (made_ids (ss ++ x ∷ []))
+rising_push test x [] rising below = (tt, tt)
+rising_push test x (s ∷ ss) rising below = (
+  subst (λ l. AreAbove s.id l) (sym (map-append (λ s. s.id) ss (x ∷ []))) (above_push s.id x.id (made_ids ss) rising.0 (below 0 (standing_of test s) (omega arith))),
+  rising_push test x ss rising.1 (λ k d lt. below (suc k) d (omega arith)),
+)
+
+-- one is unsubscribed
+left_above_by : (n id : ℕ) (s : Subscribed) (ss : List Subscribed) (b : Bool) → n < s.id → AreAbove n (made_ids ss) → AreAbove n (made_ids (left_without id ss)) → AreAbove n (made_ids (cond b ss (s ∷ left_without id ss)))
+left_above_by n id s ss true lt above rest = above
+left_above_by n id s ss false lt above rest = (lt, rest)
+
+left_above : (n id : ℕ) (ss : List Subscribed) → AreAbove n (made_ids ss) → AreAbove n (made_ids (left_without id ss))
+left_above n id [] above = tt
+left_above n id (s ∷ ss) above = left_above_by n id s ss (s.id == id) above.0 above.1 (left_above n id ss above.1)
+
+left_rising_by : (id : ℕ) (s : Subscribed) (ss : List Subscribed) (b : Bool) → AreAbove s.id (made_ids ss) → AreRising (made_ids ss) → AreRising (made_ids (left_without id ss)) → AreRising (made_ids (cond b ss (s ∷ left_without id ss)))
+left_rising_by id s ss true above rising rest = rising
+left_rising_by id s ss false above rising rest = (left_above s.id id ss above, rest)
+
+left_rising : (id : ℕ) (ss : List Subscribed) → AreRising (made_ids ss) → AreRising (made_ids (left_without id ss))
+left_rising id [] rising = tt
+left_rising id (s ∷ ss) rising = left_rising_by id s ss (s.id == id) rising.0 rising.1 (left_rising id ss rising.1)
+
+left_stored_by : (test : List ℕ → List ℕ → Bool) (id : ℕ) (s : Subscribed) (ss : List Subscribed) (b : Bool) → without id (map (standing_of test) ss) ≡ map (standing_of test) (left_without id ss) →
+    cond b (map (standing_of test) ss) (standing_of test s ∷ without id (map (standing_of test) ss)) ≡ map (standing_of test) (cond b ss (s ∷ left_without id ss))
+left_stored_by test id s ss true rest = refl
+left_stored_by test id s ss false rest = ap (λ l. standing_of test s ∷ l) rest
+
+left_stored : (test : List ℕ → List ℕ → Bool) (id : ℕ) (ss : List Subscribed) → without id (map (standing_of test) ss) ≡ map (standing_of test) (left_without id ss)
+left_stored test id [] = refl
+left_stored test id (s ∷ ss) = left_stored_by test id s ss (s.id == id) (left_stored test id ss)
+
+pub hears_left : (test : List ℕ → List ℕ → Bool) (old new : List Standing) (id : ℕ) → new ≡ without id old →
+    (subscribed : List Subscribed) → Hears test old subscribed → Hears test new (left_without id subscribed)
+hears_left test old new id e subscribed h = record {
+  rising = left_rising id subscribed h.rising;
+  stored_is = e ∙ ap (without id) h.stored_is ∙ left_stored test id subscribed;
+}
+
+-- a subscription that is made now
+pub hears_joined : (test : List ℕ → List ℕ → Bool) (old new : List Standing) (id : ℕ) (pattern : List ℕ) (repeats : Bool) → All (λ s. s.id < id) old → new ≡ old ++ made_now id pattern repeats ∷ [] →
+    (subscribed : List Subscribed) → Hears test old subscribed → Hears test new (subscribed ++ subscribed_now id pattern repeats ∷ [])
+hears_joined test old new id pattern repeats below e subscribed h = record {
+  rising = rising_push test (subscribed_now id pattern repeats) subscribed h.rising (subst (λ l. All (λ s. s.id < id) l) h.stored_is below);
+  stored_is = e ∙ ap (λ l. l ++ made_now id pattern repeats ∷ []) h.stored_is
+      ∙ ap (λ z. map (standing_of test) subscribed ++ record { id = id; pattern = pattern; repeats = repeats; heard = z } ∷ []) (sym (heard-nothing (test pattern) repeats))
+      ∙ sym (map-append (standing_of test) subscribed (subscribed_now id pattern repeats ∷ []));
+}
+
+-- one letter more in a step
+pub after_letters-more : (test : List ℕ → List ℕ → Bool) (xs : List ℕ) (x : ℕ) (stored : List Standing) → after_letters test (xs ++ x ∷ []) stored ≡ after_letter test x (after_letters test xs stored)
+after_letters-more test [] x stored = refl
+after_letters-more test (y ∷ ys) x stored = after_letters-more test ys x (after_letter test y stored)
+
+pub hits_from_letters-more : (test : List ℕ → List ℕ → Bool) (xs : List ℕ) (x : ℕ) (stored : List Standing) →
+    hits_from_letters test (xs ++ x ∷ []) stored ≡ hits_from_letters test xs stored ++ hits_from test x (after_letters test xs stored) ∷ []
+hits_from_letters-more test [] x stored = refl
+hits_from_letters-more test (y ∷ ys) x stored = ap (λ l. hits_from test y stored ∷ l) (hits_from_letters-more test ys x (after_letter test y stored))
+
+next_taken : (xs : List ℕ) (i x : ℕ) → i < length xs → x ≡ get_or xs i x → take (i + 1) xs ≡ take i xs ++ x ∷ []
+next_taken xs i x lt is = take_more xs i x lt ∙ ap (λ y. take i xs ++ y ∷ []) (sym is)
+
+pub more_letters : (test : List ℕ → List ℕ → Bool) (xs : List ℕ) (i x : ℕ) → i < length xs → x ≡ get_or xs i x → (start now then : List Standing) → now ≡ after_letters test (take i xs) start →
+    then ≡ after_letter test x now → then ≡ after_letters test (take (i + 1) xs) start
+more_letters test xs i x lt is start now then en et =
+    et ∙ ap (after_letter test x) en ∙ sym (after_letters-more test (take i xs) x start) ∙ ap (λ l. after_letters test l start) (sym (next_taken xs i x lt is))
+
+pub more_hits : (test : List ℕ → List ℕ → Bool) (xs : List ℕ) (i x : ℕ) → i < length xs → x ≡ get_or xs i x → (start now : List Standing) (hits : List (List (ℕ × Hit))) (one : List (ℕ × Hit)) →
+    now ≡ after_letters test (take i xs) start → hits ≡ hits_from_letters test (take i xs) start → one ≡ hits_from test x now →
+    hits ++ one ∷ [] ≡ hits_from_letters test (take (i + 1) xs) start
+more_hits test xs i x lt is start now hits one en eh eo =
+    ap (λ h. h ++ one ∷ []) eh ∙ ap (λ o. hits_from_letters test (take i xs) start ++ o ∷ []) (eo ∙ ap (hits_from test x) en)
+    ∙ sym (hits_from_letters-more test (take i xs) x start) ∙ ap (λ l. hits_from_letters test l start) (sym (next_taken xs i x lt is))

@@ -1,0 +1,37 @@
+-- Laws of the list of a subscription.
+use Rattle.std.specs.Prelude.{◌≡◌, ℕ, ◌≤◌, ◌<◌, List, [], ◌∷◌, ◌++◌, Bool, true, false, length, take, Some, None}
+use Rattle.event_directory.specs.SubscriberList.{least_match, heard_by, heard, listening, next}
+
+-- a list is that of the least match of its text, and then the list of what follows that match
+abbrev pub BeginsAgain : Type 0
+BeginsAgain =
+    (find : List ℕ → Bool) (repeats : Bool) (text : List ℕ) →
+    heard find repeats text ≡ heard_by (least_match find text) (λ rest. heard find repeats rest) repeats text
+
+-- the first k letters of the text have a match, and no fewer of them have one
+pub record IsLeastMatch (find : List ℕ → Bool) (text : List ℕ) (k : ℕ) : Type 0 where
+  pub some_letters : 1 ≤ k
+  pub within_text : k ≤ length text
+  pub within_limit : k ≤ 1024
+  pub matches : find (take k text) ≡ true
+  pub least : (j : ℕ) → 1 ≤ j → j < k → find (take j text) ≡ false
+
+-- a least match is one
+abbrev pub LeastIsLeast : Type 0
+LeastIsLeast = (find : List ℕ → Bool) (text : List ℕ) (k : ℕ) → least_match find text ≡ Some k → IsLeastMatch find text k
+
+-- without a least match there is none at all, in the letters that are searched
+abbrev pub NoneIsNone : Type 0
+NoneIsNone =
+    (find : List ℕ → Bool) (text : List ℕ) → least_match find text ≡ None →
+    (k : ℕ) → 1 ≤ k → k ≤ length text → k ≤ 1024 → find (take k text) ≡ false
+
+-- the list of a text without letters is live and empty
+abbrev pub StartsLive : Type 0
+StartsLive = (find : List ℕ → Bool) (repeats : Bool) → heard find repeats [] ≡ listening []
+
+-- the list of a text with one letter more is found from the list of the text
+abbrev pub GrowsByLetters : Type 0
+GrowsByLetters =
+    (find : List ℕ → Bool) (repeats : Bool) (x : ℕ) (text : List ℕ) →
+    heard find repeats (text ++ x ∷ []) ≡ next find repeats x (heard find repeats text)

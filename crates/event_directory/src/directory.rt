@@ -1,0 +1,224 @@
+//! One event directory: the subscriptions of a service's events, or of letters that are sent to it.
+ghost use Rattle.std.specs.Prelude.{◌≡◌, ◌<◌, ◌++◌, ◌∷◌, [], List, IfOk, OnOk, OnErr, IfErr, All, map, ◌+◌, take, drop, IfSome, IfNone, option_map, length};
+ghost use Rattle.event_directory.specs.Sending.{Subscribed, Hears, after_letter, hits_from, after_letters, hits_from_letters, Sends, Prepares, left_without, made_now, subscribed_now, view_of, without};
+ghost use Rattle.event_directory.specs.Views.{list_of};
+ghost use Rattle.event_directory.specs.Stored.{stored_of, stored_without};
+
+use crate::finds::Finds;
+use crate::hit::Hit;
+use crate::plan::Plan;
+use crate::sub_view::SubView;
+use crate::subscription::Subscription;
+use crate::subscriptions::{begin_all, commit_all, prepare_all, prepare_letters};
+use s6_events::{Letter, NoMemory, SubId};
+use std::alloc::Allocator;
+use std::marker::Model;
+
+/// The subscriptions of one event directory, in the order in which they were made, so in rising serial. Page `fifodir`; that
+/// they are remembered in memory, and not in a folder of pipes, is this project's own.
+///
+/// The letters of a step are prepared and then heard: `prepare` takes all memory and changes nothing that is shown, `commit`
+/// takes none. `send` does both for one letter. How many subscriptions there may be is for the caller to say.
+#[derive(Drop)]
+pub struct Directory<F: Finds, A: Allocator> {
+    subscriptions: Vec<Subscription<F, A>, A>,
+}
+
+impl<F: Finds, A: Allocator> Model for Directory<F, A> {
+    ghost use Rattle.std.specs.Prelude.{map, ◌-◌, vec_len, vec_capacity};
+    ghost use Rattle.event_directory.specs.Stored.{Kept, prepared_standing, standing_of_stored};
+
+    ghost Value = { Kept };
+
+    ghost view = { λ d. record {
+      standing = map standing_of_stored d.subscriptions.items;
+      prepared = map prepared_standing d.subscriptions.items;
+      room = vec_capacity d.subscriptions - vec_len d.subscriptions;
+    } };
+}
+
+impl<F: Finds, A: Allocator + Copy> Directory<F, A> {
+    /// A directory with no subscription. Takes no memory.
+    pub fn new(alloc: A) -> Directory<F, A>
+        ensures { result.standing ≡ [] }
+    {
+        Directory {
+            subscriptions: Vec::new(alloc),
+        }
+    }
+
+    /// Subscribes from now on, with a serial greater than those before: once, or again after each match. Page
+    /// `s6-ftrig-listen1`. Where memory is wanting, the pattern comes back and nothing has changed.
+    pub fn subscribe(&mut self, id: SubId, pattern: F, repeats: bool) -> Result<(), F>
+        requires { All (λ s. s.id < id) self.old.standing }
+        ensures ok { OnOk result (self.new.standing ≡ self.old.standing ++ made_now id (F.source pattern) repeats ∷ []) }
+        ensures hears { OnOk result ((subscribed : List Subscribed) → Hears F.test self.old.standing subscribed →
+            Hears F.test self.new.standing (subscribed ++ subscribed_now id (F.source pattern) repeats ∷ [])) }
+        ensures err { IfErr result (λ back. (back ≡ pattern) × (self.new.standing ≡ self.old.standing)) }
+    {
+        if self.subscriptions.reserve(1).is_err() {
+            return Err(pattern);
+        }
+        self.join(id, pattern, repeats);
+        Ok(())
+    }
+
+    /// Subscribes from now on, in the place that `prepare` made. Takes no memory.
+    pub fn join(&mut self, id: SubId, pattern: F, repeats: bool)
+        requires room { 0 < self.old.room }
+        requires greater { All (λ s. s.id < id) self.old.standing }
+        ensures after { self.new.standing ≡ self.old.standing ++ made_now id (F.source pattern) repeats ∷ [] }
+        ensures hears { (subscribed : List Subscribed) → Hears F.test self.old.standing subscribed →
+            Hears F.test self.new.standing (subscribed ++ subscribed_now id (F.source pattern) repeats ∷ []) }
+    {
+        let alloc = *self.subscriptions.allocator();
+        self.subscriptions
+            .push_reserved(Subscription::new(alloc, id, pattern, repeats));
+    }
+
+    /// Ends the subscription of this serial, if there is one. Takes no memory.
+    pub fn unsubscribe(&mut self, id: SubId)
+        ensures after { self.new.standing ≡ without id self.old.standing }
+        ensures hears { (subscribed : List Subscribed) → Hears F.test self.old.standing subscribed →
+            Hears F.test self.new.standing (left_without id subscribed) }
+    {
+        drop_one(&mut self.subscriptions, id);
+    }
+
+    /// What the subscription of this serial has heard, or None where there is none. Takes no memory.
+    pub fn list(&self, id: SubId) -> Option<SubView<'_>>
+        ensures stored { option_map (λ v. (v.letters.now, v.state)) result ≡ view_of id self.now.standing }
+        ensures defined { (subscribed : List Subscribed) → Hears F.test self.now.standing subscribed →
+            option_map (λ v. (v.letters.now, v.state)) result ≡ list_of F.test id subscribed }
+    {
+        self.stored_view(id)
+    }
+
+    // `list`, by what is stored alone.
+    fn stored_view(&self, id: SubId) -> Option<SubView<'_>>
+        ensures { option_map (λ v. (v.letters.now, v.state)) result ≡ view_of id self.now.standing }
+    {
+        let subscription = find(&self.subscriptions, id)?;
+        Some(SubView {
+            letters: subscription.letters(),
+            state: subscription.state(),
+        })
+    }
+
+    /// Sends one letter: each live subscription looks at it, and the hits come in rising serial. Page `s6-ftrig-notify`.
+    /// NoMemory: nothing has changed.
+    pub fn send(&mut self, letter: Letter) -> Result<Vec<(SubId, Hit), A>, NoMemory>
+        ensures hits { IfOk result (λ hits. hits.items ≡ hits_from F.test letter self.old.standing) }
+        ensures after { OnOk result (self.new.standing ≡ after_letter F.test letter self.old.standing) }
+        ensures defined { IfOk result (λ hits. (subscribed : List Subscribed) → Hears F.test self.old.standing subscribed →
+            Sends F.test self.new.standing letter subscribed hits.items) }
+        ensures err { OnErr result (self.new.standing ≡ self.old.standing) }
+    {
+        let hits = self.hear(letter)?;
+        Ok(hits)
+    }
+
+    // `send`, by what is stored alone.
+    fn hear(&mut self, letter: Letter) -> Result<Vec<(SubId, Hit), A>, NoMemory>
+        ensures hits { IfOk result (λ hits. hits.items ≡ hits_from F.test letter self.old.standing) }
+        ensures after { OnOk result (self.new.standing ≡ after_letter F.test letter self.old.standing) }
+        ensures err { OnErr result (self.new.standing ≡ self.old.standing) }
+    {
+        let hits = self.prepare_one(letter)?;
+        commit_all(&mut self.subscriptions);
+        Ok(hits)
+    }
+
+    // `prepare`, of one letter.
+    fn prepare_one(&mut self, letter: Letter) -> Result<Vec<(SubId, Hit), A>, NoMemory>
+        ensures hits { IfOk result (λ hits. hits.items ≡ hits_from F.test letter self.old.standing) }
+        ensures prepared { OnOk result (self.new.prepared ≡ after_letter F.test letter self.old.standing) }
+        ensures same { self.new.standing ≡ self.old.standing }
+    {
+        let alloc = *self.subscriptions.allocator();
+        begin_all(&mut self.subscriptions)?;
+        let hits = prepare_all(alloc, &mut self.subscriptions, letter)?;
+        Ok(hits)
+    }
+
+    /// Prepares the letters of one step, and a place for one more subscription: nothing is heard yet, and what was prepared
+    /// before is forgotten. NoMemory: nothing is heard either.
+    pub fn prepare(&mut self, letters: &[Letter]) -> Result<Plan<A>, NoMemory>
+        ensures hits { IfOk result (λ plan. plan ≡ hits_from_letters F.test letters.now self.old.standing) }
+        ensures prepared { OnOk result (self.new.prepared ≡ after_letters F.test letters.now self.old.standing) }
+        ensures defined { IfOk result (λ plan. (subscribed : List Subscribed) → Hears F.test self.old.standing subscribed →
+            Prepares F.test self.new.prepared letters.now subscribed plan) }
+        ensures room { OnOk result (0 < self.new.room) }
+        ensures same { self.new.standing ≡ self.old.standing }
+    {
+        let plan = self.prepare_stored(letters)?;
+        Ok(plan)
+    }
+
+    // `prepare`, by what is stored alone.
+    fn prepare_stored(&mut self, letters: &[Letter]) -> Result<Plan<A>, NoMemory>
+        ensures hits { IfOk result (λ plan. plan ≡ hits_from_letters F.test letters.now self.old.standing) }
+        ensures prepared { OnOk result (self.new.prepared ≡ after_letters F.test letters.now self.old.standing) }
+        ensures room { OnOk result (0 < self.new.room) }
+        ensures same { self.new.standing ≡ self.old.standing }
+    {
+        let alloc = *self.subscriptions.allocator();
+        self.subscriptions.reserve(1)?;
+        begin_all(&mut self.subscriptions)?;
+        let hits = prepare_letters(alloc, &mut self.subscriptions, letters)?;
+        Ok(Plan { hits })
+    }
+
+    /// Hears what was prepared, and gives the hits of its plan. Takes no memory.
+    pub fn commit(&mut self, plan: Plan<A>) -> Vec<Vec<(SubId, Hit), A>, A>
+        ensures after { self.new.standing ≡ self.old.prepared }
+        ensures hits { map (λ v. v.items) result.items ≡ plan }
+        ensures room { self.new.room ≡ self.old.room }
+    {
+        commit_all(&mut self.subscriptions);
+        plan.hits
+    }
+}
+
+// Takes the subscription of this serial out, if there is one.
+fn drop_one<F: Finds, A: Allocator + Copy>(
+    subscriptions: &mut Vec<Subscription<F, A>, A>,
+    id: SubId,
+)
+    ensures { subscriptions.new.items ≡ stored_without id subscriptions.old.items }
+{
+    if let Some(place) = place_of(subscriptions, id) {
+        let _gone = subscriptions.remove(place);
+    }
+}
+
+// The place of the subscription of this serial.
+fn place_of<F: Finds, A: Allocator + Copy>(
+    subscriptions: &[Subscription<F, A>],
+    id: SubId,
+) -> Option<usize>
+    ensures place { IfSome result (λ place. (place < length subscriptions.now) × (stored_without id subscriptions.now ≡ take place subscriptions.now ++ drop (place + 1) subscriptions.now)) }
+    ensures none { IfNone result (stored_without id subscriptions.now ≡ subscriptions.now) }
+{
+    for (place, s) in subscriptions.iter().enumerate() {
+        if s.id() == id {
+            return Some(place);
+        }
+    }
+    None
+}
+
+// The subscription of this serial.
+fn find<F: Finds, A: Allocator + Copy>(
+    subscriptions: &[Subscription<F, A>],
+    id: SubId,
+) -> Option<&Subscription<F, A>>
+    ensures { option_map (λ s. s.now) result ≡ stored_of id subscriptions.now }
+{
+    for s in subscriptions {
+        if s.id() == id {
+            return Some(s);
+        }
+    }
+    None
+}

@@ -1,0 +1,21 @@
+//! Laws of a subscription's list. Each is the contract of a function that does nothing, so that its statement is proved.
+ghost use Rattle.event_directory.specs.Laws.{BeginsAgain, LeastIsLeast, NoneIsNone, StartsLive, GrowsByLetters};
+
+/// A list is the letter of the least match of its text, and then the list of what follows it, which counts from 1 again; without
+/// a match it is Overlong from 1,025 letters on, and else Live. This project's own.
+pub fn begins_again()
+    ensures { BeginsAgain }
+{}
+
+/// The least match of a text is a match, from 1 to 1,024 letters long, and no shorter beginning of the text has one; where there
+/// is none, no beginning of at most 1,024 letters has a match. This project's own.
+pub fn least_match_is_least()
+    ensures some { LeastIsLeast }
+    ensures none { NoneIsNone }
+{}
+
+/// The list of a text with one letter more is found from the list of the text alone, by one search at most. This project's own.
+pub fn one_letter_more()
+    ensures start { StartsLive }
+    ensures next { GrowsByLetters }
+{}

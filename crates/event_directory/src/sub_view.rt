@@ -1,0 +1,21 @@
+use s6_events::Letter;
+
+/// Whether a subscription still listens. It stands until it is unsubscribed, whatever its state. This project's own.
+#[derive(Clone, Copy, PartialEq, Eq, Debug)]
+pub enum State {
+    /// It looks at the next letter.
+    Live,
+    /// It was to match once, and has.
+    Done,
+    /// Its text grew past 1,024 letters without a match.
+    Overlong,
+}
+
+/// What a subscription has heard: the last letter of each match, the oldest first. Page `s6-ftrig-listen1`.
+#[derive(Clone, Copy)]
+pub struct SubView<'a> {
+    /// The letters at which its texts matched.
+    pub letters: &'a [Letter],
+    /// Whether it still listens.
+    pub state: State,
+}
