@@ -1,5 +1,5 @@
 -- What a step is asked to do.
-use Rattle.std.specs.Prelude.{◌≡◌, false}
+use Rattle.std.specs.Prelude.{◌≡◌, ℕ, ◌+◌, ◌<◌, ◌^◌, false}
 use Rattle.svscan_core.specs.declared.work.Work.{Work as Request}
 use Rattle.svscan_core.specs.declared.work.Work.TheVariants.{Leave, Change, Listing, Command}
 use Rattle.svscan_core.specs.Listing.{names_in}
@@ -14,7 +14,7 @@ asked_by (Change sid change) = change_one sid change.now
 asked_by (Listing listing) = apply_listing listing.now
 asked_by (Command order) = command order
 
--- a listing has no name twice
-abbrev pub IsOrderly : Work → Type 0
-IsOrderly (apply_listing listing) = repeats (names_in listing) ≡ false
-IsOrderly work = Unit {0}
+-- a listing has no name twice, and there is a serial for each service that may be new
+abbrev pub IsOrderly : ℕ → Work → Type 0
+IsOrderly next_sid (apply_listing listing) = (repeats (names_in listing) ≡ false) × (next_sid + 65 < 2 ^ 64)
+IsOrderly next_sid work = Unit {0}

@@ -69,8 +69,7 @@ impl<A: Allocator + Copy> Pending<A> {
         requires rising { is_rising (serials_of (charts_of slots.now.services)) ≡ true }
         requires serials { serials_of (charts_of (with_touched slots.now.services self.old.moves.touched.items)) ≡ serials_of (charts_of slots.now.services) }
         requires stand { names_of (charts_of (with_touched slots.now.services self.old.moves.touched.items)) ≡ names_of (charts_of slots.now.services) }
-        requires listing { IsOrderly (asked_by work.now) }
-        requires next { self.old.scan.next_sid + 65 < 2 ^ 64 }
+        requires listing { IsOrderly self.old.scan.next_sid (asked_by work.now) }
         ensures worked { OnOk result (worked_of (prepared_of slots.now.services self.new) ≡ given_before self.old.moves.events.items self.old.moves.orders.items
             (worked (asked_by work.now) now (charts_of (with_touched slots.now.services self.old.moves.touched.items)) self.old.scan.next_sid)) }
         ensures agrees { OnOk result ((history : List Moment) → clock_of history ≡ now
@@ -110,8 +109,7 @@ impl<A: Allocator + Copy> Pending<A> {
         requires generations { All (λ c. c.generation + 1 < 2 ^ 64) (charts_of slots.now.services) }
         requires order { IsNumbered next_sid (charts_of slots.now.services) }
         requires names { repeats (names_of (charts_of slots.now.services)) ≡ false }
-        requires listing { IsOrderly (asked_by work.now) }
-        requires next { next_sid + 65 < 2 ^ 64 }
+        requires listing { IsOrderly next_sid (asked_by work.now) }
         ensures worked { OnOk result (worked_of (prepared_of slots.now.services self.new) ≡ worked (asked_by work.now) now (charts_of slots.now.services) next_sid) }
         ensures agrees { OnOk result ((history : List Moment) → clock_of history ≡ now → AllAgree slots.now.services history
             → AllAgree (prepared_of slots.now.services self.new).services (history ++ map moment_of self.new.moves.events.items)) }
@@ -137,8 +135,7 @@ impl<A: Allocator + Copy> Pending<A> {
         requires order { IsNumbered next_sid (charts_of slots.now.services) }
         requires names { repeats (names_of (charts_of slots.now.services)) ≡ false }
         requires due { AreDue due.now now (charts_of slots.now.services) }
-        requires listing { IsOrderly (asked_by work.now) }
-        requires next { next_sid + 65 < 2 ^ 64 }
+        requires listing { IsOrderly next_sid (asked_by work.now) }
         ensures worked { OnOk result (worked_of (prepared_of slots.now.services self.new) ≡ stepped (asked_by work.now) now (charts_of slots.now.services) next_sid) }
         ensures agrees { OnOk result ((history : List Moment) → clock_of history ≡ now → AllAgree slots.now.services history
             → AllAgree (prepared_of slots.now.services self.new).services (history ++ map moment_of self.new.moves.events.items)) }

@@ -146,9 +146,8 @@ impl<A: Allocator + Copy> Registry<A> {
     /// services whose timers are due. Nothing that is shown changes. `NoMemory` where a growth was refused; then nothing is prepared.
     pub fn prepare(&mut self, due: &[Sid], work: &Work, now: At) -> Result<(), NoMemory>
         requires due { AreDue due.now now (charts_of self.old.shown.services) }
-        requires listing { IsOrderly (asked_by work.now) }
+        requires listing { IsOrderly self.old.shown.next_sid (asked_by work.now) }
         requires generations { All (λ c. c.generation + 2 < 2 ^ 64) (charts_of self.old.shown.services) }
-        requires next { self.old.shown.next_sid + 65 < 2 ^ 64 }
         ensures shown { self.new.shown ≡ self.old.shown }
         ensures prepared { OnOk result (worked_of self.new.prepared ≡ stepped (asked_by work.now) now (charts_of self.old.shown.services) self.old.shown.next_sid) }
         ensures agrees { OnOk result ((history : List Moment) → clock_of history ≡ now → AllAgree self.old.shown.services history
@@ -212,9 +211,8 @@ impl<A: Allocator + Copy> Registry<A> {
 
     // Works out the work alone, with no timers.
     fn prepare_alone(&mut self, work: &Work, now: At) -> Result<(), NoMemory>
-        requires listing { IsOrderly (asked_by work.now) }
+        requires listing { IsOrderly self.old.shown.next_sid (asked_by work.now) }
         requires generations { All (λ c. c.generation + 1 < 2 ^ 64) (charts_of self.old.shown.services) }
-        requires next { self.old.shown.next_sid + 65 < 2 ^ 64 }
         ensures shown { self.new.shown ≡ self.old.shown }
         ensures prepared { OnOk result (worked_of self.new.prepared ≡ worked (asked_by work.now) now (charts_of self.old.shown.services) self.old.shown.next_sid) }
         ensures agrees { OnOk result ((history : List Moment) → clock_of history ≡ now → AllAgree self.old.shown.services history
@@ -245,9 +243,8 @@ impl<A: Allocator + Copy> Registry<A> {
 
     // The work is done at once.
     fn make(&mut self, work: &Work, now: At) -> Result<Answer<A>, NoMemory>
-        requires listing { IsOrderly (asked_by work.now) }
+        requires listing { IsOrderly self.old.shown.next_sid (asked_by work.now) }
         requires generations { All (λ c. c.generation + 1 < 2 ^ 64) (charts_of self.old.shown.services) }
-        requires next { self.old.shown.next_sid + 65 < 2 ^ 64 }
         ensures services { OnOk result (charts_of self.new.shown.services ≡ (worked (asked_by work.now) now (charts_of self.old.shown.services) self.old.shown.next_sid).services) }
         ensures next_sid { OnOk result (self.new.shown.next_sid ≡ (worked (asked_by work.now) now (charts_of self.old.shown.services) self.old.shown.next_sid).next_sid) }
         ensures events { IfOk result (λ answer. answer.events.items ≡ (worked (asked_by work.now) now (charts_of self.old.shown.services) self.old.shown.next_sid).events) }
@@ -291,7 +288,6 @@ impl<A: Allocator + Copy> Registry<A> {
     /// `s6-svscanctl`; which letters they get is this project's own rule.
     pub fn control(&mut self, order: ScanOrder, now: At) -> Result<Answer<A>, NoMemory>
         requires generations { All (λ c. c.generation + 1 < 2 ^ 64) (charts_of self.old.shown.services) }
-        requires next { self.old.shown.next_sid + 65 < 2 ^ 64 }
         ensures services { OnOk result (charts_of self.new.shown.services ≡ services_after (commanded order now) (charts_of self.old.shown.services)) }
         ensures next_sid { OnOk result (self.new.shown.next_sid ≡ self.old.shown.next_sid) }
         ensures events { IfOk result (λ answer. answer.events.items ≡ events_after (commanded order now) (charts_of self.old.shown.services)) }
