@@ -2,6 +2,8 @@ ghost use Rattle.std.specs.Prelude.{◌≡◌, ◌==◌, ◌+◌, ◌<◌, ◌�
 ghost use Rattle.std.specs.List.{list_any};
 ghost use Rattle.s6_events.specs.Clock.{clock_of};
 ghost use Rattle.s6_events.specs.declared.moment.Moment.{Moment};
+ghost use Rattle.supervise_core.specs.Chart.{fire};
+ghost use Rattle.supervise_core.specs.Service.{AgreesWith};
 ghost use Rattle.svscan_core.specs.Asked.{asked_by, IsOrderly};
 ghost use Rattle.svscan_core.specs.Moves.{event, moment_of, services_after, events_after, orders_after};
 ghost use Rattle.svscan_core.specs.Listing.{names_in};
@@ -24,7 +26,7 @@ use super::work::Work;
 use s6_events::{At, Name, NoMemory, Order, Sid};
 use std::alloc::Allocator;
 use std::marker::Model;
-use supervise_core::{Change, Out, Service};
+use supervise_core::{Change, Out, Service, Standing};
 
 /// The services of a scan directory, at most 64, in rising serial. A step is worked out first (`prepare`), which changes nothing
 /// that is shown, and then made (`commit`), which takes no memory; or one thing alone is done at once (`scan`, `control`,
@@ -121,6 +123,24 @@ impl<A: Allocator + Copy> Registry<A> {
         ensures { option_map (λ s. s.now) result ≡ find (λ s. s.chart.sid == sid) self.now.shown.services }
     {
         table::get(&self.slots, sid)
+    }
+
+    /// The service at this place, in rising serial from 0. Takes no memory.
+    pub fn at(&self, place: usize) -> Option<&Service>
+        ensures { option_map (λ s. s.now) result ≡ slice_get self.now.shown.services place }
+    {
+        self.slots.nth(place)
+    }
+
+    /// What the service of this name is once all due timers went off, where that is not done yet; None where none has the name. Every
+    /// history that agrees with all services agrees with it once the marks of all these timers have joined. Takes no memory.
+    pub fn after_timers(&self, name: Name, now: At) -> Option<Standing>
+        requires { All (λ c. c.generation + 1 < 2 ^ 64) (charts_of self.now.shown.services) }
+        ensures chart { option_map (λ s. s.chart) result ≡ find (λ c. bytes_eq name c.name) (services_after (fire now) (charts_of self.now.shown.services)) }
+        ensures agrees { (history : List Moment) → clock_of history ≡ now → AllAgree self.now.shown.services history
+            → IfSome result (λ s. AgreesWith s (history ++ map moment_of (events_after (fire now) (charts_of self.now.shown.services)))) }
+    {
+        table::after_timers(&self.slots, &name, now)
     }
 
     /// The service of this serial takes a change, at once, and no other one does; None where none has the serial, and then nothing

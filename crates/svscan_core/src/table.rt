@@ -3,6 +3,8 @@ ghost use Rattle.std.specs.List.{list_any};
 ghost use Rattle.deadlines.specs.Timers.{is_rising};
 ghost use Rattle.s6_events.specs.Clock.{clock_of};
 ghost use Rattle.s6_events.specs.declared.moment.Moment.{Moment};
+ghost use Rattle.supervise_core.specs.Chart.{fire};
+ghost use Rattle.supervise_core.specs.Service.{AgreesWith, KeepsAgreeing};
 ghost use Rattle.svscan_core.specs.Moves.{event, moment_of, services_after, events_after, orders_after};
 ghost use Rattle.svscan_core.specs.Sound.{AllAgree};
 ghost use Rattle.svscan_core.specs.Table.{charts_of, serials_of};
@@ -12,7 +14,7 @@ use super::place::place_of;
 use super::slots::Slots;
 use s6_events::{At, Name, Sid};
 use std::alloc::Allocator;
-use supervise_core::{Change, Out, Service};
+use supervise_core::{Change, Out, Service, Standing};
 
 /// The serial of the service of this name, and None where none has it. This project's own.
 pub fn find_sid<A: Allocator + Copy>(slots: &Slots<A>, name: &Name) -> Option<Sid>
@@ -61,4 +63,44 @@ pub fn change<A: Allocator + Copy>(
     let out = standing.change(change, now);
     slots.adopt(place, standing);
     Some(out)
+}
+
+// Its timer goes off.
+fn fire_timer(standing: Standing, now: At) -> Standing
+    requires { standing.chart.generation + 1 < 2 ^ 64 }
+    ensures chart { result.chart ≡ (fire now standing.chart).chart }
+    ensures agrees { KeepsAgreeing now (fire now standing.chart).marks standing result }
+{
+    let mut fired = standing;
+    let _out = fired.change(&Change::Fire, now);
+    fired
+}
+
+// What a service is once its timer went off, where its moment has come.
+fn after_timer(standing: Standing, now: At) -> Standing
+    requires { standing.chart.generation + 1 < 2 ^ 64 }
+    ensures chart { result.chart ≡ (fire now standing.chart).chart }
+    ensures agrees { KeepsAgreeing now (fire now standing.chart).marks standing result }
+{
+    if standing.timer().is_some_and(|due| due <= now.millis()) {
+        fire_timer(standing, now)
+    } else {
+        standing
+    }
+}
+
+/// What the service of this name is once all due timers went off; None where none has the name. No memory is taken. This project's own.
+pub fn after_timers<A: Allocator + Copy>(
+    slots: &Slots<A>,
+    name: &Name,
+    now: At,
+) -> Option<Standing>
+    requires order { is_rising (serials_of (charts_of slots.now.services)) ≡ true }
+    requires generations { All (λ c. c.generation + 1 < 2 ^ 64) (charts_of slots.now.services) }
+    ensures chart { option_map (λ s. s.chart) result ≡ find (λ c. bytes_eq name.now c.name) (services_after (fire now) (charts_of slots.now.services)) }
+    ensures agrees { (history : List Moment) → clock_of history ≡ now → AllAgree slots.now.services history
+        → IfSome result (λ s. AgreesWith s (history ++ map moment_of (events_after (fire now) (charts_of slots.now.services)))) }
+{
+    let standing = slots.find(name)?.standing();
+    Some(after_timer(standing, now))
 }
