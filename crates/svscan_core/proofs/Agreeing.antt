@@ -1,8 +1,7 @@
 -- Histories go on agreeing with the services, as the events of a step join.
-use Rattle.std.proofs.Common.{◌≡◌, ℕ, zero, suc, ◌+◌, ◌<◌, List, [], ◌∷◌, ◌++◌, Bool, true, false, ◌==◌, refl, sym, ◌∙◌, ap, map, subst, arith, append-nil, append_assoc, length, get_or, rules}
+use Rattle.std.proofs.Common.{◌≡◌, ℕ, zero, suc, List, [], ◌∷◌, ◌++◌, true, false, ◌==◌, refl, sym, ◌∙◌, ap, map, subst, arith, append-nil, append_assoc, rules}
 use Rattle.std.specs.Prelude.{All, Some, slice_get, slice_set, nat_lt}
 use Rattle.std.specs.List.{list_all}
-use Rattle.std.proofs.lemmas.List.{map-append}
 use Rattle.std.proofs.lemmas.List.Sums.{fold-append}
 use Rattle.deadlines.specs.Timers.{is_rising}
 use Rattle.s6_events.specs.Clock.{clock_of, clock_after}
@@ -10,7 +9,7 @@ use Rattle.s6_events.specs.declared.mark.Mark.{Mark}
 use Rattle.s6_events.specs.declared.moment.Moment.{Moment}
 use Rattle.s6_events.specs.declared.moment.Moment.TheVariants.{Event as EventOf}
 use Rattle.supervise_core.specs.declared.status.Status.{Status}
-use Rattle.supervise_core.specs.Service.{Supervised, AgreesWith, KeepsAgreeing}
+use Rattle.supervise_core.specs.Service.{Supervised, AgreesWith}
 use Rattle.supervise_core.specs.Status.{Agrees}
 use Rattle.supervise_core.proofs.Agreement.{agrees_other}
 use Rattle.svscan_core.specs.declared.event.Event.{Event}

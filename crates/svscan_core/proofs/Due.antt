@@ -1,6 +1,5 @@
 -- Where no timer is due, no service takes its rule.
-use Rattle.std.proofs.Common.{◌≡◌, ◌∙◌, ℕ, zero, suc, ◌<◌, List, [], ◌∷◌, ◌++◌, Bool, true, false, ◌==◌, cond, refl, sym, ap, subst, arith, length, append-nil, rules}
-use Rattle.std.specs.Prelude.{All}
+use Rattle.std.proofs.Common.{◌≡◌, ◌∙◌, ℕ, zero, suc, List, [], ◌∷◌, ◌++◌, true, false, ◌==◌, cond, refl, sym, ap, subst, arith, length, append-nil, rules}
 use Rattle.supervise_core.specs.declared.chart.ChartState.{ChartState}
 use Rattle.supervise_core.specs.ChartState.{still}
 use Rattle.supervise_core.specs.Chart.{fire, is_due, timer_rule}

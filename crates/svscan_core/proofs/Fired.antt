@@ -1,11 +1,10 @@
 -- One service after its timer, and a history that all timers of the moment have joined.
-use Rattle.std.proofs.Common.{rules, ◌≡◌, ◌∙◌, ℕ, suc, ◌+◌, ◌<◌, List, [], ◌∷◌, ◌++◌, Bool, true, false, ◌==◌, cond, refl, sym, ap, map, subst, arith, append-nil, append_assoc}
-use Rattle.std.specs.Prelude.{All, Option, Some, None, find, bytes_eq, option_map}
+use Rattle.std.proofs.Common.{rules, ◌≡◌, ◌∙◌, ℕ, suc, List, [], ◌∷◌, ◌++◌, Bool, true, false, ◌==◌, cond, refl, sym, ap, map, subst, arith, append-nil, append_assoc}
+use Rattle.std.specs.Prelude.{All, Some, find, bytes_eq, option_map}
 use Rattle.std.proofs.lemmas.List.{map-append}
 use Rattle.std.proofs.lemmas.Option.{none-some, same_Some}
 use Rattle.deadlines.specs.Timers.{is_rising}
 use Rattle.s6_events.specs.Clock.{clock_of}
-use Rattle.s6_events.specs.declared.mark.Mark.{Mark}
 use Rattle.s6_events.specs.declared.moment.Moment.{Moment}
 use Rattle.s6_events.specs.declared.moment.Moment.TheVariants.{Event as EventOf}
 use Rattle.supervise_core.specs.declared.chart.ChartState.{ChartState}
@@ -13,12 +12,10 @@ use Rattle.supervise_core.specs.declared.status.Status.{Status}
 use Rattle.supervise_core.specs.ChartState.{Moved}
 use Rattle.supervise_core.specs.Service.{Supervised, AgreesWith, KeepsAgreeing}
 use Rattle.supervise_core.specs.Status.{Agrees}
-use Rattle.svscan_core.specs.declared.event.Event.{Event}
-use Rattle.svscan_core.specs.Moves.{event, moment_of, events_of, services_after, events_after}
+use Rattle.svscan_core.specs.Moves.{moment_of, events_of, services_after, events_after}
 use Rattle.svscan_core.specs.Sound.{AllAgree}
 use Rattle.svscan_core.specs.Table.{charts_of, serials_of}
 use Rattle.svscan_core.proofs.Agreeing.{all_later, clock_with_events, others_agree, all_others_agree, Lack, lacks_lower, moments_of_marks}
-use Rattle.svscan_core.proofs.Taking.{joined}
 use Rattle.svscan_core.proofs.Truth.{both_left, both_right}
 
 -- the events of one more service, before those of others

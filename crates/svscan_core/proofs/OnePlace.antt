@@ -1,5 +1,5 @@
 -- Where one service takes a move and every other one stays, the step needs to look at that one alone.
-use Rattle.std.proofs.Common.{◌≡◌, ℕ, zero, suc, ◌<◌, List, [], ◌∷◌, ◌++◌, Bool, true, false, ◌||◌, ◌==◌, cond, refl, sym, subst, ◌∙◌, ap, rules, arith, map, flat_map, append-nil}
+use Rattle.std.proofs.Common.{◌≡◌, ℕ, zero, suc, List, [], ◌∷◌, ◌++◌, Bool, true, false, ◌||◌, ◌==◌, cond, refl, sym, subst, ◌∙◌, ap, rules, append-nil}
 use Rattle.std.specs.Prelude.{Option, Some, None, nat_lt, slice_get, slice_set, unwrap_or}
 use Rattle.std.specs.List.{list_any, list_all}
 use Rattle.deadlines.specs.Timers.{is_rising}

@@ -1,9 +1,6 @@
 -- What stands at a place of a list.
-use Rattle.std.proofs.Common.{◌≡◌, ◌≢◌, ℕ, zero, suc, ◌<◌, ◌+◌, List, [], ◌∷◌, refl, sym, ◌∙◌, ap, rules, arith, map, flat_map, take, drop, length, get_or, ◌++◌, append-nil, append_assoc}
-use Rattle.std.specs.Prelude.{Option, Some, None, slice_get, slice_set, fold, unwrap_or}
-use Rattle.std.proofs.lemmas.List.Sums.{fold_more}
-use Rattle.supervise_core.specs.declared.chart.ChartState.{ChartState}
-use Rattle.supervise_core.specs.Service.{Supervised}
+use Rattle.std.proofs.Common.{◌≡◌, ◌≢◌, ℕ, zero, suc, ◌<◌, List, [], ◌∷◌, refl, sym, ◌∙◌, ap, rules, arith, map, flat_map, take, drop, length, ◌++◌, append-nil, append_assoc}
+use Rattle.std.specs.Prelude.{Option, Some, None, slice_get, slice_set, unwrap_or}
 
 pub get_map : {X Y : Type 0} (f : X → Y) (xs : List X) (p : ℕ) (x : X) → slice_get xs p ≡ Some x → slice_get (map f xs) p ≡ Some (f x)
 get_map f [] p x e = search rules

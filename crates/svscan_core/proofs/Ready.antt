@@ -1,5 +1,5 @@
 -- A step that was worked out, and the places for it.
-use Rattle.std.proofs.Common.{rules, ◌≡◌, ◌∙◌, ◌≤◌, ◌+◌, ◌<◌, ℕ, List, [], ◌++◌, length, refl, sym, ap, subst, arith, append-nil}
+use Rattle.std.proofs.Common.{rules, ◌≡◌, ◌∙◌, ◌≤◌, ℕ, List, length, sym, ap, subst, arith}
 use Rattle.std.specs.Prelude.{Result, Ok, Err, OnOk, IsOk}
 use Rattle.supervise_core.specs.Service.{Supervised}
 use Rattle.svscan_core.specs.declared.pending.Pending.{Pending}

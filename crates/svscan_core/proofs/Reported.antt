@@ -1,17 +1,16 @@
 -- The service of a serial takes a change, and every other one stays.
-use Rattle.std.proofs.Common.{◌≡◌, ℕ, zero, suc, List, [], ◌∷◌, ◌++◌, append-nil, Bool, true, false, ◌||◌, ◌==◌, cond, refl, sym, ◌∙◌, ap, rules, map}
-use Rattle.std.specs.Prelude.{Some, slice_get, slice_set}
+use Rattle.std.proofs.Common.{◌≡◌, ℕ, zero, suc, List, [], ◌∷◌, ◌++◌, append-nil, Bool, true, false, ◌||◌, ◌==◌, refl, sym, ◌∙◌, ap, rules}
+use Rattle.std.specs.Prelude.{Some, slice_get}
 use Rattle.std.specs.List.{list_any}
 use Rattle.deadlines.specs.Timers.{is_rising}
 use Rattle.supervise_core.specs.declared.chart.ChartState.{ChartState}
 use Rattle.supervise_core.specs.declared.change.Change.{Change}
 use Rattle.supervise_core.specs.Service.{Supervised}
-use Rattle.supervise_core.specs.ChartState.{Moved}
 use Rattle.svscan_core.specs.Moving.{Moving, Takes, TakesAt}
 use Rattle.supervise_core.specs.Chart.{changed_by}
 use Rattle.svscan_core.specs.Work.{changed_at}
 use Rattle.svscan_core.specs.Table.{charts_of, serials_of}
-use Rattle.svscan_core.proofs.OnePlace.{IsOne, IsNone, one_reported, none_reported}
+use Rattle.svscan_core.proofs.OnePlace.{IsOne, one_reported, none_reported}
 use Rattle.svscan_core.proofs.Serials.{itself}
 
 -- the service at the place of a serial

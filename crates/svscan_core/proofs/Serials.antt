@@ -1,5 +1,5 @@
 -- Serials that are the same, and others.
-use Rattle.std.proofs.Common.{◌≡◌, ℕ, Bool, true, false, ◌==◌, rules}
+use Rattle.std.proofs.Common.{◌≡◌, ℕ, true, false, ◌==◌, rules}
 use Rattle.std.specs.Prelude.{nat_lt}
 
 pub itself : (n : ℕ) → (n == n) ≡ true

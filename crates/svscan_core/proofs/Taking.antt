@@ -5,7 +5,6 @@ use Rattle.std.proofs.lemmas.List.{map-append, map-set}
 use Rattle.std.proofs.lemmas.List.Sums.{fold-append, fold_more}
 use Rattle.std.proofs.Math.Numerals.{add-one}
 use Rattle.deadlines.specs.Timers.{is_rising}
-use Rattle.s6_events.specs.Clock.{clock_of}
 use Rattle.s6_events.specs.declared.mark.Mark.{Mark}
 use Rattle.s6_events.specs.declared.order.Order.{Order}
 use Rattle.s6_events.specs.declared.moment.Moment.{Moment}
@@ -17,8 +16,8 @@ use Rattle.supervise_core.specs.MatchesMove.{MatchesMove}
 use Rattle.supervise_core.specs.Service.{Supervised, AgreesWith, KeepsAgreeing}
 use Rattle.svscan_core.specs.declared.event.Event.{Event}
 use Rattle.svscan_core.specs.declared.moves.Touched.{Touched}
-use Rattle.svscan_core.specs.Moves.{event, moment_of, events_of, services_after, events_after, orders_after}
-use Rattle.svscan_core.specs.Moving.{Moving, with_one, with_touched, KeepNames, TakesAt, TakesUpTo, Takes, GoOnAgreeing}
+use Rattle.svscan_core.specs.Moves.{event, moment_of, events_of, events_after, orders_after}
+use Rattle.svscan_core.specs.Moving.{Moving, with_one, with_touched, KeepNames, TakesAt, TakesUpTo, Takes}
 use Rattle.svscan_core.specs.Sound.{AllAgree}
 use Rattle.svscan_core.specs.Table.{charts_of, serials_of}
 use Rattle.svscan_core.proofs.Agreeing.{moments_of_marks, clock_with_events, place_agrees}

@@ -1,6 +1,5 @@
 -- What a step leaves and gives, as one record.
-use Rattle.std.proofs.Common.{◌≡◌, ◌∙◌, ℕ, List, [], ◌∷◌, ◌++◌, Bool, false, refl, sym, ap, map, subst, append-nil}
-use Rattle.s6_events.specs.Clock.{clock_of}
+use Rattle.std.proofs.Common.{◌≡◌, ◌∙◌, ℕ, List, [], ◌++◌, Bool, false, sym, ap, subst, append-nil}
 use Rattle.s6_events.specs.declared.moment.Moment.{Moment}
 use Rattle.s6_events.specs.declared.order.Order.{Order}
 use Rattle.supervise_core.specs.declared.chart.ChartState.{ChartState}
@@ -8,13 +7,12 @@ use Rattle.supervise_core.specs.ChartState.{Moved}
 use Rattle.supervise_core.specs.Service.{Supervised}
 use Rattle.svscan_core.specs.declared.entry.Listed.{Listed}
 use Rattle.svscan_core.specs.declared.event.Event.{Event}
-use Rattle.svscan_core.specs.Moves.{moment_of, services_after, events_after, orders_after}
 use Rattle.svscan_core.specs.Moving.{Moving, Takes}
 use Rattle.svscan_core.specs.Registry.{Prepared, worked_of}
 use Rattle.svscan_core.specs.Scanning.{without_names}
 use Rattle.svscan_core.specs.Sound.{AllAgree}
 use Rattle.svscan_core.specs.Table.{charts_of}
-use Rattle.svscan_core.specs.Work.{Worked, given_before, left_alone, moved_all}
+use Rattle.svscan_core.specs.Work.{given_before, left_alone, moved_all}
 
 -- a step that drops and adds nothing has these services
 pub nothing_dropped : (ss : List Supervised) (dropped : List (List ℕ)) (added : List Supervised) → dropped ≡ [] → added ≡ [] → without_names ss dropped ++ added ≡ ss

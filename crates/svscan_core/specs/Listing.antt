@@ -1,7 +1,6 @@
 -- What a listing of the scan directory says.
-use Rattle.std.specs.Prelude.{◌≡◌, ℕ, List, [], ◌∷◌, Bool, fold, map, find, Option, option_and_then, bytes_eq}
+use Rattle.std.specs.Prelude.{ℕ, List, [], Bool, fold, map, find, Option, option_and_then, bytes_eq}
 use Rattle.std.specs.List.{list_any}
-use Rattle.std.specs.List.Sorted.{IsStrictlySortedBy}
 use Rattle.std.specs.Ordering.{nat_cmp}
 use Rattle.std.specs.Cmp.Lexicographic.{slice_cmp}
 use Rattle.std.specs.BTreeSet.{insert_key}

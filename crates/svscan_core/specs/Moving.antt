@@ -1,5 +1,5 @@
 -- A step under way: the services as it has them so far, and what it has given.
-use Rattle.std.specs.Prelude.{◌≡◌, ℕ, ◌+◌, ◌<◌, ◌^◌, List, [], ◌∷◌, ◌++◌, map, fold, take, drop, slice_get, slice_set, IsSomeAnd, All}
+use Rattle.std.specs.Prelude.{◌≡◌, ℕ, List, [], ◌∷◌, ◌++◌, map, fold, take, drop, slice_get, slice_set, IsSomeAnd}
 use Rattle.s6_events.specs.Clock.{clock_of}
 use Rattle.s6_events.specs.declared.moment.Moment.{Moment}
 use Rattle.s6_events.specs.declared.order.Order.{Order}

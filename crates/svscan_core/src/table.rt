@@ -90,11 +90,7 @@ fn after_timer(standing: Standing, now: At) -> Standing
 }
 
 /// What the service of this name is once all due timers went off; None where none has the name. No memory is taken. This project's own.
-pub fn after_timers<A: Allocator + Copy>(
-    slots: &Slots<A>,
-    name: &Name,
-    now: At,
-) -> Option<Standing>
+pub fn after_timers<A: Allocator + Copy>(slots: &Slots<A>, name: &Name, now: At) -> Option<Standing>
     requires order { is_rising (serials_of (charts_of slots.now.services)) ≡ true }
     requires generations { All (λ c. c.generation + 1 < 2 ^ 64) (charts_of slots.now.services) }
     ensures chart { option_map (λ s. s.chart) result ≡ find (λ c. bytes_eq name.now c.name) (services_after (fire now) (charts_of slots.now.services)) }

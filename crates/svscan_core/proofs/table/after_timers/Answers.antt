@@ -1,5 +1,5 @@
-use Rattle.std.proofs.Common.{◌≡◌, ◌∙◌, ◌+◌, ◌<◌, sym, ap, subst}
-use Rattle.std.specs.Prelude.{Some, None, find, bytes_eq, option_map}
+use Rattle.std.proofs.Common.{◌≡◌, ◌∙◌, ◌+◌, ◌<◌, sym, ap}
+use Rattle.std.specs.Prelude.{Some, find, bytes_eq, option_map}
 use Rattle.supervise_core.specs.declared.chart.ChartState.{ChartState}
 use Rattle.supervise_core.specs.Chart.{fire}
 use Rattle.supervise_core.specs.Service.{Supervised}

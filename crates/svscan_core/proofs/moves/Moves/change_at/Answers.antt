@@ -1,14 +1,12 @@
-use Rattle.std.proofs.Common.{◌≡◌, ◌∙◌, refl, sym, ap, subst, ◌++◌, ◌∷◌, []}
+use Rattle.std.proofs.Common.{◌≡◌, ◌∙◌, sym, ap, subst}
 use Rattle.std.specs.Prelude.{List, Option, Some, IsSomeAnd, slice_get}
 use Rattle.supervise_core.specs.declared.chart.ChartState.{ChartState}
-use Rattle.supervise_core.specs.ChartState.{Moved, still}
 use Rattle.supervise_core.specs.Service.{Supervised}
 use Rattle.svscan_core.specs.declared.moves.Touched.{Touched}
 use Rattle.svscan_core.specs.Moving.{with_touched, moving_of, KeepNames, TakesAt}
-use Rattle.svscan_core.specs.Table.{charts_of, serials_of}
 use Rattle.supervise_core.specs.Chart.{changed_by}
 use Rattle.svscan_core.proofs.Places.{get_map}
-use Rattle.svscan_core.proofs.Taking.{stays_takes, touched_takes, touched_more, names_kept, serials_touched, chart_there}
+use Rattle.svscan_core.proofs.Taking.{touched_takes, touched_more, names_kept, chart_there}
 use Rattle.svscan_core.proofs.moves.Moves.change_at.Goals as goal
 
 pub take-requires : goal.take-requires

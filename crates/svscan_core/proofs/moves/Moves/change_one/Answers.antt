@@ -1,10 +1,8 @@
-use Rattle.std.proofs.Common.{◌≡◌, ◌∙◌, sym, ap, true, false, ◌==◌}
-use Rattle.std.specs.Prelude.{Some, slice_get}
-use Rattle.std.specs.List.{list_any}
+use Rattle.std.proofs.Common.{◌∙◌, sym, ap}
+use Rattle.std.specs.Prelude.{slice_get}
 use Rattle.deadlines.specs.Timers.{is_rising}
 use Rattle.svscan_core.specs.Moving.{with_touched, moving_of}
-use Rattle.svscan_core.specs.Table.{charts_of, serials_of}
-use Rattle.svscan_core.specs.Work.{changed_at}
+use Rattle.svscan_core.specs.Table.{charts_of}
 use Rattle.svscan_core.proofs.OnePlace.{none_reported}
 use Rattle.svscan_core.proofs.Reported.{state_found, one_at, none_so_far, one_takes, none_takes}
 use Rattle.svscan_core.proofs.moves.Moves.change_one.Goals as goal

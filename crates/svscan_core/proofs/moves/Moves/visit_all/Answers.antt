@@ -1,14 +1,12 @@
-use Rattle.std.proofs.Common.{◌≡◌, ◌∙◌, ◌<◌, ◌+◌, refl, sym, ap, subst, arith, true, length, ℕ, List}
+use Rattle.std.proofs.Common.{◌≡◌, ◌∙◌, ◌<◌, sym, ap, subst, arith, length, ℕ}
 use Rattle.std.proofs.lemmas.List.{length-map}
-use Rattle.std.specs.Prelude.{Some, slice_get}
 use Rattle.deadlines.specs.Timers.{is_rising}
-use Rattle.supervise_core.specs.declared.chart.ChartState.{ChartState}
 use Rattle.supervise_core.specs.Service.{Supervised}
 use Rattle.svscan_core.specs.Moving.{with_touched, moving_of, TakesUpTo}
-use Rattle.svscan_core.specs.Table.{charts_of, serials_of}
+use Rattle.svscan_core.specs.Table.{charts_of}
 use Rattle.svscan_core.specs.Visit.{visited}
-use Rattle.svscan_core.proofs.Places.{stands_at, half_get}
-use Rattle.svscan_core.proofs.Taking.{takes_none, takes_more, takes_all, length_touched}
+use Rattle.svscan_core.proofs.Places.{stands_at}
+use Rattle.svscan_core.proofs.Taking.{takes_more, takes_all, length_touched}
 use Rattle.svscan_core.proofs.moves.Moves.visit_all.Goals as goal
 
 pub visit_at-requires-clause-order : goal.visit_at-requires-clause-order

@@ -1,4 +1,4 @@
-use Rattle.std.proofs.Common.{◌≡◌, ◌∙◌, sym, ap}
+use Rattle.std.proofs.Common.{◌∙◌, sym, ap}
 use Rattle.deadlines.specs.Timers.{is_rising}
 use Rattle.svscan_core.specs.Moving.{with_touched, moving_of}
 use Rattle.svscan_core.specs.Asked.{asked_by}

@@ -1,22 +1,20 @@
-use Rattle.std.proofs.Common.{◌≡◌, ◌∙◌, ◌++◌, ◌+◌, ◌<◌, ◌∷◌, refl, sym, ap, subst, List, ℕ, [], append-nil, map}
+use Rattle.std.proofs.Common.{◌≡◌, ◌∙◌, ◌++◌, ◌+◌, ◌<◌, ◌∷◌, sym, ap, subst, List, [], append-nil, map}
 use Rattle.std.specs.Prelude.{All}
 use Rattle.deadlines.specs.Timers.{is_rising}
 use Rattle.s6_events.specs.declared.moment.Moment.{Moment}
 use Rattle.supervise_core.specs.declared.chart.ChartState.{ChartState}
 use Rattle.supervise_core.specs.Chart.{fire}
-use Rattle.supervise_core.specs.Service.{Supervised}
 use Rattle.svscan_core.specs.declared.event.Event.{Event}
 use Rattle.svscan_core.specs.declared.moves.Touched.{Touched}
 use Rattle.svscan_core.specs.Moves.{services_after, moment_of}
-use Rattle.svscan_core.specs.Moving.{with_touched, moving_of}
+use Rattle.svscan_core.specs.Moving.{with_touched}
 use Rattle.svscan_core.specs.Names.{repeats}
-use Rattle.svscan_core.specs.Sound.{IsNumbered, AllAgree}
+use Rattle.svscan_core.specs.Sound.{AllAgree}
 use Rattle.svscan_core.specs.Table.{charts_of, names_of, serials_of}
 use Rattle.svscan_core.proofs.Generations.{all_fire}
 use Rattle.svscan_core.proofs.Names.{fired_names}
 use Rattle.svscan_core.proofs.SerialsRise.{fired_serials, fired_numbers, rising_before}
 use Rattle.svscan_core.proofs.pending.Pending.work_out.Goals as goal
-
 
 pub fire_due-requires-clause-order : goal.fire_due-requires-clause-order
 fire_due-requires-clause-order g c =

@@ -1,11 +1,7 @@
-use Rattle.std.proofs.Common.{◌≡◌, sym, ap, subst, List}
+use Rattle.std.proofs.Common.{sym, subst, List}
 use Rattle.supervise_core.specs.declared.chart.ChartState.{ChartState}
-use Rattle.supervise_core.specs.declared.change.Change.{Change}
-use Rattle.svscan_core.specs.Moves.{services_after}
 use Rattle.svscan_core.specs.Sound.{IsSound}
 use Rattle.svscan_core.specs.Table.{charts_of, serials_of}
-use Rattle.svscan_core.specs.Work.{changed_at}
-use Rattle.svscan_core.specs.Work.Work.{change_one}
 use Rattle.svscan_core.proofs.Ready.{sound_change, blank_sound, blank_places, blank_room}
 use Rattle.svscan_core.proofs.SerialsRise.{rising_before}
 use Rattle.svscan_core.proofs.registry.Registry.change.Goals as goal

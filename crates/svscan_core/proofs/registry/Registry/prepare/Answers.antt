@@ -1,4 +1,4 @@
-use Rattle.std.proofs.Common.{◌≡◌, ◌∙◌, ◌≤◌, ◌++◌, sym, ap, subst, List, map, length}
+use Rattle.std.proofs.Common.{◌≤◌, ◌++◌, sym, subst, List, map, length}
 use Rattle.supervise_core.specs.Service.{Supervised}
 use Rattle.svscan_core.specs.declared.pending.Pending.{Pending}
 use Rattle.svscan_core.specs.Moves.{moment_of}
