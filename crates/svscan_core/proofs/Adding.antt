@@ -1,11 +1,10 @@
 -- New services behind those that stay.
-use Rattle.std.proofs.Common.{◌≡◌, ℕ, ◌+◌, ◌≤◌, List, [], ◌∷◌, ◌++◌, Bool, true, false, ◌||◌, cond, refl, sym, ◌∙◌, ap, subst, map, append_assoc, length, arith, rules}
-use Rattle.std.specs.Prelude.{All, nat_lt, bytes_eq, Option, Some, None}
-use Rattle.std.specs.List.{list_all, list_any}
-use Rattle.std.proofs.lemmas.List.{map-append, length-append}
+use Rattle.std.proofs.Common.{◌≡◌, ℕ, ◌+◌, List, [], ◌∷◌, ◌++◌, sym, ◌∙◌, ap, subst, map, append_assoc}
+use Rattle.std.specs.Prelude.{nat_lt}
+use Rattle.std.specs.List.{list_all}
+use Rattle.std.proofs.lemmas.List.{map-append}
 use Rattle.std.proofs.lemmas.List.Elements.{All-push}
 use Rattle.deadlines.specs.Timers.{is_rising}
-use Rattle.s6_events.specs.declared.mark.Mark.{Mark}
 use Rattle.s6_events.specs.declared.moment.Moment.{Moment}
 use Rattle.s6_events.specs.declared.moment.Moment.TheVariants.{Event as EventOf}
 use Rattle.servicedir.specs.declared.config.Config.{Config}
@@ -16,11 +15,8 @@ use Rattle.supervise_core.specs.MatchesMove.{MatchesMove}
 use Rattle.supervise_core.specs.Moves.{begin_supervisor}
 use Rattle.supervise_core.specs.Service.{Supervised, AgreesWith}
 use Rattle.supervise_core.proofs.Identity.{keeps_begin}
-use Rattle.svscan_core.specs.declared.entry.Listed.TheVariants.{Added}
-use Rattle.svscan_core.specs.declared.event.Event.{Event}
 use Rattle.svscan_core.specs.Moves.{event, moment_of}
-use Rattle.svscan_core.specs.Scan.{ScanState, with_service}
-use Rattle.svscan_core.specs.Adding.{Adding, state_behind, GoesOn}
+use Rattle.svscan_core.specs.Adding.{Adding, GoesOn}
 use Rattle.svscan_core.specs.Sound.{AllAgree, IsNumbered}
 use Rattle.svscan_core.specs.Table.{charts_of, serials_of}
 use Rattle.svscan_core.proofs.Agreeing.{Lack, all_others_agree}

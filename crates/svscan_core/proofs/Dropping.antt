@@ -1,6 +1,6 @@
 -- The services that leave, and those that stay.
-use Rattle.std.proofs.Common.{◌≡◌, ℕ, zero, suc, ◌+◌, ◌<◌, ◌≤◌, List, [], ◌∷◌, ◌++◌, Bool, true, false, cond, not, refl, sym, ◌∙◌, ap, subst, filter, take, length, map, append-nil, append_assoc, rules, arith}
-use Rattle.std.specs.Prelude.{All, Some, None, slice_get, bytes_eq}
+use Rattle.std.proofs.Common.{◌≡◌, ℕ, zero, suc, ◌+◌, ◌≤◌, List, [], ◌∷◌, ◌++◌, Bool, true, false, cond, not, refl, sym, ◌∙◌, ap, filter, take, length, append-nil, append_assoc, rules, arith}
+use Rattle.std.specs.Prelude.{Some, slice_get, bytes_eq}
 use Rattle.std.specs.Cmp.Lexicographic.{nat_list_eq_equiv}
 use Rattle.std.proofs.lemmas.List.{map-append, length-append}
 use Rattle.std.proofs.lemmas.List.Elements.{filter-append}
@@ -15,7 +15,6 @@ use Rattle.svscan_core.specs.Sound.{AllAgree}
 use Rattle.svscan_core.specs.Table.{charts_of, names_of, serials_of, without_name}
 use Rattle.svscan_core.proofs.Agreeing.{all_of, all_later}
 use Rattle.svscan_core.proofs.Names.{unlisted_filtered}
-use Rattle.svscan_core.proofs.Places.{Stands, stands_at}
 use Rattle.svscan_core.proofs.Truth.{neither_left, neither_right}
 
 -- the first ones and one more

@@ -1,5 +1,5 @@
 -- No two services have one name, before a step and after it.
-use Rattle.std.proofs.Common.{◌≡◌, ℕ, ◌+◌, List, [], ◌∷◌, ◌++◌, Bool, true, false, ◌||◌, ◌==◌, cond, refl, ◌∙◌, ap, filter}
+use Rattle.std.proofs.Common.{◌≡◌, ℕ, List, [], ◌∷◌, ◌++◌, Bool, true, false, ◌||◌, ◌==◌, cond, refl, ◌∙◌, ap, filter}
 use Rattle.std.specs.Prelude.{bytes_eq, nat_lt, length, Option, Some, None}
 use Rattle.std.proofs.lemmas.List.{map-append}
 use Rattle.servicedir.specs.declared.config.Config.{Config}

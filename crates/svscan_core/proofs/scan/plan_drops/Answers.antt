@@ -1,12 +1,11 @@
-use Rattle.std.proofs.Common.{◌≡◌, ◌++◌, take, filter, ◌<◌, ◌∙◌, sym, subst, ap, List, ℕ, arith, length}
-use Rattle.std.specs.Prelude.{Some, None, slice_get}
+use Rattle.std.proofs.Common.{◌≡◌, ◌++◌, take, filter, ◌<◌, ◌∙◌, sym, ap, arith, length}
+use Rattle.std.specs.Prelude.{Some, slice_get}
 use Rattle.std.proofs.lemmas.Option.{none-some}
-use Rattle.supervise_core.specs.declared.chart.ChartState.{ChartState}
 use Rattle.supervise_core.specs.Service.{Supervised}
 use Rattle.svscan_core.specs.Moving.{with_touched}
 use Rattle.svscan_core.specs.Table.{charts_of, names_of, serials_of}
 use Rattle.svscan_core.specs.Scan.{stays, leaves}
-use Rattle.svscan_core.proofs.Dropping.{Planned, one_stays, one_leaves, all_taken}
+use Rattle.svscan_core.proofs.Dropping.{one_stays, one_leaves, all_taken}
 use Rattle.svscan_core.proofs.Places.{get_map, stands_at}
 use Rattle.svscan_core.proofs.Taking.{length_touched}
 use Rattle.svscan_core.proofs.scan.plan_drops.Goals.{in-Some+then-is_retained, in-Some+else-is_retained+in_ok-drop_service, in_default}

@@ -1,9 +1,6 @@
-use Rattle.std.proofs.Common.{◌≡◌, ◌∙◌, ◌≤◌, ◌+◌, ◌++◌, sym, ap, subst, refl, length, List, ℕ, arith, append-nil, filter, map, []}
+use Rattle.std.proofs.Common.{◌≡◌, ◌∙◌, ◌≤◌, ◌++◌, sym, ap, subst, length, List, ℕ, arith, filter, map}
 use Rattle.std.proofs.lemmas.List.{length-map}
-use Rattle.s6_events.specs.declared.order.Order.{Order}
-use Rattle.s6_events.specs.declared.moment.Moment.{Moment}
 use Rattle.supervise_core.specs.Service.{Supervised}
-use Rattle.svscan_core.specs.declared.event.Event.{Event}
 use Rattle.svscan_core.specs.declared.moves.Touched.{Touched}
 use Rattle.svscan_core.specs.Adding.{adding_of}
 use Rattle.svscan_core.specs.Listing.{names_in}
