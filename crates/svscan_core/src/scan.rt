@@ -1,6 +1,5 @@
 ghost use Rattle.std.specs.Prelude.{◌≡◌, ℕ, ◌+◌, ◌*◌, ◌<◌, ◌≤◌, ◌^◌, ◌++◌, ◌∷◌, [], List, map, filter, length, bytes_eq, All, IfOk, OnOk, true, false};
 ghost use Rattle.std.specs.List.{list_any};
-ghost use Rattle.deadlines.specs.Timers.{is_rising};
 ghost use Rattle.s6_events.specs.Clock.{clock_of};
 ghost use Rattle.s6_events.specs.declared.moment.Moment.{Moment};
 ghost use Rattle.supervise_core.specs.Service.{Supervised};
