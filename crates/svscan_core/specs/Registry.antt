@@ -1,11 +1,11 @@
 -- What a contract sees of a registry.
-use Rattle.std.specs.Prelude.{ℕ, List, Bool}
+use Rattle.std.specs.Prelude.{◌≡◌, ℕ, List, Bool}
 use Rattle.s6_events.specs.declared.order.Order.{Order}
 use Rattle.supervise_core.specs.Service.{Supervised}
 use Rattle.svscan_core.specs.declared.entry.Listed.{Listed}
 use Rattle.svscan_core.specs.declared.event.Event.{Event}
 use Rattle.svscan_core.specs.Table.{Table, charts_of}
-use Rattle.svscan_core.specs.Work.{Worked}
+use Rattle.svscan_core.specs.Work.{Worked, left_alone}
 
 -- what a commit would leave, and what is answered
 pub record Prepared : Type 0 where
@@ -37,3 +37,7 @@ worked_of p = record {
   dropped = p.dropped;
   listed = p.listed;
 }
+
+-- nothing is prepared: a commit would leave all as it stands
+abbrev pub IsIdle : Kept → Type 0
+IsIdle r = worked_of r.prepared ≡ left_alone (charts_of r.shown.services) r.shown.next_sid

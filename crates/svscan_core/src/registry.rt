@@ -10,7 +10,7 @@ ghost use Rattle.svscan_core.specs.Listing.{names_in};
 ghost use Rattle.svscan_core.specs.Names.{repeats};
 ghost use Rattle.svscan_core.specs.Scan.{scanned, dropped_by};
 ghost use Rattle.svscan_core.specs.Pending.{IsBlank};
-ghost use Rattle.svscan_core.specs.Registry.{table_of, worked_of};
+ghost use Rattle.svscan_core.specs.Registry.{table_of, worked_of, IsIdle};
 ghost use Rattle.svscan_core.specs.Sound.{AllAgree, IsSound};
 ghost use Rattle.svscan_core.specs.Table.{new_table, charts_of};
 ghost use Rattle.svscan_core.specs.Work.{AreDue, changed_at, commanded, stepped, worked};
@@ -87,7 +87,8 @@ fn settle<A: Allocator + Copy>(
 impl<A: Allocator + Copy> Registry<A> {
     /// No service; the first one gets the serial 1. Takes no memory yet.
     pub fn new(alloc: A) -> Registry<A>
-        ensures { result.shown ≡ new_table }
+        ensures shown { result.shown ≡ new_table }
+        ensures idle { IsIdle result }
     {
         Registry {
             slots: Slots::new(alloc),
@@ -156,6 +157,7 @@ impl<A: Allocator + Copy> Registry<A> {
         ensures stale { IfSome result (λ out. out.stale ≡ list_any (λ c. (changed_at sid change.now now c).stale) (charts_of self.old.shown.services)) }
         ensures agrees { (history : List Moment) → clock_of history ≡ now → AllAgree self.old.shown.services history
             → IfSome result (λ out. AllAgree self.new.shown.services (history ++ map moment_of (map (event sid) out.events.items))) }
+        ensures idle { IsIdle self.new }
     {
         let out = table::change(&mut self.slots, sid, change, now);
         self.pending.clear(self.next_sid);
@@ -172,6 +174,7 @@ impl<A: Allocator + Copy> Registry<A> {
         ensures prepared { OnOk result (worked_of self.new.prepared ≡ stepped (asked_by work.now) now (charts_of self.old.shown.services) self.old.shown.next_sid) }
         ensures agrees { OnOk result ((history : List Moment) → clock_of history ≡ now → AllAgree self.old.shown.services history
             → AllAgree self.new.prepared.services (history ++ map moment_of self.new.prepared.events)) }
+        ensures idle { OnErr result (IsIdle self.new) }
         ensures quiet { due.now ≡ [] → asked_by work.now ≡ leave → IsOk result }
     {
         let worked = self
@@ -181,9 +184,10 @@ impl<A: Allocator + Copy> Registry<A> {
         Ok(())
     }
 
-    /// Makes the step that was prepared. Takes no memory.
+    /// Makes the step that was prepared; what it gives has to be read before. Takes no memory.
     pub fn commit(&mut self)
-        ensures { self.new.shown ≡ table_of self.old.prepared }
+        ensures shown { self.new.shown ≡ table_of self.old.prepared }
+        ensures idle { IsIdle self.new }
     {
         let Pending { moves, scan, .. } = &mut self.pending;
         commit_changes(
