@@ -155,7 +155,9 @@ impl<A: Allocator + Copy> Registry<A> {
             → AllAgree self.new.prepared.services (history ++ map moment_of self.new.prepared.events)) }
         ensures quiet { due.now ≡ [] → asked_by work.now ≡ leave → IsOk result }
     {
-        let worked = self.pending.work_out(&self.slots, self.next_sid, due, work, now);
+        let worked = self
+            .pending
+            .work_out(&self.slots, self.next_sid, due, work, now);
         settle(&mut self.slots, &mut self.pending, self.next_sid, worked)?;
         Ok(())
     }

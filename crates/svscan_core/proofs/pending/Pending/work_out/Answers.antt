@@ -17,7 +17,6 @@ use Rattle.svscan_core.proofs.Names.{fired_names}
 use Rattle.svscan_core.proofs.SerialsRise.{fired_serials, fired_numbers, rising_before}
 use Rattle.svscan_core.proofs.pending.Pending.work_out.Goals as goal
 
-
 pub fire_due-requires-clause-order : goal.fire_due-requires-clause-order
 fire_due-requires-clause-order g c =
     ap (λ (ts : List Touched). is_rising (serials_of (charts_of (with_touched c.args.slots.now.services ts)))) c.clear.ensures.touched
