@@ -28,6 +28,9 @@ use std::alloc::Allocator;
 use std::marker::Model;
 use supervise_core::{Change, Out, Service, Standing};
 
+#[cfg(test)]
+mod tests;
+
 /// The services of a scan directory, at most 64, in rising serial. A step is worked out first (`prepare`), which changes nothing
 /// that is shown, and then made (`commit`), which takes no memory; or one thing alone is done at once (`scan`, `control`,
 /// `change`). The memory in which a step is worked out is kept from step to step. Page `s6-svscan`.

@@ -1,0 +1,213 @@
+//! What a registry gives, step by step, in tables whose values are those of the rules; and that each growth of a step may be refused.
+ghost use Rattle.std.specs.Prelude.{◌≡◌, ◌+◌, ◌<◌, ◌^◌, ◌==◌, All, IfOk, true};
+ghost use Rattle.std.specs.List.{list_any};
+ghost use Rattle.supervise_core.specs.Chart.{is_due};
+ghost use Rattle.svscan_core.specs.Asked.{asked_by, IsOrderly};
+ghost use Rattle.svscan_core.specs.Table.{charts_of};
+ghost use Rattle.svscan_core.specs.Work.{AreDue};
+
+use super::*;
+use crate::listing::sort_listing;
+use s6_events::Exit;
+use servicedir::Config;
+use std::alloc::Global;
+use std::process::Abort;
+use std::test::Fail;
+use supervise_core::ChartState;
+
+mod alone;
+mod full;
+mod refused;
+mod steps;
+
+// Whether it is one of these.
+fn is_among(due: &[Sid], sid: Sid) -> bool
+    ensures { result ≡ list_any (λ other. other == sid) due.now }
+{
+    due.iter().any(|other| *other == sid)
+}
+
+// Whether a service has few runs behind it, and is one of these exactly where its timer is due.
+fn is_fit(chart: &ChartState, due: &[Sid], now: At) -> bool
+    ensures few { result ≡ true → chart.now.generation + 2 < 2 ^ 64 }
+    ensures due { result ≡ true → list_any (λ sid. sid == chart.now.sid) due.now ≡ is_due now chart.now.timer }
+{
+    if chart.generation >= 1000 {
+        return false;
+    }
+    if is_among(due, chart.sid) {
+        chart.is_due(now)
+    } else {
+        !chart.is_due(now)
+    }
+}
+
+// Whether all services are.
+fn are_fit<A: Allocator + Copy>(slots: &Slots<A>, due: &[Sid], now: At) -> bool
+    ensures few { result ≡ true → All (λ c. c.generation + 2 < 2 ^ 64) (charts_of slots.now.services) }
+    ensures fewer { result ≡ true → All (λ c. c.generation + 1 < 2 ^ 64) (charts_of slots.now.services) }
+    ensures due { result ≡ true → AreDue due.now now (charts_of slots.now.services) }
+{
+    for place in 0..slots.len() {
+        let Some(service) = slots.nth(place) else {
+            return false;
+        };
+        if !is_fit(&service.chart(), due, now) {
+            return false;
+        }
+    }
+    true
+}
+
+// Whether the work lists no name twice.
+fn is_orderly(alloc: Global, work: &Work) -> Result<bool, NoMemory>
+    ensures { IfOk result (λ orderly. orderly ≡ true → IsOrderly (asked_by work.now)) }
+{
+    match work {
+        Work::Listing(listing) => Ok(!sort_listing(alloc, listing)?.repeats),
+        _ => Ok(true),
+    }
+}
+
+fn at(millis: u64) -> Result<At, Fail> {
+    Ok(At::new(millis).ok_or("a moment")?)
+}
+
+// Whether all services of the registry are, and few ever stood.
+fn is_ready<A: Allocator + Copy>(registry: &Registry<A>, due: &[Sid], now: At) -> bool
+    ensures few { result ≡ true → All (λ c. c.generation + 2 < 2 ^ 64) (charts_of registry.now.shown.services) }
+    ensures due { result ≡ true → AreDue due.now now (charts_of registry.now.shown.services) }
+    ensures next { result ≡ true → registry.now.shown.next_sid < 1000 }
+{
+    if registry.next_sid >= 1000 {
+        return false;
+    }
+    are_fit(&registry.slots, due, now)
+}
+
+// The step is prepared, where it lists no name twice; whether memory sufficed, and the registry is ready for it.
+fn prepare_orderly<A: Allocator + Copy>(
+    registry: &mut Registry<A>,
+    due: &[Sid],
+    work: &Work,
+    now: At,
+) -> bool
+    requires { IsOrderly (asked_by work.now) }
+{
+    if !is_ready(registry, due, now) {
+        return false;
+    }
+    registry.prepare(due, work, now).is_ok()
+}
+
+// The step is prepared, where these services are the ones whose timers are due; whether memory sufficed.
+fn prepare<A: Allocator + Copy>(
+    rt: &impl Abort,
+    alloc: Global,
+    registry: &mut Registry<A>,
+    due: &[Sid],
+    work: &Work,
+    now: At,
+) -> Result<bool, Fail> {
+    let is_orderly = is_orderly(alloc, work)?;
+    assert!(rt; is_orderly);
+    Ok(prepare_orderly(registry, due, work, now))
+}
+
+// The scan is made at once; None where memory was refused.
+fn scan<A: Allocator + Copy>(
+    rt: &impl Abort,
+    alloc: Global,
+    registry: &mut Registry<A>,
+    listing: &[Entry],
+    now: At,
+) -> Result<Option<Answer<A>>, Fail> {
+    let sorted = sort_listing(alloc, listing)?;
+    let are_fit = are_fit(&registry.slots, &[], At::zero());
+    assert!(rt; !sorted.repeats);
+    assert!(rt; are_fit);
+    assert!(rt; registry.next_sid < 1000);
+    Ok(registry.scan(listing, now).ok())
+}
+
+// All services are told this at once; None where memory was refused.
+fn control<A: Allocator + Copy>(
+    rt: &impl Abort,
+    registry: &mut Registry<A>,
+    order: ScanOrder,
+    now: At,
+) -> Option<Answer<A>> {
+    let are_fit = are_fit(&registry.slots, &[], At::zero());
+    assert!(rt; are_fit);
+    assert!(rt; registry.next_sid < 1000);
+    registry.control(order, now).ok()
+}
+
+// One service takes a change at once.
+fn change<A: Allocator + Copy>(
+    rt: &impl Abort,
+    registry: &mut Registry<A>,
+    sid: Sid,
+    change: &Change,
+    now: At,
+) -> Option<Out> {
+    let are_fit = are_fit(&registry.slots, &[], At::zero());
+    assert!(rt; are_fit);
+    registry.change(sid, change, now)
+}
+
+// What a name says of its directory: with `!` it couldn't be read, with `-` it has a `down`, with `+` a `finish`.
+fn entry(word: &str) -> Result<Entry, Fail> {
+    let plain = Config::plain();
+    let (text, config) = if let Some(text) = word.strip_suffix('!') {
+        (text, None)
+    } else if let Some(text) = word.strip_suffix('-') {
+        (
+            text,
+            Some(Config {
+                down: true,
+                ..plain
+            }),
+        )
+    } else if let Some(text) = word.strip_suffix('+') {
+        (
+            text,
+            Some(Config {
+                finish: true,
+                ..plain
+            }),
+        )
+    } else {
+        (word, Some(plain))
+    };
+    let name = Name::new(text.as_bytes()).ok_or("a name")?;
+    Ok(Entry { name, config })
+}
+
+// The listing of these words, between spaces.
+fn listing(alloc: Global, words: &str) -> Result<Vec<Entry, Global>, Fail> {
+    let mut entries = Vec::new(alloc);
+    for word in words.split(' ') {
+        if !word.is_empty() {
+            entries.push(entry(word)?)?;
+        }
+    }
+    Ok(entries)
+}
+
+// The state of each service, as `nth` and `get` show it; `find` knows each one by its name, and none stands behind the last.
+fn shown<A: Allocator + Copy>(
+    rt: &impl Abort,
+    alloc: Global,
+    registry: &Registry<A>,
+) -> Result<Vec<ChartState, Global>, Fail> {
+    let mut charts = Vec::new(alloc);
+    for place in 0..registry.len() {
+        let sid = registry.nth(place).ok_or("a serial")?;
+        let chart = registry.get(sid).ok_or("a service")?.chart();
+        assert_eq!(rt; (chart.sid, registry.find(chart.name)), (sid, Some(sid)));
+        charts.push(chart)?;
+    }
+    assert_eq!(rt; registry.nth(registry.len()), None);
+    Ok(charts)
+}

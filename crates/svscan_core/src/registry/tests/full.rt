@@ -1,0 +1,90 @@
+use super::*;
+use s6_events::Mark;
+
+// The name of this number: n01, n02 and so on.
+fn name_of(number: u8) -> Result<Name, Fail> {
+    let text = [b'n', b'0' + number / 10, b'0' + number % 10];
+    Ok(Name::new(&text).ok_or("a name")?)
+}
+
+// 70 names, from the last one to the first.
+fn seventy(alloc: Global) -> Result<Vec<Entry, Global>, Fail> {
+    let mut entries = Vec::new(alloc);
+    for back in 0..70u8 {
+        let name = name_of(70 - back)?;
+        let config = Some(Config::plain());
+        entries.push(Entry { name, config })?;
+    }
+    Ok(entries)
+}
+
+// What comes of them: the first 64 are added, in the order of their bytes, and the others find no place.
+fn sixty_four(alloc: Global) -> Result<Answer<Global>, Fail> {
+    let mut events = Vec::new(alloc);
+    let mut orders = Vec::new(alloc);
+    let mut listed = Vec::new(alloc);
+    for number in 1..71u8 {
+        let sid = Sid(u64::from(number));
+        let name = name_of(number)?;
+        if number > 64 {
+            listed.push(Listed::Full(name))?;
+        } else {
+            let mark = Mark::SupervisorStarted;
+            listed.push(Listed::Added(sid, name))?;
+            events.push(Event { sid, mark })?;
+            orders.push(Order::Run(sid, 1, name, None))?;
+        }
+    }
+    let dropped = Vec::new(alloc);
+    Ok(Answer {
+        events,
+        orders,
+        dropped,
+        listed,
+    })
+}
+
+// What was prepared is what was wanted.
+fn tells(rt: &impl Abort, registry: &Registry<Global>, wanted: &Answer<Global>) {
+    assert_eq!(rt; registry.events(), wanted.events.as_slice());
+    assert_eq!(rt; registry.orders(), wanted.orders.as_slice());
+    assert_eq!(rt; registry.listed(), wanted.listed.as_slice());
+}
+
+// What was answered is what was wanted.
+fn answers(rt: &impl Abort, answer: &Answer<Global>, wanted: &Answer<Global>) {
+    assert_eq!(rt; answer.events.as_slice(), wanted.events.as_slice());
+    assert_eq!(rt; answer.orders.as_slice(), wanted.orders.as_slice());
+    assert_eq!(rt; answer.listed.as_slice(), wanted.listed.as_slice());
+}
+
+#[test]
+fn a_step_adds_sixty_four_services(rt: HostRuntime) -> Result<(), Fail> {
+    let entries = seventy(rt.alloc())?;
+    let wanted = sixty_four(rt.alloc())?;
+    let mut registry = Registry::new(rt.alloc());
+    let work = Work::Listing(entries.as_slice());
+    prepare(&rt, rt.alloc(), &mut registry, &[], &work, At::zero())?;
+    tells(&rt, &registry, &wanted);
+    assert_eq!(rt; registry.len(), 0);
+    registry.commit();
+    assert_eq!(rt; shown(&rt, rt.alloc(), &registry)?.len(), 64);
+    Ok(())
+}
+
+#[test]
+fn a_scan_adds_sixty_four_services(rt: HostRuntime) -> Result<(), Fail> {
+    let entries = seventy(rt.alloc())?;
+    let wanted = sixty_four(rt.alloc())?;
+    let mut registry = Registry::new(rt.alloc());
+    let answer = scan(
+        &rt,
+        rt.alloc(),
+        &mut registry,
+        entries.as_slice(),
+        At::zero(),
+    )?;
+    answers(&rt, &answer.ok_or("memory")?, &wanted);
+    assert_eq!(rt; shown(&rt, rt.alloc(), &registry)?.len(), 64);
+    Ok(())
+}
