@@ -1,5 +1,5 @@
 //! What a registry gives, step by step, in tables whose values are those of the rules; and that each growth of a step may be refused.
-ghost use Rattle.std.specs.Prelude.{◌≡◌, ◌+◌, ◌<◌, ◌^◌, ◌==◌, All, IfOk, true};
+ghost use Rattle.std.specs.Prelude.{◌≡◌, ℕ, ◌+◌, ◌<◌, ◌^◌, ◌==◌, All, IfOk, true};
 ghost use Rattle.std.specs.List.{list_any};
 ghost use Rattle.supervise_core.specs.Chart.{is_due};
 ghost use Rattle.svscan_core.specs.Asked.{asked_by, IsOrderly};
@@ -61,7 +61,7 @@ fn are_fit<A: Allocator + Copy>(slots: &Slots<A>, due: &[Sid], now: At) -> bool
 
 // Whether the work lists no name twice.
 fn is_orderly(alloc: Global, work: &Work) -> Result<bool, NoMemory>
-    ensures { IfOk result (λ orderly. orderly ≡ true → IsOrderly (asked_by work.now)) }
+    ensures { IfOk result (λ orderly. orderly ≡ true → (next : ℕ) → next < 1000 → IsOrderly next (asked_by work.now)) }
 {
     match work {
         Work::Listing(listing) => Ok(!sort_listing(alloc, listing)?.repeats),
@@ -92,7 +92,7 @@ fn prepare_orderly<A: Allocator + Copy>(
     work: &Work,
     now: At,
 ) -> bool
-    requires { IsOrderly (asked_by work.now) }
+    requires { (next : ℕ) → next < 1000 → IsOrderly next (asked_by work.now) }
 {
     if !is_ready(registry, due, now) {
         return false;

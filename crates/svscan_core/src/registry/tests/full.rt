@@ -58,13 +58,23 @@ fn answers(rt: &impl Abort, answer: &Answer<Global>, wanted: &Answer<Global>) {
     assert_eq!(rt; answer.listed.as_slice(), wanted.listed.as_slice());
 }
 
+// A step that takes this listing at the first moment is prepared.
+fn prepare_listing(
+    rt: &impl Abort,
+    alloc: Global,
+    registry: &mut Registry<Global>,
+    listing: &[Entry],
+) -> Result<bool, Fail> {
+    let work = Work::Listing(listing);
+    prepare(rt, alloc, registry, &[], &work, At::zero())
+}
+
 #[test]
 fn a_step_adds_sixty_four_services(rt: HostRuntime) -> Result<(), Fail> {
     let entries = seventy(rt.alloc())?;
     let wanted = sixty_four(rt.alloc())?;
     let mut registry = Registry::new(rt.alloc());
-    let work = Work::Listing(entries.as_slice());
-    prepare(&rt, rt.alloc(), &mut registry, &[], &work, At::zero())?;
+    prepare_listing(&rt, rt.alloc(), &mut registry, entries.as_slice())?;
     tells(&rt, &registry, &wanted);
     assert_eq!(rt; registry.len(), 0);
     registry.commit();
