@@ -1,5 +1,5 @@
 -- One more moment, and the current letter after it.
-use Rattle.std.proofs.Common.{◌≡◌, ◌==◌, ℕ, List, [], ◌∷◌, ◌++◌, Bool, true, false, not, subst, Option, Some, None, cond, find, refl, sym, ap, ◌∙◌, arith}
+use Rattle.std.proofs.Common.{◌≡◌, ◌==◌, ℕ, List, [], ◌∷◌, ◌++◌, Bool, true, false, not, subst, Some, None, cond, find, refl, sym, ap, ◌∙◌}
 use Rattle.std.proofs.lemmas.Bool.{eqb-true}
 use Rattle.s6_events.specs.declared.mark.Mark.{Mark}
 use Rattle.s6_events.specs.declared.mark.Mark.TheVariants as mark

@@ -1,10 +1,9 @@
 -- A waiter that is looked for, or taken out, by its serial.
-use Rattle.std.proofs.Common.{◌≡◌, ◌==◌, ◌≤◌, not, ℕ, List, [], ◌∷◌, Bool, true, false, Option, Some, None, All, cond, length, map, filter, find, refl, sym, ap, ◌∙◌, option_map, is_some}
+use Rattle.std.proofs.Common.{◌≡◌, ◌==◌, ◌≤◌, not, ℕ, List, [], ◌∷◌, Bool, true, false, Option, Some, All, cond, length, map, filter, find, refl, sym, ap, ◌∙◌, option_map}
 use Rattle.std.proofs.lemmas.List.{length-map}
 use Rattle.std.proofs.lemmas.List.Elements.{All-filter}
 use Rattle.s6_events.specs.declared.moment.Moment.{Moment}
 use Rattle.wait_conditions.specs.declared.waiter.Waiter.{Waiter}
-use Rattle.wait_conditions.specs.declared.verdict.Standing.{Standing}
 use Rattle.wait_conditions.specs.Kept.{Kept, kept_of, is_other, standing_stored, standing_kept}
 use Rattle.wait_conditions.specs.Stands.{Stored, kept, WaitsFor, CancelsWaiter}
 use Rattle.wait_conditions.specs.Watch.{Placed, Watch, is_named, standing_of, standing_named, after_cancel}

@@ -2,7 +2,7 @@
 use Rattle.std.proofs.Common.{◌≡◌, ℕ, List, [], ◌∷◌, ◌++◌, Bool, Option, Some, None, reverse, refl, ap, ◌∙◌}
 use Rattle.std.proofs.lemmas.List.{reverse-append}
 use Rattle.std.proofs.lemmas.List.Elements.{filter_map-append}
-use Rattle.std.specs.List.{cons_option, filter_map, find}
+use Rattle.std.specs.List.{cons_option, find}
 use Rattle.s6_events.specs.declared.mark.Mark.{Mark}
 use Rattle.s6_events.specs.declared.moment.Moment.{Moment}
 use Rattle.wait_conditions.specs.Marks.{mark_of, marks_of, newest, newer}

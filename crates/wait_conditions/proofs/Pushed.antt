@@ -1,5 +1,5 @@
 -- One more moment changes what is known of a service by its mark alone.
-use Rattle.std.proofs.Common.{◌≡◌, ◌<◌, ◌+◌, ℕ, List, [], ◌∷◌, ◌++◌, Bool, Option, Some, None, is_some, length, take, get_or, refl, sym, ap, ◌∙◌}
+use Rattle.std.proofs.Common.{◌≡◌, ◌<◌, ◌+◌, ℕ, List, [], ◌∷◌, ◌++◌, Option, Some, None, is_some, length, take, get_or, refl, sym, ap, ◌∙◌}
 use Rattle.std.proofs.lemmas.List.{take_more}
 use Rattle.wait_conditions.specs.declared.service_state.ServiceState.{ServiceState}
 use Rattle.wait_conditions.specs.declared.service_state.SinceState.{SinceState}
@@ -7,12 +7,11 @@ use Rattle.s6_events.specs.declared.mark.Mark.{Mark}
 use Rattle.s6_events.specs.declared.mark.Mark.TheVariants as mark
 use Rattle.s6_events.specs.declared.moment.Moment.{Moment}
 use Rattle.wait_conditions.specs.Marks.{mark_of, newest, newer}
-use Rattle.s6_events.specs.CurrentLetter.{current_letter}
 use Rattle.wait_conditions.proofs.Newest.{newest-push}
 use Rattle.wait_conditions.proofs.Letters.{current_letter-push}
 use Rattle.wait_conditions.specs.Holds.{has_spawned, is_spawned}
 use Rattle.wait_conditions.specs.Fails.{has_failed, is_failed, tells_failure, has_ended, is_ended, tells_supervisor}
-use Rattle.wait_conditions.specs.OneMore.{letter_after, ended_after, spawned_after, failed_after}
+use Rattle.wait_conditions.specs.OneMore.{ended_after, spawned_after, failed_after}
 use Rattle.wait_conditions.specs.ServiceState.{state_of, since_of, state_after, since_after}
 
 ended_of_newer : (o old : Option Mark) → is_ended (newer tells_supervisor o old) ≡ ended_after o (is_ended old)

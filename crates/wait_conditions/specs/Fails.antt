@@ -8,7 +8,6 @@ use Rattle.s6_events.specs.declared.condition.Condition.TheVariants as condition
 use Rattle.wait_conditions.specs.declared.failure.Failure.{Failure}
 use Rattle.wait_conditions.specs.declared.failure.Failure.TheVariants.{Permanent, Unsupervised}
 use Rattle.wait_conditions.specs.Marks.{newest}
-use Rattle.s6_events.specs.CurrentLetter.{current_letter}
 use Rattle.wait_conditions.specs.Holds.{holds}
 
 -- the conditions that ask for a service that is up

@@ -1,6 +1,5 @@
 -- What is stored of waiters, and what it stands for.
-use Rattle.std.specs.Prelude.{◌≡◌, ℕ, ◌≤◌, ◌==◌, not, Bool, List, [], ◌∷◌, Option, Some, None, All, length, take, drop, map, option_map, if◌then◌else◌}
-use Rattle.std.specs.List.{filter_map}
+use Rattle.std.specs.Prelude.{ℕ, ◌==◌, not, Bool, List, [], ◌∷◌, Option, Some, None, take, drop, option_map, if◌then◌else◌}
 use Rattle.s6_events.specs.declared.moment.Moment.{Moment}
 use Rattle.wait_conditions.specs.declared.verdict.Verdict.{Verdict}
 use Rattle.wait_conditions.specs.declared.verdict.Standing.{Standing}
@@ -8,7 +7,7 @@ use Rattle.wait_conditions.specs.declared.verdict.Standing.TheVariants.{Waiting,
 use Rattle.wait_conditions.specs.declared.waiter.Waiter.{Waiter}
 use Rattle.wait_conditions.specs.Verdict.{Asked, verdict}
 use Rattle.wait_conditions.specs.Waiter.{asked_of}
-use Rattle.wait_conditions.specs.Watch.{Placed, Watch, standing_of, newly}
+use Rattle.wait_conditions.specs.Watch.{newly}
 
 -- a stored waiter: what it was made with, and where it stands
 pub record Kept : Type 0 where

@@ -1,5 +1,5 @@
 -- Which waiters are not made, and what deadline one has that is made.
-use Rattle.std.specs.Prelude.{ℕ, ◌+◌, ◌==◌, List, [], ◌∷◌, length, Bool, true, false, ◌||◌, Option, Some, None, if◌then◌else◌, nat_lt, nat_le}
+use Rattle.std.specs.Prelude.{ℕ, ◌+◌, ◌==◌, List, [], ◌∷◌, length, Bool, false, ◌||◌, Option, Some, None, if◌then◌else◌, nat_lt, nat_le}
 use Rattle.std.specs.List.{list_any}
 use Rattle.wait_conditions.specs.declared.add_fault.AddFault.{AddFault}
 use Rattle.wait_conditions.specs.declared.add_fault.AddFault.TheVariants as fault

@@ -7,7 +7,7 @@ use Rattle.s6_events.specs.declared.condition.Condition.{Condition}
 use Rattle.s6_events.specs.declared.condition.Mode.{Mode}
 use Rattle.s6_events.specs.declared.condition.Mode.TheVariants as mode
 use Rattle.wait_conditions.specs.declared.failure.Failure.{Failure}
-use Rattle.wait_conditions.specs.declared.failure.Failure.TheVariants.{Permanent, Unsupervised}
+use Rattle.wait_conditions.specs.declared.failure.Failure.TheVariants.{Permanent}
 use Rattle.wait_conditions.specs.declared.verdict.Verdict.TheVariants.{Held, Failed, Gone, TimedOut}
 use Rattle.wait_conditions.specs.declared.verdict.Standing.{Standing}
 use Rattle.wait_conditions.specs.declared.verdict.Standing.TheVariants.{Waiting, Released}

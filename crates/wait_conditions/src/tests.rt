@@ -252,17 +252,24 @@ fn fault_of(alloc: Global, standing: u32, sids: &[Sid]) -> Result<Option<AddFaul
     }
 }
 
+// The services 1, 2, 3 and so on.
+fn numbered(alloc: Global, count: u64) -> Result<Vec<Sid>, NoMemory> {
+    let mut sids = Vec::new(alloc);
+    for n in 0..count {
+        sids.push(Sid(n + 1))?;
+    }
+    Ok(sids)
+}
+
 #[test]
 fn refuses_in_the_order_of_the_faults(rt: HostRuntime) -> Result<(), Fail> {
-    let mut many = Vec::new(rt.alloc());
-    for n in 1..=17u64 {
-        many.push(Sid(n))?;
-    }
+    let many = numbered(rt.alloc(), 17)?;
+    let most = numbered(rt.alloc(), 16)?;
     assert!(rt; fault_of(rt.alloc(), 0, &[])? == Some(AddFault::Empty));
     assert!(rt; fault_of(rt.alloc(), 256, &[Sid(1), Sid(2), Sid(1)])? == Some(AddFault::Repeated));
     assert!(rt; fault_of(rt.alloc(), 256, &many)? == Some(AddFault::TooManyServices));
-    assert!(rt; fault_of(rt.alloc(), 256, &many[1..])? == Some(AddFault::TooMany));
-    assert!(rt; fault_of(rt.alloc(), 255, &many[1..])?.is_none());
+    assert!(rt; fault_of(rt.alloc(), 256, &most)? == Some(AddFault::TooMany));
+    assert!(rt; fault_of(rt.alloc(), 255, &most)?.is_none());
     Ok(())
 }
 

@@ -1,4 +1,4 @@
-use Rattle.std.proofs.Common.{◌≡◌, ◌≤◌, ◌<◌, ◌++◌, arith, length, get_or, map, option_to_list, sym, ap, ◌∙◌}
+use Rattle.std.proofs.Common.{◌≤◌, ◌<◌, ◌++◌, arith, length, map, option_to_list, sym, ap, ◌∙◌}
 use Rattle.std.proofs.lemmas.List.{length-map}
 use Rattle.std.proofs.lemmas.List.Elements.{All-get_or}
 use Rattle.wait_conditions.specs.Kept.{Kept, kept_of, looked, release_seen}

@@ -1,4 +1,4 @@
-use Rattle.std.proofs.Common.{◌≡◌, ◌≤◌, ◌+◌, ◌++◌, length, map, take, drop, vec_len, vec_capacity}
+use Rattle.std.proofs.Common.{◌≡◌, ◌≤◌, ◌+◌, ◌++◌, map, take, drop, vec_len, vec_capacity}
 use Rattle.std.specs.List.{filter_map}
 use Rattle.wait_conditions.specs.Kept.{kept_of, looked, release_seen}
 use Rattle.wait_conditions.proofs.looking.look_at_all.Given as goal

@@ -1,5 +1,4 @@
 use Rattle.std.proofs.Common.{◌∙◌, ap}
-use Rattle.wait_conditions.specs.Marks.{mark_of}
 use Rattle.wait_conditions.specs.ServiceState.{since_after}
 use Rattle.wait_conditions.proofs.Pushed.{since_more}
 use Rattle.wait_conditions.proofs.service_state.read_since.Goals as goal

@@ -1,4 +1,4 @@
-use Rattle.std.proofs.Common.{◌≡◌, ◌==◌, not, ◌∙◌, sym, ap, map, rules}
+use Rattle.std.proofs.Common.{◌==◌, not, ◌∙◌, sym, ap, map, rules}
 use Rattle.std.proofs.lemmas.Fn.{filter_same}
 use Rattle.wait_conditions.specs.declared.waiter.Waiter.{Waiter}
 use Rattle.wait_conditions.specs.Kept.{kept_of}

@@ -1,4 +1,3 @@
-use Rattle.std.proofs.Common.{◌∙◌, ap, is_some}
 use Rattle.wait_conditions.proofs.Named.{cancels_after}
 use Rattle.wait_conditions.proofs.waits.Waits.cancel.Goals as goal
 
