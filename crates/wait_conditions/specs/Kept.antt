@@ -6,6 +6,7 @@ use Rattle.wait_conditions.specs.declared.verdict.Standing.{Standing}
 use Rattle.wait_conditions.specs.declared.verdict.Standing.TheVariants.{Waiting, Released}
 use Rattle.wait_conditions.specs.declared.waiter.Waiter.{Waiter}
 use Rattle.wait_conditions.specs.Verdict.{Asked, verdict}
+use Rattle.wait_conditions.specs.Release.{settled}
 use Rattle.wait_conditions.specs.Waiter.{asked_of}
 use Rattle.wait_conditions.specs.Watch.{newly}
 
@@ -18,11 +19,6 @@ pub record Kept : Type 0 where
 
 abbrev pub kept_of : Waiter → Kept
 kept_of w = record { id = w.id; asked = asked_of w; place = w.place; standing = w.standing }
-
--- one that waits takes the verdict, and a released one keeps its own
-abbrev pub settled : Standing → Standing → Standing
-settled Waiting now = now
-settled (Released v) now = Released v
 
 -- a stored waiter, once it was looked at
 abbrev pub looked : List Moment → Kept → Kept

@@ -1,5 +1,5 @@
-ghost use Rattle.wait_conditions.specs.declared.add_fault.AddFault.TheVariants as fault;
 ghost use Rattle.std.specs.Prelude.{◌≡◌};
+ghost use Rattle.wait_conditions.specs.declared.add_fault.AddFault.TheVariants as fault;
 
 use s6_events::NoMemory;
 use thiserror::Error;

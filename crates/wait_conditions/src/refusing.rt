@@ -1,5 +1,4 @@
-ghost use Rattle.std.specs.Prelude.{◌≡◌, drop};
-ghost use Rattle.std.specs.List.{list_any};
+ghost use Rattle.std.specs.Prelude.{◌≡◌};
 ghost use Rattle.wait_conditions.specs.Refusal.{is_named_in, is_repeated, refusal, deadline_of};
 
 use crate::add_fault::AddFault;

@@ -10,7 +10,7 @@ fn at(millis: u64) -> Result<At, Fail> {
     Ok(At::new(millis).ok_or("a moment")?)
 }
 
-// A letter of service 1 in lower place, of service 2 where it stands after a 2, and a clock reading of 100 ms for each dot.
+// The marks by their letters, of service 1 or, after a 2, of service 2 until a 1; a dot is a clock reading 100 ms later.
 fn moments_of(alloc: Global, text: &str) -> Result<Vec<Moment>, Fail> {
     let mut moments = Vec::new(alloc);
     let mut sid = Sid(1);
@@ -62,7 +62,7 @@ fn add_some(waits: &mut Waits<Global>, count: u32) -> Result<(), AddFault>
     Ok(())
 }
 
-// How many of the moments since it was made a waiter of services 1 and 2 waits for, and its verdict.
+// A waiter that is made at 0 with a timeout of 500: after how many moments since it is released, and with what verdict.
 fn released_after(
     alloc: Global,
     condition: Condition,
@@ -93,7 +93,7 @@ fn released_after(
 fn releases_at_the_first_moment_that_decides(rt: HostRuntime) -> Result<(), Fail> {
     let one: &[Sid] = &[Sid(1)];
     let both: &[Sid] = &[Sid(1), Sid(2)];
-    // A condition, a mode, the services, the letters before the waiter and since; after how many it is released, and how.
+    // A condition, a mode, the services, the marks before the waiter and since; after how many moments it is released, and how.
     let rows: &[(
         Condition,
         Mode,
