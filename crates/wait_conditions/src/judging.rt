@@ -1,9 +1,9 @@
-ghost use Rattle.std.specs.Prelude.{◌≡◌, ◌≤◌, length, take, drop, is_some};
+ghost use Rattle.std.specs.Prelude.{◌≡◌, ◌≤◌, length, take, drop};
 ghost use Rattle.std.specs.List.{list_all, list_any};
 ghost use Rattle.wait_conditions.specs.Holds.{suits, holds_at, holds};
 ghost use Rattle.wait_conditions.specs.Fails.{failure_at, failure};
 ghost use Rattle.wait_conditions.specs.Verdict.{reaches, is_late, is_permanent, is_enough, is_hopeless, verdict};
-ghost use Rattle.wait_conditions.specs.Waiter.{asked_of};
+ghost use Rattle.wait_conditions.specs.Waiter.{asked_of, holds_for, fails_for, fails_for_good};
 
 use crate::failure::Failure;
 use crate::service_state::{read_since, read_state};
@@ -75,7 +75,7 @@ fn service_failure(
 
 fn all_hold(waiter: &Waiter, moments: &[Moment]) -> bool
     requires { waiter.now.place ≤ length moments.now }
-    ensures { result ≡ list_all (λ sid. holds waiter.now.condition sid (take waiter.now.place moments.now) (drop waiter.now.place moments.now)) waiter.now.sids.items }
+    ensures { result ≡ list_all (holds_for waiter.now moments.now) waiter.now.sids.items }
 {
     let sids = waiter.sids.as_slice();
     let condition = waiter.condition;
@@ -86,7 +86,7 @@ fn all_hold(waiter: &Waiter, moments: &[Moment]) -> bool
 
 fn one_holds(waiter: &Waiter, moments: &[Moment]) -> bool
     requires { waiter.now.place ≤ length moments.now }
-    ensures { result ≡ list_any (λ sid. holds waiter.now.condition sid (take waiter.now.place moments.now) (drop waiter.now.place moments.now)) waiter.now.sids.items }
+    ensures { result ≡ list_any (holds_for waiter.now moments.now) waiter.now.sids.items }
 {
     let sids = waiter.sids.as_slice();
     let condition = waiter.condition;
@@ -97,7 +97,7 @@ fn one_holds(waiter: &Waiter, moments: &[Moment]) -> bool
 
 fn all_fail(waiter: &Waiter, moments: &[Moment]) -> bool
     requires { waiter.now.place ≤ length moments.now }
-    ensures { result ≡ list_all (λ sid. is_some (failure waiter.now.condition sid (take waiter.now.place moments.now) (drop waiter.now.place moments.now))) waiter.now.sids.items }
+    ensures { result ≡ list_all (fails_for waiter.now moments.now) waiter.now.sids.items }
 {
     let sids = waiter.sids.as_slice();
     let condition = waiter.condition;
@@ -107,7 +107,7 @@ fn all_fail(waiter: &Waiter, moments: &[Moment]) -> bool
 
 fn one_fails(waiter: &Waiter, moments: &[Moment]) -> bool
     requires { waiter.now.place ≤ length moments.now }
-    ensures { result ≡ list_any (λ sid. is_some (failure waiter.now.condition sid (take waiter.now.place moments.now) (drop waiter.now.place moments.now))) waiter.now.sids.items }
+    ensures { result ≡ list_any (fails_for waiter.now moments.now) waiter.now.sids.items }
 {
     let sids = waiter.sids.as_slice();
     let condition = waiter.condition;
@@ -117,7 +117,7 @@ fn one_fails(waiter: &Waiter, moments: &[Moment]) -> bool
 
 fn enough_hold(waiter: &Waiter, moments: &[Moment]) -> bool
     requires { waiter.now.place ≤ length moments.now }
-    ensures { result ≡ is_enough waiter.now.mode (λ sid. holds waiter.now.condition sid (take waiter.now.place moments.now) (drop waiter.now.place moments.now)) waiter.now.sids.items }
+    ensures { result ≡ is_enough waiter.now.mode (holds_for waiter.now moments.now) waiter.now.sids.items }
 {
     match waiter.mode {
         Mode::All => all_hold(waiter, moments),
@@ -127,7 +127,7 @@ fn enough_hold(waiter: &Waiter, moments: &[Moment]) -> bool
 
 fn too_many_fail(waiter: &Waiter, moments: &[Moment]) -> bool
     requires { waiter.now.place ≤ length moments.now }
-    ensures { result ≡ is_hopeless waiter.now.mode (λ sid. is_some (failure waiter.now.condition sid (take waiter.now.place moments.now) (drop waiter.now.place moments.now))) waiter.now.sids.items }
+    ensures { result ≡ is_hopeless waiter.now.mode (fails_for waiter.now moments.now) waiter.now.sids.items }
 {
     match waiter.mode {
         Mode::All => one_fails(waiter, moments),
@@ -143,7 +143,7 @@ fn is_permanent_failure(failure: Option<Failure>) -> bool
 
 fn one_fails_for_good(waiter: &Waiter, moments: &[Moment]) -> bool
     requires { waiter.now.place ≤ length moments.now }
-    ensures { result ≡ list_any (λ sid. is_permanent (failure waiter.now.condition sid (take waiter.now.place moments.now) (drop waiter.now.place moments.now))) waiter.now.sids.items }
+    ensures { result ≡ list_any (fails_for_good waiter.now moments.now) waiter.now.sids.items }
 {
     let sids = waiter.sids.as_slice();
     let condition = waiter.condition;
