@@ -1,0 +1,62 @@
+-- A waiter that is released has the verdict of the least number of moments.
+use Rattle.std.proofs.Common.{◌≡◌, ◌≤◌, ◌<◌, ℕ, zero, suc, List, [], ◌∷◌, length, take, map, refl, sym, ap, ◌∙◌, arith}
+use Rattle.s6_events.specs.declared.moment.Moment.{Moment}
+use Rattle.wait_conditions.specs.declared.verdict.Verdict.{Verdict}
+use Rattle.wait_conditions.specs.declared.verdict.Standing.{Standing}
+use Rattle.wait_conditions.specs.declared.verdict.Standing.TheVariants.{Waiting, Released}
+use Rattle.wait_conditions.specs.Verdict.{Asked, verdict}
+use Rattle.wait_conditions.specs.Release.{beginnings, first_release, standing, IsLeast}
+
+map_twice : (f : List Moment → Standing) (g : List Moment → List Moment) (xs : List (List Moment)) → map f (map g xs) ≡ map (λ x. f (g x)) xs
+map_twice f g [] = refl
+map_twice f g (x ∷ xs) = ap (λ ss. f (g x) ∷ ss) (map_twice f g xs)
+
+alone : (s : Standing) (v : Verdict) → first_release (s ∷ []) ≡ Released v → s ≡ Released v
+alone Waiting v h = cc
+alone (Released u) v h = h
+
+waited : (test : List Moment → Standing) (m : Moment) (ms : List Moment) (k : ℕ) → test [] ≡ Waiting → ((j : ℕ) → j < k → test (m ∷ take j ms) ≡ Waiting) → (j : ℕ) → j < suc k → test (take j (m ∷ ms)) ≡ Waiting
+waited test m ms k e h zero b = e
+waited test m ms k e h (suc j) b = h j (omega arith)
+
+with_first : (test : List Moment → Standing) (m : Moment) (ms : List Moment) (v : Verdict) (s : Standing) → test [] ≡ s
+    → (first_release (map (λ b. test (m ∷ b)) (beginnings ms)) ≡ Released v → (k : ℕ) × IsLeast (λ b. test (m ∷ b)) ms v k)
+    → first_release (s ∷ map test (map (λ b. m ∷ b) (beginnings ms))) ≡ Released v → (k : ℕ) × IsLeast test (m ∷ ms) v k
+with_first test m ms v (Released u) e later h = (zero, record { within = omega arith; there = e ∙ h; before = λ j b. absurd (omega arith) })
+with_first test m ms v Waiting e later h =
+    let found = later (ap first_release (sym (map_twice test (λ b. m ∷ b) (beginnings ms))) ∙ h) in
+    (suc found.0, record { within = (let w : found.0 ≤ length ms = found.1.within in omega arith); there = found.1.there; before = waited test m ms found.0 e found.1.before })
+
+pub least : (test : List Moment → Standing) (since : List Moment) (v : Verdict) → first_release (map test (beginnings since)) ≡ Released v → (k : ℕ) × IsLeast test since v k
+least test [] v h = (zero, record { within = omega arith; there = alone (test []) v h; before = λ j b. absurd (omega arith) })
+least test (m ∷ ms) v h = with_first test m ms v (test []) refl (λ e. least (λ b. test (m ∷ b)) ms v e) h
+
+-- the law of release
+pub released_at_least : (a : Asked) (past since : List Moment) (v : Verdict) → standing a past since ≡ Released v → (k : ℕ) × IsLeast (verdict a past) since v k
+released_at_least a past since v h = least (verdict a past) since v h
+
+alone_waits : (s : Standing) → first_release (s ∷ []) ≡ Waiting → s ≡ Waiting
+alone_waits Waiting h = refl
+alone_waits (Released v) h = cc
+
+-- the first of them waits, and so do those after it
+waits_first : (s : Standing) (later : List Standing) → first_release (s ∷ later) ≡ Waiting → s ≡ Waiting
+waits_first Waiting later h = refl
+waits_first (Released v) later h = cc
+
+waits_later : (s : Standing) (later : List Standing) → first_release (s ∷ later) ≡ Waiting → first_release later ≡ Waiting
+waits_later Waiting later h = h
+waits_later (Released v) later h = cc
+
+all_waited : (test : List Moment → Standing) (since : List Moment) → first_release (map test (beginnings since)) ≡ Waiting → (k : ℕ) → k ≤ length since → test (take k since) ≡ Waiting
+all_waited test [] h zero b = alone_waits (test []) h
+all_waited test [] h (suc k) b = absurd (omega arith)
+all_waited test (m ∷ ms) h zero b = waits_first (test []) (map test (map (λ b. m ∷ b) (beginnings ms))) h
+all_waited test (m ∷ ms) h (suc k) b =
+    all_waited (λ b. test (m ∷ b)) ms
+    (ap first_release (sym (map_twice test (λ b. m ∷ b) (beginnings ms))) ∙ waits_later (test []) (map test (map (λ b. m ∷ b) (beginnings ms))) h)
+    k (omega arith)
+
+-- the law of waiting
+pub waits_at_each : (a : Asked) (past since : List Moment) → standing a past since ≡ Waiting → (k : ℕ) → k ≤ length since → verdict a past (take k since) ≡ Waiting
+waits_at_each a past since h k b = all_waited (verdict a past) since h k b

@@ -1,0 +1,5 @@
+use Rattle.wait_conditions.proofs.Named.{cancels_after}
+use Rattle.wait_conditions.proofs.waits.Waits.cancel.Goals as goal
+
+pub returns-clause-after : goal.returns-clause-after
+returns-clause-after g c w st = cancels_after c.args.self.now _ c.args.id c.take_out.ensures w st

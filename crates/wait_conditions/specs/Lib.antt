@@ -1,0 +1,14 @@
+pub use Rattle.s6_events.specs.CurrentLetter
+pub mod Marks
+pub mod Holds
+pub mod Fails
+pub mod Verdict
+pub mod Release
+pub mod OneMore
+pub mod ServiceState
+pub mod Waiter
+pub mod Watch
+pub mod Kept
+pub mod Stands
+pub mod Refusal
+pub mod Laws

@@ -1,0 +1,19 @@
+//! Laws of a waiter's release. Each is the contract of a function that does nothing, so that its statement is proved.
+ghost use Rattle.wait_conditions.specs.Laws.{GrowsByMoments, ReleasedAtTheLeast, WaitsThroughout};
+
+/// A waiter that is released has the verdict over the least number of moments since its place, from 0 on, at which its verdict
+/// isn't waiting. This project's own.
+pub fn released_at_the_least()
+    ensures { ReleasedAtTheLeast }
+{}
+
+/// A waiter that waits has waited at each number of moments since its place. This project's own.
+pub fn waits_throughout()
+    ensures { WaitsThroughout }
+{}
+
+/// With one moment more a waiter that waits takes its verdict over all of them, and a released one keeps its own. This project's
+/// own.
+pub fn one_moment_more()
+    ensures { GrowsByMoments }
+{}
