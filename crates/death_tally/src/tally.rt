@@ -1,6 +1,6 @@
 ghost use Rattle.std.specs.Prelude.{◌≡◌, ◌++◌, ◌∷◌, [], IfOk, List, ℕ};
 ghost use Rattle.s6_events.specs.declared.exit.Exit.{Exit};
-ghost use Rattle.death_tally.specs.LastDeaths.{Tallies};
+ghost use Rattle.death_tally.specs.LastDeaths.{Tallies, new_tally, with_death};
 
 use s6_events::{At, Exit, NoMemory};
 use std::alloc::Allocator;
@@ -29,8 +29,7 @@ impl<A: Allocator + Copy> Tally<A> {
     /// An empty tally that keeps at most so many deaths; 0 keeps none. It takes the memory of them all. `NoMemory` where that is
     /// refused.
     pub fn new(alloc: A, most: u16) -> Result<Tally<A>, NoMemory>
-        ensures kept { IfOk result (λ tally. tally.kept ≡ []) }
-        ensures most { IfOk result (λ tally. tally.most ≡ most) }
+        ensures { IfOk result (λ tally. tally ≡ new_tally most) }
     {
         let mut deaths = Vec::new(alloc);
         deaths.reserve(usize::from(most))?;
@@ -39,8 +38,8 @@ impl<A: Allocator + Copy> Tally<A> {
 
     /// One more death. Where the tally is full the oldest is forgotten. Takes no memory.
     pub fn add(&mut self, at: At, exit: Exit)
+        ensures kept { self.new ≡ with_death self.old (at, exit) }
         ensures last { (all : List (ℕ × Exit)) → Tallies self.old all → Tallies self.new (all ++ (at, exit) ∷ []) }
-        ensures most { self.new.most ≡ self.old.most }
     {
         if self.most == 0 {
             return;

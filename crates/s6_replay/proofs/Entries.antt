@@ -1,9 +1,9 @@
 -- Entries are read back from their spelling.
 use Rattle.std.proofs.Common.{◌≡◌, ◌∙◌, ap, sym, refl, ℕ, ◌+◌, ◌<◌, ◌≤◌, ◌^◌, List, [], ◌∷◌, ◌++◌, Bool, true, false, not, ◌==◌, Option, Some, None, length, map, take, drop, fold, get_or, append_assoc, append-nil, arith, rules}
-use Rattle.std.specs.Prelude.{All, slice_index_or}
+use Rattle.std.specs.Prelude.{All, codes, slice_index_or, ◌≢◌}
 use Rattle.std.proofs.lemmas.Bool.{eqb-true, and_parts, and_from}
 use Rattle.std.proofs.lemmas.Bool.Decides.{nat_tests}
-use Rattle.std.proofs.lemmas.List.{get_or-map, length-map, map-append, take_all, take_more}
+use Rattle.std.proofs.lemmas.List.{append_cancel_right, get_or-map, length-map, map-append, take_all, take_more}
 use Rattle.std.proofs.lemmas.List.Elements.{All-nil, All-cons, All-head, All-tail, All-append, All-get_or}
 use Rattle.std.proofs.lemmas.List.Folds.{list_all-append}
 use Rattle.std.proofs.lemmas.List.Splits.{slice_split_none, slice_split_at}
@@ -12,12 +12,12 @@ use Rattle.std.specs.List.{slice_split, join_with_byte, list_all}
 use Rattle.s6_events.specs.Name.{is_name}
 use Rattle.servicedir.specs.Config.{plain_config, is_served}
 use Rattle.servicedir.specs.declared.config.Config.{Config}
-use Rattle.tree_core.specs.declared.input.Entry.{Entry}
+use Rattle.svscan_core.specs.declared.entry.Entry.{Entry}
 use Rattle.s6_replay.specs.declared.entry_options.Setting.{Setting}
 use Rattle.s6_replay.specs.declared.entry_options.Setting.TheVariants.{Down, Finish, Notify, Kill, FinishTime, Tally, Signal}
-use Rattle.s6_replay.specs.Options.{where_so, descriptor_setting, number_setting, settings, option_word, option_words, behind_name, entry_text, with_setting, IsSetting, IsConfig, IsEntry, ends_part}
+use Rattle.s6_replay.specs.Options.{where_so, descriptor_setting, number_setting, settings, option_word, option_words, behind_name, config_text, entry_text, with_setting, IsSetting, IsConfig, IsEntry, ends_part}
 use Rattle.s6_replay.proofs.Joined.{is_no_space, has_no_space, lacks, lacking, split_joined}
-use Rattle.s6_replay.proofs.Plain.{is_plain, digits_plain, name_plain, no_space_in, no_end_in}
+use Rattle.s6_replay.proofs.Plain.{is_no_mark, is_plain, digits_plain, name_plain, no_space_in, no_mark_in, no_end_in}
 
 -- the mark before the next option: a colon before the first, then a comma
 abbrev pub mark_behind : List (List ℕ) → ℕ
@@ -195,39 +195,87 @@ split_behind name (option ∷ options) h k =
     slice_split_at ends_part name 58 (join_with_byte 44 (option ∷ options)) (lacking ends_part name (no_end_in name h)) refl
     ∙ ap (λ rest. name ∷ rest) (split_joined ends_part 44 refl option options (ends_in_none (option ∷ options) k))
 
--- the parts of an entry are its name and its options
-pub parts_back : (e : Entry) → IsEntry e → slice_split ends_part (entry_text e) ≡ e.name ∷ option_words e.config
-parts_back e h = split_behind e.name (option_words e.config) (name_plain e.name h.0) (options_plain (settings e.config) (settings_fit e.config h.1))
+-- the parts of a name with options are the name and the options
+parts_back : (name : List ℕ) (config : Config) → is_name name ≡ true → IsConfig config
+    → slice_split ends_part (name ++ config_text (Some config)) ≡ name ∷ option_words config
+parts_back name config h k = split_behind name (option_words config) (name_plain name h) (options_plain (settings config) (settings_fit config k))
 
--- an entry is read, its name and its configuration each from its parts
+-- ---- what no byte of a plain text is stands nowhere in an entry, if it is no colon and no comma
+
+joined_lacks : (p : ℕ → Bool) → p 44 ≡ true → ((text : List ℕ) → is_plain text ≡ true → list_all p text ≡ true) → (word : List ℕ) (words : List (List ℕ))
+    → list_all is_plain (word ∷ words) ≡ true → list_all p (join_with_byte 44 (word ∷ words)) ≡ true
+joined_lacks p comma plain word [] h = plain word (and_parts _ _ h).0
+joined_lacks p comma plain word (next ∷ words) h =
+    list_all-append p word (44 ∷ join_with_byte 44 (next ∷ words))
+    ∙ and_from _ _ (plain word (and_parts _ _ h).0) (and_from _ _ comma (joined_lacks p comma plain next words (and_parts _ _ h).1))
+
+behind_lacks : (p : ℕ → Bool) → p 58 ≡ true → p 44 ≡ true → ((text : List ℕ) → is_plain text ≡ true → list_all p text ≡ true) → (options : List (List ℕ))
+    → list_all is_plain options ≡ true → list_all p (behind_name options) ≡ true
+behind_lacks p colon comma plain [] h = refl
+behind_lacks p colon comma plain (option ∷ options) h = and_from _ _ colon (joined_lacks p comma plain option options h)
+
+served_lacks : (p : ℕ → Bool) → p 58 ≡ true → p 44 ≡ true → ((text : List ℕ) → is_plain text ≡ true → list_all p text ≡ true) → (name : List ℕ) (config : Config)
+    → is_name name ≡ true → IsConfig config → list_all p (name ++ config_text (Some config)) ≡ true
+served_lacks p colon comma plain name config h k =
+    list_all-append p name (behind_name (option_words config))
+    ∙ and_from _ _ (plain name (name_plain name h)) (behind_lacks p colon comma plain (option_words config) (options_plain (settings config) (settings_fit config k)))
+
+-- ---- an entry is read back
+
+-- a name with options does not end with `!`
+served_unmarked : (name : List ℕ) (config : Config) → is_name name ≡ true → IsConfig config
+    → (before : List ℕ) → name ++ config_text (Some config) ≡ before ++ codes "!" → ⊥
+served_unmarked name config h k before e =
+    let lacks_mark : list_all is_no_mark (name ++ config_text (Some config)) ≡ true = served_lacks is_no_mark refl refl no_mark_in name config h k in
+    let at_end : list_all is_no_mark (before ++ codes "!") ≡ true = sym (ap (list_all is_no_mark) e) ∙ lacks_mark in
+    let last = and_parts (list_all is_no_mark before) (list_all is_no_mark (codes "!")) (sym (list_all-append is_no_mark before (codes "!")) ∙ at_end) in
+    let no : false ≡ true = last.1 in
+    cc no
+
+-- an entry that couldn't be read is read back from what stands before its `!`
+pub unread_back : (found name word : List ℕ) → word ≡ name ++ codes "!" → (is_name name ≡ true → found ≡ name)
+    → (e : Entry) → IsEntry e → word ≡ entry_text e → record { name = found; config = None } ≡ e
+unread_back found name word marked reads e h spelled = by e.config refl
+  where
+    by : (config : Option Config) → e.config ≡ config → record { name = found; config = None } ≡ e
+    by None is =
+        let same : name ≡ e.name = append_cancel_right name e.name (codes "!") (sym marked ∙ (spelled ∙ ap (λ c. e.name ++ config_text c) is)) in
+        let same_name : found ≡ e.name = reads (ap is_name same ∙ h.0) ∙ same in
+        λ k. record { name = same_name k; config = sym is k }
+    by (Some config) is =
+        let fits : IsConfig config = let known = h.1 in rw is at known in
+        absurd (served_unmarked e.name config h.0 fits name (sym (ap (λ c. e.name ++ config_text c) is) ∙ (sym spelled ∙ marked)))
+
+-- any other entry is read back, its name and its configuration each from its parts
 pub entry_read : (name : List ℕ) (config : Config) (word w0 : List ℕ) (rest parts : List (List ℕ))
+    → ((before : List ℕ) → word ≢ before ++ codes "!")
     → parts ≡ slice_split ends_part word → w0 ≡ slice_index_or parts 0 [] → rest ≡ drop 1 parts
     → (is_name w0 ≡ true → name ≡ w0) → ((c : Config) → IsConfig c → rest ≡ option_words c → config ≡ c)
-    → (e : Entry) → IsEntry e → word ≡ entry_text e → record { name = name; config = config } ≡ e
-entry_read name config word w0 rest parts cut e0 er reads_name reads_config e h spelled =
-    let words : parts ≡ e.name ∷ option_words e.config = cut ∙ (ap (slice_split ends_part) spelled ∙ parts_back e h) in
-    let first : w0 ≡ e.name = e0 ∙ ap (λ ws. slice_index_or ws 0 []) words in
-    let same_name : name ≡ e.name = reads_name (ap is_name first ∙ h.0) ∙ first in
-    let same_config : config ≡ e.config = reads_config e.config h.1 (er ∙ ap (drop 1) words) in
-    λ k. record { name = same_name k; config = same_config k }
+    → (e : Entry) → IsEntry e → word ≡ entry_text e → record { name = name; config = Some config } ≡ e
+entry_read name config word w0 rest parts unmarked cut e0 er reads_name reads_config e h spelled = by e.config refl
+  where
+    by : (known : Option Config) → e.config ≡ known → record { name = name; config = Some config } ≡ e
+    by None is = absurd (unmarked e.name (spelled ∙ ap (λ c. e.name ++ config_text c) is))
+    by (Some known) is =
+        let fits : IsConfig known = let all = h.1 in rw is at all in
+        let text : word ≡ e.name ++ config_text (Some known) = spelled ∙ ap (λ c. e.name ++ config_text c) is in
+        let words : parts ≡ e.name ∷ option_words known = cut ∙ (ap (slice_split ends_part) text ∙ parts_back e.name known h.0 fits) in
+        let first : w0 ≡ e.name = e0 ∙ ap (λ ws. slice_index_or ws 0 []) words in
+        let same_name : name ≡ e.name = reads_name (ap is_name first ∙ h.0) ∙ first in
+        let same_config : Some config ≡ e.config = ap Some (reads_config known fits (er ∙ ap (drop 1) words)) ∙ sym is in
+        λ k. record { name = same_name k; config = same_config k }
 
 -- ---- an entry has no space
 
-joined_no_space : (word : List ℕ) (words : List (List ℕ)) → list_all is_plain (word ∷ words) ≡ true → has_no_space (join_with_byte 44 (word ∷ words)) ≡ true
-joined_no_space word [] h = no_space_in word (and_parts _ _ h).0
-joined_no_space word (next ∷ words) h =
-    list_all-append is_no_space word (44 ∷ join_with_byte 44 (next ∷ words))
-    ∙ and_from _ _ (no_space_in word (and_parts _ _ h).0) (joined_no_space next words (and_parts _ _ h).1)
-
-behind_no_space : (options : List (List ℕ)) → list_all is_plain options ≡ true → has_no_space (behind_name options) ≡ true
-behind_no_space [] h = refl
-behind_no_space (option ∷ options) h = joined_no_space option options h
-
 entry_no_space : (e : Entry) → IsEntry e → has_no_space (entry_text e) ≡ true
-entry_no_space e h =
-    list_all-append is_no_space e.name (behind_name (option_words e.config))
-    ∙ and_from _ _ (no_space_in e.name (name_plain e.name h.0))
-    (behind_no_space (option_words e.config) (options_plain (settings e.config) (settings_fit e.config h.1)))
+entry_no_space e h = by e.config refl
+  where
+    by : (config : Option Config) → e.config ≡ config → has_no_space (e.name ++ config_text config) ≡ true
+    by None is =
+        list_all-append is_no_space e.name (codes "!") ∙ and_from _ _ (no_space_in e.name (name_plain e.name h.0)) refl
+    by (Some config) is =
+        let fits : IsConfig config = let known = h.1 in rw is at known in
+        served_lacks is_no_space refl refl no_space_in e.name config h.0 fits
 
 pub entries_no_space : (entries : List Entry) → All IsEntry entries → list_all has_no_space (map entry_text entries) ≡ true
 entries_no_space [] h = refl

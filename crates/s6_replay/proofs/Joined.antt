@@ -6,7 +6,7 @@ use Rattle.std.proofs.lemmas.List.Splits.{slice_split_none, slice_split_at}
 use Rattle.std.specs.List.{join_with_byte, flat_map, slice_split, list_all}
 use Rattle.std.proofs.lemmas.Bool.{and_parts}
 use Rattle.tree_core.specs.declared.input.Act.{Act}
-use Rattle.tree_core.specs.declared.input.Entry.{Entry}
+use Rattle.svscan_core.specs.declared.entry.Entry.{Entry}
 use Rattle.s6_replay.specs.Options.{entry_text}
 use Rattle.s6_replay.specs.Spelling.{act_words}
 

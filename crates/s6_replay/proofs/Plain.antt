@@ -1,6 +1,6 @@
--- Digits and names have no space, no colon and no comma.
+-- Digits and names have no space, no colon, no comma and no exclamation mark.
 use Rattle.std.proofs.Common.{◌≡◌, ℕ, ◌+◌, ◌%◌, ◌^◌, ◌<◌, List, [], ◌∷◌, refl, ◌∙◌, arith}
-use Rattle.std.specs.Prelude.{Bool, true, not, ◌&&◌, decimal}
+use Rattle.std.specs.Prelude.{Bool, true, not, ◌&&◌, ◌==◌, decimal}
 use Rattle.std.specs.List.{list_all}
 use Rattle.std.proofs.lemmas.Bool.{and_parts}
 use Rattle.std.proofs.lemmas.Bool.Decides.{nat_tests}
@@ -10,9 +10,13 @@ use Rattle.s6_events.specs.Name.{is_name, is_name_byte}
 use Rattle.s6_replay.specs.Options.{ends_part}
 use Rattle.s6_replay.proofs.Joined.{is_no_space, has_no_space, lacks}
 
--- the byte is no space, no colon and no comma
+-- the byte is no exclamation mark
+abbrev pub is_no_mark : ℕ → Bool
+is_no_mark b = not (b == 33)
+
+-- the byte is no space, no colon, no comma and no exclamation mark
 abbrev pub is_plain_byte : ℕ → Bool
-is_plain_byte b = is_no_space b && not (ends_part b)
+is_plain_byte b = (is_no_space b && is_no_mark b) && not (ends_part b)
 
 -- a text of such bytes
 abbrev pub is_plain : List ℕ → Bool
@@ -43,15 +47,23 @@ pub name_plain : (name : List ℕ) → is_name name ≡ true → is_plain name �
 unfolding is_name
 name_plain name h = bytes_plain name (and_parts _ _ h).1
 
--- what is plain has no space, and no colon or comma
+-- what is plain has no space, no exclamation mark, and no colon or comma
 pub no_space_in : (text : List ℕ) → is_plain text ≡ true → has_no_space text ≡ true
 no_space_in [] h = refl
 no_space_in (b ∷ text) h =
     let both = and_parts (is_plain_byte b) (is_plain text) h in
-    rw (and_parts (is_no_space b) (not (ends_part b)) both.0).0 (no_space_in text both.1)
+    let byte = and_parts (is_no_space b && is_no_mark b) (not (ends_part b)) both.0 in
+    rw (and_parts (is_no_space b) (is_no_mark b) byte.0).0 (no_space_in text both.1)
+
+pub no_mark_in : (text : List ℕ) → is_plain text ≡ true → list_all is_no_mark text ≡ true
+no_mark_in [] h = refl
+no_mark_in (b ∷ text) h =
+    let both = and_parts (is_plain_byte b) (is_plain text) h in
+    let byte = and_parts (is_no_space b && is_no_mark b) (not (ends_part b)) both.0 in
+    rw (and_parts (is_no_space b) (is_no_mark b) byte.0).1 (no_mark_in text both.1)
 
 pub no_end_in : (text : List ℕ) → is_plain text ≡ true → lacks ends_part text ≡ true
 no_end_in [] h = refl
 no_end_in (b ∷ text) h =
     let both = and_parts (is_plain_byte b) (is_plain text) h in
-    rw (and_parts (is_no_space b) (not (ends_part b)) both.0).1 (no_end_in text both.1)
+    rw (and_parts (is_no_space b && is_no_mark b) (not (ends_part b)) both.0).1 (no_end_in text both.1)

@@ -1,18 +1,19 @@
 -- What is spelled is read.
 use Rattle.std.proofs.Common.{◌≡◌, ℕ, ◌^◌, ◌<◌, ◌≤◌, List, [], ◌∷◌, refl, ap, ◌∙◌, arith, drop, map, rules}
-use Rattle.std.specs.Prelude.{All, true, ◌==◌, decimal, slice_index_or}
+use Rattle.std.specs.Prelude.{All, true, codes, ◌==◌, decimal, slice_index_or}
 use Rattle.std.specs.List.{slice_split, list_all}
 use Rattle.s6_events.specs.declared.exit.Exit.{Exit}
 use Rattle.s6_events.specs.declared.exit.Exit.TheVariants.{Code, Killed}
 use Rattle.tree_core.specs.declared.input.Act.{Act}
-use Rattle.tree_core.specs.declared.input.Act.TheVariants.{Scan, Svc, Started, StartFailed, Notify, Death, FinishEnded, Status, Tick}
+use Rattle.tree_core.specs.declared.input.Act.TheVariants.{Scan, Scanctl, Svc, Started, StartFailed, Notify, Death, FinishEnded, Status, Tick}
 use Rattle.tree_core.specs.declared.input.Input.{Input}
 use Rattle.s6_replay.specs.declared.parse.Verb.{Verb}
 use Rattle.s6_replay.specs.declared.parse.Verb.TheVariants.{Scan as ScanVerb}
-use Rattle.tree_core.specs.declared.input.Entry.{Entry}
+use Rattle.svscan_core.specs.declared.entry.Entry.{Entry}
+use Rattle.svscan_core.specs.declared.entry.ScanOrder.{ScanOrder}
 use Rattle.s6_replay.specs.Options.{entry_text, IsEntry}
 use Rattle.s6_replay.specs.Spelling.{IsSpelt, IsExit, IsAct, act_words, input_words, spelling}
-use Rattle.s6_replay.specs.Verb.{exit_words, verb_word, verb_of_act, details}
+use Rattle.s6_replay.specs.Verb.{exit_words, order_word, verb_word, verb_of_act, details}
 use Rattle.svc_commands.specs.ControlLetter.{byte_of}
 use Rattle.svc_commands.specs.declared.control_letter.ControlLetter.{ControlLetter}
 use Rattle.s6_replay.proofs.Hexadecimal.{hex_plain}
@@ -23,6 +24,7 @@ use Rattle.s6_replay.proofs.Entries.{entries_no_space}
 pub scan_read : {A : Type 0} (texts : List (List ℕ)) (listing : List Entry) → ((entries : List Entry) → All IsEntry entries → texts ≡ map entry_text entries → listing ≡ entries)
     → (act : Act A) → IsAct act → ScanVerb ≡ verb_of_act act → texts ≡ details act → Scan listing ≡ act
 scan_read texts listing reads (Scan entries) h v d = ap Scan (reads entries h d)
+scan_read texts listing reads (Scanctl order) h v d = cc
 scan_read texts listing reads (Svc name letters) h v d = cc
 scan_read texts listing reads (Started sid generation pid) h v d = cc
 scan_read texts listing reads (StartFailed sid generation) h v d = cc
@@ -47,8 +49,12 @@ letters_plain : (ls : List ControlLetter) → has_no_space (map byte_of ls) ≡ 
 letters_plain [] = refl
 letters_plain (l ∷ ls) = rw (letter_plain l) (letters_plain ls)
 
+order_plain : (order : ScanOrder) → list_all has_no_space (codes "scanctl" ∷ order_word order ∷ []) ≡ true
+order_plain order = search rules
+
 act_plain : {A : Type 0} (act : Act A) → IsAct act → list_all has_no_space (act_words act) ≡ true
 act_plain (Scan listing) h = entries_no_space listing h
+act_plain (Scanctl order) h = order_plain order
 act_plain (Svc name letters) h = rw (no_space_in name (name_plain name h.0), letters_plain letters.items) refl
 act_plain (Started sid generation pid) h =
     rw (digits_no_space sid h.0, digits_no_space generation h.1, digits_no_space pid (omega arith)) refl

@@ -10,7 +10,7 @@ use Rattle.tree_core.specs.Machine.{Machine, Outcome, new_machine}
 use Rattle.tree_core.specs.Run.{after, outcome, outcomes, after_all}
 use Rattle.tree_core.specs.StandsFor.{Stored, StandsFor}
 use Rattle.s6_replay.specs.Lines.{HasNoNewline, AppendsFront}
-use Rattle.s6_replay.specs.Replay.{HasLine, Written, CountsOf, ReadsOn, Stops, head_line, input_line, script, transcript}
+use Rattle.s6_replay.specs.Replay.{HasLine, Written, CountsOf, IsWhole, ReadsOn, Stops, head_line, input_line, script, transcript}
 use Rattle.s6_replay.specs.Replay.IsNoInputLine.{too_many}
 use Rattle.s6_replay.specs.Spelling.{spelling}
 use Rattle.s6_replay.specs.Transcript.{block, blocks}
@@ -18,7 +18,7 @@ use Rattle.s6_replay.specs.Turn.{Answers, AnswerStops, ReadingStops, Turns, Turn
 use Rattle.s6_replay.specs.declared.counts.Counts.{Counts}
 use Rattle.s6_replay.specs.declared.fault.ReplayFault.{ReplayFault}
 use Rattle.s6_replay.specs.declared.fault.ReplayFault.TheVariants.{Head, Line, Pattern, Truncated, Read, Write, NoMemory}
-use Rattle.s6_replay.specs.declared.turn.Turn.TheVariants.{Done}
+use Rattle.s6_replay.specs.declared.turn.Turn.TheVariants.{Done, End}
 
 -- the run has come so far: these inputs were read, done, printed and counted
 pub record RunsTo {A : Type 0} (left left' held held' : Option (List ℕ)) (tree : Stored) (done : ℕ) (counts : Counts) (inputs : List (Input A)) : Type 0 where
@@ -182,6 +182,16 @@ stops_after A fault a b c x y z tree number counts inputs done few (inl t) =
     unread A fault a b c x y z tree number counts inputs done few t.0 t.1
 stops_after A fault a b c x y z tree number counts inputs done few (inr t) =
     unanswered A fault a b c x y z tree number counts inputs done few t.0 t.1 t.2 t.3 t.4
+
+-- the script has ended
+pub ends_whole : (A : Type 0) (a b c x y z : Option (List ℕ)) (tree new : Stored) (number : ℕ) (counts : Counts) (inputs : List (Input A))
+    → RunsTo a b x y tree number counts inputs → number ≤ 1000000 → Turns A End (number + 1) tree new b c y z → IsWhole inputs counts a c x z
+ends_whole A a b c x y z tree new number counts inputs done few t = record {
+  answered = kept a b x y z tree number counts inputs done few t.2;
+  read = subst (Consumes a c) (append-nil (script inputs)) (Consumes-trans a b c (script inputs) [] done.read t.0);
+  ended = t.1;
+  counted = done.counted;
+}
 
 -- there was something behind the last line, or the reader failed there
 pub stops_at_end : (A : Type 0) (fault : ReplayFault) (a b c x y : Option (List ℕ)) (tree : Stored) (number : ℕ) (counts : Counts) (inputs : List (Input A))

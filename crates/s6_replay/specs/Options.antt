@@ -1,10 +1,10 @@
--- How an entry of a listing is spelled: its name, and the options that its configuration has.
+-- How an entry of a listing is spelled: its name, and the options that its configuration has, or that its directory couldn't be read.
 use Rattle.std.specs.Prelude.{ℕ, ◌≤◌, List, [], ◌∷◌, ◌++◌, map, codes, decimal, Bool, true, not, ◌==◌, ◌||◌, if◌then◌else◌, IsTrue, Option, Some, None, IfSome}
 use Rattle.std.specs.List.{join_with_byte}
 use Rattle.s6_events.specs.Name.{is_name}
 use Rattle.servicedir.specs.Config.{plain_config, is_served}
 use Rattle.servicedir.specs.declared.config.Config.{Config}
-use Rattle.tree_core.specs.declared.input.Entry.{Entry}
+use Rattle.svscan_core.specs.declared.entry.Entry.{Entry}
 use Rattle.s6_replay.specs.declared.entry_options.Setting.{Setting}
 use Rattle.s6_replay.specs.declared.entry_options.Setting.TheVariants.{Down, Finish, Notify, Kill, FinishTime, Tally, Signal}
 
@@ -49,9 +49,14 @@ abbrev pub behind_name : List (List ℕ) → List ℕ
 behind_name [] = []
 behind_name (option ∷ options) = 58 ∷ join_with_byte 44 (option ∷ options)
 
--- the spelling of an entry: its name, and its options behind it
+-- what stands behind the name of an entry: its options, or `!` where its directory couldn't be read
+abbrev pub config_text : Option Config → List ℕ
+config_text None = codes "!"
+config_text (Some c) = behind_name (option_words c)
+
+-- the spelling of an entry
 abbrev pub entry_text : Entry → List ℕ
-entry_text e = e.name ++ behind_name (option_words e.config)
+entry_text e = e.name ++ config_text e.config
 
 -- the configuration with this set
 abbrev pub with_setting : Config → Setting → Config
@@ -83,7 +88,7 @@ pub record IsConfig (c : Config) : Type 0 where
 
 -- what a script can list: a name, and what it can say of the service
 abbrev pub IsEntry : Entry → Type 0
-IsEntry e = IsTrue (is_name e.name) × IsConfig e.config
+IsEntry e = IsTrue (is_name e.name) × IfSome e.config IsConfig
 
 -- a part of an entry ends at a colon or a comma
 abbrev pub ends_part : ℕ → Bool

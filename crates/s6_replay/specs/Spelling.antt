@@ -1,5 +1,5 @@
 -- How an input is spelled.
-use Rattle.std.specs.Prelude.{◌≡◌, ℕ, ◌^◌, ◌<◌, ◌≤◌, List, [], ◌∷◌, decimal, IsTrue, All, length}
+use Rattle.std.specs.Prelude.{◌≡◌, ℕ, ◌^◌, ◌<◌, ◌≤◌, List, ◌∷◌, decimal, IsTrue, All, length}
 use Rattle.std.specs.List.{join_with_byte}
 use Rattle.hex.specs.Hex.{IsBytes}
 use Rattle.s6_events.specs.declared.exit.Exit.{Exit}
@@ -7,7 +7,7 @@ use Rattle.s6_events.specs.declared.exit.Exit.TheVariants.{Code, Killed}
 use Rattle.s6_events.specs.At.{last_moment}
 use Rattle.s6_events.specs.Name.{is_name}
 use Rattle.tree_core.specs.declared.input.Act.{Act}
-use Rattle.tree_core.specs.declared.input.Act.TheVariants.{Scan, Svc, Started, StartFailed, Notify, Death, FinishEnded, Status, Tick}
+use Rattle.tree_core.specs.declared.input.Act.TheVariants.{Scan, Scanctl, Svc, Started, StartFailed, Notify, Death, FinishEnded, Status, Tick}
 use Rattle.tree_core.specs.declared.input.Input.{Input}
 use Rattle.s6_replay.specs.Options.{IsEntry}
 use Rattle.s6_replay.specs.Verb.{verb_word, verb_of_act, details}
@@ -32,6 +32,7 @@ IsExit (Killed n) = n ≤ 64
 -- entries are entries, a name is a name, letters are 1 to 63, bytes are 1 to 64, serials and generations have 64 bits, a process number is positive and has 31 bits
 abbrev pub IsAct : {A : Type 0} → Act A → Type 0
 IsAct (Scan listing) = All IsEntry listing
+IsAct (Scanctl order) = Unit {0}
 IsAct (Svc name letters) = IsTrue (is_name name) × (1 ≤ length letters.items) × (length letters.items ≤ 63)
 IsAct (Started sid generation pid) = (sid < 2 ^ 64) × (generation < 2 ^ 64) × (1 ≤ pid) × (pid ≤ 2147483647)
 IsAct (StartFailed sid generation) = (sid < 2 ^ 64) × (generation < 2 ^ 64)

@@ -7,13 +7,13 @@ use Rattle.s6_events.specs.declared.order.Order.TheVariants.{Run, Finish, Signal
 use Rattle.s6_events.specs.declared.exit.Exit.{Exit}
 use Rattle.s6_events.specs.declared.exit.Exit.TheVariants.{Code, Killed}
 use Rattle.supervise_core.specs.declared.row.Row.{Row}
-use Rattle.tree_core.specs.declared.effect.Event.{Event}
+use Rattle.svscan_core.specs.declared.event.Event.{Event}
 use Rattle.tree_core.specs.declared.effect.Match.{Match}
 use Rattle.tree_core.specs.declared.effect.Release.{Release}
 use Rattle.tree_core.specs.declared.hit.Hit.{Hit}
 use Rattle.tree_core.specs.declared.hit.Hit.TheVariants.{Matched, Overlong}
-use Rattle.tree_core.specs.declared.reply.Listed.{Listed}
-use Rattle.tree_core.specs.declared.reply.Listed.TheVariants.{Added, Full}
+use Rattle.svscan_core.specs.declared.entry.Listed.{Listed}
+use Rattle.svscan_core.specs.declared.entry.Listed.TheVariants.{Added, Full, Unread}
 use Rattle.tree_core.specs.declared.reply.Refusal.{Refusal}
 use Rattle.tree_core.specs.declared.reply.Refusal.TheVariants.{NoService, Stale, Reserved, TooMany, NoSuch, Closing, Repeated, Empty, Exists, Ended, Spent}
 use Rattle.tree_core.specs.declared.reply.Reply.{Reply}
@@ -40,10 +40,11 @@ reason Spent = codes "Spent"
 abbrev pub dropped_text : ℕ → List ℕ
 dropped_text sid = codes " -" ++ decimal sid
 
--- a listed name: added under a serial, or without a place
+-- a listed name: added under a serial, without a place, or not read
 abbrev pub listed_text : Listed → List ℕ
 listed_text (Added sid name) = (codes " +" ++ (decimal sid ++ (58 ∷ []))) ++ name
 listed_text (Full name) = codes " full:" ++ name
+listed_text (Unread name) = codes " unread:" ++ name
 
 -- a truth value
 abbrev pub truth_text : Bool → List ℕ

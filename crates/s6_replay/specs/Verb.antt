@@ -5,14 +5,17 @@ use Rattle.s6_events.specs.declared.exit.Exit.{Exit}
 use Rattle.s6_events.specs.declared.exit.Exit.TheVariants.{Code, Killed}
 use Rattle.svc_commands.specs.ControlLetter.{byte_of}
 use Rattle.tree_core.specs.declared.input.Act.{Act}
-use Rattle.tree_core.specs.declared.input.Act.TheVariants.{Scan, Svc, Started, StartFailed, Notify, Death, FinishEnded, Status, Tick}
+use Rattle.svscan_core.specs.declared.entry.ScanOrder.{ScanOrder}
+use Rattle.svscan_core.specs.declared.entry.ScanOrder.TheVariants.{Nuke, Terminate}
+use Rattle.tree_core.specs.declared.input.Act.TheVariants.{Scan, Scanctl, Svc, Started, StartFailed, Notify, Death, FinishEnded, Status, Tick}
 use Rattle.s6_replay.specs.declared.parse.Verb.{Verb}
-use Rattle.s6_replay.specs.declared.parse.Verb.TheVariants.{Scan as ScanVerb, Svc as SvcVerb, Started as StartedVerb, StartFailed as StartFailedVerb, Notify as NotifyVerb, Death as DeathVerb, Finished as FinishedVerb, Status as StatusVerb, Tick as TickVerb}
+use Rattle.s6_replay.specs.declared.parse.Verb.TheVariants.{Scan as ScanVerb, Scanctl as ScanctlVerb, Svc as SvcVerb, Started as StartedVerb, StartFailed as StartFailedVerb, Notify as NotifyVerb, Death as DeathVerb, Finished as FinishedVerb, Status as StatusVerb, Tick as TickVerb}
 use Rattle.s6_replay.specs.Options.{entry_text}
 
 -- the word of a verb
 abbrev pub verb_word : Verb → List ℕ
 verb_word ScanVerb = codes "scan"
+verb_word ScanctlVerb = codes "scanctl"
 verb_word SvcVerb = codes "svc"
 verb_word StartedVerb = codes "started"
 verb_word StartFailedVerb = codes "startfailed"
@@ -25,6 +28,7 @@ verb_word TickVerb = codes "tick"
 -- the verb of an act
 abbrev pub verb_of_act : {A : Type 0} → Act A → Verb
 verb_of_act (Scan listing) = ScanVerb
+verb_of_act (Scanctl order) = ScanctlVerb
 verb_of_act (Svc name letters) = SvcVerb
 verb_of_act (Started sid generation pid) = StartedVerb
 verb_of_act (StartFailed sid generation) = StartFailedVerb
@@ -39,9 +43,15 @@ abbrev pub exit_words : Exit → List (List ℕ)
 exit_words (Code n) = codes "code" ∷ decimal n ∷ []
 exit_words (Killed n) = codes "signal" ∷ decimal n ∷ []
 
+-- the letter of what is ordered of all services, as on the command line
+abbrev pub order_word : ScanOrder → List ℕ
+order_word Nuke = codes "n"
+order_word Terminate = codes "t"
+
 -- the words of an act behind its verb
 abbrev pub details : {A : Type 0} → Act A → List (List ℕ)
 details (Scan listing) = map entry_text listing
+details (Scanctl order) = order_word order ∷ []
 details (Svc name letters) = name ∷ map byte_of letters.items ∷ []
 details (Started sid generation pid) = decimal sid ∷ decimal generation ∷ decimal pid ∷ []
 details (StartFailed sid generation) = decimal sid ∷ decimal generation ∷ []

@@ -1,11 +1,11 @@
 //! The entries of a scan: what a configuration sets that isn't at its default, how an entry is spelled, and how it is read.
-ghost use Rattle.std.specs.Prelude.{◌≡◌, ◌≢◌, ◌++◌, ◌∷◌, ℕ, ◌+◌, ◌≤◌, List, length, map, decimal, string_bytes, IsTrue, IfOk, OnOk, MatchOption, All};
+ghost use Rattle.std.specs.Prelude.{◌≡◌, ◌≢◌, ◌++◌, ◌∷◌, ℕ, ◌+◌, ◌≤◌, List, length, map, codes, decimal, string_bytes, IsTrue, IfOk, OnOk, MatchOption, All};
 ghost use Rattle.std.specs.List.{slice_split, flat_map};
 ghost use Rattle.servicedir.specs.Config.{is_served};
 ghost use Rattle.servicedir.specs.declared.config.Config.{Config};
-ghost use Rattle.tree_core.specs.declared.input.Entry.{Entry};
+ghost use Rattle.svscan_core.specs.declared.entry.Entry.{Entry};
 ghost use Rattle.s6_replay.specs.declared.entry_options.Setting.{Setting};
-ghost use Rattle.s6_replay.specs.Options.{where_so, settings, with_setting, option_word, option_words, behind_name, entry_text, ends_part, IsSetting, IsConfig, IsEntry};
+ghost use Rattle.s6_replay.specs.Options.{where_so, settings, with_setting, option_word, option_words, behind_name, entry_text, ends_part, config_text, IsSetting, IsConfig, IsEntry};
 
 use super::words::{is_word, name_of, number, word_at, words_from};
 use arrayvec::ArrayVec;
@@ -129,6 +129,21 @@ fn push_options<A: Allocator + Copy>(
     Ok(())
 }
 
+// Adds the options of the configuration, or `!` where none was read.
+fn push_config<A: Allocator + Copy>(
+    alloc: A,
+    text: &mut Vec<u8, A>,
+    config: &Option<Config>,
+) -> Result<(), AllocError>
+    ensures { OnOk result (text.new.items ≡ text.old.items ++ config_text config.now) }
+{
+    match config {
+        None => text.push(b'!')?,
+        Some(config) => push_options(alloc, text, settings_of(config).as_slice())?,
+    }
+    Ok(())
+}
+
 // Adds the entry.
 fn push_entry<A: Allocator + Copy>(
     alloc: A,
@@ -138,8 +153,7 @@ fn push_entry<A: Allocator + Copy>(
     ensures { OnOk result (text.new.items ≡ text.old.items ++ entry_text entry.now) }
 {
     text.extend_from_slice(entry.name.as_bytes())?;
-    let settings = settings_of(&entry.config);
-    push_options(alloc, text, settings.as_slice())
+    push_config(alloc, text, &entry.config)
 }
 
 // Adds each entry behind a space.
@@ -232,15 +246,31 @@ fn parts_of<A: Allocator + Copy>(alloc: A, word: &[u8]) -> Result<Vec<&[u8], A>,
     word.split(|b| *b == b':' || *b == b',').collect(alloc)
 }
 
+// The name of an entry whose directory couldn't be read: what stands before its `!`.
+fn unread_name(word: &[u8]) -> Option<&[u8]>
+    ensures { MatchOption result ((name : List ℕ) → word.now ≢ name ++ codes "!") (λ name. word.now ≡ name.now ++ codes "!") }
+{
+    word.strip_suffix(b"!")
+}
+
 // Reads an entry.
 fn entry_of<A: Allocator + Copy>(alloc: A, word: &[u8]) -> Result<Entry, AllocError>
     ensures spelled { IfOk result (λ found. (e : Entry) → IsEntry e → word.now ≡ entry_text e → found ≡ e) }
     ensures fits { IfOk result IsEntry }
 {
+    if let Some(name) = unread_name(word) {
+        return Ok(Entry {
+            name: name_of(name),
+            config: None,
+        });
+    }
     let parts = parts_of(alloc, word)?;
     let name = name_of(word_at(parts.as_slice(), 0));
     let config = config_of(words_from(parts.as_slice(), 1));
-    Ok(Entry { name, config })
+    Ok(Entry {
+        name,
+        config: Some(config),
+    })
 }
 
 // Reads entries.

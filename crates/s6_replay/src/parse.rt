@@ -6,7 +6,8 @@ ghost use Rattle.hex.specs.Hex.{IsBytes, encode_lower};
 ghost use Rattle.s6_replay.specs.Spelling.{IsSpelt, IsExit, IsAct, Spells, input_words};
 ghost use Rattle.svc_commands.specs.ControlLetter.{byte_of};
 ghost use Rattle.svc_commands.specs.declared.control_letter.ControlLetter.{ControlLetter};
-ghost use Rattle.s6_replay.specs.Verb.{exit_words, verb_word, verb_of_act, details};
+ghost use Rattle.s6_replay.specs.Verb.{exit_words, order_word, verb_word, verb_of_act, details};
+ghost use Rattle.svscan_core.specs.declared.entry.ScanOrder.{ScanOrder};
 
 use super::entry_options::entries_of;
 use super::spelling::spell;
@@ -16,7 +17,7 @@ use s6_events::{Actor, At, Exit, Sid};
 use std::alloc::{AllocError, Allocator};
 use svc_commands::{ControlLetter, Letters};
 use thiserror::Error;
-use tree_core::{Act, Input, Listing};
+use tree_core::{Act, Input, Listing, ScanOrder};
 
 /// Why a line is no input.
 #[derive(Clone, Copy, Debug, PartialEq, Eq, Error)]
@@ -46,6 +47,7 @@ impl From<AllocError> for LineFault {
 #[derive(Clone, Copy, Debug, PartialEq, Eq)]
 pub enum Verb {
     Scan,
+    Scanctl,
     Svc,
     Started,
     StartFailed,
@@ -74,6 +76,8 @@ fn verb_of(word: &[u8]) -> Verb
 {
     if is_word(word, b"scan") {
         Verb::Scan
+    } else if is_word(word, b"scanctl") {
+        Verb::Scanctl
     } else if is_word(word, b"svc") {
         Verb::Svc
     } else if is_word(word, b"started") {
@@ -90,6 +94,17 @@ fn verb_of(word: &[u8]) -> Verb
         Verb::Status
     } else {
         Verb::Tick
+    }
+}
+
+// Reads what is ordered of all services.
+fn order_of(word: &[u8]) -> ScanOrder
+    ensures { (order : ScanOrder) → word.now ≡ order_word order → result ≡ order }
+{
+    if is_word(word, b"n") {
+        ScanOrder::Nuke
+    } else {
+        ScanOrder::Terminate
     }
 }
 
@@ -168,6 +183,7 @@ fn act_of<A: Allocator + Copy>(alloc: A, verb: Verb, words: &[&[u8]]) -> Result<
     let exit = exit_of(third, word_at(words, 3));
     match verb {
         Verb::Scan => Ok(Act::Scan(Listing::new(entries_of(alloc, words)?))),
+        Verb::Scanctl => Ok(Act::Scanctl(order_of(word_at(words, 0)))),
         Verb::Svc => Ok(Act::Svc(name, letters_of(word_at(words, 1)))),
         Verb::Started => Ok(Act::Started(sid, generation, process_of(third))),
         Verb::StartFailed => Ok(Act::StartFailed(sid, generation)),

@@ -10,7 +10,7 @@ use super::fault::ReplayFault;
 use super::turn::{Turn, take_turn};
 use std::alloc::Allocator;
 use std::io::{BufRead, Read, Write};
-use tree_core::Tree;
+use tree_core::{Effect, Tree};
 
 /// The most input lines of a script.
 const INPUT_LIMIT: u64 = 1_000_000;
@@ -73,9 +73,18 @@ pub fn run<A: Allocator + Copy, R: BufRead, W: Write>(
     }
     let mut tree = Tree::new(alloc);
     let mut line = Vec::new(alloc);
+    let mut effect = Effect::new(alloc);
     let mut counts = Counts::none();
     for done in 0..INPUT_LIMIT {
-        match take_turn(alloc, reader, writer, &mut tree, &mut line, done + 1) {
+        match take_turn(
+            alloc,
+            reader,
+            writer,
+            &mut tree,
+            &mut line,
+            &mut effect,
+            done + 1,
+        ) {
             Err(fault) => return Err(fault),
             Ok(Turn::End) => return Ok(counts),
             Ok(Turn::Done { events, orders }) => counts = counts.with_input(events, orders),

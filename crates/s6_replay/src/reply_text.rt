@@ -69,6 +69,10 @@ fn push_listed<A: Allocator + Copy>(
             text.extend_from_slice(b" full:")?;
             text.extend_from_slice(name.as_bytes())?;
         }
+        Listed::Unread(name) => {
+            text.extend_from_slice(b" unread:")?;
+            text.extend_from_slice(name.as_bytes())?;
+        }
     }
     Ok(())
 }

@@ -11,7 +11,7 @@ use super::entry_options::push_entries;
 use s6_events::{Exit, Name, Sid};
 use std::alloc::{AllocError, Allocator};
 use svc_commands::ControlLetter;
-use tree_core::{Act, Entry, Input};
+use tree_core::{Act, Entry, Input, ScanOrder};
 
 // Adds the byte of each letter.
 fn push_letters<A: Allocator + Copy>(
@@ -82,6 +82,8 @@ fn act_text<A: Allocator + Copy>(alloc: A, act: &Act<A>) -> Result<Vec<u8, A>, A
 {
     match act {
         Act::Scan(listing) => scan_text(alloc, listing.entries()),
+        Act::Scanctl(ScanOrder::Nuke) => b"scanctl n".to_vec(alloc),
+        Act::Scanctl(ScanOrder::Terminate) => b"scanctl t".to_vec(alloc),
         Act::Svc(name, letters) => svc_text(alloc, name, letters.as_slice()),
         Act::Started(sid, generation, pid) => {
             let sid = sid.0;

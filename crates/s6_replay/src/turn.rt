@@ -8,7 +8,7 @@ use super::line::{Ended, ReadFault, read_line};
 use super::parse::{LineFault, parse_line};
 use std::alloc::Allocator;
 use std::io::{BufRead, Write};
-use tree_core::{Input, Tree};
+use tree_core::{Effect, Input, Tree};
 
 // What one turn did.
 #[derive(Clone, Copy, Debug, PartialEq, Eq)]
@@ -50,10 +50,11 @@ fn read_input<A: Allocator + Copy, R: BufRead>(
     }
 }
 
-// Applies an input, and writes its block under its number. Answers how many events and orders it gave.
+// Applies an input, and writes its block under its number. Answers how many events and orders it gave. What was in the effect is gone.
 fn answer_input<A: Allocator + Copy, W: Write>(
     alloc: A,
     tree: &mut Tree<A>,
+    effect: &mut Effect<A>,
     writer: &mut W,
     input: Input<A>,
     input_number: u64,
@@ -62,14 +63,14 @@ fn answer_input<A: Allocator + Copy, W: Write>(
     ensures ok { IfOk result (λ given. IsAnswered given.0 given.1 input_number tree.old tree.new input
         (W.contents writer.old) (W.contents writer.new)) }
 {
-    let Ok(effect) = tree.apply(input) else {
+    let Ok(()) = tree.apply_into(input, effect) else {
         return Err(ReplayFault::NoMemory);
     };
     let given = (
         effect.events.as_slice().len(),
         effect.orders.as_slice().len(),
     );
-    match write_effect(alloc, input_number, &effect, writer) {
+    match write_effect(alloc, input_number, effect, writer) {
         Ok(()) => Ok(given),
         Err(WriteFault::Write) => Err(ReplayFault::Write),
         Err(WriteFault::NoMemory) => Err(ReplayFault::NoMemory),
@@ -83,6 +84,7 @@ pub fn take_turn<A: Allocator + Copy, R: BufRead, W: Write>(
     writer: &mut W,
     tree: &mut Tree<A>,
     line: &mut Vec<u8, A>,
+    effect: &mut Effect<A>,
     input_number: u64,
 ) -> Result<Turn, ReplayFault>
     requires { input_number + 1 < 2 ^ 64 }
@@ -94,6 +96,6 @@ pub fn take_turn<A: Allocator + Copy, R: BufRead, W: Write>(
     let Some(input) = read_input(alloc, reader, line, input_number)? else {
         return Ok(Turn::End);
     };
-    let (events, orders) = answer_input(alloc, tree, writer, input, input_number)?;
+    let (events, orders) = answer_input(alloc, tree, effect, writer, input, input_number)?;
     Ok(Turn::Done { events, orders })
 }

@@ -1,22 +1,52 @@
 -- What a contract sees of a service, and the histories that agree with it.
-use Rattle.std.specs.Prelude.{◌≡◌, ℕ, ◌++◌, List}
+use Rattle.std.specs.Prelude.{◌≡◌, ℕ, ◌++◌, List, Bool, false, Option, None, Some}
+use Rattle.death_tally.specs.LastDeaths.{Deaths, with_death}
+use Rattle.s6_events.specs.declared.exit.Exit.{Exit}
 use Rattle.s6_events.specs.declared.mark.Mark.{Mark}
 use Rattle.s6_events.specs.declared.moment.Moment.{Moment}
 use Rattle.s6_events.specs.Clock.{clock_of}
+use Rattle.supervise_core.specs.declared.change.Change.{Change}
+use Rattle.supervise_core.specs.declared.change.Change.TheVariants.{Death}
 use Rattle.supervise_core.specs.declared.chart.ChartState.{ChartState}
 use Rattle.supervise_core.specs.declared.status.Status.{Status}
 use Rattle.supervise_core.specs.Status.{Agrees, events_of}
 
--- its state, and what it stores of its marks
+-- its state, what it stores of its marks, and its tally
 pub record Supervised : Type 0 where
   pub chart : ChartState
   pub status : Status
+  pub tally : Deaths
 
--- a history agrees with all that the service stores of its marks
+-- what stands of it beside its tally
+pub record Stands : Type 0 where
+  pub chart : ChartState
+  pub status : Status
+
+abbrev pub stands_of : Supervised → Stands
+stands_of s = record { chart = s.chart; status = s.status }
+
+-- the death of a change that was not stale
+abbrev pub death_by : Change → Bool → ℕ → Option (ℕ × Exit)
+death_by (Death generation exit) false now = Some (now, exit)
+death_by change stale now = None
+
+-- the tally, with a death more where there is one
+abbrev pub joined : Deaths → Option (ℕ × Exit) → Deaths
+joined tally None = tally
+joined tally (Some death) = with_death tally death
+
+-- the service takes over this state and this status, and a death joins its tally
+abbrev pub adopted : Stands → Option (ℕ × Exit) → Supervised → Supervised
+adopted standing death s = record { chart = standing.chart; status = standing.status; tally = joined s.tally death }
+
+-- a history agrees with all that is stored of the marks
+abbrev pub AgreesAs : Stands → List Moment → Type 0
+AgreesAs s history = Agrees s.chart.sid s.status history
+
 abbrev pub AgreesWith : Supervised → List Moment → Type 0
-AgreesWith s history = Agrees s.chart.sid s.status history
+AgreesWith s history = AgreesAs (stands_of s) history
 
 -- whatever history agreed before, at this moment, agrees again once the marks have joined it
-abbrev pub KeepsAgreeing : ℕ → List Mark → Supervised → Supervised → Type 0
+abbrev pub KeepsAgreeing : ℕ → List Mark → Stands → Stands → Type 0
 KeepsAgreeing now marks old new =
-    (history : List Moment) → clock_of history ≡ now → AgreesWith old history → AgreesWith new (history ++ events_of old.chart.sid marks)
+    (history : List Moment) → clock_of history ≡ now → AgreesAs old history → AgreesAs new (history ++ events_of old.chart.sid marks)

@@ -1,5 +1,8 @@
+ghost use Rattle.std.specs.Prelude.{◌≡◌};
+ghost use Rattle.supervise_core.specs.Service.{death_by};
+
 use arrayvec::ArrayVec;
-use s6_events::Exit;
+use s6_events::{At, Exit};
 use servicedir::Config;
 use svc_commands::Letters;
 
@@ -24,4 +27,16 @@ pub enum Change {
     SetConfig(Config),
     /// Its directory is listed, or no longer listed.
     SetActive(bool),
+}
+
+impl Change {
+    /// The death that joins the tally of a service by this change, at this moment: that of a report that was not stale.
+    pub fn death(&self, stale: bool, now: At) -> Option<(At, Exit)>
+        ensures { result ≡ death_by self.now stale now }
+    {
+        match self {
+            Change::Death(_, exit) if !stale => Some((now, *exit)),
+            _ => None,
+        }
+    }
 }

@@ -7,7 +7,9 @@ ghost use Rattle.supervise_core.specs.MatchesMove.{MatchesMove};
 ghost use Rattle.supervise_core.specs.EventGrammar.{LeadsTo};
 ghost use Rattle.s6_events.specs.declared.mark.Mark.{Mark};
 ghost use Rattle.supervise_core.specs.Status.{events_of};
-ghost use Rattle.supervise_core.specs.Service.{AgreesWith, KeepsAgreeing};
+ghost use Rattle.death_tally.specs.LastDeaths.{new_tally};
+ghost use Rattle.supervise_core.specs.declared.change.Change.TheVariants.{Death};
+ghost use Rattle.supervise_core.specs.Service.{AgreesWith, KeepsAgreeing, adopted, death_by, joined, stands_of};
 ghost use Rattle.supervise_core.specs.StatusRow.{status_row};
 
 use super::change::Change;
@@ -16,52 +18,56 @@ use super::out::Out;
 use super::row::Row;
 use super::standing::Standing;
 use super::status::Status;
+use death_tally::Tally;
 use s6_events::{At, Exit, Name, NoMemory, Sid};
 use servicedir::Config;
 use std::alloc::Allocator;
 use std::marker::Model;
 use svc_commands::Letters;
 
-/// A service under its supervisor. No change of it takes memory.
+/// A service under its supervisor, with its last deaths. No change of it takes memory.
 #[derive(Drop)]
-pub struct Service {
+pub struct Service<A: Allocator> {
     chart: ChartState,
     status: Status,
+    tally: Tally<A>,
 }
 
-impl Model for Service {
+impl<A: Allocator> Model for Service<A> {
     ghost use Rattle.supervise_core.specs.Service.{Supervised};
 
     ghost Value = { Supervised };
 
-    ghost view = { λ s. record { chart = s.chart; status = s.status } };
+    ghost view = { λ s. record { chart = s.chart; status = s.status; tally = s.tally } };
 }
 
-impl Service {
-    /// A new active service, whose supervisor starts: mark `s`, and the first run is ordered unless the directory has `down`.
-    /// `NoMemory` where the memory of its tally is refused. Page `s6-supervise`, "Detailed operation".
-    pub fn begin<A: Allocator + Copy>(
-        _alloc: A,
+impl<A: Allocator + Copy> Service<A> {
+    /// A new active service, whose supervisor starts: mark `s`, and the first run is ordered unless the directory has `down`. It takes
+    /// the memory of its tally, for as many deaths as the configuration says. `NoMemory` where that is refused. Page `s6-supervise`,
+    /// "Detailed operation", and `servicedir`, `max-death-tally`.
+    pub fn begin(
+        alloc: A,
         sid: Sid,
         name: Name,
         config: Config,
         _now: At,
-    ) -> Result<(Service, Out), NoMemory>
+    ) -> Result<(Service<A>, Out), NoMemory>
         ensures gives { IfOk result (λ made. MatchesMove (begin_supervisor (new_service sid name config)) made.0.chart made.1) }
+        ensures tally { IfOk result (λ made. made.0.tally ≡ new_tally config.max_death_tally) }
         ensures grammar { IfOk result (λ made. LeadsTo made.1.events.items made.0.chart) }
         ensures agrees { (history : List Moment) → IfOk result (λ made. AgreesWith made.0 (history ++ events_of sid made.1.events.items)) }
     {
+        let tally = Tally::new(alloc, config.max_death_tally)?;
         let (chart, out) = ChartState::begin(sid, name, config);
-        Ok((Service::holding(chart, Status::new()), out))
-    }
-
-    /// A service in this state, of whose marks this is stored: what it is after changes that were made to copies of both. A history
-    /// agrees with it only where the letter that is stored is one of `u`, `U`, `d` and `D`.
-    pub fn holding(chart: ChartState, status: Status) -> Service
-        ensures chart { result.chart ≡ chart }
-        ensures status { result.status ≡ status }
-    {
-        Service { chart, status }
+        let status = Status::new();
+        Ok((
+            Service {
+                chart,
+                status,
+                tally,
+            },
+            out,
+        ))
     }
 
     /// Its state without its deaths, which takes the same changes.
@@ -94,19 +100,36 @@ impl Service {
         *status
     }
 
+    /// Its last deaths, as many as it keeps at most. Page `servicedir`, `max-death-tally`.
+    pub fn tally(&self) -> &Tally<A>
+        ensures { result.now ≡ self.now.tally }
+    {
+        &self.tally
+    }
+
     /// Its state and what it stores of its marks, in a copy that takes the same changes.
     pub fn standing(&self) -> Standing
-        ensures { result ≡ self.now }
+        ensures { result ≡ stands_of self.now }
     {
         Standing::new(self.chart, self.status)
     }
 
-    /// Takes this state and this status, which were made from its own by changes.
-    pub fn adopt(&mut self, standing: Standing)
-        ensures { self.new ≡ standing }
+    // A death joins the tally, where there is one.
+    fn join(&mut self, death: Option<(At, Exit)>)
+        ensures { self.new ≡ record self.old { tally = joined self.old.tally death } }
+    {
+        if let Some((at, exit)) = death {
+            self.tally.add(at, exit);
+        }
+    }
+
+    /// Takes this state and this status, which were made from its own by changes, and the death that these reported, if they did.
+    pub fn adopt(&mut self, standing: Standing, death: Option<(At, Exit)>)
+        ensures { self.new ≡ adopted standing death self.old }
     {
         self.chart = standing.chart();
         self.status = standing.status();
+        self.join(death);
     }
 
     /// Its status row: that of each history which agrees with what it stores. Page `s6-svstat`.
@@ -119,7 +142,8 @@ impl Service {
     /// `run` of this generation was spawned: mark `u`. Stale unless its start was under way. Page `s6-supervise`, "Events".
     pub fn started(&mut self, generation: u64, pid: u32, now: At) -> Out
         ensures gives { MatchesMove (started_move generation pid now self.old.chart) self.new.chart result }
-        ensures agrees { KeepsAgreeing now result.events.items self.old self.new }
+        ensures tally { self.new.tally ≡ self.old.tally }
+        ensures agrees { KeepsAgreeing now result.events.items (stands_of self.old) (stands_of self.new) }
     {
         let out = self.chart.started(generation, pid, now);
         self.status.record_marks(out.events.as_slice(), now);
@@ -132,7 +156,8 @@ impl Service {
     pub fn start_failed(&mut self, generation: u64, now: At) -> Out
         requires { self.old.chart.generation + 1 < 2 ^ 64 }
         ensures gives { MatchesMove (start_failed_move generation now self.old.chart) self.new.chart result }
-        ensures agrees { KeepsAgreeing now result.events.items self.old self.new }
+        ensures tally { self.new.tally ≡ self.old.tally }
+        ensures agrees { KeepsAgreeing now result.events.items (stands_of self.old) (stands_of self.new) }
     {
         let out = self.chart.start_failed(generation, now);
         self.status.record_marks(out.events.as_slice(), now);
@@ -143,7 +168,8 @@ impl Service {
     /// up. Page `notifywhenup`.
     pub fn notify(&mut self, generation: u64, bytes: &[u8], now: At) -> Out
         ensures gives { MatchesMove (notified_move generation bytes.now now self.old.chart) self.new.chart result }
-        ensures agrees { KeepsAgreeing now result.events.items self.old self.new }
+        ensures tally { self.new.tally ≡ self.old.tally }
+        ensures agrees { KeepsAgreeing now result.events.items (stands_of self.old) (stands_of self.new) }
     {
         let out = self.chart.notify(generation, bytes, now);
         self.status.record_marks(out.events.as_slice(), now);
@@ -155,10 +181,12 @@ impl Service {
     pub fn death(&mut self, generation: u64, exit: Exit, now: At) -> Out
         requires { self.old.chart.generation + 1 < 2 ^ 64 }
         ensures gives { MatchesMove (death_move generation exit now self.old.chart) self.new.chart result }
-        ensures agrees { KeepsAgreeing now result.events.items self.old self.new }
+        ensures tally { self.new.tally ≡ joined self.old.tally (death_by (Death generation exit) result.stale now) }
+        ensures agrees { KeepsAgreeing now result.events.items (stands_of self.old) (stands_of self.new) }
     {
         let out = self.chart.death(generation, exit, now);
         self.status.record_marks(out.events.as_slice(), now);
+        self.join(Change::Death(generation, exit).death(out.stale, now));
         out
     }
 
@@ -167,7 +195,8 @@ impl Service {
     pub fn finish_ended(&mut self, generation: u64, exit: Exit, now: At) -> Out
         requires { self.old.chart.generation + 1 < 2 ^ 64 }
         ensures gives { MatchesMove (finish_ended_move generation exit now self.old.chart) self.new.chart result }
-        ensures agrees { KeepsAgreeing now result.events.items self.old self.new }
+        ensures tally { self.new.tally ≡ self.old.tally }
+        ensures agrees { KeepsAgreeing now result.events.items (stands_of self.old) (stands_of self.new) }
     {
         let out = self.chart.finish_ended(generation, exit, now);
         self.status.record_marks(out.events.as_slice(), now);
@@ -179,7 +208,8 @@ impl Service {
     pub fn control(&mut self, letters: &Letters, now: At) -> Out
         requires { self.old.chart.generation + 1 < 2 ^ 64 }
         ensures gives { MatchesMove (control_move letters.now.items now self.old.chart) self.new.chart result }
-        ensures agrees { KeepsAgreeing now result.events.items self.old self.new }
+        ensures tally { self.new.tally ≡ self.old.tally }
+        ensures agrees { KeepsAgreeing now result.events.items (stands_of self.old) (stands_of self.new) }
     {
         let out = self.chart.control(letters, now);
         self.status.record_marks(out.events.as_slice(), now);
@@ -190,7 +220,8 @@ impl Service {
     pub fn fire(&mut self, now: At) -> Out
         requires { self.old.chart.generation + 1 < 2 ^ 64 }
         ensures gives { MatchesMove (fire_move now self.old.chart) self.new.chart result }
-        ensures agrees { KeepsAgreeing now result.events.items self.old self.new }
+        ensures tally { self.new.tally ≡ self.old.tally }
+        ensures agrees { KeepsAgreeing now result.events.items (stands_of self.old) (stands_of self.new) }
     {
         let out = self.chart.fire(now);
         self.status.record_marks(out.events.as_slice(), now);
@@ -202,17 +233,20 @@ impl Service {
     pub fn change(&mut self, change: &Change, now: At) -> Out
         requires { self.old.chart.generation + 1 < 2 ^ 64 }
         ensures gives { MatchesMove (changed_by change.now now self.old.chart) self.new.chart result }
+        ensures tally { self.new.tally ≡ joined self.old.tally (death_by change.now result.stale now) }
         ensures grammar { (marks : List Mark) → LeadsTo marks self.old.chart → LeadsTo (marks ++ result.events.items) self.new.chart }
-        ensures agrees { KeepsAgreeing now result.events.items self.old self.new }
+        ensures agrees { KeepsAgreeing now result.events.items (stands_of self.old) (stands_of self.new) }
     {
         let out = self.chart.change(change, now);
         self.status.record_marks(out.events.as_slice(), now);
+        self.join(change.death(out.stale, now));
         out
     }
 
     /// Its directory is listed, or no longer listed. Page `s6-svscan`.
     pub fn set_active(&mut self, active: bool, now: At) -> Out
         ensures gives { MatchesMove (still (with_activity active now self.old.chart)) self.new.chart result }
+        ensures tally { self.new.tally ≡ self.old.tally }
         ensures agrees { (history : List Moment) → AgreesWith self.old history → AgreesWith self.new history }
     {
         self.chart.set_active(active, now);
@@ -222,6 +256,7 @@ impl Service {
     /// Its directory was read again, and says this now; the number of deaths that are kept stays as it was. Page `servicedir`.
     pub fn set_config(&mut self, config: Config) -> Out
         ensures gives { MatchesMove (still (with_config config self.old.chart)) self.new.chart result }
+        ensures tally { self.new.tally ≡ self.old.tally }
         ensures agrees { (history : List Moment) → AgreesWith self.old history → AgreesWith self.new history }
     {
         self.chart.set_config(config);

@@ -20,9 +20,9 @@ pub struct Standing {
 }
 
 impl Model for Standing {
-    ghost use Rattle.supervise_core.specs.Service.{Supervised};
+    ghost use Rattle.supervise_core.specs.Service.{Stands};
 
-    ghost Value = { Supervised };
+    ghost Value = { Stands };
 
     ghost view = { λ s. record { chart = s.chart; status = s.status } };
 

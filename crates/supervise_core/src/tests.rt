@@ -4,6 +4,7 @@ use super::*;
 use arrayvec::ArrayVec;
 use s6_events::{At, Exit, Mark, Name, Order, Sid};
 use servicedir::Config;
+use std::alloc::Global;
 use std::process::Abort;
 use std::test::Fail;
 use svc_commands::{ControlLetter, Letters};
@@ -34,7 +35,7 @@ fn gives(rt: &impl Abort, out: &Out, now: u64, marks: &[Mark], orders: &[Order],
 }
 
 // Takes a change by the call that is named after it.
-fn take(service: &mut Service, change: &Change, now: At) -> Out
+fn take(service: &mut Service<Global>, change: &Change, now: At) -> Out
     requires { service.old.chart.generation + 1 < 2 ^ 64 }
 {
     match change {
@@ -53,8 +54,8 @@ fn take(service: &mut Service, change: &Change, now: At) -> Out
 // Takes the changes in turn: one service by `change`, the other by the call of each.
 fn play(
     rt: &impl Abort,
-    service: &mut Service,
-    other: &mut Service,
+    service: &mut Service<Global>,
+    other: &mut Service<Global>,
     steps: &[Step<'_>],
 ) -> Result<(), Fail> {
     for (now, change, marks, orders, stale) in steps {
@@ -67,22 +68,15 @@ fn play(
     Ok(())
 }
 
-#[test]
-fn a_service_takes_each_change(rt: HostRuntime) -> Result<(), Fail> {
-    let web = Name::new(b"web").ok_or("web")?;
-    let config = Config {
-        finish: true,
-        notification_fd: Some(3),
-        timeout_kill: 500,
-        ..Config::plain()
-    };
-    let first = [Order::Run(Sid(1), 1, web, Some(3))];
-    let (mut service, out) = Service::begin(rt.alloc(), Sid(1), web, config, at(0)?)?;
-    gives(&rt, &out, 0, &[Mark::SupervisorStarted], &first, false);
-    let (mut other, _) = Service::begin(rt.alloc(), Sid(1), web, config, at(0)?)?;
-
+// Two services that began so take changes until they are ready; the row of one of them then.
+fn play_to_ready(
+    rt: &impl Abort,
+    web: Name,
+    service: &mut Service<Global>,
+    other: &mut Service<Global>,
+) -> Result<Row, Fail> {
     let second = [Order::Run(Sid(1), 2, web, Some(3))];
-    let to_ready: [Step<'_>; 6] = [
+    let steps: [Step<'_>; 6] = [
         (0, Change::StartFailed(1), &[], &[], false),
         (59999, Change::Fire, &[], &[], false),
         (60000, Change::Fire, &[], &second, false),
@@ -90,7 +84,7 @@ fn a_service_takes_each_change(rt: HostRuntime) -> Result<(), Fail> {
         (60010, Change::Started(2, 501), &[], &[], true),
         (60100, notify(2, b"a\n\n")?, &[Mark::Ready], &[], false),
     ];
-    play(&rt, &mut service, &mut other, &to_ready)?;
+    play(rt, service, other, &steps)?;
     let row = Row {
         sid: Sid(1),
         name: web,
@@ -105,29 +99,29 @@ fn a_service_takes_each_change(rt: HostRuntime) -> Result<(), Fail> {
         ready_for: Some(0),
     };
     assert_eq!(rt; service.row(at(61099)?), row);
+    Ok(row)
+}
 
+// From there they go on until the next supervisor has started.
+fn play_to_the_next_supervisor(
+    rt: &impl Abort,
+    web: Name,
+    service: &mut Service<Global>,
+    other: &mut Service<Global>,
+) -> Result<(), Fail> {
     let down = [Order::Signal(Sid(1), 2, 15), Order::Signal(Sid(1), 2, 18)];
     let kill = [Order::Signal(Sid(1), 2, 9)];
     let finish = [Order::Finish(Sid(1), 2, web, 256, 9)];
     let failed = [Mark::PermanentFailure, Mark::FinishDone];
     let third = [Order::Run(Sid(1), 3, web, None)];
-    let to_the_next_supervisor: [Step<'_>; 10] = [
+    let died = Change::Death(2, Exit::Killed(9));
+    let ended = Change::FinishEnded(2, Exit::Code(125));
+    let begun = &[Mark::SupervisorStarted];
+    let steps: [Step<'_>; 10] = [
         (60200, control(ControlLetter::Down)?, &[], &down, false),
         (60700, Change::Fire, &[], &kill, false),
-        (
-            60800,
-            Change::Death(2, Exit::Killed(9)),
-            &[Mark::Died],
-            &finish,
-            false,
-        ),
-        (
-            60900,
-            Change::FinishEnded(2, Exit::Code(125)),
-            &failed,
-            &[],
-            false,
-        ),
+        (60800, died, &[Mark::Died], &finish, false),
+        (60900, ended, &failed, &[], false),
         (60950, Change::SetConfig(Config::plain()), &[], &[], false),
         (
             61000,
@@ -139,24 +133,43 @@ fn a_service_takes_each_change(rt: HostRuntime) -> Result<(), Fail> {
         (61050, Change::SetActive(false), &[], &[], false),
         (61100, Change::SetActive(true), &[], &[], false),
         (62099, Change::Fire, &[], &[], false),
-        (
-            62100,
-            Change::Fire,
-            &[Mark::SupervisorStarted],
-            &third,
-            false,
-        ),
+        (62100, Change::Fire, begun, &third, false),
     ];
-    play(&rt, &mut service, &mut other, &to_the_next_supervisor)?;
+    play(rt, service, other, &steps)?;
+    let deaths = [(at(60800)?, Exit::Killed(9))];
+    assert_eq!(rt;
+        (service.tally().as_slice(), other.tally().as_slice()),
+        (deaths.as_slice(), deaths.as_slice())
+    );
+    Ok(())
+}
+
+#[test]
+fn a_service_takes_each_change(rt: HostRuntime) -> Result<(), Fail> {
+    let web = Name::new(b"web").ok_or("web")?;
+    let start = at(0)?;
+    let end = at(63000)?;
+    let config = Config {
+        finish: true,
+        notification_fd: Some(3),
+        timeout_kill: 500,
+        ..Config::plain()
+    };
+    let first = [Order::Run(Sid(1), 1, web, Some(3))];
+    let (mut service, out) = Service::begin(rt.alloc(), Sid(1), web, config, start)?;
+    gives(&rt, &out, 0, &[Mark::SupervisorStarted], &first, false);
+    let (mut other, _) = Service::begin(rt.alloc(), Sid(1), web, config, start)?;
+    let ready = play_to_ready(&rt, web, &mut service, &mut other)?;
+    play_to_the_next_supervisor(&rt, web, &mut service, &mut other)?;
     let row = Row {
         up: false,
         pid: None,
         exit: Some(Exit::Killed(9)),
         up_down_for: None,
         ready_for: None,
-        ..row
+        ..ready
     };
-    assert_eq!(rt; other.row(at(63000)?), row);
+    assert_eq!(rt; other.row(end), row);
     Ok(())
 }
 
@@ -168,57 +181,59 @@ fn a_service_with_a_file_down_begins_without_a_run(rt: HostRuntime) -> Result<()
     };
     let (service, out) = Service::begin(rt.alloc(), Sid(2), Name::default(), config, at(0)?)?;
     gives(&rt, &out, 0, &[Mark::SupervisorStarted], &[], false);
-    let held = Service::holding(service.chart(), service.status());
     assert_eq!(rt;
-        (held.sid(), held.timer(), held.chart().phase),
+        (service.sid(), service.timer(), service.chart().phase),
         (Sid(2), None, Phase::Down)
     );
     Ok(())
 }
 
-#[test]
-fn a_change_is_added_to_what_is_there(rt: HostRuntime) -> Result<(), Fail> {
-    let (web, log) = (
-        Name::new(b"web").ok_or("web")?,
-        Name::new(b"log").ok_or("log")?,
-    );
-    let (_, mut out) = Service::begin(rt.alloc(), Sid(1), web, Config::plain(), at(0)?)?;
-    let (mut service, _) = Service::begin(rt.alloc(), Sid(2), log, Config::plain(), at(0)?)?;
-    let run = Order::Run(Sid(1), 1, web, None);
+// A start, a stale one and a letter are added to what the beginning of another service gave; then the service takes them over, with a
+// death.
+fn add_changes(
+    rt: &impl Abort,
+    run: Order,
+    service: &mut Service<Global>,
+    out: &mut Out,
+) -> Result<(), Fail> {
     let marks = [Mark::SupervisorStarted, Mark::Spawned];
-    gives(&rt, &out, 0, &marks[..1], &[run], false);
-
+    gives(rt, out, 0, &marks[..1], &[run], false);
     let mut standing = service.standing();
     for (pid, stale) in [(70, false), (71, true)] {
         assert!(rt;
             standing.chart().generation < 9 && out.events.len() < 4 && out.orders.len() < 9
         );
-        standing.change_onto(&Change::Started(1, pid), at(5)?, &mut out);
-        gives(&rt, &out, 5, &marks, &[run], stale);
+        standing.change_onto(&Change::Started(1, pid), at(5)?, out);
+        gives(rt, out, 5, &marks, &[run], stale);
     }
-
     let mut letters = Letters::new();
     letters.try_push(ControlLetter::Hangup).map_err(|_| "h")?;
     let mut chart = standing.chart();
     assert!(rt;
         chart.generation < 9 && out.events.len() < 4 && out.orders.len() < 9 && letters.len() < 9
     );
-    chart.control_onto(&letters, at(6)?, &mut out);
-    gives(
-        &rt,
-        &out,
-        6,
-        &marks,
-        &[run, Order::Signal(Sid(2), 1, 1)],
-        true,
-    );
-
+    chart.control_onto(&letters, at(6)?, out);
+    let hangup = Order::Signal(Sid(2), 1, 1);
+    gives(rt, out, 6, &marks, &[run, hangup], true);
     out.clear();
-    gives(&rt, &out, 7, &[], &[], false);
-    service.adopt(standing);
+    gives(rt, out, 7, &[], &[], false);
+    let death = (at(7)?, Exit::Code(1));
+    service.adopt(standing, Some(death));
     assert_eq!(rt;
         (service.chart().pid, service.status().letter),
         (70, Mark::Spawned)
     );
+    assert_eq!(rt; service.tally().as_slice(), [death].as_slice());
     Ok(())
+}
+
+#[test]
+fn a_change_is_added_to_what_is_there(rt: HostRuntime) -> Result<(), Fail> {
+    let web = Name::new(b"web").ok_or("web")?;
+    let log = Name::new(b"log").ok_or("log")?;
+    let start = at(0)?;
+    let (_, mut out) = Service::begin(rt.alloc(), Sid(1), web, Config::plain(), start)?;
+    let (mut service, _) = Service::begin(rt.alloc(), Sid(2), log, Config::plain(), start)?;
+    let run = Order::Run(Sid(1), 1, web, None);
+    add_changes(&rt, run, &mut service, &mut out)
 }

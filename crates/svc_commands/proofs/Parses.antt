@@ -5,7 +5,7 @@ use Rattle.clap.specs.declared.parser.matches.ArgMatches.{ArgMatches}
 use Rattle.clap.specs.declared.error.Error.{Error}
 use Rattle.clap.specs.declared.error.kind.ErrorKind.{ErrorKind}
 use Rattle.clap.specs.declared.error.kind.ErrorKind.TheVariants as kind
-use Rattle.svc_commands.specs.Matches.{is_simple_app, rows_for, kinds_for, wait_app, listen_app, stat_app}
+use Rattle.svc_commands.specs.Matches.{is_simple_app, rows_for, kinds_for, wait_app, listen_app, stat_app, permafail_app}
 use Rattle.svc_commands.specs.Kinds.{usage_of, IsUsageFault}
 
 some_kind : (k : ErrorKind) (kinds : Kinds) → IsAmong k kinds → kinds ≢ []
@@ -37,7 +37,7 @@ pub fault_is : (app : App) (words : List Text) (e : Error) → is_simple_app app
 unfolding kinds_for is_simple_app
 fault_is app words e is h = as_fault (kind_of e) (fault_of app words) (h (both (is_simple app) (is_simple_and_free app) is).1)
 
--- the three commands are simple
+-- the four commands are simple
 pub wait_is_simple : is_simple_app wait_app ≡ true
 unfolding wait_app is_simple_app
 wait_is_simple = refl
@@ -49,3 +49,7 @@ listen_is_simple = refl
 pub stat_is_simple : is_simple_app stat_app ≡ true
 unfolding stat_app is_simple_app
 stat_is_simple = refl
+
+pub permafail_is_simple : is_simple_app permafail_app ≡ true
+unfolding permafail_app is_simple_app
+permafail_is_simple = refl

@@ -3,7 +3,7 @@ use Rattle.std.specs.Prelude.{◌≡◌, ◌≢◌, ◌⊎◌, ℕ, List, [], �
 use Rattle.std.specs.List.{list_all}
 use Rattle.clap.specs.Words.{Kinds, Row}
 use Rattle.s6_events.specs.Name.{is_name}
-use Rattle.svc_commands.specs.Matches.{condition_count, mode_count, is_empty, is_bad_list, is_bad_number, list_given, name_given, names_of, timeout_given}
+use Rattle.svc_commands.specs.Matches.{condition_count, mode_count, is_empty, is_bad_list, is_bad_number, are_bad_exits, list_given, name_given, names_of, timeout_given, secs_given, count_given, exits_given}
 use Rattle.svc_commands.specs.declared.usage_fault.UsageFault.{UsageFault}
 use Rattle.svc_commands.specs.declared.usage_fault.UsageFault.TheVariants.{Unknown, Missing, TooMany, BadNumber, BadList, BadName, NoMemory}
 
@@ -31,6 +31,15 @@ abbrev pub stat_fault : List Row → Option UsageFault
 stat_fault rows = first_that_holds (
     (is_bad_list (list_given rows), BadList)
     ∷ (is_none (list_given rows) || is_none (name_given rows), Missing)
+    ∷ (not (list_all is_name (option_to_list (name_given rows))), BadName)
+    ∷ [])
+
+-- the fault of what permafailon was told, where clap took it
+abbrev pub permafail_fault : List Row → Option UsageFault
+permafail_fault rows = first_that_holds (
+    (is_bad_number (secs_given rows) || is_bad_number (count_given rows), BadNumber)
+    ∷ (are_bad_exits (exits_given rows), BadList)
+    ∷ (is_none (name_given rows) || is_none (secs_given rows) || is_none (count_given rows) || is_none (exits_given rows), Missing)
     ∷ (not (list_all is_name (option_to_list (name_given rows))), BadName)
     ∷ [])
 

@@ -1,4 +1,4 @@
--- The command lines of svwait, svlisten and svstat: what clap is told of them, and what is read from its matches.
+-- The command lines of svwait, svlisten, svstat and permafailon: what clap is told of them, and what is read from its matches.
 use Rattle.std.specs.Prelude.{ℕ, List, [], ◌+◌, ◌==◌, ◌&&◌, Bool, true, false, Option, Some, None, codes, length, drop, take, position, filter_map, nat_lt, is_none, option_and_then, unwrap_or, if◌then◌else◌}
 use Rattle.std.specs.List.{list_any, slice_split}
 use Rattle.std.specs.Str.{bytes_eq}
@@ -11,6 +11,7 @@ use Rattle.s6_events.specs.declared.condition.Mode.{Mode}
 use Rattle.s6_events.specs.declared.condition.Mode.TheVariants as mode
 use Rattle.s6_events.specs.declared.field.Field.{Field}
 use Rattle.servicedir.specs.Number.{number_of}
+use Rattle.death_tally.specs.DeathList.{death_list}
 use Rattle.svc_commands.specs.Fields.{field_named}
 
 -- a letter that is counted
@@ -25,9 +26,9 @@ option_rule id letter = record (new_rule id) { short = Some letter; action = Som
 abbrev pub names_rule : Rule
 names_rule = record (new_rule (codes "names")) { action = Some Append }
 
--- the one word that is no option
-abbrev pub name_rule : Rule
-name_rule = record (new_rule (codes "name")) { action = Some Set }
+-- one word that is no option
+abbrev pub word_rule : Text → Rule
+word_rule id = record (new_rule id) { action = Some Set }
 
 -- a command with no help of its own, over words without the program's name
 abbrev pub plain_app : Text → App
@@ -50,7 +51,13 @@ listen_app = with_rule (with_rule (with_rule (with_wait_rules (plain_app (codes 
 
 -- svstat -o fields name
 unfoldable pub stat_app : App
-stat_app = with_rule (with_rule (plain_app (codes "svstat")) (option_rule (codes "o") 111)) name_rule
+stat_app = with_rule (with_rule (plain_app (codes "svstat")) (option_rule (codes "o") 111)) (word_rule (codes "name"))
+
+-- permafailon name secs count list
+unfoldable pub permafail_app : App
+permafail_app =
+    with_rule (with_rule (with_rule (with_rule (plain_app (codes "permafailon")) (word_rule (codes "name")))
+    (word_rule (codes "secs"))) (word_rule (codes "count"))) (word_rule (codes "list"))
 
 -- clap's contract tells all of what it does with this command
 unfoldable pub is_simple_app : App → Bool
@@ -130,6 +137,21 @@ is_bad_list (Some text) = list_any (λ item. is_none (field_named item)) (items_
 -- the fields of a list, in the order written
 abbrev pub fields_in : Text → List Field
 fields_in text = filter_map field_named (items_in text)
+
+-- the texts of the seconds, the count and the list of exits, where they were given
+abbrev pub secs_given : List Row → Option Text
+secs_given rows = first_of (codes "secs") rows
+
+abbrev pub count_given : List Row → Option Text
+count_given rows = first_of (codes "count") rows
+
+abbrev pub exits_given : List Row → Option Text
+exits_given rows = first_of (codes "list") rows
+
+-- a list of exits that was given is none
+abbrev pub are_bad_exits : Option Text → Bool
+are_bad_exits None = false
+are_bad_exits (Some text) = is_none (death_list text)
 
 -- the place of the first two dashes, or the end
 abbrev pub cut_of : List Text → ℕ

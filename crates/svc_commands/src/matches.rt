@@ -1,12 +1,14 @@
-//! What svwait, svlisten and svstat have in common: a simple command of `clap`, and its matches.
-ghost use Rattle.std.specs.Prelude.{◌≡◌, [], true, IfOk, MatchResult, map, codes, option_map};
+//! What svwait, svlisten, svstat and permafailon have in common: a simple command of `clap`, and its matches.
+ghost use Rattle.std.specs.Prelude.{◌≡◌, [], true, false, None, Some, IfOk, MatchResult, map, codes, option_map, option_and_then};
 ghost use Rattle.clap.specs.Words.{app_of, with_rule, rows_of, found_of, first_of, all_of};
-ghost use Rattle.svc_commands.specs.Matches.{flag_rule, option_rule, names_rule, name_rule, plain_app, with_wait_rules, is_simple_app, rows_for, kinds_for};
+ghost use Rattle.svc_commands.specs.Matches.{flag_rule, option_rule, names_rule, word_rule, plain_app, with_wait_rules, is_simple_app, rows_for, kinds_for, is_bad_number};
+ghost use Rattle.servicedir.specs.Number.{number_of};
 ghost use Rattle.svc_commands.specs.Kinds.{usage_of, IsUsageFault};
 
 use crate::usage_fault::UsageFault;
 use clap::error::ErrorKind;
 use clap::{Arg, ArgAction, ArgMatches, Command};
+use servicedir::parse_number;
 use std::alloc::{AllocError, Global};
 
 // A command with no option, and with no help of its own.
@@ -52,12 +54,16 @@ pub fn with_names<'a>(alloc: Global, command: Command<'a>) -> Result<Command<'a>
     command.arg(names)
 }
 
-// The command with one name.
-pub fn with_name<'a>(alloc: Global, command: Command<'a>) -> Result<Command<'a>, AllocError>
-    ensures { IfOk result (λ r. app_of r ≡ with_rule (app_of command.entry) name_rule) }
+// The command with one more word.
+pub fn with_word<'a>(
+    alloc: Global,
+    command: Command<'a>,
+    id: &'a str,
+) -> Result<Command<'a>, AllocError>
+    ensures { IfOk result (λ r. app_of r ≡ with_rule (app_of command.entry) (word_rule id.entry.now)) }
 {
-    let name = Arg::new(alloc, "name").action(ArgAction::Set);
-    command.arg(name)
+    let word = Arg::new(alloc, id).action(ArgAction::Set);
+    command.arg(word)
 }
 
 // The command with the options that svwait and svlisten have in common.
@@ -99,11 +105,30 @@ pub fn matches_in<'a>(
     }
 }
 
-// The text behind an option, or the one name.
+// The text behind an option, or a word by its place.
 pub fn text_of<'a>(matches: &ArgMatches<'a>, id: &str) -> Option<&'a str>
     ensures { option_map (λ s. s.now) result ≡ first_of id.now (rows_of (found_of matches.now)) }
 {
     matches.get_str(id)
+}
+
+// The number behind an option, or of a word by its place, where it was given.
+pub fn number_in(matches: &ArgMatches<'_>, id: &str) -> Result<Option<u32>, UsageFault>
+    ensures { let given = first_of id.now (rows_of (found_of matches.now)) in
+        MatchResult result (λ number. (is_bad_number given ≡ false) × (number ≡ option_and_then number_of given))
+        (λ fault. (is_bad_number given ≡ true) × (fault ≡ UsageFault.BadNumber)) }
+{
+    match text_of(matches, id) {
+        Some(text) => Ok(Some(number_written(text.as_bytes())?)),
+        None => Ok(None),
+    }
+}
+
+fn number_written(text: &[u8]) -> Result<u32, UsageFault>
+    ensures { MatchResult result (λ number. number_of text.now ≡ Some number)
+        (λ fault. (number_of text.now ≡ None) × (fault ≡ UsageFault.BadNumber)) }
+{
+    parse_number(text).ok_or(UsageFault::BadNumber)
 }
 
 // The names.

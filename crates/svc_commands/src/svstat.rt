@@ -6,7 +6,7 @@ ghost use Rattle.svc_commands.specs.FirstFault.{stat_fault, IsTaken, IsRefusal};
 ghost use Rattle.svc_commands.specs.LineCommands.{IsStatCommand};
 ghost use Rattle.svc_commands.specs.Matches.{stat_app, rows_for, kinds_for, items_in, fields_in, is_bad_list};
 
-use crate::matches::{matches_in, plain, text_of, with_name, with_option};
+use crate::matches::{matches_in, plain, text_of, with_option, with_word};
 use crate::names::name_of;
 use crate::usage_fault::UsageFault;
 use clap::{ArgMatches, Command};
@@ -60,7 +60,7 @@ fn svstat_command<'a>(alloc: Global) -> Result<Command<'a>, AllocError>
 {
     let command = plain(alloc, "svstat");
     let command = with_option(alloc, command, "o", 'o')?;
-    with_name(alloc, command)
+    with_word(alloc, command, "name")
 }
 
 // The command that the matches say, or the first fault.

@@ -5,12 +5,11 @@ ghost use Rattle.svc_commands.specs.LineCommands.{IsWaitCommand};
 ghost use Rattle.svc_commands.specs.Matches.{wait_app, rows_for, kinds_for, condition_count, condition_of, mode_count, mode_of};
 ghost use Rattle.svc_commands.specs.Matches.{timeout_given, timeout_of, is_bad_number};
 
-use crate::matches::{matches_in, name_words, plain, text_of, with_names, with_wait_options};
+use crate::matches::{matches_in, name_words, number_in, plain, with_names, with_wait_options};
 use crate::names::{Names, names_in};
 use crate::usage_fault::UsageFault;
 use clap::{ArgMatches, Command};
 use s6_events::{Condition, Mode};
-use servicedir::parse_number;
 use std::alloc::{AllocError, Global};
 
 /// What is waited for. `timeout` is in milliseconds, and 0 is none. Page `s6-svwait`.
@@ -130,8 +129,5 @@ fn timeout(matches: &ArgMatches<'_>) -> Result<u32, UsageFault>
         MatchResult result (λ timeout. (is_bad_number (timeout_given rows) ≡ false) × (timeout ≡ timeout_of rows))
         (λ fault. (is_bad_number (timeout_given rows) ≡ true) × (fault ≡ UsageFault.BadNumber)) }
 {
-    match text_of(matches, "t") {
-        Some(text) => parse_number(text.as_bytes()).ok_or(UsageFault::BadNumber),
-        None => Ok(0),
-    }
+    Ok(number_in(matches, "t")?.unwrap_or(0))
 }

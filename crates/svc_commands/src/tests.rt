@@ -1,6 +1,6 @@
 use super::*;
 use arrayvec::ArrayVec;
-use s6_events::{Condition, Mode, Name};
+use s6_events::{Condition, Exit, Mode, Name};
 use std::alloc::Global;
 use std::process::Abort;
 use std::test::Fail;
@@ -134,6 +134,37 @@ web = Missing
 web|-o = Unknown
 -p|web = Unknown";
 
+// The name, the seconds, the count, and of the codes 0 to 9 and SIGTERM what the list names.
+const PERMAFAILON: &str = "web|60|3|1-2 = web 60 3 12
+web|0|0|7,SIGTERM,0 = web 0 0 07T
+web|4294967295|007|TERM = web 4294967295 7 T
+-|1|2|3-3 = - 1 2 3
+--|-x|1|2|3 = -x 1 2 3
+web|60|x|1 = BadNumber
+web|4294967296|3|1 = BadNumber
+web||3|1 = BadNumber
+60|3|1-2 = BadNumber
+web|x = BadNumber
+.web|60|x|2-1 = BadNumber
+web|60|3|2-1 = BadList
+web|60|3|256 = BadList
+web|60|3|1,,2 = BadList
+web|60|3|sigterm = BadList
+.web|60|3| = BadList
+web|60|3|1,1,1,1,1,1,1,1,1,1,1,1,1,1,1,1,1,1,1,1,1,1,1,1,1,1,1,1,1,1,1,1,1 = BadList
+.web|60|3 = Missing
+60|3|7 = Missing
+web|60 = Missing
+web = Missing
+-- = Missing
+.web|60|3|1 = BadName
+|60|3|1 = BadName
+web|60|3|1|2 = Unknown
+.web|x|3|2-1|1 = Unknown
+web|-60|3|1 = Unknown
+web|60|3|-1 = Unknown
+-h = Unknown";
+
 /// A command, as it is compared with the text of a row.
 type Shown = ArrayVec<u8, 256>;
 
@@ -144,6 +175,7 @@ enum Tool {
     Svwait,
     Svlisten,
     Svstat,
+    Permafailon,
 }
 
 // Adds a word behind those before it.
@@ -193,14 +225,18 @@ fn condition_letter(condition: Condition) -> u8 {
     }
 }
 
-fn show_wait(alloc: Global, wait: &WaitCommand, shown: &mut Shown) -> Result<(), UsageFault> {
-    let timeout = wait.timeout;
-    let Ok(timeout) = format!(in alloc; "{timeout}") else {
+fn show_number(alloc: Global, number: u32, shown: &mut Shown) -> Result<(), UsageFault> {
+    let Ok(text) = format!(in alloc; "{number}") else {
         return Err(UsageFault::NoMemory);
     };
+    add(shown, text.as_bytes());
+    Ok(())
+}
+
+fn show_wait(alloc: Global, wait: &WaitCommand, shown: &mut Shown) -> Result<(), UsageFault> {
     add(shown, &[condition_letter(wait.condition)]);
     add(shown, if wait.mode == Mode::All { b"a" } else { b"o" });
-    add(shown, timeout.as_bytes());
+    show_number(alloc, wait.timeout, shown)?;
     for name in &wait.names {
         add(shown, name.as_bytes());
     }
@@ -226,6 +262,23 @@ fn show_svlisten(alloc: Global, words: &[&str], shown: &mut Shown) -> Result<(),
     Ok(())
 }
 
+fn show_permafailon(alloc: Global, words: &[&str], shown: &mut Shown) -> Result<(), UsageFault> {
+    let command = compile_permafailon(alloc, words)?;
+    add(shown, command.name.as_bytes());
+    show_number(alloc, command.secs, shown)?;
+    show_number(alloc, command.count, shown)?;
+    add(shown, b"");
+    for code in 0..10u8 {
+        if command.list.names(Exit::Code(code)) {
+            add_bytes(shown, &[b'0' + code]);
+        }
+    }
+    if command.list.names(Exit::Killed(15)) {
+        add_bytes(shown, b"T");
+    }
+    Ok(())
+}
+
 // What a tool reads in the words.
 fn show(alloc: Global, tool: Tool, words: &[&str], shown: &mut Shown) -> Result<(), UsageFault> {
     match tool {
@@ -234,6 +287,7 @@ fn show(alloc: Global, tool: Tool, words: &[&str], shown: &mut Shown) -> Result<
         Tool::Svwait => show_wait(alloc, &compile_svwait(alloc, words)?, shown),
         Tool::Svlisten => show_svlisten(alloc, words, shown),
         Tool::Svstat => show_svstat(alloc, words, shown),
+        Tool::Permafailon => show_permafailon(alloc, words, shown),
     }
 }
 
@@ -295,6 +349,11 @@ fn reads_the_words_of_svstat(rt: HostRuntime) -> Result<(), Fail> {
     rows_agree(&rt, rt.alloc(), Tool::Svstat, SVSTAT)
 }
 
+#[test]
+fn reads_the_words_of_permafailon(rt: HostRuntime) -> Result<(), Fail> {
+    rows_agree(&rt, rt.alloc(), Tool::Permafailon, PERMAFAILON)
+}
+
 // With the Nth growth refused (`rt try --test --fail-alloc N`) each call answers as it should, or NoMemory.
 #[test]
 fn a_refused_growth_is_told(rt: HostRuntime) {
@@ -302,6 +361,7 @@ fn a_refused_growth_is_told(rt: HostRuntime) {
         (Tool::Svwait, ["-U", "-t", "5", "a", "b"].as_slice()),
         (Tool::Svlisten, &["-r", "a", "--", "prog", "x"]),
         (Tool::Svstat, &["-o", "up,pid", "web"]),
+        (Tool::Permafailon, &["web", "60", "3", "1-2"]),
     ];
     for (tool, words) in rows {
         let answer = show(rt.alloc(), tool, words, &mut Shown::new());
@@ -318,8 +378,8 @@ fn faults_tell_what_to_change(rt: HostRuntime) -> Result<(), Fail> {
         (UsageFault::Unknown, 1, "leave it out"),
         (UsageFault::Missing, 2, "add it"),
         (UsageFault::TooMany, 3, "leave some out"),
-        (UsageFault::BadNumber, 4, "write milliseconds in digits"),
-        (UsageFault::BadList, 5, "write known fields"),
+        (UsageFault::BadNumber, 4, "write milliseconds, seconds"),
+        (UsageFault::BadList, 5, "write known fields, or at most"),
         (UsageFault::BadName, 6, "write 1 to 64 of"),
         (UsageFault::NoMemory, 7, "out of memory"),
     ];

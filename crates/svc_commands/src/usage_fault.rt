@@ -8,17 +8,17 @@ pub enum UsageFault {
     /// word where none is taken.
     #[error("an option or a word is not known here: leave it out, or spell it as the command's page does")]
     Unknown = 1,
-    /// What the command cannot do without is not there: a letter, a name, the fields, or the program.
-    #[error("a letter, a name, the fields or the program is missing: add it")]
+    /// What the command cannot do without is not there: a letter, a name, a number, the fields, the exits, or the program.
+    #[error("a letter, a name, a number, a list or the program is missing: add it")]
     Missing = 2,
     /// More than 63 letters, a second name where one is taken, more than 16 names, two conditions or two modes.
     #[error("there are too many letters, names, conditions or modes: leave some out")]
     TooMany = 3,
-    /// The timeout is no number from 0 to 4294967295, in digits.
-    #[error("the timeout is no number: write milliseconds in digits, at most 4294967295")]
+    /// The timeout, the seconds or the count is no number from 0 to 4294967295, in digits.
+    #[error("a number is none: write milliseconds, seconds or a count in digits, at most 4294967295")]
     BadNumber = 4,
-    /// A field of the list is none of the ten, or is empty.
-    #[error("the list names no field that is known: write known fields, with one comma between two")]
+    /// A field of the list is none of the ten, or is empty; or a list of exits is no `DeathList`, as one of 33 items.
+    #[error("the list is none: write known fields, or at most 32 known exits, with one comma between two")]
     BadList = 5,
     /// A word in the place of a name is no `Name`.
     #[error("a name is no name of a service: write 1 to 64 of A-Z a-z 0-9 . _ - @, with no dot in front")]

@@ -39,4 +39,5 @@ none_fires now due m none h =
       events = sym (ap (λ es. m.events ++ es) (unfired_events now (charts_of m.services) nobody) ∙ append-nil m.events);
       orders = sym (ap (λ os. m.orders ++ os) (unfired_orders now (charts_of m.services) nobody) ∙ append-nil m.orders);
       agrees = λ history at all. all;
+      timers = λ ts a. a;
     }

@@ -82,7 +82,7 @@ work_next (apply_listing listing) now cs next few =
     let g = names_grew listing (scan_state_from (filter stays (looked_up listing now cs)) next) (in_byte_order (names_in listing)) (few_stay listing now cs few) in
     let a = g.few in let b = g.next in omega (arith, a, b)
 
-fired_few : (now : ℕ) (cs : List ChartState) → length cs ≤ 64 → length (services_after (fire now) cs) ≤ 64
+pub fired_few : (now : ℕ) (cs : List ChartState) → length cs ≤ 64 → length (services_after (fire now) cs) ≤ 64
 fired_few now cs few = let a = length-map cs (λ (c : ChartState). (fire now c).chart) in omega (arith, a, few)
 
 pub step_few : (work : Work) (now : ℕ) (cs : List ChartState) (next : ℕ) → length cs ≤ 64 → length (stepped work now cs next).services ≤ 64

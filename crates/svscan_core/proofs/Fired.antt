@@ -10,7 +10,7 @@ use Rattle.s6_events.specs.declared.moment.Moment.TheVariants.{Event as EventOf}
 use Rattle.supervise_core.specs.declared.chart.ChartState.{ChartState}
 use Rattle.supervise_core.specs.declared.status.Status.{Status}
 use Rattle.supervise_core.specs.ChartState.{Moved}
-use Rattle.supervise_core.specs.Service.{Supervised, AgreesWith, KeepsAgreeing}
+use Rattle.supervise_core.specs.Service.{Supervised, Stands, stands_of, AgreesAs, AgreesWith, KeepsAgreeing}
 use Rattle.supervise_core.specs.Status.{Agrees}
 use Rattle.svscan_core.specs.Moves.{moment_of, events_of, services_after, events_after}
 use Rattle.svscan_core.specs.Sound.{AllAgree}
@@ -40,13 +40,13 @@ many_others sid status move (s ∷ services) h lack a =
     turned m n e = search rules
 
 -- the service of a name takes its move, and so does each other one
-pub named_agrees : (now : ℕ) (move : ChartState → Moved) (name : List ℕ) (s x : Supervised) (services : List Supervised) (h : List Moment)
-    → find (λ t. bytes_eq name t.chart.name) services ≡ Some s → x.chart.sid ≡ s.chart.sid → KeepsAgreeing now (move s.chart).marks s x
+pub named_agrees : (now : ℕ) (move : ChartState → Moved) (name : List ℕ) (s : Supervised) (x : Stands) (services : List Supervised) (h : List Moment)
+    → find (λ t. bytes_eq name t.chart.name) services ≡ Some s → x.chart.sid ≡ s.chart.sid → KeepsAgreeing now (move s.chart).marks (stands_of s) x
     → is_rising (serials_of (charts_of services)) ≡ true → clock_of h ≡ now → AllAgree services h
-    → AgreesWith x (h ++ map moment_of (events_after move (charts_of services)))
+    → AgreesAs x (h ++ map moment_of (events_after move (charts_of services)))
 named_agrees now move name s x [] h found same keeps r at all = absurd (none-some s found)
 named_agrees now move name s x (t ∷ services) h found same keeps r at all = by (bytes_eq name t.chart.name) found
-    (λ later. subst (λ (ms : List Moment). AgreesWith x ms) (before_others h move t services)
+    (λ later. subst (λ (ms : List Moment). AgreesAs x ms) (before_others h move t services)
     (named_agrees now move name s x services (h ++ map (λ mark. EventOf t.chart.sid mark) (move t.chart).marks) later same keeps
     (both_right _ (is_rising (serials_of (charts_of services))) r)
     (clock_after_marks ∙ at)
@@ -61,14 +61,14 @@ named_agrees now move name s x (t ∷ services) h found same keeps r at all = by
         ∙ clock_with_events h (events_of t.chart.sid (move t.chart))
 
     by : (b : Bool) → cond b (Some t) (find (λ u. bytes_eq name u.chart.name) services) ≡ Some s
-        → (find (λ u. bytes_eq name u.chart.name) services ≡ Some s → AgreesWith x (h ++ map moment_of (events_after move (charts_of (t ∷ services)))))
-        → AgreesWith x (h ++ map moment_of (events_after move (charts_of (t ∷ services))))
+        → (find (λ u. bytes_eq name u.chart.name) services ≡ Some s → AgreesAs x (h ++ map moment_of (events_after move (charts_of (t ∷ services)))))
+        → AgreesAs x (h ++ map moment_of (events_after move (charts_of (t ∷ services))))
     by true e later =
         let is : t ≡ s = same_Some t s e in
-        let own : AgreesWith x (h ++ map (λ mark. EventOf t.chart.sid mark) (move t.chart).marks) =
-        subst (λ (y : Supervised). AgreesWith x (h ++ map (λ mark. EventOf y.chart.sid mark) (move y.chart).marks)) (sym is)
+        let own : AgreesAs x (h ++ map (λ mark. EventOf t.chart.sid mark) (move t.chart).marks) =
+        subst (λ (y : Supervised). AgreesAs x (h ++ map (λ mark. EventOf y.chart.sid mark) (move y.chart).marks)) (sym is)
         (keeps h at (subst (λ (y : Supervised). AgreesWith y h) is (all 0 t (omega arith)))) in
-        subst (λ (ms : List Moment). AgreesWith x ms) (before_others h move t services)
+        subst (λ (ms : List Moment). AgreesAs x ms) (before_others h move t services)
         (many_others x.chart.sid x.status move services (h ++ map (λ mark. EventOf t.chart.sid mark) (move t.chart).marks)
         (subst (λ (n : ℕ). Lack n services) (ap (λ (y : Supervised). y.chart.sid) is ∙ sym same) lack) own)
     by false e later = later e

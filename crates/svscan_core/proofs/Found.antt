@@ -4,7 +4,7 @@ use Rattle.std.proofs.Common.{is_lt, nat_cmp, inl, inr, lit<, ◌++◌, Bool, �
 use Rattle.std.proofs.lemmas.Bool.{cases_lt}
 use Rattle.std.proofs.Math.Nat.{div-lt_self}
 use Rattle.std.proofs.lemmas.List.{map-set}
-use Rattle.std.specs.Prelude.{Some, None, slice_get, slice_set, nat_lt, unwrap_or, All}
+use Rattle.std.specs.Prelude.{Option, Some, None, slice_get, slice_set, nat_lt, unwrap_or, All}
 use Rattle.std.specs.List.{list_any}
 use Rattle.deadlines.specs.Timers.{is_rising}
 use Rattle.supervise_core.specs.declared.chart.ChartState.{ChartState}
@@ -12,7 +12,8 @@ use Rattle.supervise_core.specs.declared.change.Change.{Change}
 use Rattle.supervise_core.specs.declared.out.Out.{Out}
 use Rattle.supervise_core.specs.Chart.{changed_by}
 use Rattle.supervise_core.specs.MatchesMove.{MatchesMove}
-use Rattle.supervise_core.specs.Service.{Supervised, AgreesWith, KeepsAgreeing}
+use Rattle.supervise_core.specs.Service.{Supervised, Stands, stands_of, adopted, AgreesWith, KeepsAgreeing}
+use Rattle.s6_events.specs.declared.exit.Exit.{Exit}
 use Rattle.s6_events.specs.Clock.{clock_of}
 use Rattle.s6_events.specs.declared.moment.Moment.{Moment}
 use Rattle.s6_events.specs.declared.moment.Moment.TheVariants.{Event as EventOf}
@@ -139,10 +140,6 @@ all_at P [] p x h e = search rules
 all_at P (y ∷ xs) zero x h e = subst P (ap (λ o. unwrap_or o y) e) (h 0 y (omega arith))
 all_at P (y ∷ xs) (suc p) x h e = all_at P xs p x (all_later P y xs h) e
 
--- what was read at a place stands there
-pub read_there : (services : List Supervised) (p : ℕ) (s before : Supervised) → Some s ≡ slice_get services p → before ≡ s → slice_get services p ≡ Some before
-read_there services p s before e own = sym e ∙ ap Some (sym own)
-
 -- the service of a serial took a change
 pub record IsChanged (sid now : ℕ) (change : Change) (old new : List Supervised) (out : Out) : Type 0 where
   pub services : charts_of new ≡ services_after (changed_at sid change now) (charts_of old)
@@ -151,29 +148,30 @@ pub record IsChanged (sid now : ℕ) (change : Change) (old new : List Supervise
   pub stale : out.stale ≡ list_any (λ c. (changed_at sid change now c).stale) (charts_of old)
   pub agrees : (history : List Moment) → clock_of history ≡ now → AllAgree old history → AllAgree new (history ++ map moment_of (map (event sid) out.events.items))
 
-set_there : (sid now : ℕ) (change : Change) (services : List Supervised) (p : ℕ) (before after : Supervised) (out : Out)
+set_there : (sid now : ℕ) (change : Change) (services : List Supervised) (p : ℕ) (before : Supervised) (after : Stands) (death : Option (ℕ × Exit)) (out : Out)
     → is_rising (serials_of (charts_of services)) ≡ true → slice_get (serials_of (charts_of services)) p ≡ Some sid → slice_get services p ≡ Some before
-    → MatchesMove (changed_by change now before.chart) after.chart out → KeepsAgreeing now out.events.items before after → after.chart.sid ≡ before.chart.sid
-    → IsChanged sid now change services (slice_set services p after) out
-set_there sid now change services p before after out r e there gives keeps same =
+    → MatchesMove (changed_by change now before.chart) after.chart out → KeepsAgreeing now out.events.items (stands_of before) after → after.chart.sid ≡ before.chart.sid
+    → IsChanged sid now change services (slice_set services p (adopted after death before)) out
+set_there sid now change services p before after death out r e there gives keeps same =
+    let now_there = adopted after death before in
     let own : before.chart.sid ≡ sid = own_serial services p sid before e there in
     let one = one_reported sid change now (charts_of services) p before.chart r (get_map (λ (s : Supervised). s.chart) services p before there) own in
     let marks = out.events.items in
     record {
-      services = map-set (λ (s : Supervised). s.chart) services p after ∙ (ap (λ c. slice_set (charts_of services) p c) gives.chart ∙ sym one.services);
+      services = map-set (λ (s : Supervised). s.chart) services p now_there ∙ (ap (λ c. slice_set (charts_of services) p c) gives.chart ∙ sym one.services);
       events = ap (λ ms. map (event sid) ms) gives.marks
           ∙ (ap (λ n. map (event n) (changed_by change now before.chart).marks) (sym own) ∙ sym one.events);
       orders = gives.orders ∙ sym one.orders;
       stale = gives.stale ∙ sym one.stale;
       agrees = λ h at all.
-          subst (λ (ms : List Moment). AllAgree (slice_set services p after) (h ++ ms))
+          subst (λ (ms : List Moment). AllAgree (slice_set services p now_there) (h ++ ms))
           (ap (λ n. map (λ mark. EventOf n mark) marks) own ∙ sym (moments_of_marks sid marks))
-          (place_agrees now p services before after marks h there same r (keeps h at (all_at (λ (s : Supervised). AgreesWith s h) services p before all there)) all);
+          (place_agrees now p services before now_there marks h there same r (keeps h at (all_at (λ (s : Supervised). AgreesWith s h) services p before all there)) all);
     }
 
-pub changed_there : (sid now : ℕ) (change : Change) (services new : List Supervised) (p : ℕ) (before after : Supervised) (out : Out)
+pub changed_there : (sid now : ℕ) (change : Change) (services new : List Supervised) (p : ℕ) (before : Supervised) (after : Stands) (death : Option (ℕ × Exit)) (out : Out)
     → is_rising (serials_of (charts_of services)) ≡ true → slice_get (serials_of (charts_of services)) p ≡ Some sid → slice_get services p ≡ Some before
-    → MatchesMove (changed_by change now before.chart) after.chart out → KeepsAgreeing now out.events.items before after → after.chart.sid ≡ before.chart.sid
-    → new ≡ slice_set services p after → IsChanged sid now change services new out
-changed_there sid now change services new p before after out r e there gives keeps same is =
-    subst (λ (x : List Supervised). IsChanged sid now change services x out) (sym is) (set_there sid now change services p before after out r e there gives keeps same)
+    → MatchesMove (changed_by change now before.chart) after.chart out → KeepsAgreeing now out.events.items (stands_of before) after → after.chart.sid ≡ before.chart.sid
+    → new ≡ slice_set services p (adopted after death before) → IsChanged sid now change services new out
+changed_there sid now change services new p before after death out r e there gives keeps same is =
+    subst (λ (x : List Supervised). IsChanged sid now change services x out) (sym is) (set_there sid now change services p before after death out r e there gives keeps same)

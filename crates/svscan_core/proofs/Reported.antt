@@ -66,6 +66,7 @@ one_takes now sid change p old new at r t =
       events = t.events ∙ ap (λ es. old.events ++ es) (sym one.events);
       orders = t.orders ∙ ap (λ os. old.orders ++ os) (sym one.orders);
       agrees = t.agrees;
+      timers = t.timers;
     }
 
 -- none has the serial, so all stay
@@ -77,4 +78,5 @@ none_takes now sid change m none =
       events = sym (ap (λ es. m.events ++ es) rest.events ∙ append-nil m.events);
       orders = sym (ap (λ os. m.orders ++ os) rest.orders ∙ append-nil m.orders);
       agrees = λ history at all. all;
+      timers = λ ts a. a;
     }

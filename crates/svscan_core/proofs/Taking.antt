@@ -1,10 +1,14 @@
 -- A step that touches one service after the other.
 use Rattle.std.proofs.Common.{◌≡◌, ◌≢◌, ℕ, zero, suc, ◌+◌, ◌<◌, List, [], ◌∷◌, ◌++◌, refl, sym, ◌∙◌, ap, map, flat_map, get_or, subst, true, take, drop, append-nil, append_assoc, length, rules, arith}
-use Rattle.std.specs.Prelude.{Some, None, slice_get, slice_set, IsSomeAnd, unwrap_or}
+use Rattle.std.specs.Prelude.{Option, Some, None, option_map, slice_get, slice_set, IsSomeAnd, unwrap_or}
+use Rattle.std.proofs.lemmas.Option.{none-some, same_Some}
+use Rattle.s6_events.specs.declared.exit.Exit.{Exit}
 use Rattle.std.proofs.lemmas.List.{map-append, map-set}
 use Rattle.std.proofs.lemmas.List.Sums.{fold-append, fold_more}
 use Rattle.std.proofs.Math.Numerals.{add-one}
-use Rattle.deadlines.specs.Timers.{is_rising}
+use Rattle.deadlines.specs.declared.timer.Timer.{Timer}
+use Rattle.deadlines.specs.declared.timer.TimerChange.{TimerChange}
+use Rattle.deadlines.specs.Timers.{is_rising, changed, changed_all}
 use Rattle.s6_events.specs.declared.mark.Mark.{Mark}
 use Rattle.s6_events.specs.declared.order.Order.{Order}
 use Rattle.s6_events.specs.declared.moment.Moment.{Moment}
@@ -13,15 +17,17 @@ use Rattle.supervise_core.specs.declared.chart.ChartState.{ChartState}
 use Rattle.supervise_core.specs.ChartState.{Moved, still}
 use Rattle.supervise_core.specs.declared.out.Out.{Out}
 use Rattle.supervise_core.specs.MatchesMove.{MatchesMove}
-use Rattle.supervise_core.specs.Service.{Supervised, AgreesWith, KeepsAgreeing}
+use Rattle.supervise_core.specs.Service.{Supervised, Stands, stands_of, adopted, AgreesWith, KeepsAgreeing}
 use Rattle.svscan_core.specs.declared.event.Event.{Event}
 use Rattle.svscan_core.specs.declared.moves.Touched.{Touched}
 use Rattle.svscan_core.specs.Moves.{event, moment_of, events_of, events_after, orders_after}
-use Rattle.svscan_core.specs.Moving.{Moving, with_one, with_touched, KeepNames, TakesAt, TakesUpTo, Takes}
+use Rattle.svscan_core.specs.Moving.{Moving, taken_over, with_one, with_touched, KeepNames, TakesAt, TakesUpTo, Takes}
 use Rattle.svscan_core.specs.Sound.{AllAgree}
+use Rattle.svscan_core.specs.Timers.{timer_change, TimersAgree}
 use Rattle.svscan_core.specs.Table.{charts_of, serials_of}
 use Rattle.svscan_core.proofs.Agreeing.{moments_of_marks, clock_with_events, place_agrees}
-use Rattle.svscan_core.proofs.Places.{get_map, set_itself, half_get, half_set, half_none, half_all, flat_more, get_set_none, get_set_same, get_set_other}
+use Rattle.svscan_core.proofs.Timers.{agrees_one, changed_more}
+use Rattle.svscan_core.proofs.Places.{get_map, set_itself, half_get, half_set, half_all, flat_more, get_set_none, get_set_same, get_set_other}
 
 -- one more is touched
 pub touched_more : (services : List Supervised) (ts : List Touched) (t : Touched) → with_touched services (ts ++ t ∷ []) ≡ with_one (with_touched services ts) t
@@ -32,6 +38,15 @@ pub names_kept : (services : List Supervised) (ts : List Touched) (t : Touched) 
 names_kept services [] t h own = (own, tt)
 names_kept services (u ∷ ts) t h own = (h.0, names_kept (with_one services u) ts t h.1 own)
 
+-- a place whose name is kept is not empty
+pub kept_there : (services : List Supervised) (t : Touched) → IsSomeAnd (slice_get services t.place) (λ s. s.chart.name ≡ t.standing.chart.name)
+    → (s : Supervised) × (slice_get services t.place ≡ Some s)
+kept_there services t h = by (slice_get services t.place) refl h
+  where
+    by : (o : Option Supervised) → slice_get services t.place ≡ o → IsSomeAnd o (λ s. s.chart.name ≡ t.standing.chart.name) → (s : Supervised) × (slice_get services t.place ≡ Some s)
+    by None is k = absurd k
+    by (Some s) is k = (s, is)
+
 -- events that join after others
 pub joined : (h : List Moment) (before : List Event) (sid : ℕ) (marks : List Mark)
     → h ++ map moment_of (before ++ map (event sid) marks) ≡ (h ++ map moment_of before) ++ map (λ mark. EventOf sid mark) marks
@@ -40,33 +55,65 @@ joined h before sid marks =
     ∙ (sym (append_assoc h (map moment_of before) (map moment_of (map (event sid) marks)))
     ∙ ap (λ ms. (h ++ map moment_of before) ++ ms) (moments_of_marks sid marks))
 
+-- what stands at a place
+pub stood : (o : Option Supervised) (b : Stands) → Some b ≡ option_map stands_of o → (s : Supervised) × (o ≡ Some s) × (stands_of s ≡ b)
+stood None b e = absurd (none-some b (sym e))
+stood (Some s) b e = (s, refl, same_Some (stands_of s) b (sym e))
+
+-- a service that is there takes over what it became
+pub one_taken : (services : List Supervised) (t : Touched) (s : Supervised) → slice_get services t.place ≡ Some s
+    → with_one services t ≡ slice_set services t.place (adopted t.standing t.death s)
+one_taken services t s e = ap (λ o. taken_over t o services) e
+
 -- what a touched service leaves and gives
-pub touched_takes : (now place : ℕ) (services new_services : List Supervised) (events new_events : List Event) (orders new_orders : List Order)
-    (before after : Supervised) (moved : Moved) (out : Out)
-    → slice_get services place ≡ Some before → is_rising (serials_of (charts_of services)) ≡ true
-    → MatchesMove moved after.chart out → KeepsAgreeing now out.events.items before after → after.chart.sid ≡ before.chart.sid
-    → new_services ≡ slice_set services place after → new_events ≡ events ++ map (event after.chart.sid) out.events.items → new_orders ≡ orders ++ out.orders.items
-    → TakesAt now place before.chart moved (record { services = services; events = events; orders = orders }) (record { services = new_services; events = new_events; orders = new_orders })
-touched_takes now place services new_services events new_events orders new_orders before after moved out there rising gives keeps same ns ne os =
-    let own : new_events ≡ events ++ map (event before.chart.sid) out.events.items = ne ∙ ap (λ n. events ++ map (event n) out.events.items) same in
+taken : (now place : ℕ) (services new_services : List Supervised) (events new_events : List Event) (orders new_orders : List Order) (timers new_timers : List TimerChange)
+    (s : Supervised) (after : Stands) (death : Option (ℕ × Exit)) (moved : Moved) (out : Out)
+    → slice_get services place ≡ Some s → is_rising (serials_of (charts_of services)) ≡ true
+    → new_services ≡ slice_set services place (adopted after death s) → new_events ≡ events ++ map (event after.chart.sid) out.events.items → new_orders ≡ orders ++ out.orders.items → new_timers ≡ timers ++ timer_change after.chart ∷ []
+    → MatchesMove moved after.chart out → KeepsAgreeing now out.events.items (stands_of s) after → after.chart.sid ≡ s.chart.sid
+    → TakesAt now place s.chart moved (record { services = services; events = events; orders = orders; timers = timers }) (record { services = new_services; events = new_events; orders = new_orders; timers = new_timers })
+taken now place services new_services events new_events orders new_orders timers new_timers s after death moved out there rising ns ne os nt gives keeps same =
+    let own : new_events ≡ events ++ map (event s.chart.sid) out.events.items = ne ∙ ap (λ n. events ++ map (event n) out.events.items) same in
+    let now_there = adopted after death s in
     record {
-      services = ap charts_of ns ∙ (map-set (λ (s : Supervised). s.chart) services place after ∙ ap (λ c. slice_set (charts_of services) place c) gives.chart);
-      events = own ∙ ap (λ ms. events ++ map (event before.chart.sid) ms) gives.marks;
+      services = ap charts_of ns ∙ (map-set (λ (t : Supervised). t.chart) services place now_there ∙ ap (λ c. slice_set (charts_of services) place c) gives.chart);
+      events = own ∙ ap (λ ms. events ++ map (event s.chart.sid) ms) gives.marks;
       orders = os ∙ ap (λ xs. orders ++ xs) gives.orders;
       agrees = λ h at all.
           let clock = clock_with_events h events ∙ at in
-          let agreed : AllAgree (slice_set services place after) ((h ++ map moment_of events) ++ map (λ mark. EventOf before.chart.sid mark) out.events.items) =
-          place_agrees now place services before after out.events.items (h ++ map moment_of events) there same rising
-          (keeps (h ++ map moment_of events) clock (agreed_at services place before (h ++ map moment_of events) there all)) all in
+          let agreed : AllAgree (slice_set services place now_there) ((h ++ map moment_of events) ++ map (λ mark. EventOf s.chart.sid mark) out.events.items) =
+          place_agrees now place services s now_there out.events.items (h ++ map moment_of events) there same rising
+          (keeps (h ++ map moment_of events) clock (agreed_at services place s (h ++ map moment_of events) there all)) all in
           subst (λ (es : List Event). AllAgree new_services (h ++ map moment_of es)) (sym own)
-          (subst (λ (ss : List Supervised). AllAgree ss (h ++ map moment_of (events ++ map (event before.chart.sid) out.events.items))) (sym ns)
-          (subst (λ (ms : List Moment). AllAgree (slice_set services place after) ms) (sym (joined h events before.chart.sid out.events.items)) agreed));
+          (subst (λ (ss : List Supervised). AllAgree ss (h ++ map moment_of (events ++ map (event s.chart.sid) out.events.items))) (sym ns)
+          (subst (λ (ms : List Moment). AllAgree (slice_set services place now_there) ms) (sym (joined h events s.chart.sid out.events.items)) agreed));
+      timers = λ ts a.
+          let cs = charts_of services in
+          let charts : charts_of new_services ≡ slice_set cs place after.chart = ap charts_of ns ∙ map-set (λ (t : Supervised). t.chart) services place now_there in
+          let told : changed_all new_timers ts ≡ changed (changed_all timers ts) (timer_change after.chart) = ap (λ xs. changed_all xs ts) nt ∙ changed_more timers (timer_change after.chart) ts in
+          let serial : slice_get (serials_of cs) place ≡ Some after.chart.sid =
+          get_map (λ (c : ChartState). c.sid) cs place s.chart (get_map (λ (t : Supervised). t.chart) services place s there) ∙ ap Some (sym same) in
+          subst (λ (us : List Timer). TimersAgree us (charts_of new_services)) (sym told)
+          (subst (λ (xs : List ChartState). TimersAgree (changed (changed_all timers ts) (timer_change after.chart)) xs) (sym charts)
+          (agrees_one (changed_all timers ts) cs place after.chart a rising serial));
     }
   where
-    agreed_at : (ss : List Supervised) (p : ℕ) (s : Supervised) (h : List Moment) → slice_get ss p ≡ Some s → AllAgree ss h → AgreesWith s h
-    agreed_at [] p s h e all = search rules
-    agreed_at (x ∷ ss) zero s h e all = subst (λ (y : Supervised). AgreesWith y h) (ap (λ o. unwrap_or o x) e) (all 0 x (omega arith))
-    agreed_at (x ∷ ss) (suc p) s h e all = agreed_at ss p s h e (λ k d lt. all (suc k) d (omega (arith, lt)))
+    agreed_at : (ss : List Supervised) (p : ℕ) (t : Supervised) (h : List Moment) → slice_get ss p ≡ Some t → AllAgree ss h → AgreesWith t h
+    agreed_at [] p t h e all = search rules
+    agreed_at (x ∷ ss) zero t h e all = subst (λ (y : Supervised). AgreesWith y h) (ap (λ o. unwrap_or o x) e) (all 0 x (omega arith))
+    agreed_at (x ∷ ss) (suc p) t h e all = agreed_at ss p t h e (λ k d lt. all (suc k) d (omega (arith, lt)))
+
+pub touched_takes : (now place : ℕ) (services new_services : List Supervised) (events new_events : List Event) (orders new_orders : List Order) (timers new_timers : List TimerChange)
+    (s : Supervised) (before after : Stands) (death : Option (ℕ × Exit)) (moved : Moved) (out : Out)
+    → slice_get services place ≡ Some s → stands_of s ≡ before → is_rising (serials_of (charts_of services)) ≡ true
+    → MatchesMove moved after.chart out → KeepsAgreeing now out.events.items before after → after.chart.sid ≡ before.chart.sid
+    → new_services ≡ slice_set services place (adopted after death s) → new_events ≡ events ++ map (event after.chart.sid) out.events.items → new_orders ≡ orders ++ out.orders.items → new_timers ≡ timers ++ timer_change after.chart ∷ []
+    → TakesAt now place before.chart moved (record { services = services; events = events; orders = orders; timers = timers }) (record { services = new_services; events = new_events; orders = new_orders; timers = new_timers })
+touched_takes now place services new_services events new_events orders new_orders timers new_timers s before after death moved out there is rising gives keeps same ns ne os nt =
+    subst (λ (b : Stands). KeepsAgreeing now out.events.items b after → after.chart.sid ≡ b.chart.sid
+    → TakesAt now place b.chart moved (record { services = services; events = events; orders = orders; timers = timers }) (record { services = new_services; events = new_events; orders = new_orders; timers = new_timers }))
+    is (taken now place services new_services events new_events orders new_orders timers new_timers s after death moved out there rising ns ne os nt gives)
+    keeps same
 
 -- a service that stays, where nothing is touched
 pub stays_takes : (now place : ℕ) (c : ChartState) (m : Moving) → slice_get (charts_of m.services) place ≡ Some c → TakesAt now place c (still c) m m
@@ -75,15 +122,7 @@ stays_takes now place c m there = record {
   events = sym (append-nil m.events);
   orders = sym (append-nil m.orders);
   agrees = λ h at all. all;
-}
-
--- none has taken the move yet
-pub takes_none : (now : ℕ) (move : ChartState → Moved) (m : Moving) → TakesUpTo now move 0 m m
-takes_none now move m = record {
-  services = sym (half_none (λ c. (move c).chart) (charts_of m.services));
-  events = sym (append-nil m.events);
-  orders = sym (append-nil m.orders);
-  agrees = λ h at all. all;
+  timers = λ ts a. a;
 }
 
 -- one more has
@@ -110,6 +149,7 @@ takes_more now move place c old mid new there so_far next =
           ∙ ap (λ os. old.orders ++ os) (sym (flat_more (λ s. (move s).orders) place cs c there)
           ∙ ap (λ k. flat_map (λ s. (move s).orders) (take k cs)) (sym (add-one place)))));
       agrees = λ h clock all. n.agrees h clock (so_far.agrees h clock all);
+      timers = λ ts a. n.timers ts (so_far.timers ts a);
     }
 
 -- all have
@@ -133,18 +173,33 @@ takes_all now move old new up = by (length-charts old.services)
           events = up.events ∙ ap (λ x. old.events ++ events_after move x) all;
           orders = up.orders ∙ ap (λ x. old.orders ++ orders_after move x) all;
           agrees = up.agrees;
+          timers = up.timers;
         }
 
 -- what stands at a place, once one more is touched
 pub none_touched : (services : List Supervised) (ts : List Touched) (p : ℕ) → slice_get services p ≡ None → slice_get (with_touched services ts) p ≡ None
 none_touched services [] p e = e
-none_touched services (t ∷ ts) p e = none_touched (with_one services t) ts p (get_set_none services p t.place t.standing e)
+none_touched services (t ∷ ts) p e = none_touched (with_one services t) ts p (none_taken (slice_get services t.place))
+  where
+    none_taken : (o : Option Supervised) → slice_get (taken_over t o services) p ≡ None
+    none_taken None = e
+    none_taken (Some s) = get_set_none services p t.place (adopted t.standing t.death s) e
 
-pub own_touched : (services : List Supervised) (t : Touched) (p : ℕ) (old : Supervised) → t.place ≡ p → slice_get services p ≡ Some old → slice_get (with_one services t) p ≡ Some t.standing
-own_touched services t p old e h = ap (λ q. slice_get (slice_set services q t.standing) p) e ∙ get_set_same services p t.standing old h
+pub own_touched : (services : List Supervised) (t : Touched) (p : ℕ) (b : Stands) → t.place ≡ p → Some b ≡ option_map stands_of (slice_get services p)
+    → Some t.standing ≡ option_map stands_of (slice_get (with_one services t) p)
+own_touched services t p b e h =
+    let old = stood (slice_get services p) b h in
+    let there : slice_get services t.place ≡ Some old.0 = ap (slice_get services) e ∙ old.1 in
+    sym (ap (λ ss. option_map stands_of (slice_get ss p)) (one_taken services t old.0 there)
+    ∙ (ap (λ q. option_map stands_of (slice_get (slice_set services q (adopted t.standing t.death old.0)) p)) e
+    ∙ ap (option_map stands_of) (get_set_same services p (adopted t.standing t.death old.0) old.0 old.1)))
 
-pub other_touched : (services : List Supervised) (t : Touched) (p : ℕ) (old : Supervised) → t.place ≢ p → slice_get services p ≡ Some old → slice_get (with_one services t) p ≡ Some old
-other_touched services t p old n h = get_set_other services p t.place t.standing n ∙ h
+pub other_touched : (services : List Supervised) (t : Touched) (p : ℕ) → t.place ≢ p → slice_get (with_one services t) p ≡ slice_get services p
+other_touched services t p n = by (slice_get services t.place)
+  where
+    by : (o : Option Supervised) → slice_get (taken_over t o services) p ≡ slice_get services p
+    by None = refl
+    by (Some s) = get_set_other services p t.place (adopted t.standing t.death s) n
 
 pub touched_first : (services : List Supervised) (ts : List Touched) (i : ℕ) (d : Touched) → i < length ts
     → with_touched services (take (i + 1) ts) ≡ with_one (with_touched services (take i ts)) (get_or ts i d)
@@ -152,12 +207,16 @@ touched_first services ts i d lt = fold_more with_one services ts i d lt
 
 pub length_touched : (services : List Supervised) (ts : List Touched) → length (with_touched services ts) ≡ length services
 length_touched services [] = refl
-length_touched services (t ∷ ts) = length_touched (with_one services t) ts ∙ length-set services t.place t.standing
+length_touched services (t ∷ ts) = length_touched (with_one services t) ts ∙ by (slice_get services t.place)
   where
     length-set : (ss : List Supervised) (p : ℕ) (s : Supervised) → length (slice_set ss p s) ≡ length ss
     length-set [] p s = refl
     length-set (x ∷ ss) zero s = refl
     length-set (x ∷ ss) (suc p) s = ap suc (length-set ss p s)
+
+    by : (o : Option Supervised) → length (taken_over t o services) ≡ length services
+    by None = refl
+    by (Some s) = length-set services t.place (adopted t.standing t.death s)
 
 -- a touched service keeps its serial
 pub serials_touched : (services : List Supervised) (p : ℕ) (before after : Supervised) → slice_get services p ≡ Some before → after.chart.sid ≡ before.chart.sid

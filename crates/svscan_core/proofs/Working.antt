@@ -1,6 +1,6 @@
 -- What a step leaves and gives, as one record.
-use Rattle.std.proofs.Common.{◌≡◌, ◌∙◌, ℕ, List, [], ◌++◌, Bool, false, sym, ap, subst, append-nil}
-use Rattle.s6_events.specs.declared.moment.Moment.{Moment}
+use Rattle.std.proofs.Common.{◌≡◌, ◌∙◌, ℕ, List, [], ◌++◌, Bool, ap, append-nil}
+use Rattle.deadlines.specs.declared.timer.TimerChange.{TimerChange}
 use Rattle.s6_events.specs.declared.order.Order.{Order}
 use Rattle.supervise_core.specs.declared.chart.ChartState.{ChartState}
 use Rattle.supervise_core.specs.ChartState.{Moved}
@@ -10,24 +10,23 @@ use Rattle.svscan_core.specs.declared.event.Event.{Event}
 use Rattle.svscan_core.specs.Moving.{Moving, Takes}
 use Rattle.svscan_core.specs.Registry.{Prepared, worked_of}
 use Rattle.svscan_core.specs.Scanning.{without_names}
-use Rattle.svscan_core.specs.Sound.{AllAgree}
 use Rattle.svscan_core.specs.Table.{charts_of}
-use Rattle.svscan_core.specs.Work.{given_before, left_alone, moved_all}
+use Rattle.svscan_core.specs.Work.{given_before, moved_all}
 
 -- a step that drops and adds nothing has these services
 pub nothing_dropped : (ss : List Supervised) (dropped : List (List ℕ)) (added : List Supervised) → dropped ≡ [] → added ≡ [] → without_names ss dropped ++ added ≡ ss
 nothing_dropped ss dropped added d a = (λ i. without_names ss (d i) ++ a i) ∙ append-nil ss
 
 -- what a step has, from its parts
-abbrev pub made : List Supervised → ℕ → List Event → List Order → Bool → List ℕ → List Listed → Prepared
-made services next_sid events orders stale dropped listed =
-    record { services = services; next_sid = next_sid; events = events; orders = orders; stale = stale; dropped = dropped; listed = listed }
+abbrev pub made : List Supervised → ℕ → List Event → List Order → Bool → List ℕ → List Listed → List TimerChange → Prepared
+made services next_sid events orders stale dropped listed timers =
+    record { services = services; next_sid = next_sid; events = events; orders = orders; stale = stale; dropped = dropped; listed = listed; timers = timers }
 
 -- every service took a move
-pub moves_work : (ss : List Supervised) (next : ℕ) (stale told : Bool) (sids : List ℕ) (listed : List Listed) (now : ℕ) (move : ChartState → Moved) (old new : Moving)
+pub moves_work : (ss : List Supervised) (next : ℕ) (stale told : Bool) (sids : List ℕ) (listed : List Listed) (timers : List TimerChange) (now : ℕ) (move : ChartState → Moved) (old new : Moving)
     → ss ≡ new.services → stale ≡ told → sids ≡ [] → listed ≡ [] → Takes now move old new
-    → worked_of (made ss next new.events new.orders stale sids listed) ≡ given_before old.events old.orders (record (moved_all move (charts_of old.services) next) { stale = told })
-moves_work ss next stale told sids listed now move old new s t d l takes = λ i. record {
+    → worked_of (made ss next new.events new.orders stale sids listed timers) ≡ given_before old.events old.orders (record (moved_all move (charts_of old.services) next) { stale = told })
+moves_work ss next stale told sids listed timers now move old new s t d l takes = λ i. record {
   services = (ap charts_of s ∙ takes.services) i;
   next_sid = next;
   events = takes.events i;
@@ -36,21 +35,3 @@ moves_work ss next stale told sids listed now move old new s t d l takes = λ i.
   dropped = d i;
   listed = l i;
 }
-
--- nothing was asked
-pub leave_works : (ss : List Supervised) (next : ℕ) (stale : Bool) (sids : List ℕ) (listed : List Listed) (m : Moving)
-    → ss ≡ m.services → stale ≡ false → sids ≡ [] → listed ≡ []
-    → worked_of (made ss next m.events m.orders stale sids listed) ≡ given_before m.events m.orders (left_alone (charts_of m.services) next)
-leave_works ss next stale sids listed m s t d l = λ i. record {
-  services = ap charts_of s i;
-  next_sid = next;
-  events = sym (append-nil m.events) i;
-  orders = sym (append-nil m.orders) i;
-  stale = t i;
-  dropped = d i;
-  listed = l i;
-}
-
--- a history agrees with the services, whichever way they are written
-pub agree_same : (ss ts : List Supervised) (h : List Moment) → ss ≡ ts → AllAgree ts h → AllAgree ss h
-agree_same ss ts h e all = subst (λ (xs : List Supervised). AllAgree xs h) (sym e) all

@@ -7,6 +7,7 @@ pub mod Listing
 pub mod Scan
 pub mod Work
 pub mod Sound
+pub mod Timers
 pub mod Visit
 pub mod Moving
 pub mod Scanning

@@ -1,21 +1,29 @@
 -- A step under way: the services as it has them so far, and what it has given.
-use Rattle.std.specs.Prelude.{◌≡◌, ℕ, List, [], ◌∷◌, ◌++◌, map, fold, take, drop, slice_get, slice_set, IsSomeAnd}
+use Rattle.std.specs.Prelude.{◌≡◌, ℕ, List, [], ◌∷◌, ◌++◌, map, fold, take, drop, slice_get, slice_set, IsSomeAnd, Option, None, Some}
+use Rattle.deadlines.specs.declared.timer.Timer.{Timer}
+use Rattle.deadlines.specs.declared.timer.TimerChange.{TimerChange}
+use Rattle.deadlines.specs.Timers.{changed_all}
 use Rattle.s6_events.specs.Clock.{clock_of}
 use Rattle.s6_events.specs.declared.moment.Moment.{Moment}
 use Rattle.s6_events.specs.declared.order.Order.{Order}
 use Rattle.supervise_core.specs.declared.chart.ChartState.{ChartState}
 use Rattle.supervise_core.specs.ChartState.{Moved}
-use Rattle.supervise_core.specs.Service.{Supervised}
+use Rattle.supervise_core.specs.Service.{Supervised, adopted}
 use Rattle.svscan_core.specs.declared.event.Event.{Event}
 use Rattle.svscan_core.specs.declared.moves.Moves.{Moves}
 use Rattle.svscan_core.specs.declared.moves.Touched.{Touched}
 use Rattle.svscan_core.specs.Moves.{moment_of, events_of, services_after, events_after, orders_after}
 use Rattle.svscan_core.specs.Sound.{AllAgree}
 use Rattle.svscan_core.specs.Table.{charts_of}
+use Rattle.svscan_core.specs.Timers.{timer_change, TimersAgree}
 
--- the service at a place becomes this
+-- the service that was found at a place takes over what it became
+abbrev pub taken_over : Touched → Option Supervised → List Supervised → List Supervised
+taken_over t None services = services
+taken_over t (Some s) services = slice_set services t.place (adopted t.standing t.death s)
+
 abbrev pub with_one : List Supervised → Touched → List Supervised
-with_one services t = slice_set services t.place t.standing
+with_one services t = taken_over t (slice_get services t.place) services
 
 -- one after the other
 abbrev pub with_touched : List Supervised → List Touched → List Supervised
@@ -26,18 +34,28 @@ abbrev pub KeepNames : List Supervised → List Touched → Type 0
 KeepNames services [] = Unit {0}
 KeepNames services (t ∷ touched) = IsSomeAnd (slice_get services t.place) (λ s. s.chart.name ≡ t.standing.chart.name) × KeepNames (with_one services t) touched
 
+-- what the touched services do to the timers
+abbrev pub timers_of : List Touched → List TimerChange
+timers_of touched = map (λ t. timer_change t.standing.chart) touched
+
 pub record Moving : Type 0 where
   pub services : List Supervised
   pub events : List Event
   pub orders : List Order
+  pub timers : List TimerChange
 
 abbrev pub moving_of : {A : Type 0} → List Supervised → Moves A → Moving
-moving_of services m = record { services = with_touched services m.touched.items; events = m.events.items; orders = m.orders.items }
+moving_of services m = record { services = with_touched services m.touched.items; events = m.events.items; orders = m.orders.items; timers = timers_of m.touched.items }
 
 -- a history that agreed at this moment agrees again, once the events have joined it
 abbrev pub GoOnAgreeing : ℕ → Moving → Moving → Type 0
 GoOnAgreeing now old new =
     (history : List Moment) → clock_of history ≡ now → AllAgree old.services (history ++ map moment_of old.events) → AllAgree new.services (history ++ map moment_of new.events)
+
+-- timers that agreed agree again, once the changes are made
+abbrev pub TimersGoOn : Moving → Moving → Type 0
+TimersGoOn old new =
+    (timers : List Timer) → TimersAgree (changed_all old.timers timers) (charts_of old.services) → TimersAgree (changed_all new.timers timers) (charts_of new.services)
 
 -- the service at a place, which stood so, took a move
 pub record TakesAt (now place : ℕ) (c : ChartState) (moved : Moved) (old new : Moving) : Type 0 where
@@ -45,6 +63,7 @@ pub record TakesAt (now place : ℕ) (c : ChartState) (moved : Moved) (old new :
   pub events : new.events ≡ old.events ++ events_of c.sid moved
   pub orders : new.orders ≡ old.orders ++ moved.orders
   pub agrees : GoOnAgreeing now old new
+  pub timers : TimersGoOn old new
 
 -- each of the first services took the move
 pub record TakesUpTo (now : ℕ) (move : ChartState → Moved) (place : ℕ) (old new : Moving) : Type 0 where
@@ -52,6 +71,7 @@ pub record TakesUpTo (now : ℕ) (move : ChartState → Moved) (place : ℕ) (ol
   pub events : new.events ≡ old.events ++ events_after move (take place (charts_of old.services))
   pub orders : new.orders ≡ old.orders ++ orders_after move (take place (charts_of old.services))
   pub agrees : GoOnAgreeing now old new
+  pub timers : TimersGoOn old new
 
 -- each service took the move
 pub record Takes (now : ℕ) (move : ChartState → Moved) (old new : Moving) : Type 0 where
@@ -59,3 +79,4 @@ pub record Takes (now : ℕ) (move : ChartState → Moved) (old new : Moving) : 
   pub events : new.events ≡ old.events ++ events_after move (charts_of old.services)
   pub orders : new.orders ≡ old.orders ++ orders_after move (charts_of old.services)
   pub agrees : GoOnAgreeing now old new
+  pub timers : TimersGoOn old new

@@ -1,7 +1,11 @@
 -- A step under way, as a registry has it.
-use Rattle.std.specs.Prelude.{◌≡◌, ℕ, List, [], false}
+use Rattle.std.specs.Prelude.{◌≡◌, ℕ, List, [], ◌++◌, map, false}
 use Rattle.supervise_core.specs.Service.{Supervised}
 use Rattle.svscan_core.specs.declared.pending.Pending.{Pending}
+use Rattle.deadlines.specs.declared.timer.TimerChange.TheVariants.{Clear}
+use Rattle.svscan_core.specs.Moving.{timers_of}
+use Rattle.svscan_core.specs.Table.{charts_of}
+use Rattle.svscan_core.specs.Timers.{timer_change}
 use Rattle.svscan_core.specs.Registry.{Prepared}
 use Rattle.svscan_core.specs.Scanning.{prepared_services}
 
@@ -14,6 +18,7 @@ prepared_of services p = record {
   stale = p.stale;
   dropped = p.scan.dropped_sids.items;
   listed = p.scan.listed.items;
+  timers = timers_of p.moves.touched.items ++ (map (λ sid. Clear sid) p.scan.dropped_sids.items ++ map timer_change (charts_of p.scan.added.items));
 }
 
 -- nothing is worked out yet, where this is the next serial

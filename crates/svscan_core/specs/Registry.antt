@@ -1,5 +1,6 @@
 -- What a contract sees of a registry.
 use Rattle.std.specs.Prelude.{◌≡◌, ℕ, List, Bool}
+use Rattle.deadlines.specs.declared.timer.TimerChange.{TimerChange}
 use Rattle.s6_events.specs.declared.order.Order.{Order}
 use Rattle.supervise_core.specs.Service.{Supervised}
 use Rattle.svscan_core.specs.declared.entry.Listed.{Listed}
@@ -7,7 +8,7 @@ use Rattle.svscan_core.specs.declared.event.Event.{Event}
 use Rattle.svscan_core.specs.Table.{Table, charts_of}
 use Rattle.svscan_core.specs.Work.{Worked, left_alone}
 
--- what a commit would leave, and what is answered
+-- what a commit would leave, what is answered, and what it does to the timers
 pub record Prepared : Type 0 where
   pub services : List Supervised
   pub next_sid : ℕ
@@ -16,6 +17,7 @@ pub record Prepared : Type 0 where
   pub stale : Bool
   pub dropped : List ℕ
   pub listed : List Listed
+  pub timers : List TimerChange
 
 -- what it shows, and what was prepared
 pub record Kept : Type 0 where

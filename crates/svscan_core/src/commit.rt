@@ -17,7 +17,7 @@ fn adopt_all<A: Allocator + Copy>(slots: &mut Slots<A>, touched: &[Touched])
     ensures room { slots.new.room ≡ slots.old.room }
 {
     for change in touched {
-        slots.adopt(change.place, change.standing);
+        slots.adopt(change.place, change.standing, change.death);
     }
 }
 
@@ -37,7 +37,7 @@ pub fn commit_changes<A: Allocator + Copy>(
     slots: &mut Slots<A>,
     touched: &[Touched],
     dropped: &[Name],
-    added: &mut Vec<Service, A>,
+    added: &mut Vec<Service<A>, A>,
 )
     requires names { KeepNames slots.old.services touched.now }
     requires room { length added.old.items ≤ slots.old.room }

@@ -19,5 +19,6 @@ mod work;
 
 pub use entry::{Entry, Listed, ScanOrder};
 pub use event::Event;
+pub use listing::has_repeats;
 pub use registry::{Answer, Registry};
 pub use work::Work;

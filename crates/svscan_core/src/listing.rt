@@ -1,6 +1,6 @@
 ghost use Rattle.std.specs.Prelude.{◌≡◌, IfOk, find, bytes_eq, option_copied};
 ghost use Rattle.svscan_core.specs.Listing.{names_in, is_listed as has_entry, config_in as config_of, in_byte_order};
-ghost use Rattle.svscan_core.specs.Names.{repeats as has_repeats};
+ghost use Rattle.svscan_core.specs.Names.{repeats as name_repeats};
 
 use super::entry::Entry;
 use s6_events::{Name, NoMemory};
@@ -45,7 +45,7 @@ pub fn sort_listing<A: Allocator + Copy>(
     listing: &[Entry],
 ) -> Result<SortedListing<A>, NoMemory>
     ensures names { IfOk result (λ sorted. sorted.names.items ≡ in_byte_order (names_in listing.now)) }
-    ensures repeats { IfOk result (λ sorted. sorted.repeats ≡ has_repeats (names_in listing.now)) }
+    ensures repeats { IfOk result (λ sorted. sorted.repeats ≡ name_repeats (names_in listing.now)) }
 {
     let mut set = BTreeSet::new(alloc);
     let mut repeats = false;
@@ -56,6 +56,13 @@ pub fn sort_listing<A: Allocator + Copy>(
         names: names_of(alloc, &set)?,
         repeats,
     })
+}
+
+/// Whether a name stands twice in the listing.
+pub fn has_repeats<A: Allocator + Copy>(alloc: A, listing: &[Entry]) -> Result<bool, NoMemory>
+    ensures { IfOk result (λ repeats. repeats ≡ name_repeats (names_in listing.now)) }
+{
+    Ok(sort_listing(alloc, listing)?.repeats)
 }
 
 // The names of the set, in order.

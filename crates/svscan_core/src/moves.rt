@@ -1,4 +1,5 @@
-ghost use Rattle.std.specs.Prelude.{◌≡◌, ◌+◌, ◌<◌, ◌≤◌, ◌^◌, ◌*◌, ◌++◌, ◌∷◌, [], map, length, All, IfOk, OnOk, Some, slice_get, true};
+ghost use Rattle.std.specs.Prelude.{◌≡◌, ◌+◌, ◌<◌, ◌≤◌, ◌^◌, ◌*◌, ◌++◌, ◌∷◌, [], map, length, All, IfOk, OnOk, Some, slice_get, option_map, true};
+ghost use Rattle.supervise_core.specs.Service.{stands_of};
 ghost use Rattle.deadlines.specs.Timers.{is_rising};
 ghost use Rattle.supervise_core.specs.declared.chart.ChartState.{ChartState};
 ghost use Rattle.supervise_core.specs.Chart.{changed_by};
@@ -16,7 +17,7 @@ use super::place::place_of;
 use super::slots::Slots;
 use super::visit::{Visit, take};
 use arrayvec::ArrayVec;
-use s6_events::{At, Mark, NoMemory, Order, Sid};
+use s6_events::{At, Exit, Mark, NoMemory, Order, Sid};
 use std::alloc::Allocator;
 use supervise_core::{Change, Out, Standing};
 
@@ -25,6 +26,8 @@ use supervise_core::{Change, Out, Standing};
 pub struct Touched {
     pub place: usize,
     pub standing: Standing,
+    /// A death that joins its tally.
+    pub death: Option<(At, Exit)>,
 }
 
 /// The services that a step changes, and what it gives. The lists keep their memory from step to step.
@@ -43,7 +46,7 @@ pub fn standing_at<A: Allocator + Copy>(
     touched: &[Touched],
     place: usize,
 ) -> Option<Standing>
-    ensures { result ≡ slice_get (with_touched slots.now.services touched.now) place }
+    ensures { result ≡ option_map stands_of (slice_get (with_touched slots.now.services touched.now) place) }
 {
     let mut standing = slots.nth(place)?.standing();
     for other in touched {
@@ -115,17 +118,26 @@ impl<A: Allocator + Copy> Moves<A> {
         add_events(&mut self.events, sid, out.events.as_slice())
     }
 
-    // The service at a place becomes this, with the marks and orders that led to it.
-    fn touch(&mut self, place: usize, standing: Standing) -> Result<(), NoMemory>
+    // The service at a place becomes this, with the marks, the orders and the death that led to it.
+    fn touch(
+        &mut self,
+        place: usize,
+        standing: Standing,
+        death: Option<(At, Exit)>,
+    ) -> Result<(), NoMemory>
         requires { length self.old.orders.items + length self.old.out.orders.items ≤ 256 }
-        ensures touched { OnOk result (self.new.touched.items ≡ self.old.touched.items ++ (record { place = place; standing = standing }) ∷ []) }
+        ensures touched { OnOk result (self.new.touched.items ≡ self.old.touched.items ++ (record { place = place; standing = standing; death = death }) ∷ []) }
         ensures events { OnOk result (self.new.events.items ≡ self.old.events.items ++ map (event standing.chart.sid) self.old.out.events.items) }
         ensures orders { OnOk result (self.new.orders.items ≡ self.old.orders.items ++ self.old.out.orders.items) }
     {
         add_orders(&mut self.orders, self.out.orders.as_slice());
         let marks = self.out.events.as_slice();
         add_events(&mut self.events, standing.sid(), marks)?;
-        self.touched.push(Touched { place, standing })?;
+        self.touched.push(Touched {
+            place,
+            standing,
+            death,
+        })?;
         Ok(())
     }
 
@@ -155,7 +167,7 @@ impl<A: Allocator + Copy> Moves<A> {
         }
         let mut after = before;
         visit.make(&mut after, now, &mut self.out);
-        self.touch(place, after)?;
+        self.touch(place, after, None)?;
         Ok(())
     }
 
@@ -198,7 +210,7 @@ impl<A: Allocator + Copy> Moves<A> {
         let mut after = before;
         take(&mut after, change, now, &mut self.out);
         let stale = self.out.stale;
-        self.touch(place, after)?;
+        self.touch(place, after, change.death(stale, now))?;
         Ok(stale)
     }
 

@@ -1,18 +1,21 @@
 ghost use Rattle.std.specs.Prelude.{◌≡◌, ◌+◌, ◌*◌, ◌<◌, ◌≤◌, ◌^◌, ◌++◌, [], List, map, length, All, IfOk, IsOk, OnOk, false, true};
 ghost use Rattle.std.specs.List.{list_any};
-ghost use Rattle.deadlines.specs.Timers.{is_rising};
+ghost use Rattle.deadlines.specs.declared.timer.Timer.{Timer};
+ghost use Rattle.deadlines.specs.Timers.{changed_all, is_rising};
 ghost use Rattle.s6_events.specs.Clock.{clock_of};
 ghost use Rattle.s6_events.specs.declared.moment.Moment.{Moment};
 ghost use Rattle.supervise_core.specs.Chart.{fire};
 ghost use Rattle.supervise_core.specs.MatchesMove.{most_orders};
 ghost use Rattle.svscan_core.specs.Asked.{asked_by, IsOrderly};
 ghost use Rattle.svscan_core.specs.Moves.{moment_of};
-ghost use Rattle.svscan_core.specs.Moving.{with_touched, moving_of, KeepNames, Takes};
+ghost use Rattle.svscan_core.specs.Moving.{with_touched, timers_of, moving_of, KeepNames, Takes};
 ghost use Rattle.svscan_core.specs.Names.{repeats};
 ghost use Rattle.svscan_core.specs.Pending.{prepared_of, IsBlank};
 ghost use Rattle.svscan_core.specs.Registry.{worked_of};
 ghost use Rattle.svscan_core.specs.Sound.{AllAgree, IsNumbered};
 ghost use Rattle.svscan_core.specs.Table.{charts_of, names_of, serials_of};
+ghost use Rattle.deadlines.specs.declared.timer.TimerChange.TheVariants.{Clear};
+ghost use Rattle.svscan_core.specs.Timers.{in_reach, timer_change as change_of, TimersAgree};
 ghost use Rattle.svscan_core.specs.Work.{AreDue, worked, given_before, stepped};
 ghost use Rattle.svscan_core.specs.Work.Work.{leave};
 
@@ -21,8 +24,10 @@ use super::scan::{Scanning, plan_scan};
 use super::slots::Slots;
 use super::visit::Visit;
 use super::work::Work;
+use deadlines::TimerChange;
 use s6_events::{At, NoMemory, Sid};
 use std::alloc::Allocator;
+use supervise_core::ChartState;
 
 /// A step that is worked out, before anything is changed: what the services get, which leave and which come, and what is answered.
 /// The lists keep their memory from step to step.
@@ -31,6 +36,26 @@ pub struct Pending<A: Allocator> {
     pub moves: Moves<A>,
     pub scan: Scanning<A>,
     pub stale: bool,
+}
+
+// The moment of a timer, where it can come.
+fn reachable(timer: Option<u64>) -> Option<At>
+    ensures { result ≡ in_reach timer }
+{
+    match timer {
+        Some(due) => At::new(due),
+        None => None,
+    }
+}
+
+// The timer of a service becomes what its state says.
+fn timer_change(chart: &ChartState) -> TimerChange
+    ensures { result ≡ change_of chart.now }
+{
+    match reachable(chart.timer) {
+        Some(at) => TimerChange::Set(chart.sid, at),
+        None => TimerChange::Clear(chart.sid),
+    }
 }
 
 impl<A: Allocator + Copy> Pending<A> {
@@ -54,6 +79,40 @@ impl<A: Allocator + Copy> Pending<A> {
         self.stale = false;
     }
 
+    // Whether no service is given anything, leaves or comes.
+    fn is_blank(&self) -> bool
+        ensures touched { result ≡ true → self.now.moves.touched.items ≡ [] }
+        ensures dropped { result ≡ true → self.now.scan.dropped_sids.items ≡ [] }
+        ensures added { result ≡ true → self.now.scan.added.items ≡ [] }
+        ensures blank { self.now.moves.touched.items ≡ [] → self.now.scan.dropped_sids.items ≡ [] → self.now.scan.added.items ≡ [] → result ≡ true }
+    {
+        self.moves.touched.is_empty()
+            && self.scan.dropped_sids.is_empty()
+            && self.scan.added.is_empty()
+    }
+
+    /// What the step does to the timers: of the services that it gives something, of those that leave, and of those that come.
+    pub fn timers(&self, alloc: A) -> Result<Vec<TimerChange, A>, NoMemory>
+        ensures changes { IfOk result (λ changes. changes.items ≡ timers_of self.now.moves.touched.items
+            ++ (map (λ sid. Clear sid) self.now.scan.dropped_sids.items ++ map change_of (charts_of self.now.scan.added.items))) }
+        ensures quiet { self.now.moves.touched.items ≡ [] → self.now.scan.dropped_sids.items ≡ [] → self.now.scan.added.items ≡ [] → IsOk result }
+    {
+        if self.is_blank() {
+            return Ok(Vec::new(alloc));
+        }
+        let mut changes = Vec::new(alloc);
+        for touched in self.moves.touched.as_slice() {
+            changes.push(timer_change(&touched.standing.chart()))?;
+        }
+        for sid in self.scan.dropped_sids.as_slice() {
+            changes.push(TimerChange::Clear(*sid))?;
+        }
+        for service in self.scan.added.as_slice() {
+            changes.push(timer_change(&service.chart()))?;
+        }
+        Ok(changes)
+    }
+
     // The work is done on the services as the step has them so far.
     fn do_work(&mut self, slots: &Slots<A>, work: &Work, now: At) -> Result<(), NoMemory>
         requires dropped { self.old.scan.dropped.items ≡ [] }
@@ -75,10 +134,12 @@ impl<A: Allocator + Copy> Pending<A> {
         ensures agrees { OnOk result ((history : List Moment) → clock_of history ≡ now
             → AllAgree (with_touched slots.now.services self.old.moves.touched.items) (history ++ map moment_of self.old.moves.events.items)
             → AllAgree (prepared_of slots.now.services self.new).services (history ++ map moment_of self.new.moves.events.items)) }
+        ensures timers { OnOk result ((timers : List Timer) → TimersAgree (changed_all (timers_of self.old.moves.touched.items) timers) (charts_of (with_touched slots.now.services self.old.moves.touched.items))
+            → TimersAgree (changed_all (prepared_of slots.now.services self.new).timers timers) (charts_of (prepared_of slots.now.services self.new).services)) }
         ensures touched { KeepNames slots.now.services self.old.moves.touched.items → OnOk result (KeepNames slots.now.services self.new.moves.touched.items) }
         ensures added { OnOk result (length self.new.scan.added.items ≤ 64) }
         ensures quiet { asked_by work.now ≡ leave → IsOk result }
-        ensures none { asked_by work.now ≡ leave → self.new.scan.added.items ≡ self.old.scan.added.items }
+        ensures still { asked_by work.now ≡ leave → self.new ≡ self.old }
     {
         match work {
             Work::Leave => Ok(()),
@@ -113,6 +174,8 @@ impl<A: Allocator + Copy> Pending<A> {
         ensures worked { OnOk result (worked_of (prepared_of slots.now.services self.new) ≡ worked (asked_by work.now) now (charts_of slots.now.services) next_sid) }
         ensures agrees { OnOk result ((history : List Moment) → clock_of history ≡ now → AllAgree slots.now.services history
             → AllAgree (prepared_of slots.now.services self.new).services (history ++ map moment_of self.new.moves.events.items)) }
+        ensures timers { OnOk result ((timers : List Timer) → TimersAgree timers (charts_of slots.now.services)
+            → TimersAgree (changed_all (prepared_of slots.now.services self.new).timers timers) (charts_of (prepared_of slots.now.services self.new).services)) }
         ensures touched { OnOk result (KeepNames slots.now.services self.new.moves.touched.items) }
         ensures added { OnOk result (length self.new.scan.added.items ≤ 64) }
     {
@@ -139,10 +202,12 @@ impl<A: Allocator + Copy> Pending<A> {
         ensures worked { OnOk result (worked_of (prepared_of slots.now.services self.new) ≡ stepped (asked_by work.now) now (charts_of slots.now.services) next_sid) }
         ensures agrees { OnOk result ((history : List Moment) → clock_of history ≡ now → AllAgree slots.now.services history
             → AllAgree (prepared_of slots.now.services self.new).services (history ++ map moment_of self.new.moves.events.items)) }
+        ensures timers { OnOk result ((timers : List Timer) → TimersAgree timers (charts_of slots.now.services)
+            → TimersAgree (changed_all (prepared_of slots.now.services self.new).timers timers) (charts_of (prepared_of slots.now.services self.new).services)) }
         ensures touched { OnOk result (KeepNames slots.now.services self.new.moves.touched.items) }
         ensures added { OnOk result (length self.new.scan.added.items ≤ 64) }
         ensures quiet { due.now ≡ [] → asked_by work.now ≡ leave → IsOk result }
-        ensures none { asked_by work.now ≡ leave → OnOk result (self.new.scan.added.items ≡ []) }
+        ensures blank { due.now ≡ [] → asked_by work.now ≡ leave → OnOk result (IsBlank next_sid self.new) }
     {
         self.clear(next_sid);
         fire_due(slots, &mut self.moves, due, now)?;
@@ -166,6 +231,7 @@ fn fire_due<A: Allocator + Copy>(
     ensures names { KeepNames slots.now.services moves.old.touched.items → OnOk result (KeepNames slots.now.services moves.new.touched.items) }
     ensures few { OnOk result (length moves.new.orders.items ≤ length moves.old.orders.items + length slots.now.services) }
     ensures quiet { due.now ≡ [] → IsOk result }
+    ensures still { due.now ≡ [] → moves.new ≡ moves.old }
 {
     if due.is_empty() {
         return Ok(());

@@ -1,9 +1,11 @@
 ghost use Rattle.std.specs.Prelude.{◌≡◌, ◌==◌, ◌+◌, ◌<◌, ◌≤◌, ◌^◌, ◌++◌, ◌∷◌, [], List, map, find, length, slice_get, bytes_eq, is_some, option_map, All, IfSome, IfNone, IfOk, IsOk, OnOk, OnErr, false, true};
 ghost use Rattle.std.specs.List.{list_any};
+ghost use Rattle.deadlines.specs.declared.timer.Timer.{Timer};
+ghost use Rattle.deadlines.specs.Timers.{changed_all};
 ghost use Rattle.s6_events.specs.Clock.{clock_of};
 ghost use Rattle.s6_events.specs.declared.moment.Moment.{Moment};
 ghost use Rattle.supervise_core.specs.Chart.{fire};
-ghost use Rattle.supervise_core.specs.Service.{AgreesWith};
+ghost use Rattle.supervise_core.specs.Service.{AgreesAs};
 ghost use Rattle.svscan_core.specs.Asked.{asked_by, IsOrderly};
 ghost use Rattle.svscan_core.specs.Moves.{event, moment_of, services_after, events_after, orders_after};
 ghost use Rattle.svscan_core.specs.Listing.{names_in};
@@ -13,6 +15,7 @@ ghost use Rattle.svscan_core.specs.Pending.{IsBlank};
 ghost use Rattle.svscan_core.specs.Registry.{table_of, worked_of, IsIdle};
 ghost use Rattle.svscan_core.specs.Sound.{AllAgree, IsSound};
 ghost use Rattle.svscan_core.specs.Table.{new_table, charts_of};
+ghost use Rattle.svscan_core.specs.Timers.{TimersAgree};
 ghost use Rattle.svscan_core.specs.Work.{AreDue, changed_at, commanded, stepped, worked};
 ghost use Rattle.svscan_core.specs.Work.Work.{leave};
 
@@ -23,6 +26,7 @@ use super::pending::Pending;
 use super::slots::Slots;
 use super::table::{self, find_sid, nth_sid};
 use super::work::Work;
+use deadlines::TimerChange;
 use s6_events::{At, Name, NoMemory, Order, Sid};
 use std::alloc::Allocator;
 use std::marker::Model;
@@ -108,6 +112,11 @@ impl<A: Allocator + Copy> Registry<A> {
         self.slots.len()
     }
 
+    /// The allocator that it was made with.
+    pub fn allocator(&self) -> A {
+        self.slots.allocator()
+    }
+
     /// The serial of the service of this name. Takes no memory.
     pub fn find(&self, name: Name) -> Option<Sid>
         ensures { result ≡ option_map (λ c. c.sid) (find (λ c. bytes_eq name c.name) (charts_of self.now.shown.services)) }
@@ -123,17 +132,24 @@ impl<A: Allocator + Copy> Registry<A> {
     }
 
     /// The service of this serial. Takes no memory.
-    pub fn get(&self, sid: Sid) -> Option<&Service>
+    pub fn get(&self, sid: Sid) -> Option<&Service<A>>
         ensures { option_map (λ s. s.now) result ≡ find (λ s. s.chart.sid == sid) self.now.shown.services }
     {
         table::get(&self.slots, sid)
     }
 
     /// The service at this place, in rising serial from 0. Takes no memory.
-    pub fn at(&self, place: usize) -> Option<&Service>
+    pub fn at(&self, place: usize) -> Option<&Service<A>>
         ensures { option_map (λ s. s.now) result ≡ slice_get self.now.shown.services place }
     {
         self.slots.nth(place)
+    }
+
+    /// The service of this name. Takes no memory.
+    pub fn named(&self, name: Name) -> Option<&Service<A>>
+        ensures { option_map (λ s. s.now) result ≡ find (λ s. bytes_eq name s.chart.name) self.now.shown.services }
+    {
+        self.slots.find(&name)
     }
 
     /// What the service of this name is once all due timers went off, where that is not done yet; None where none has the name. Every
@@ -142,7 +158,7 @@ impl<A: Allocator + Copy> Registry<A> {
         requires { All (λ c. c.generation + 1 < 2 ^ 64) (charts_of self.now.shown.services) }
         ensures chart { option_map (λ s. s.chart) result ≡ find (λ c. bytes_eq name c.name) (services_after (fire now) (charts_of self.now.shown.services)) }
         ensures agrees { (history : List Moment) → clock_of history ≡ now → AllAgree self.now.shown.services history
-            → IfSome result (λ s. AgreesWith s (history ++ map moment_of (events_after (fire now) (charts_of self.now.shown.services)))) }
+            → IfSome result (λ s. AgreesAs s (history ++ map moment_of (events_after (fire now) (charts_of self.now.shown.services)))) }
     {
         table::after_timers(&self.slots, &name, now)
     }
@@ -177,8 +193,11 @@ impl<A: Allocator + Copy> Registry<A> {
         ensures prepared { OnOk result (worked_of self.new.prepared ≡ stepped (asked_by work.now) now (charts_of self.old.shown.services) self.old.shown.next_sid) }
         ensures agrees { OnOk result ((history : List Moment) → clock_of history ≡ now → AllAgree self.old.shown.services history
             → AllAgree self.new.prepared.services (history ++ map moment_of self.new.prepared.events)) }
+        ensures timers { OnOk result ((timers : List Timer) → TimersAgree timers (charts_of self.old.shown.services)
+            → TimersAgree (changed_all self.new.prepared.timers timers) (charts_of self.new.prepared.services)) }
         ensures idle { OnErr result (IsIdle self.new) }
         ensures quiet { due.now ≡ [] → asked_by work.now ≡ leave → IsOk result }
+        ensures still { due.now ≡ [] → asked_by work.now ≡ leave → (IsIdle self.new) × (self.new.prepared.timers ≡ []) }
     {
         let worked = self
             .pending
@@ -213,6 +232,7 @@ impl<A: Allocator + Copy> Registry<A> {
     /// The orders that were prepared, in the order made: at most 256.
     pub fn orders(&self) -> &[Order]
         ensures orders { result.now ≡ self.now.prepared.orders }
+        ensures few { length result.now ≤ 256 }
     {
         self.pending.moves.orders.as_slice()
     }
@@ -236,6 +256,15 @@ impl<A: Allocator + Copy> Registry<A> {
         ensures { result.now ≡ self.now.prepared.listed }
     {
         self.pending.scan.listed.as_slice()
+    }
+
+    /// What a commit does to the timers: deadlines that agree with the services agree with them after it, once these changes are made.
+    /// `NoMemory` where memory for the list is refused.
+    pub fn timers(&self) -> Result<Vec<TimerChange, A>, NoMemory>
+        ensures changes { IfOk result (λ changes. changes.items ≡ self.now.prepared.timers) }
+        ensures quiet { self.now.prepared.timers ≡ [] → IsOk result }
+    {
+        self.pending.timers(self.slots.allocator())
     }
 
     // Works out the work alone, with no timers.

@@ -7,9 +7,13 @@ ghost use Rattle.supervise_core.specs.declared.chart.ChartState.{ChartState};
 ghost use Rattle.svscan_core.specs.Adding.{adding_of, state_behind, GoesOn, Grows};
 ghost use Rattle.svscan_core.specs.Listing.{names_in};
 ghost use Rattle.svscan_core.specs.Moves.{moment_of};
-ghost use Rattle.svscan_core.specs.Moving.{with_touched, KeepNames};
+ghost use Rattle.svscan_core.specs.Moving.{with_touched, timers_of, KeepNames};
 ghost use Rattle.svscan_core.specs.Names.{lists, repeats};
 ghost use Rattle.svscan_core.specs.Scan.{scanned, dropped_by, stays, leaves, stands, with_service, with_new_name, with_name, with_names};
+ghost use Rattle.deadlines.specs.declared.timer.Timer.{Timer};
+ghost use Rattle.deadlines.specs.declared.timer.TimerChange.TheVariants.{Clear};
+ghost use Rattle.deadlines.specs.Timers.{changed_all};
+ghost use Rattle.svscan_core.specs.Timers.{timer_change, TimersAgree};
 ghost use Rattle.svscan_core.specs.Scanning.{prepared_services};
 ghost use Rattle.svscan_core.specs.Sound.{AllAgree, IsNumbered};
 ghost use Rattle.svscan_core.specs.Table.{charts_of, names_of, serials_of};
@@ -34,7 +38,7 @@ pub struct Scanning<A: Allocator> {
     pub dropped: Vec<Name, A>,
     /// Their serials, which rise.
     pub dropped_sids: Vec<Sid, A>,
-    pub added: Vec<Service, A>,
+    pub added: Vec<Service<A>, A>,
     pub listed: Vec<Listed, A>,
     pub next_sid: u64,
 }
@@ -269,6 +273,9 @@ pub fn plan_scan<A: Allocator + Copy>(
     ensures listed { OnOk result (scan.new.listed.items ≡ (scanned listing.now now (charts_of (with_touched slots.now.services moves.old.touched.items)) scan.old.next_sid).listed) }
     ensures agrees { OnOk result ((history : List Moment) → clock_of history ≡ now → AllAgree (with_touched slots.now.services moves.old.touched.items) (history ++ map moment_of moves.old.events.items)
         → AllAgree (prepared_services slots.now.services moves.new.touched.items scan.new.dropped.items scan.new.added.items) (history ++ map moment_of moves.new.events.items)) }
+    ensures timers { OnOk result ((timers : List Timer) → TimersAgree (changed_all (timers_of moves.old.touched.items) timers) (charts_of (with_touched slots.now.services moves.old.touched.items))
+        → TimersAgree (changed_all (timers_of moves.new.touched.items ++ (map (λ sid. Clear sid) scan.new.dropped_sids.items ++ map timer_change (charts_of scan.new.added.items))) timers)
+        (charts_of (prepared_services slots.now.services moves.new.touched.items scan.new.dropped.items scan.new.added.items))) }
     ensures names { KeepNames slots.now.services moves.old.touched.items → OnOk result (KeepNames slots.now.services moves.new.touched.items) }
     ensures few { OnOk result (length scan.new.added.items ≤ 64) }
 {

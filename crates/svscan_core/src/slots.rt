@@ -1,12 +1,12 @@
-ghost use Rattle.std.specs.Prelude.{◌≡◌, [], ◌∷◌, ◌++◌, ◌+◌, ◌<◌, ◌≤◌, false, length, find, bytes_eq, slice_get, slice_set, option_map, vec_capacity, Some, IsSomeAnd, OnOk, IsOk};
+ghost use Rattle.std.specs.Prelude.{◌≡◌, [], ◌∷◌, ◌++◌, ◌+◌, ◌<◌, ◌≤◌, false, length, find, bytes_eq, slice_get, slice_set, option_map, vec_capacity, None, Some, IsSomeAnd, OnOk, IsOk};
 ghost use Rattle.std.specs.List.{list_any};
 ghost use Rattle.slab.specs.Slab.{get, slab_len, Updates};
-ghost use Rattle.supervise_core.specs.Service.{Supervised};
+ghost use Rattle.supervise_core.specs.Service.{Supervised, adopted};
 ghost use Rattle.svscan_core.specs.Names.{repeats};
 ghost use Rattle.svscan_core.specs.Table.{charts_of, names_of, without_name};
 
 use indexmap::IndexMap;
-use s6_events::{Name, NoMemory};
+use s6_events::{At, Exit, Name, NoMemory};
 use slab::Slab;
 use std::alloc::Allocator;
 use std::hash::{BuildHasherDefault, FoldHasher};
@@ -17,7 +17,7 @@ use supervise_core::{Service, Standing};
 /// added. This project's own.
 #[derive(Drop)]
 pub struct Slots<A: Allocator> {
-    slots: Slab<Service, A>,
+    slots: Slab<Service<A>, A>,
     index: IndexMap<Name, usize, BuildHasherDefault<FoldHasher>, A>,
 }
 
@@ -33,15 +33,29 @@ impl<A: Allocator> Model for Slots<A> {
     ghost invariant = { IsHeld };
 }
 
-// The service in this slot takes this state and this status.
-fn adopt_in<A: Allocator + Copy>(slots: &mut Slab<Service, A>, slot: usize, standing: Standing)
-    ensures updates { (s : Supervised) → get slots.old slot ≡ Some s → Updates slots.old slots.new slot (Some standing) }
+// The service in this slot takes this state and this status, and a death where there is one.
+fn adopt_in<A: Allocator + Copy>(
+    slots: &mut Slab<Service<A>, A>,
+    slot: usize,
+    standing: Standing,
+    death: Option<(At, Exit)>,
+)
+    ensures updates { (s : Supervised) → get slots.old slot ≡ Some s → Updates slots.old slots.new slot (Some (adopted standing death s)) }
     ensures count { slab_len slots.new ≡ slab_len slots.old }
     ensures capacity { slots.new.capacity ≡ slots.old.capacity }
 {
     if let Some(service) = slots.get_mut(slot) {
-        service.adopt(standing);
+        service.adopt(standing, death);
     }
+}
+
+// The service in this slot leaves it, if one stands there.
+fn empty_slot<A: Allocator + Copy>(slots: &mut Slab<Service<A>, A>, slot: usize)
+    ensures updates { Updates slots.old slots.new slot None }
+    ensures count { slab_len slots.new ≤ slab_len slots.old }
+    ensures capacity { slots.new.capacity ≡ slots.old.capacity }
+{
+    let _removed = slots.try_remove(slot);
 }
 
 impl<A: Allocator + Copy> Slots<A> {
@@ -64,7 +78,7 @@ impl<A: Allocator + Copy> Slots<A> {
     }
 
     /// The one at this place, in the order in which they were added.
-    pub fn nth(&self, place: usize) -> Option<&Service>
+    pub fn nth(&self, place: usize) -> Option<&Service<A>>
         ensures { option_map (λ s. s.now) result ≡ slice_get self.now.services place }
     {
         let (_, slot) = self.index.get_index(place)?;
@@ -72,7 +86,7 @@ impl<A: Allocator + Copy> Slots<A> {
     }
 
     /// The one of this name.
-    pub fn find(&self, name: &Name) -> Option<&Service>
+    pub fn find(&self, name: &Name) -> Option<&Service<A>>
         ensures { option_map (λ s. s.now) result ≡ find (λ s. bytes_eq name.now s.chart.name) self.now.services }
     {
         let slot = self.index.get(name)?;
@@ -86,16 +100,16 @@ impl<A: Allocator + Copy> Slots<A> {
         self.index.contains_key(name)
     }
 
-    /// The one at this place takes this state and this status; its name stays.
-    pub fn adopt(&mut self, place: usize, standing: Standing)
+    /// The one at this place takes this state and this status, and a death joins its tally where there is one; its name stays.
+    pub fn adopt(&mut self, place: usize, standing: Standing, death: Option<(At, Exit)>)
         requires name { IsSomeAnd (slice_get self.old.services place) (λ s. s.chart.name ≡ standing.chart.name) }
-        ensures services { self.new.services ≡ slice_set self.old.services place standing }
+        ensures services { (s : Supervised) → slice_get self.old.services place ≡ Some s → self.new.services ≡ slice_set self.old.services place (adopted standing death s) }
         ensures room { self.new.room ≡ self.old.room }
     {
         // For the proof: its clause says that no two names are equal.
         let _count = self.index.len();
         if let Some((_, slot)) = self.index.get_index(place) {
-            adopt_in(&mut self.slots, *slot, standing);
+            adopt_in(&mut self.slots, *slot, standing, death);
         }
     }
 
@@ -107,7 +121,7 @@ impl<A: Allocator + Copy> Slots<A> {
         // For the proof: its clause says that no two names are equal.
         let _count = self.index.len();
         if let Some(slot) = self.index.shift_remove(&name) {
-            let _removed = self.slots.try_remove(slot);
+            empty_slot(&mut self.slots, slot);
         }
     }
 
@@ -126,7 +140,7 @@ impl<A: Allocator + Copy> Slots<A> {
     }
 
     /// One more under a new name goes last; there is room for it.
-    pub fn add(&mut self, service: Service)
+    pub fn add(&mut self, service: Service<A>)
         requires room { 0 < self.old.room }
         requires absent { list_any (λ s. bytes_eq service.chart.name s.chart.name) self.old.services ≡ false }
         ensures services { self.new.services ≡ self.old.services ++ service ∷ [] }
@@ -138,7 +152,7 @@ impl<A: Allocator + Copy> Slots<A> {
     }
 
     /// All of these go last, in their order; there is room for them. `added` is empty then, and keeps its memory.
-    pub fn add_all(&mut self, added: &mut Vec<Service, A>)
+    pub fn add_all(&mut self, added: &mut Vec<Service<A>, A>)
         requires room { length added.old.items ≤ self.old.room }
         requires names { repeats (names_of (charts_of (self.old.services ++ added.old.items))) ≡ false }
         ensures services { self.new.services ≡ self.old.services ++ added.old.items }

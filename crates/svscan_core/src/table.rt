@@ -4,7 +4,7 @@ ghost use Rattle.deadlines.specs.Timers.{is_rising};
 ghost use Rattle.s6_events.specs.Clock.{clock_of};
 ghost use Rattle.s6_events.specs.declared.moment.Moment.{Moment};
 ghost use Rattle.supervise_core.specs.Chart.{fire};
-ghost use Rattle.supervise_core.specs.Service.{AgreesWith, KeepsAgreeing};
+ghost use Rattle.supervise_core.specs.Service.{AgreesAs, KeepsAgreeing};
 ghost use Rattle.svscan_core.specs.Moves.{event, moment_of, services_after, events_after, orders_after};
 ghost use Rattle.svscan_core.specs.Sound.{AllAgree};
 ghost use Rattle.svscan_core.specs.Table.{charts_of, serials_of};
@@ -31,7 +31,7 @@ pub fn nth_sid<A: Allocator + Copy>(slots: &Slots<A>, place: usize) -> Option<Si
 }
 
 /// The service of this serial, and None where none has it. This project's own.
-pub fn get<A: Allocator + Copy>(slots: &Slots<A>, sid: Sid) -> Option<&Service>
+pub fn get<A: Allocator + Copy>(slots: &Slots<A>, sid: Sid) -> Option<&Service<A>>
     requires { is_rising (serials_of (charts_of slots.now.services)) ≡ true }
     ensures { option_map (λ s. s.now) result ≡ find (λ s. s.chart.sid == sid) slots.now.services }
 {
@@ -61,7 +61,7 @@ pub fn change<A: Allocator + Copy>(
     let place = place_of(slots, sid)?;
     let mut standing = slots.nth(place)?.standing();
     let out = standing.change(change, now);
-    slots.adopt(place, standing);
+    slots.adopt(place, standing, change.death(out.stale, now));
     Some(out)
 }
 
@@ -95,7 +95,7 @@ pub fn after_timers<A: Allocator + Copy>(slots: &Slots<A>, name: &Name, now: At)
     requires generations { All (λ c. c.generation + 1 < 2 ^ 64) (charts_of slots.now.services) }
     ensures chart { option_map (λ s. s.chart) result ≡ find (λ c. bytes_eq name.now c.name) (services_after (fire now) (charts_of slots.now.services)) }
     ensures agrees { (history : List Moment) → clock_of history ≡ now → AllAgree slots.now.services history
-        → IfSome result (λ s. AgreesWith s (history ++ map moment_of (events_after (fire now) (charts_of slots.now.services)))) }
+        → IfSome result (λ s. AgreesAs s (history ++ map moment_of (events_after (fire now) (charts_of slots.now.services)))) }
 {
     let standing = slots.find(name)?.standing();
     Some(after_timer(standing, now))

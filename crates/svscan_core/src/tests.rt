@@ -13,20 +13,19 @@ fn name_of(serial: u8) -> Result<Name, Fail> {
     Ok(Name::new(&text).ok_or("a name")?)
 }
 
-fn service<A: Allocator + Copy>(alloc: A, serial: u8) -> Result<Service, Fail> {
+// A service that keeps no deaths, so that it takes no memory.
+fn service<A: Allocator + Copy>(alloc: A, serial: u8) -> Result<Service<A>, Fail> {
     let sid = Sid(u64::from(serial));
-    let (service, _out) = Service::begin(
-        alloc,
-        sid,
-        name_of(serial)?,
-        Config::plain(),
-        At::zero(),
-    )?;
+    let config = Config {
+        max_death_tally: 0,
+        ..Config::plain()
+    };
+    let (service, _out) = Service::begin(alloc, sid, name_of(serial)?, config, At::zero())?;
     Ok(service)
 }
 
 // One more, where none of its name stands and memory isn't refused.
-fn admit<A: Allocator + Copy>(slots: &mut Slots<A>, service: Service) -> Result<(), NoMemory> {
+fn admit<A: Allocator + Copy>(slots: &mut Slots<A>, service: Service<A>) -> Result<(), NoMemory> {
     let name = service.chart().name;
     if !slots.has(&name) {
         slots.reserve(1)?;

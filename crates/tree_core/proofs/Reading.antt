@@ -6,11 +6,11 @@ use Rattle.s6_events.specs.Clock.{clock_of, clock_after}
 use Rattle.s6_events.specs.declared.moment.Moment.{Moment}
 use Rattle.s6_events.specs.declared.moment.Moment.TheVariants.{Clock}
 use Rattle.supervise_core.specs.Chart.{fire}
-use Rattle.tree_core.specs.declared.effect.Event.{Event}
+use Rattle.svscan_core.specs.declared.event.Event.{Event}
 use Rattle.tree_core.specs.declared.input.Input.{Input}
 use Rattle.tree_core.specs.Acts.{acted}
 use Rattle.tree_core.specs.Machine.{Machine}
-use Rattle.tree_core.specs.Moves.{moment_of, events_after}
+use Rattle.svscan_core.specs.Moves.{moment_of, events_after}
 use Rattle.tree_core.specs.Step.{step, spent, timed, clocked, with_moves, step_limit, clock_moments, Stepped}
 
 clock-append : (clock : ℕ) (xs ys : List Moment) → fold clock_after clock (xs ++ ys) ≡ fold clock_after (fold clock_after clock xs) ys

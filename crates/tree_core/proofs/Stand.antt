@@ -1,5 +1,5 @@
 -- What makes the step of an input stands for the machine after it.
-use Rattle.std.proofs.Common.{◌≡◌, ◌+◌, ◌≤◌, ◌++◌, List, [], drop, max, ℕ, arith, length, sym, ap, ◌∙◌, subst}
+use Rattle.std.proofs.Common.{◌≡◌, ◌+◌, ◌*◌, ◌<◌, ◌≤◌, ◌++◌, List, [], drop, max, ℕ, arith, length, sym, ap, ◌∙◌, subst}
 use Rattle.std.proofs.lemmas.List.{length-append, drop-append-le}
 use Rattle.s6_events.specs.At.{last_moment}
 use Rattle.s6_events.specs.declared.moment.Moment.{Moment}
@@ -10,12 +10,17 @@ use Rattle.tree_core.specs.declared.input.Input.{Input}
 use Rattle.tree_core.specs.declared.plan.StepPlan.{StepPlan}
 use Rattle.tree_core.specs.Effect.{outcome_of}
 use Rattle.tree_core.specs.Machine.{Machine}
-use Rattle.tree_core.specs.Plan.{Present, present, IsNow, IsQuiet, Plans, planned}
+use Rattle.tree_core.specs.Plan.{Present, present, IsNow, IsQuiet, Plans}
 use Rattle.tree_core.specs.Run.{after, outcome}
-use Rattle.tree_core.specs.Sound.{IsRecorded}
-use Rattle.tree_core.specs.StandsFor.{Stored, StandsFor, AllAgree}
-use Rattle.tree_core.specs.Timers.{TimersAgree}
-use Rattle.tree_core.specs.RecordedMarks.{charts_of}
+use Rattle.std.specs.Prelude.{All, get_or}
+use Rattle.supervise_core.specs.declared.chart.ChartState.{ChartState}
+use Rattle.tree_core.specs.Sound.{IsCounted, IsRecorded}
+use Rattle.tree_core.specs.StandsFor.{Stored, StandsFor}
+use Rattle.svscan_core.specs.Timers.{TimersAgree}
+use Rattle.svscan_core.specs.Registry.{Prepared}
+use Rattle.svscan_core.specs.Sound.{AllAgree}
+use Rattle.svscan_core.specs.Table.{charts_of}
+use Rattle.tree_core.specs.declared.effect.Effect.{Effect}
 use Rattle.tree_core.proofs.Reading.{step-reads}
 use Rattle.tree_core.proofs.TimersDue.{none_for_quiet}
 
@@ -35,28 +40,28 @@ is_now t m s = record {
 }
 
 -- a plan for every machine that has now what a tree has
-abbrev PlansAll : {A : Type 0} → Stored → Input A → StepPlan A → Type 0
-PlansAll t input plan = (m : Machine) → IsNow (present_of t) m → Plans m input plan
+abbrev PlansAll : {A : Type 0} → Stored → Input A → StepPlan A → Prepared → Effect A → Type 0
+PlansAll t input plan prepared effect = (m : Machine) → IsNow (present_of t) m → Plans m input plan prepared effect
 
 -- what a step leaves in a tree, by its plan
-pub record Installs {A : Type 0} (t new : Stored) (plan : StepPlan A) : Type 0 where
+pub record Installs {A : Type 0} (t new : Stored) (plan : StepPlan A) (prepared : Prepared) : Type 0 where
   pub clock : new.clock ≡ plan.now
   pub steps : new.steps ≡ t.steps + 1
-  pub closing : new.closing ≡ t.closing
-  pub services : new.services ≡ planned plan
-  pub next_sid : new.next_sid ≡ plan.next_sid
+  pub closing : new.closing ≡ plan.closing
+  pub services : new.services ≡ prepared.services
+  pub next_sid : new.next_sid ≡ prepared.next_sid
   pub forgotten : new.forgotten ≡ t.forgotten
   pub kept : new.kept ≡ t.kept ++ plan.moments.items
 
-pub stands_after : {A : Type 0} (t new : Stored) (input : Input A) (plan : StepPlan A) → PlansAll t input plan → Installs t new plan
-    → (m : Machine) → StandsFor t m → (outcome_of plan.effect ≡ outcome m input) × StandsFor new (after m input)
-stands_after {A} t new input plan plans n m s =
-    let p : Plans m input plan = plans m (is_now t m s) in (
-      p.effect,
+pub stands_after : {A : Type 0} (t new : Stored) (input : Input A) (plan : StepPlan A) (prepared : Prepared) (effect : Effect A) → PlansAll t input plan prepared effect → Installs t new plan prepared
+    → (m : Machine) → StandsFor t m → (outcome_of effect ≡ outcome m input) × StandsFor new (after m input)
+stands_after {A} t new input plan prepared effect plans n m s =
+    let p : Plans m input plan prepared effect = plans m (is_now t m s) in (
+      p.outcome,
       record {
         clock = sym (n.clock ∙ p.clock);
         steps = sym p.steps ∙ (ap (λ k. k + 1) s.steps ∙ sym n.steps);
-        closing = sym p.closing ∙ (s.closing ∙ sym n.closing);
+        closing = sym (n.closing ∙ p.closing);
         services = sym p.services ∙ ap charts_of (sym n.services);
         next_sid = sym (n.next_sid ∙ p.next_sid);
         forgotten = omega (arith, n.forgotten, ap length p.history, length-append m.history plan.moments.items, s.forgotten);
@@ -64,7 +69,7 @@ stands_after {A} t new input plan plans n m s =
             rw (n.forgotten, n.kept)
             (subst (λ (h : List Moment). drop t.forgotten h ≡ t.kept ++ plan.moments.items) p.history
             (drop-append-le t.forgotten m.history plan.moments.items s.forgotten ∙ ap (λ h. h ++ plan.moments.items) s.kept));
-        agrees = subst (λ (ss : List Supervised). AllAgree ss (after m input).history) (sym n.services) (subst (AllAgree (planned plan)) p.history p.agrees);
+        agrees = subst (λ (ss : List Supervised). AllAgree ss (after m input).history) (sym n.services) (subst (AllAgree prepared.services) p.history p.agrees);
         reading = step-reads m input s.reading;
       },
     )
@@ -84,4 +89,13 @@ pub recorded_after : {A : Type 0} (t : Stored) (plan : StepPlan A) (forgotten : 
     → IsRecorded (t.steps + 1) forgotten kept
 recorded_after t plan forgotten kept r few same more = record {
   few = rw (same, more) (omega (arith, length-append t.kept plan.moments.items, r.few, few));
+}
+
+-- its numbers after a step
+pub counted_after : (taken next new_next : ℕ) (old new : List ChartState) → IsCounted taken next old → taken < 281474976710656 → new_next ≤ next + 64
+    → ((n : ℕ) → All (λ c. c.generation ≤ n) old → All (λ c. c.generation ≤ n + 2) new) → IsCounted (taken + 1) new_next new
+counted_after taken next new_next old new c left few grows = record {
+  steps = omega (arith, left);
+  serials = let was = c.serials in omega (arith, was, few);
+  generations = λ k d lt. let here : (get_or new k d).generation ≤ 2 * taken + 2 = grows (2 * taken) c.generations k d lt in omega arith;
 }

@@ -1,28 +1,27 @@
--- Which timers are due, where timers agree with the services; and that a step that changes no service changes no timer.
-use Rattle.std.proofs.Common.{rules, subst, ◌≡◌, refl, sym, ap, ◌∙◌, ℕ, zero, suc, ◌<◌, ◌≤◌, List, [], ◌∷◌, ◌++◌, Bool, true, false, ◌||◌, ◌==◌, cond, arith, map, max, filter, length, get_or, flat_map}
-use Rattle.std.specs.Prelude.{Option, Some, None, nat_lt, nat_le, nat_eq}
-use Rattle.std.specs.Option.{option_eq}
+-- Which timers are due, where timers agree with the services.
+use Rattle.std.proofs.Common.{subst, ◌≡◌, refl, sym, ap, ◌∙◌, ℕ, zero, suc, ◌<◌, ◌≤◌, List, [], ◌∷◌, Bool, true, false, ◌||◌, ◌==◌, cond, arith, map, max, filter, length, get_or}
+use Rattle.std.specs.Prelude.{Option, Some, None, nat_lt, nat_le}
 use Rattle.std.specs.List.{list_any, list_all}
 use Rattle.std.proofs.lemmas.Bool.Decides.{nat_tests}
 use Rattle.s6_events.specs.At.{last_moment}
 use Rattle.deadlines.specs.declared.timer.Timer.{Timer}
-use Rattle.deadlines.specs.declared.timer.TimerChange.TheVariants.{Clear}
 use Rattle.deadlines.specs.Timers.{rises, due_by, is_rising}
 use Rattle.supervise_core.specs.declared.chart.ChartState.{ChartState}
-use Rattle.supervise_core.specs.ChartState.{still}
-use Rattle.supervise_core.specs.Chart.{is_due, timer_rule, fire}
-use Rattle.tree_core.specs.Moves.{events_of, services_after, events_after, orders_after}
-use Rattle.supervise_core.specs.Service.{Supervised}
+use Rattle.supervise_core.specs.Chart.{is_due}
+use Rattle.svscan_core.specs.Sound.{IsNumbered}
+use Rattle.svscan_core.specs.Table.{charts_of, serials_of}
+use Rattle.svscan_core.specs.Timers.{in_reach, timer_in, set_in, TimersAgree}
+use Rattle.svscan_core.specs.Work.{AreDue}
+use Rattle.svscan_core.proofs.Serials.{itself, later_other, earlier_other}
+use Rattle.svscan_core.proofs.SerialsRise.{rising_before}
+use Rattle.svscan_core.proofs.Timers.{one_number}
+use Rattle.svscan_core.proofs.Truth.{both_left, both_right, neither_left, neither_right}
 use Rattle.tree_core.specs.declared.input.Input.{Input}
 use Rattle.tree_core.specs.Plan.{IsQuiet}
-use Rattle.tree_core.specs.Sound.{serials_of, IsNumbered}
 use Rattle.tree_core.specs.StandsFor.{Stored}
-use Rattle.tree_core.proofs.Quiet.{clock_stays}
-use Rattle.tree_core.proofs.SerialsRise.{rising_before}
-use Rattle.tree_core.specs.RecordedMarks.{charts_of}
-use Rattle.tree_core.specs.Timers.{has_serial, in_reach, timer_in, set_in, TimersAgree, change_to, left, moved, changes_of, AreDue}
-use Rattle.tree_core.proofs.Truth.{both_left, both_right, either_right, neither_left, neither_right}
-use Rattle.tree_core.proofs.TimersAgree.{one_number, itself, later_other, earlier_other}
+
+clock_stays : (now clock at : ℕ) → now ≡ max clock at → at ≤ clock → now ≡ clock
+clock_stays now clock at is early = is ∙ omega arith
 
 -- a serial is due among timers in rising serial, where its timer is due
 later_unset : (s : ℕ) (ts : List Timer) → list_all (λ t. nat_lt s t.sid) ts ≡ true → set_in s ts ≡ None
@@ -93,78 +92,6 @@ nothing_in (x ∷ xs) h = let here : (x == x) ≡ false = neither_left (x == x) 
 pub none_due : (now : ℕ) (ts : List Timer) (services : List ChartState) → now ≤ last_moment → TimersAgree ts services → list_any (λ c. is_due now c.timer) services ≡ false
     → due_by now ts ≡ []
 none_due now ts services l a h = nothing_in (due_by now ts) (λ q. due_found now q ts a.order ∙ (ap (is_due now) (a.moments q) ∙ rest_timer now q services l h))
-
--- lists of lists, where none has anything
-pub all_empty : {X Y : Type 0} (f : X → List Y) (xs : List X) → ((k : ℕ) (d : X) → k < length xs → f (get_or xs k d) ≡ []) → flat_map f xs ≡ []
-all_empty f [] h = refl
-all_empty f (x ∷ xs) h = (λ i. h zero x (omega arith) i ++ flat_map f xs) ∙ all_empty f xs (λ k d lt. h (suc k) d (omega (arith, lt)))
-
-pub first_empty : {Y : Type 0} (xs ys : List Y) → xs ++ ys ≡ [] → xs ≡ []
-first_empty [] ys e = refl
-first_empty (x ∷ xs) ys e = cc
-
-pub rest_empty : {Y : Type 0} (xs ys : List Y) → xs ++ ys ≡ [] → ys ≡ []
-rest_empty [] ys e = e
-rest_empty (x ∷ xs) ys e = cc
-
-pub none_here : {X Y : Type 0} (f : X → List Y) (xs : List X) (k : ℕ) (d : X) → k < length xs → flat_map f xs ≡ [] → f (get_or xs k d) ≡ []
-none_here f [] k d lt e = absurd (omega (arith, lt))
-none_here f (x ∷ xs) zero d lt e = first_empty (f x) (flat_map f xs) e
-none_here f (x ∷ xs) (suc k) d lt e = none_here f xs k d (omega (arith, lt)) (rest_empty (f x) (flat_map f xs) e)
-
-pub of_charts : {Y : Type 0} (f : ChartState → List Y) (services : List Supervised) → flat_map (λ s. f s.chart) services ≡ flat_map f (charts_of services)
-of_charts f [] = refl
-of_charts f (s ∷ services) = ap (λ rest. f s.chart ++ rest) (of_charts f services)
-
--- a step that changes no service changes no timer
-present : (cs : List ChartState) (k : ℕ) (d : ChartState) → k < length cs → has_serial (get_or cs k d).sid cs ≡ true
-present [] k d lt = absurd (omega (arith, lt))
-present (c ∷ cs) zero d lt = ap (λ b. b || has_serial c.sid cs) (itself c.sid)
-present (c ∷ cs) (suc k) d lt = either_right (c.sid == (get_or cs k d).sid) _ (present cs k d (omega (arith, lt)))
-
-same_moment : (o : Option ℕ) → option_eq nat_eq o o ≡ true
-same_moment None = refl
-same_moment (Some n) = itself n
-
-pub nothing_changes : (cs : List ChartState) → is_rising (serials_of cs) ≡ true → changes_of cs cs ≡ []
-nothing_changes cs r = λ i. stays i ++ keeps i
-  where
-    stays : flat_map (left cs) cs ≡ []
-    stays = all_empty (left cs) cs (λ k d lt. ap (λ b. cond b [] (Clear (get_or cs k d).sid ∷ [])) (present cs k d lt))
-
-    keeps : flat_map (moved cs) cs ≡ []
-    keeps =
-        all_empty (moved cs) cs
-        (λ k d lt. ap (λ b. cond b [] (change_to (get_or cs k d).sid (in_reach (get_or cs k d).timer) ∷ []))
-        (ap (λ o. option_eq nat_eq o (in_reach (get_or cs k d).timer)) (own_timer cs k d r lt) ∙ same_moment (in_reach (get_or cs k d).timer)))
-
-pub empty_list : {X : Type 0} (xs : List X) → (length xs == 0) ≡ true → xs ≡ []
-empty_list [] h = refl
-empty_list (x ∷ xs) h = search rules
-
--- where none is due, no service takes its rule
-untouched : (now : ℕ) (c : ChartState) → is_due now c.timer ≡ false → fire now c ≡ still c
-untouched now c h = ap (λ b. cond b (timer_rule c.phase c) (still c)) h
-
-later_ones : (now : ℕ) (c : ChartState) (cs : List ChartState) → AreDue [] now (c ∷ cs) → AreDue [] now cs
-later_ones now c cs h = λ k d lt. h (suc k) d (omega (arith, lt))
-
-pub unfired : (now : ℕ) (cs : List ChartState) → AreDue [] now cs → services_after (fire now) cs ≡ cs
-unfired now [] h = refl
-unfired now (c ∷ cs) h = λ i. (untouched now c (sym (h zero c (omega arith))) i).chart ∷ unfired now cs (later_ones now c cs h) i
-
-pub unfired_events : (now : ℕ) (cs : List ChartState) → AreDue [] now cs → events_after (fire now) cs ≡ []
-unfired_events now [] h = refl
-unfired_events now (c ∷ cs) h = (λ i. events_of c.sid (untouched now c (sym (h zero c (omega arith))) i) ++ events_after (fire now) cs) ∙ unfired_events now cs (later_ones now c cs h)
-
-pub unfired_orders : (now : ℕ) (cs : List ChartState) → AreDue [] now cs → orders_after (fire now) cs ≡ []
-unfired_orders now [] h = refl
-unfired_orders now (c ∷ cs) h = (λ i. (untouched now c (sym (h zero c (omega arith))) i).orders ++ orders_after (fire now) cs) ∙ unfired_orders now cs (later_ones now c cs h)
-
-pub still_fired : (now late : ℕ) (due : List ℕ) (before charts fired : List ChartState) → now ≡ late → charts ≡ before → due ≡ [] → AreDue due late before
-    → fired ≡ services_after (fire now) charts → fired ≡ before
-still_fired now late due before charts fired e f none h is =
-    is ∙ ((λ i. services_after (fire (e i)) (f i)) ∙ unfired late before (subst (λ (sids : List ℕ). AreDue sids late before) none h))
 
 -- what a tree finds due are the services whose timers are due, and for a quiet input there is none
 pub due_now : (now late next : ℕ) (due : List ℕ) (ts : List Timer) (before seen : List ChartState) → now ≡ late → now ≤ last_moment → due ≡ due_by now ts → seen ≡ before

@@ -1,35 +1,27 @@
 -- What each act does, and why it is refused.
-use Rattle.std.specs.Prelude.{ℕ, List, [], map, filter, Bool, not, ◌==◌, ◌&&◌, if◌then◌else◌, bytes_eq, Option, None, Some}
-use Rattle.std.specs.List.{list_any}
-use Rattle.s6_events.specs.declared.order.Order.{Order}
+use Rattle.std.specs.Prelude.{ℕ, List, [], map, ◌==◌, if◌then◌else◌, bytes_eq, find, Option, None, Some}
+use Rattle.std.specs.List.{list_any, flat_map}
+use Rattle.s6_events.specs.declared.exit.Exit.{Exit}
 use Rattle.supervise_core.specs.declared.chart.ChartState.{ChartState}
 use Rattle.supervise_core.specs.declared.change.Change.{Change}
 use Rattle.supervise_core.specs.declared.change.Change.TheVariants.{Started as StartedReport, StartFailed as StartFailedReport, Notify as NotifyReport, Death as DeathReport, FinishEnded as FinishEndedReport, Control as Letters}
 use Rattle.supervise_core.specs.declared.row.Row.{Row}
-use Rattle.supervise_core.specs.ChartState.{Moved, still, is_gone}
-use Rattle.supervise_core.specs.Chart.{changed_by}
-use Rattle.tree_core.specs.declared.effect.Event.{Event}
+use Rattle.supervise_core.specs.ChartState.{is_gone}
+use Rattle.svscan_core.specs.declared.entry.Entry.{Entry}
+use Rattle.svscan_core.specs.Listing.{names_in}
+use Rattle.svscan_core.specs.Names.{repeats}
+use Rattle.svscan_core.specs.Work.{Work, Worked, worked, changed_at}
+use Rattle.svscan_core.specs.Work.Work.{leave, change_one, apply_listing, command}
 use Rattle.tree_core.specs.declared.effect.Match.{Match}
 use Rattle.tree_core.specs.declared.effect.Release.{Release}
 use Rattle.tree_core.specs.declared.input.Act.{Act}
-use Rattle.tree_core.specs.declared.input.Entry.{Entry}
-use Rattle.tree_core.specs.declared.input.Act.TheVariants.{Scan, Svc, Started, StartFailed, Notify, Death, FinishEnded, Status, Tick}
+use Rattle.tree_core.specs.declared.input.Act.TheVariants.{Scan, Scanctl, Svc, Started, StartFailed, Notify, Death, FinishEnded, Status}
 use Rattle.tree_core.specs.declared.reply.Refusal.{Refusal}
 use Rattle.tree_core.specs.declared.reply.Refusal.TheVariants.{NoService, Stale, Closing, Repeated, Ended}
 use Rattle.tree_core.specs.declared.reply.Reply.{Reply}
 use Rattle.tree_core.specs.declared.reply.Reply.TheVariants.{Done, Refused, Scanned, Row as RowReply}
-use Rattle.tree_core.specs.Listing.{names_in, repeats, in_byte_order}
 use Rattle.tree_core.specs.Machine.{Machine, DeathOf}
-use Rattle.tree_core.specs.Moves.{services_after, events_after, orders_after, deaths_after}
 use Rattle.tree_core.specs.Rows.{row_named}
-use Rattle.tree_core.specs.Scan.{stands, ScanState, looked_up, stays, leaves, scan_state_from}
-
--- what an act asks of the services
-pub data Work : Type 0 where
-  leave : Work
-  change_one : ℕ → Change → Work
-  change_named : List ℕ → Change → Work
-  apply_listing : List Entry → Work
 
 -- what an act asks of those who listen; no act of today asks anything of them
 pub data Ask : Type 0 where
@@ -40,105 +32,64 @@ pub record Heard : Type 0 where
   pub matched : List Match
   pub released : List Release
 
--- what is left of the services, and what they give
-pub record Worked : Type 0 where
-  pub services : List ChartState
-  pub next_sid : ℕ
-  pub events : List Event
-  pub orders : List Order
-
 -- what an act leaves and gives
 pub record Acted (A : Type 0) : Type 0 where
   pub reply : Reply A
   pub work : Worked
 
--- the service of the serial takes the change, and every other one stays
-abbrev pub changed_at : ℕ → Change → ℕ → ChartState → Moved
-changed_at sid change now c = if c.sid == sid then changed_by change now c else still c
+-- the service of a name
+abbrev pub named : List ℕ → List ChartState → Option ChartState
+named name services = find (λ c. bytes_eq name c.name) services
 
--- the service of the name takes the change, and every other one stays
-abbrev pub changed_named : List ℕ → Change → ℕ → ChartState → Moved
-changed_named name change now c = if bytes_eq name c.name then changed_by change now c else still c
-
--- every service stays
-abbrev pub left_alone : List ChartState → ℕ → Worked
-left_alone services next_sid = record { services = services; next_sid = next_sid; events = []; orders = [] }
-
--- every service takes a move
-abbrev pub moved_all : (ChartState → Moved) → List ChartState → ℕ → Worked
-moved_all move services next_sid = record {
-  services = services_after move services;
-  next_sid = next_sid;
-  events = events_after move services;
-  orders = orders_after move services;
-}
-
--- a scan: activity, drops, and additions in the order of the names' bytes
-abbrev pub scanned : List Entry → ℕ → List ChartState → ℕ → ScanState
-scanned listing now services next_sid = scan_state_from listing (filter stays (looked_up now listing services)) next_sid (in_byte_order (names_in listing))
-
--- the work, done at a moment on the services
-abbrev pub worked : Work → ℕ → List ChartState → ℕ → Worked
-worked leave now services next_sid = left_alone services next_sid
-worked (change_one sid change) now services next_sid = moved_all (changed_at sid change now) services next_sid
-worked (change_named name change) now services next_sid = moved_all (changed_named name change now) services next_sid
-worked (apply_listing listing) now services next_sid = record {
-  services = (scanned listing now services next_sid).services;
-  next_sid = (scanned listing now services next_sid).next_sid;
-  events = (scanned listing now services next_sid).events;
-  orders = (scanned listing now services next_sid).orders;
-}
-
--- a report is refused where no service has the serial, and where it is stale
-abbrev pub report_reply : {A : Type 0} → Bool → Bool → Reply A
-report_reply known stale = if not known then Refused NoService else if stale then Refused Stale else Done
-
-abbrev pub reply_to_report : {A : Type 0} → ℕ → Change → Machine → Reply A
-reply_to_report sid change m =
-    report_reply (list_any (λ c. c.sid == sid) m.services) (list_any (λ c. (changed_at sid change m.clock c).stale) m.services)
-
--- the supervisor of the service of the name has ended
-abbrev pub has_ended : List ℕ → List ChartState → Bool
-has_ended name services = list_any (λ c. bytes_eq name c.name && is_gone c.phase) services
+-- a serial that no service has
+abbrev pub refused_serial : ℕ → List ChartState → Option Refusal
+refused_serial sid services = if list_any (λ c. c.sid == sid) services then None else Some NoService
 
 -- letters are refused where no service has the name, and where its supervisor has ended
-abbrev pub refused_letters : List ℕ → Machine → Option Refusal
-refused_letters name m = if not (stands name m.services) then Some NoService else if has_ended name m.services then Some Ended else None
+abbrev pub refused_letters : Option ChartState → Option Refusal
+refused_letters None = Some NoService
+refused_letters (Some c) = if is_gone c.phase then Some Ended else None
 
 -- a listing is refused while the tree is closing, then where a name stands in it twice
 abbrev pub refused_listing : List Entry → Machine → Option Refusal
 refused_listing listing m = if m.closing then Some Closing else if repeats (names_in listing) then Some Repeated else None
 
--- the refusal, or else this reply
-abbrev pub reply_unless : {A : Type 0} → Option Refusal → Reply A → Reply A
-reply_unless None reply = reply
-reply_unless (Some why) reply = Refused why
+-- why an act is refused before anything is done
+abbrev pub refused : {A : Type 0} → Act A → Machine → Option Refusal
+refused (Scan listing) m = refused_listing listing m
+refused (Scanctl order) m = if m.closing then Some Closing else None
+refused (Svc name letters) m = refused_letters (named name m.services)
+refused (Started sid generation pid) m = refused_serial sid m.services
+refused (StartFailed sid generation) m = refused_serial sid m.services
+refused (Notify sid generation bytes) m = refused_serial sid m.services
+refused (Death sid generation exit) m = refused_serial sid m.services
+refused (FinishEnded sid generation exit) m = refused_serial sid m.services
+refused act m = None
+
+-- the service that was found takes a change
+abbrev pub change_found : Option ChartState → Change → Work
+change_found None change = leave
+change_found (Some c) change = change_one c.sid change
+
+-- what each act asks of the services, where it is not refused
+abbrev pub asked : {A : Type 0} → Act A → Machine → Work
+asked (Scan listing) m = apply_listing listing
+asked (Scanctl order) m = command order
+asked (Svc name letters) m = change_found (named name m.services) (Letters letters)
+asked (Started sid generation pid) m = change_one sid (StartedReport generation pid)
+asked (StartFailed sid generation) m = change_one sid (StartFailedReport generation)
+asked (Notify sid generation bytes) m = change_one sid (NotifyReport generation bytes)
+asked (Death sid generation exit) m = change_one sid (DeathReport generation exit)
+asked (FinishEnded sid generation exit) m = change_one sid (FinishEndedReport generation exit)
+asked act m = leave
 
 -- nothing where the act is refused, and else this work
 abbrev pub work_unless : Option Refusal → Work → Work
 work_unless None work = work
 work_unless (Some why) work = leave
 
--- a row is shown, and where no service has the name that is refused
-abbrev pub row_reply : {A : Type 0} → Option Row → Reply A
-row_reply None = Refused NoService
-row_reply (Some row) = RowReply row
-
--- what a scan answers
-abbrev pub scan_reply : {A : Type 0} → List Entry → Machine → Reply A
-scan_reply listing m =
-    Scanned (record { dropped = map (λ c. c.sid) (filter leaves (looked_up m.clock listing m.services)); listed = (scanned listing m.clock m.services m.next_sid).listed })
-
--- what each act asks of the services
 abbrev pub work_of : {A : Type 0} → Act A → Machine → Work
-work_of (Scan listing) m = work_unless (refused_listing listing m) (apply_listing listing)
-work_of (Svc name letters) m = work_unless (refused_letters name m) (change_named name (Letters letters))
-work_of (Started sid generation pid) m = change_one sid (StartedReport generation pid)
-work_of (StartFailed sid generation) m = change_one sid (StartFailedReport generation)
-work_of (Notify sid generation bytes) m = change_one sid (NotifyReport generation bytes)
-work_of (Death sid generation exit) m = change_one sid (DeathReport generation exit)
-work_of (FinishEnded sid generation exit) m = change_one sid (FinishEndedReport generation exit)
-work_of act m = leave
+work_of act m = work_unless (refused act m) (asked act m)
 
 -- what each act asks of those who listen, and what that gives them
 abbrev pub ask_of : {A : Type 0} → Act A → Machine → Ask
@@ -147,27 +98,45 @@ ask_of act m = same
 abbrev pub heard : Ask → Heard
 heard same = record { matched = []; released = [] }
 
--- what each act is answered
-abbrev pub reply_to : {A : Type 0} → Act A → Machine → Reply A
-reply_to (Scan listing) m = reply_unless (refused_listing listing m) (scan_reply listing m)
-reply_to (Svc name letters) m = reply_unless (refused_letters name m) Done
-reply_to (Started sid generation pid) m = reply_to_report sid (StartedReport generation pid) m
-reply_to (StartFailed sid generation) m = reply_to_report sid (StartFailedReport generation) m
-reply_to (Notify sid generation bytes) m = reply_to_report sid (NotifyReport generation bytes) m
-reply_to (Death sid generation exit) m = reply_to_report sid (DeathReport generation exit) m
-reply_to (FinishEnded sid generation exit) m = reply_to_report sid (FinishEndedReport generation exit) m
-reply_to (Status name) m = row_reply (row_named name m)
-reply_to Tick m = Done
+-- the refusal, or else this reply
+abbrev pub reply_unless : {A : Type 0} → Option Refusal → Reply A → Reply A
+reply_unless None reply = reply
+reply_unless (Some why) reply = Refused why
 
--- a reply, and the work done
-abbrev pub doing : {A : Type 0} → Reply A → Work → Machine → Acted A
-doing reply work m = record { reply = reply; work = worked work m.clock m.services m.next_sid }
+-- a report is refused where it is stale
+abbrev pub report_reply : {A : Type 0} → Worked → Reply A
+report_reply w = if w.stale then Refused Stale else Done
+
+-- a row is shown, and where no service has the name that is refused
+abbrev pub row_reply : {A : Type 0} → Option Row → Reply A
+row_reply None = Refused NoService
+row_reply (Some row) = RowReply row
+
+-- what each act is answered, where it is not refused, once its work was done
+abbrev pub answered : {A : Type 0} → Act A → Machine → Worked → Reply A
+answered (Scan listing) m w = Scanned (record { dropped = w.dropped; listed = w.listed })
+answered (Started sid generation pid) m w = report_reply w
+answered (StartFailed sid generation) m w = report_reply w
+answered (Notify sid generation bytes) m w = report_reply w
+answered (Death sid generation exit) m w = report_reply w
+answered (FinishEnded sid generation exit) m w = report_reply w
+answered (Status name) m w = row_reply (row_named name m)
+answered act m w = Done
+
+-- the work of an act, done
+abbrev pub work_done : {A : Type 0} → Act A → Machine → Worked
+work_done act m = worked (work_of act m) m.clock m.services m.next_sid
 
 -- an act, done
 abbrev pub acted : {A : Type 0} → Act A → Machine → Acted A
-acted act m = doing (reply_to act m) (work_of act m) m
+acted act m = record { reply = reply_unless (refused act m) (answered act m (work_done act m)); work = work_done act m }
+
+-- a death of a service
+abbrev pub death_of : ℕ → ℕ × Exit → DeathOf
+death_of sid death = record { sid = sid; at = death.0; exit = death.1 }
 
 -- the deaths that an act reports
 abbrev pub deaths_by : {A : Type 0} → Act A → Machine → List DeathOf
-deaths_by (Death sid generation exit) m = deaths_after (changed_at sid (DeathReport generation exit) m.clock) m.services
+deaths_by (Death sid generation exit) m =
+    flat_map (λ c. map (death_of c.sid) (changed_at sid (DeathReport generation exit) m.clock c).deaths) m.services
 deaths_by act m = []

@@ -4,7 +4,7 @@ use Rattle.s6_events.specs.declared.exit.Exit.{Exit}
 use Rattle.s6_events.specs.declared.moment.Moment.{Moment}
 use Rattle.s6_events.specs.declared.order.Order.{Order}
 use Rattle.supervise_core.specs.declared.chart.ChartState.{ChartState}
-use Rattle.tree_core.specs.declared.effect.Event.{Event}
+use Rattle.svscan_core.specs.declared.event.Event.{Event}
 use Rattle.tree_core.specs.declared.effect.Match.{Match}
 use Rattle.tree_core.specs.declared.effect.Release.{Release}
 use Rattle.tree_core.specs.declared.reply.Reply.{Reply}

@@ -1,33 +1,113 @@
 -- A step that is known before anything is changed.
-use Rattle.std.specs.Prelude.{◌≡◌, ℕ, ◌+◌, ◌≤◌, ◌++◌, List, [], Bool, true, false, length, map}
+use Rattle.std.specs.Prelude.{◌≡◌, ℕ, ◌+◌, ◌≤◌, ◌++◌, List, Bool, true, false, map, if◌then◌else◌, Option, None, Some}
 use Rattle.std.specs.List.{list_any}
 use Rattle.s6_events.specs.Clock.{clock_of}
 use Rattle.s6_events.specs.declared.moment.Moment.{Moment}
-use Rattle.s6_events.specs.declared.order.Order.{Order}
 use Rattle.supervise_core.specs.declared.chart.ChartState.{ChartState}
-use Rattle.supervise_core.specs.Chart.{is_due}
+use Rattle.supervise_core.specs.Chart.{fire, is_due}
 use Rattle.supervise_core.specs.Service.{Supervised}
-use Rattle.tree_core.specs.declared.effect.Event.{Event}
+use Rattle.svscan_core.specs.Moves.{moment_of, services_after, events_after}
+use Rattle.svscan_core.specs.Registry.{Prepared}
+use Rattle.svscan_core.specs.Sound.{AllAgree}
+use Rattle.svscan_core.specs.Table.{charts_of}
+use Rattle.svscan_core.specs.Work.{Work, Worked}
+use Rattle.svscan_core.specs.Work.Work.{leave, change_one, apply_listing, command}
+use Rattle.tree_core.specs.declared.choice.Choice.{Choice}
+use Rattle.tree_core.specs.declared.choice.Choice.TheVariants.{Refuse, Leave, Report, Letters, Listing, Command, Show}
+use Rattle.tree_core.specs.declared.effect.Effect.{Effect}
 use Rattle.tree_core.specs.declared.input.Act.{Act}
 use Rattle.tree_core.specs.declared.input.Act.TheVariants.{Status, Tick}
 use Rattle.tree_core.specs.declared.input.Input.{Input}
 use Rattle.tree_core.specs.declared.plan.StepPlan.{StepPlan}
-use Rattle.tree_core.specs.declared.standing.Standing.{Standing}
+use Rattle.tree_core.specs.declared.reply.Reply.{Reply}
+use Rattle.tree_core.specs.declared.reply.Reply.TheVariants.{Done, Refused, Scanned, Row as RowReply}
+use Rattle.supervise_core.specs.ChartState.{is_gone}
+use Rattle.supervise_core.specs.declared.change.Change.{Change}
+use Rattle.supervise_core.specs.declared.row.Row.{Row}
+use Rattle.svscan_core.specs.declared.entry.Entry.{Entry}
+use Rattle.tree_core.specs.declared.reply.Refusal.{Refusal}
+use Rattle.tree_core.specs.declared.reply.Refusal.TheVariants.{NoService, Ended, Closing, Repeated}
+use Rattle.svscan_core.specs.declared.entry.ScanOrder.{ScanOrder}
+use Rattle.svscan_core.specs.Listing.{names_in}
+use Rattle.svscan_core.specs.Names.{repeats}
+use Rattle.tree_core.specs.Acts.{acted, work_of, report_reply}
 use Rattle.tree_core.specs.Effect.{outcome_of}
-use Rattle.tree_core.specs.Machine.{Machine, DeathOf}
-use Rattle.tree_core.specs.StandsFor.{AllAgree}
+use Rattle.tree_core.specs.Machine.{Machine}
 use Rattle.tree_core.specs.Step.{step}
-use Rattle.tree_core.specs.RecordedMarks.{charts_of}
 
--- what an act looks at: what is there now, and the history so far
-abbrev pub machine_before_act : Bool → ℕ → List ChartState → ℕ → List Moment → Machine
-machine_before_act closing now services next_sid history =
-    record { clock = now; steps = 0; closing = closing; services = services; next_sid = next_sid; history = history; deaths = [] }
+-- what is done for an act
+pub data Chosen : Type 0 where
+  refuse : Refusal → Chosen
+  nothing : Chosen
+  report : ℕ → Change → Chosen
+  letters : ℕ → Change → Chosen
+  listing : List Entry → Chosen
+  order : ScanOrder → Chosen
+  show : Row → Chosen
 
--- a machine with what is there now, and with a past
-abbrev pub machine_with_history : ℕ → ℕ → Bool → List ChartState → ℕ → List Moment → List DeathOf → Machine
-machine_with_history clock steps closing services next_sid history deaths =
-    record { clock = clock; steps = steps; closing = closing; services = services; next_sid = next_sid; history = history; deaths = deaths }
+-- as the code has it
+abbrev pub plain : Choice → Chosen
+plain (Refuse why) = refuse why
+plain Leave = nothing
+plain (Report sid change) = report sid change
+plain (Letters sid change) = letters sid change
+plain (Listing entries) = listing entries.now
+plain (Command which) = order which
+plain (Show row) = show row
+
+-- whether a listing is handed on
+abbrev pub is_listing : Chosen → Bool
+is_listing (listing entries) = true
+is_listing chosen = false
+
+-- what that asks of the services
+abbrev pub chosen_work : Chosen → Work
+chosen_work (report sid change) = change_one sid change
+chosen_work (letters sid change) = change_one sid change
+chosen_work (listing entries) = apply_listing entries
+chosen_work (order which) = command which
+chosen_work chosen = leave
+
+-- and how it is answered, once that was done
+abbrev pub chosen_reply : {A : Type 0} → Chosen → Worked → Reply A
+chosen_reply (refuse why) w = Refused why
+chosen_reply (report sid change) w = report_reply w
+chosen_reply (listing entries) w = Scanned (record { dropped = w.dropped; listed = w.listed })
+chosen_reply (show row) w = RowReply row
+chosen_reply chosen w = Done
+
+-- a machine whose timers went off at this moment, of these services
+pub record HasFired (closing : Bool) (now : ℕ) (services : List Supervised) (history : List Moment) (m : Machine) : Type 0 where
+  pub clock : m.clock ≡ now
+  pub closing_is : m.closing ≡ closing
+  pub services_are : m.services ≡ services_after (fire now) (charts_of services)
+  pub past : m.history ≡ history ++ map moment_of (events_after (fire now) (charts_of services))
+  pub agrees : AllAgree services history
+  pub reading : clock_of history ≡ now
+
+-- what was chosen is what the act does on the machine
+pub record Chooses {A : Type 0} (act : Act A) (m : Machine) (chosen : Chosen) : Type 0 where
+  pub work : work_of act m ≡ chosen_work chosen
+  pub reply : (acted act m).reply ≡ chosen_reply chosen (acted act m).work
+
+-- a report for a service that is there, or not
+abbrev pub report_choice : Bool → ℕ → Change → Chosen
+report_choice true sid change = report sid change
+report_choice false sid change = refuse NoService
+
+-- letters for a service that was found
+abbrev pub letters_choice : Option ChartState → Change → Chosen
+letters_choice None change = refuse NoService
+letters_choice (Some c) change = if is_gone c.phase then refuse Ended else letters c.sid change
+
+-- a row that was found
+abbrev pub row_choice : Option Row → Chosen
+row_choice None = refuse NoService
+row_choice (Some row) = show row
+
+-- a listing that is refused, or handed on
+abbrev pub scan_choice : Bool → List Entry → Chosen
+scan_choice closing entries = if closing then refuse Closing else if repeats (names_in entries) then refuse Repeated else listing entries
 
 -- what is there now, as a tree stores it
 pub record Present : Type 0 where
@@ -51,11 +131,6 @@ pub record IsNow (p : Present) (m : Machine) : Type 0 where
   pub agrees : AllAgree p.services m.history
   pub reading : m.clock ≡ clock_of m.history
 
--- what an act gives fits in the lists of a step
-pub record FitsBuffers (given : List Event) (asked : List Order) : Type 0 where
-  pub events : length given ≤ 256
-  pub orders : length asked ≤ 128
-
 -- the act reads, and does nothing
 abbrev pub is_reading : {A : Type 0} → Act A → Bool
 is_reading (Status name) = true
@@ -68,20 +143,13 @@ pub record IsQuiet {A : Type 0} (input : Input A) (clock : ℕ) (services : List
   pub early : input.at ≤ clock
   pub rest : list_any (λ c. is_due clock c.timer) services ≡ false
 
--- a service as a plan has it
-abbrev pub supervised_of : Standing → Supervised
-supervised_of s = record { chart = s.chart; status = s.status }
-
-abbrev pub planned : {A : Type 0} → StepPlan A → List Supervised
-planned plan = map supervised_of plan.standing.items
-
--- the plan is the step of the input, and what it stores of marks agrees with the history after it
-pub record Plans {A : Type 0} (m : Machine) (input : Input A) (plan : StepPlan A) : Type 0 where
+-- the plan, with what the table has prepared and the effect, is the step of the input
+pub record Plans {A : Type 0} (m : Machine) (input : Input A) (plan : StepPlan A) (prepared : Prepared) (effect : Effect A) : Type 0 where
   pub clock : plan.now ≡ (step m input).machine.clock
   pub steps : m.steps + 1 ≡ (step m input).machine.steps
-  pub closing : m.closing ≡ (step m input).machine.closing
-  pub services : map (λ s. s.chart) (planned plan) ≡ (step m input).machine.services
-  pub next_sid : plan.next_sid ≡ (step m input).machine.next_sid
+  pub closing : plan.closing ≡ (step m input).machine.closing
+  pub services : charts_of prepared.services ≡ (step m input).machine.services
+  pub next_sid : prepared.next_sid ≡ (step m input).machine.next_sid
   pub history : m.history ++ plan.moments.items ≡ (step m input).machine.history
-  pub effect : outcome_of plan.effect ≡ (step m input).outcome
-  pub agrees : AllAgree (planned plan) (m.history ++ plan.moments.items)
+  pub outcome : outcome_of effect ≡ (step m input).outcome
+  pub agrees : AllAgree prepared.services (m.history ++ plan.moments.items)

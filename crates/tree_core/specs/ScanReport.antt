@@ -1,6 +1,6 @@
 -- What a scan answers.
 use Rattle.std.specs.Prelude.{ℕ, List}
-use Rattle.tree_core.specs.declared.reply.Listed.{Listed}
+use Rattle.svscan_core.specs.declared.entry.Listed.{Listed}
 
 -- the services that were dropped, and what became of each name for which no service stood
 pub record Reported : Type 0 where

@@ -1,10 +1,11 @@
 -- Which machines a tree stands for.
-use Rattle.std.specs.Prelude.{◌≡◌, ℕ, ◌≤◌, List, length, drop, Bool, All}
+use Rattle.std.specs.Prelude.{◌≡◌, ℕ, ◌≤◌, List, length, drop, Bool}
 use Rattle.s6_events.specs.Clock.{clock_of}
 use Rattle.s6_events.specs.declared.moment.Moment.{Moment}
-use Rattle.supervise_core.specs.Service.{Supervised, AgreesWith}
+use Rattle.supervise_core.specs.Service.{Supervised}
 use Rattle.tree_core.specs.Machine.{Machine}
-use Rattle.tree_core.specs.RecordedMarks.{charts_of}
+use Rattle.svscan_core.specs.Sound.{AllAgree}
+use Rattle.svscan_core.specs.Table.{charts_of}
 
 -- what a tree stores: all that is there now, with what each service stores of its marks, how many moments it forgot, and those
 -- after them
@@ -16,10 +17,6 @@ pub record Stored : Type 0 where
   pub next_sid : ℕ
   pub forgotten : ℕ
   pub kept : List Moment
-
--- a history agrees with all that the services store of their marks
-abbrev pub AllAgree : List Supervised → List Moment → Type 0
-AllAgree services history = All (λ s. AgreesWith s history) services
 
 -- a tree stands for each machine with which it agrees in all that it stores, whatever it has forgotten, and whose clock is the
 -- last clock reading of its history

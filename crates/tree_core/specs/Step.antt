@@ -6,14 +6,15 @@ use Rattle.s6_events.specs.declared.order.Order.{Order}
 use Rattle.supervise_core.specs.declared.chart.ChartState.{ChartState}
 use Rattle.supervise_core.specs.ChartState.{Moved}
 use Rattle.supervise_core.specs.Chart.{fire}
-use Rattle.tree_core.specs.declared.effect.Event.{Event}
+use Rattle.svscan_core.specs.declared.event.Event.{Event}
 use Rattle.tree_core.specs.declared.input.Act.{Act}
 use Rattle.tree_core.specs.declared.input.Input.{Input}
 use Rattle.tree_core.specs.declared.reply.Refusal.TheVariants.{Spent}
 use Rattle.tree_core.specs.declared.reply.Reply.TheVariants.{Refused}
-use Rattle.tree_core.specs.Acts.{acted, deaths_by, ask_of, heard}
+use Rattle.tree_core.specs.Acts.{acted, work_of, deaths_by, ask_of, heard}
 use Rattle.tree_core.specs.Machine.{Machine, Outcome}
-use Rattle.tree_core.specs.Moves.{services_after, events_after, orders_after, moment_of}
+use Rattle.svscan_core.specs.Moves.{services_after, events_after, orders_after, moment_of}
+use Rattle.svscan_core.specs.Work.{closing_after}
 
 -- the most steps of a tree: 2 ^ 48
 abbrev pub step_limit : ℕ
@@ -36,11 +37,12 @@ clocked at m = record m { clock = max m.clock at; history = m.history ++ clock_m
 abbrev pub with_moves : (ChartState → Moved) → Machine → Machine
 with_moves move m = record m { services = services_after move m.services; history = m.history ++ map moment_of (events_after move m.services) }
 
--- an act is done: its marks join the history, and its deaths the deaths
+-- an act is done: its marks join the history, and its deaths the deaths; after a terminate the tree is closing
 abbrev pub with_act : {A : Type 0} → Act A → Machine → Machine
 with_act act m = record m {
   services = (acted act m).work.services;
   next_sid = (acted act m).work.next_sid;
+  closing = closing_after (work_of act m) m.closing;
   history = m.history ++ map moment_of (acted act m).work.events;
   deaths = m.deaths ++ deaths_by act m;
 }

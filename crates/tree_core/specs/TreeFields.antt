@@ -1,10 +1,10 @@
 -- What a contract sees of a tree, and what is true of every tree.
+use Rattle.svscan_core.specs.Table.{charts_of}
+use Rattle.svscan_core.specs.Timers.{TimersAgree}
 use Rattle.tree_core.specs.declared.tree.Tree.TheInside.{Inside}
-use Rattle.tree_core.specs.Sound.{IsSound, IsRecorded}
+use Rattle.tree_core.specs.Sound.{IsCounted, IsRecorded}
 use Rattle.tree_core.specs.Machine.{Machine}
 use Rattle.tree_core.specs.StandsFor.{Stored, StandsFor}
-use Rattle.tree_core.specs.Timers.{TimersAgree}
-use Rattle.tree_core.specs.RecordedMarks.{charts_of}
 
 -- its services, its numbers and its history
 abbrev pub stored : {A : Type 0} → Inside A → Stored
@@ -12,8 +12,8 @@ stored t = record {
   clock = t.clock;
   steps = t.steps;
   closing = t.closing;
-  services = t.services.items;
-  next_sid = t.next_sid;
+  services = t.registry.shown.services;
+  next_sid = t.registry.shown.next_sid;
   forgotten = t.history.forgotten;
   kept = t.history.kept;
 }
@@ -21,7 +21,7 @@ stored t = record {
 -- its numbers don't outrun its steps, its deadlines agree with its services, and there is a machine for which it stands
 abbrev pub TreeInvariant : {A : Type 0} → Inside A → Type 0
 TreeInvariant t =
-    IsSound t.steps t.next_sid (charts_of t.services.items)
+    IsCounted t.steps t.registry.shown.next_sid (charts_of t.registry.shown.services)
     × IsRecorded t.steps t.history.forgotten t.history.kept
-    × TimersAgree t.deadlines.timers (charts_of t.services.items)
+    × TimersAgree t.deadlines.timers (charts_of t.registry.shown.services)
     × ((m : Machine) × StandsFor (stored t) m)

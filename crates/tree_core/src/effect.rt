@@ -1,16 +1,13 @@
+ghost use Rattle.std.specs.Prelude.{◌≡◌, ◌++◌, ◌+◌, ◌≤◌, [], length, OnOk, IsOk};
+ghost use Rattle.tree_core.specs.declared.reply.Reply.TheVariants.{Done};
+
 use super::hit::Hit;
 use super::reply::Reply;
 use super::verdict::Verdict;
 use arrayvec::ArrayVec;
-use s6_events::{Mark, Order, Sid, SubId, WaitId};
+use s6_events::{NoMemory, Order, SubId, WaitId};
 use std::alloc::Allocator;
-
-/// A mark of a service.
-#[derive(Clone, Copy, PartialEq, Eq, Debug)]
-pub struct Event {
-    pub sid: Sid,
-    pub mark: Mark,
-}
+use svscan_core::Event;
 
 /// A hit of a subscription.
 #[derive(Clone, Copy, PartialEq, Eq, Debug)]
@@ -35,4 +32,55 @@ pub struct Effect<A: Allocator> {
     pub orders: ArrayVec<Order, 256>,
     pub matched: Vec<Match, A>,
     pub released: Vec<Release, A>,
+}
+
+impl<A: Allocator + Copy> Effect<A> {
+    /// Nothing yet. It takes no memory.
+    pub fn new(alloc: A) -> Effect<A>
+        ensures reply { result.reply ≡ Done }
+        ensures events { result.events.items ≡ [] }
+        ensures orders { result.orders.items ≡ [] }
+        ensures matched { result.matched.items ≡ [] }
+        ensures released { result.released.items ≡ [] }
+    {
+        Effect {
+            reply: Reply::Done,
+            events: Vec::new(alloc),
+            orders: ArrayVec::new(),
+            matched: Vec::new(alloc),
+            released: Vec::new(alloc),
+        }
+    }
+
+    // Nothing again, in the same memory.
+    pub(crate) fn clear(&mut self)
+        ensures reply { self.new.reply ≡ Done }
+        ensures events { self.new.events.items ≡ [] }
+        ensures orders { self.new.orders.items ≡ [] }
+        ensures matched { self.new.matched.items ≡ [] }
+        ensures released { self.new.released.items ≡ [] }
+    {
+        self.reply = Reply::Done;
+        self.events.clear();
+        self.orders.clear();
+        self.matched.clear();
+        self.released.clear();
+    }
+
+    // The marks and the orders of a step.
+    pub(crate) fn tell(&mut self, events: &[Event], orders: &[Order]) -> Result<(), NoMemory>
+        requires { length self.old.orders.items + length orders.now ≤ 256 }
+        ensures reply { self.new.reply ≡ self.old.reply }
+        ensures events { OnOk result (self.new.events.items ≡ self.old.events.items ++ events.now) }
+        ensures orders { OnOk result (self.new.orders.items ≡ self.old.orders.items ++ orders.now) }
+        ensures matched { self.new.matched.items ≡ self.old.matched.items }
+        ensures released { self.new.released.items ≡ self.old.released.items }
+        ensures quiet { events.now ≡ [] → IsOk result }
+    {
+        if self.orders.try_extend_from_slice(orders).is_err() {
+            unreachable!()
+        }
+        self.events.extend_from_slice(events)?;
+        Ok(())
+    }
 }

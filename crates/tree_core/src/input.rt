@@ -2,17 +2,10 @@ ghost use Rattle.std.specs.Prelude.{◌≡◌};
 
 use arrayvec::ArrayVec;
 use s6_events::{Actor, At, Exit, Name, Sid};
-use servicedir::Config;
 use std::alloc::Allocator;
 use std::marker::Model;
 use svc_commands::Letters;
-
-/// A name that a look at the scan directory found, and what the files of its directory said. Page `s6-svscan`.
-#[derive(Clone, Copy, PartialEq, Eq, Debug)]
-pub struct Entry {
-    pub name: Name,
-    pub config: Config,
-}
+use svscan_core::{Entry, ScanOrder};
 
 /// What a look at the scan directory found, in the order in which it came.
 #[derive(Drop)]
@@ -22,7 +15,7 @@ pub struct Listing<A: Allocator> {
 
 impl<A: Allocator> Model for Listing<A> {
     ghost use Rattle.std.specs.Prelude.{List};
-    ghost use Rattle.tree_core.specs.declared.input.Entry.{Entry};
+    ghost use Rattle.svscan_core.specs.declared.entry.Entry.{Entry};
 
     ghost Value = { List Entry };
 
@@ -50,6 +43,8 @@ impl<A: Allocator> Listing<A> {
 pub enum Act<A: Allocator> {
     /// The scan directory was listed. Page `s6-svscanctl`, `-a`.
     Scan(Listing<A>),
+    /// A user ordered all services to leave. Page `s6-svscanctl`, `-n` and `-t`.
+    Scanctl(ScanOrder),
     /// A user sent the service of this name these letters, 1 to 63. Page `s6-svc`.
     Svc(Name, Letters),
     /// `run` of this service and generation was spawned, with this process number.

@@ -1,39 +1,32 @@
-ghost use Rattle.std.specs.Prelude.{◌≡◌, ◌+◌, ◌*◌, ◌<◌, ◌≤◌, ◌^◌, ◌++◌, List, [], map, max, length, All, IfOk, IsOkAnd, false};
-ghost use Rattle.s6_events.specs.At.{last_moment};
-ghost use Rattle.s6_events.specs.declared.moment.Moment.{Moment};
-ghost use Rattle.tree_core.specs.Machine.{Machine};
-ghost use Rattle.tree_core.specs.Moves.{moment_of};
-ghost use Rattle.tree_core.specs.Plan.{present, IsNow, planned, Plans, IsQuiet};
-ghost use Rattle.tree_core.specs.RecordedMarks.{charts_of as states_of};
-ghost use Rattle.tree_core.specs.Listing.{repeats};
-ghost use Rattle.tree_core.specs.Sound.{IsSound, IsNumbered, names_of};
-ghost use Rattle.tree_core.specs.Timers.{AreDue, TimersAgree};
+ghost use Rattle.std.specs.Prelude.{ℕ, false, ◌≡◌, ◌+◌, ◌*◌, ◌<◌, ◌≤◌, ◌^◌, ◌++◌, List, [], map, max, length, All, IfOk, IsOk, IsOkAnd, OnOk};
 ghost use Rattle.deadlines.specs.declared.timer.Timer.{Timer};
 ghost use Rattle.deadlines.specs.Timers.{changed_all};
+ghost use Rattle.s6_events.specs.At.{last_moment};
+ghost use Rattle.svscan_core.specs.Moves.{moment_of};
+ghost use Rattle.svscan_core.specs.Table.{charts_of};
+ghost use Rattle.svscan_core.specs.Timers.{TimersAgree};
+ghost use Rattle.svscan_core.specs.Registry.{worked_of};
+ghost use Rattle.svscan_core.specs.Work.{AreDue, closing_after};
+ghost use Rattle.tree_core.specs.Machine.{Machine};
+ghost use Rattle.tree_core.specs.Plan.{present, plain, is_listing, chosen_work, chosen_reply, IsNow, Plans, IsQuiet};
 ghost use Rattle.tree_core.specs.Step.{clock_moments, step_limit};
 
-use super::act::{StepContext, act};
-use super::charts::Charts;
-use super::effect::{Effect, Event};
+use super::choice::{Choice, choose};
+use super::effect::Effect;
 use super::input::Input;
-use super::standing::{Standing, standing_after};
-use super::step_output::{StepOutput, fire_due};
-use super::timers::changes_between;
-use arrayvec::ArrayVec;
+use super::reply::{Refusal, Reply, ScanReport};
 use deadlines::TimerChange;
 use s6_events::{At, Moment, NoMemory, Sid};
 use std::alloc::Allocator;
-use supervise_core::{ChartState, Service};
+use svscan_core::{Event, Registry, ScanOrder};
 
-/// A step that is known before anything is changed.
+/// A step that is known before anything is changed; what becomes of the services lies in their table.
 #[derive(Drop)]
 pub struct StepPlan<A: Allocator> {
     pub now: At,
-    pub standing: ArrayVec<Standing, 64>,
-    pub next_sid: u64,
+    pub closing: bool,
     pub moments: Vec<Moment, A>,
     pub timers: Vec<TimerChange, A>,
-    pub effect: Effect<A>,
 }
 
 /// The later of two moments.
@@ -42,18 +35,6 @@ pub fn later(a: At, b: At) -> At
     ensures bound { result ≤ last_moment }
 {
     if a.millis() < b.millis() { b } else { a }
-}
-
-// The states of the services.
-fn charts_of(services: &[Service]) -> Charts
-    requires { length services.now ≤ 64 }
-    ensures { result.items ≡ states_of services.now }
-{
-    let mut charts = ArrayVec::new();
-    for service in services {
-        charts.push(service.chart());
-    }
-    charts
 }
 
 // The moments of a step: the clock reading, and then its marks.
@@ -77,60 +58,74 @@ fn moments_of<A: Allocator + Copy>(
     Ok(moments)
 }
 
-/// The step of an input, from what a tree stores and the serials of the services whose timers are due.
-pub fn plan_step<A: Allocator + Copy>(
+// What is answered, once the work of the choice was prepared.
+fn reply_to<A: Allocator + Copy>(
     alloc: A,
+    registry: &Registry<A>,
+    choice: &Choice,
+) -> Result<Reply<A>, NoMemory>
+    ensures reply { IfOk result (λ reply. reply ≡ chosen_reply (plain choice.now) (worked_of registry.now.prepared)) }
+    ensures quiet { is_listing (plain choice.now) ≡ false → IsOk result }
+{
+    Ok(match choice {
+        Choice::Refuse(why) => Reply::Refused(*why),
+        Choice::Report(_, _) if registry.is_stale() => Reply::Refused(Refusal::Stale),
+        Choice::Listing(_) => Reply::Scanned(ScanReport::new(
+            registry.dropped().to_vec(alloc)?,
+            registry.listed().to_vec(alloc)?,
+        )),
+        Choice::Show(row) => Reply::Row(*row),
+        Choice::Report(_, _) | Choice::Leave | Choice::Letters(_, _) | Choice::Command(_) => {
+            Reply::Done
+        }
+    })
+}
+
+// After a terminate the tree is closing.
+fn closes(choice: &Choice, closing: bool) -> bool
+    ensures { result ≡ closing_after (chosen_work (plain choice.now)) closing }
+{
+    closing || matches!(choice, Choice::Command(ScanOrder::Terminate))
+}
+
+/// The step of an input, from the serials of the services whose timers are due: the table prepares it, and the effect is filled.
+pub fn plan_step<A: Allocator + Copy>(
+    registry: &mut Registry<A>,
     clock: At,
-    steps: u64,
     closing: bool,
-    services: &[Service],
-    next_sid: u64,
     due: &[Sid],
     input: &Input<A>,
+    effect: &mut Effect<A>,
 ) -> Result<StepPlan<A>, NoMemory>
-    requires left { steps < step_limit }
-    requires few { length services.now ≤ 64 }
-    requires names { repeats (names_of (states_of services.now)) ≡ false }
-    requires order { IsNumbered next_sid (states_of services.now) }
-    requires due { AreDue due.now (max clock input.now.at) (states_of services.now) }
-    requires serials { next_sid ≤ 64 * steps + 1 }
-    requires generations { All (λ c. c.generation ≤ 2 * steps) (states_of services.now) }
-    ensures sound { (m : Machine) → IsNow (present clock steps closing services.now next_sid) m
-        → IfOk result (λ plan. IsSound (steps + 1) plan.next_sid (states_of (planned plan))) }
+    requires due { AreDue due.now (max clock input.now.at) (charts_of registry.old.shown.services) }
+    requires generations { All (λ c. c.generation + 2 < 2 ^ 64) (charts_of registry.old.shown.services) }
+    requires next { registry.old.shown.next_sid + 65 < 2 ^ 64 }
+    requires events { effect.old.events.items ≡ [] }
+    requires orders { effect.old.orders.items ≡ [] }
+    requires matched { effect.old.matched.items ≡ [] }
+    requires released { effect.old.released.items ≡ [] }
+    ensures shown { registry.new.shown ≡ registry.old.shown }
+    ensures step { IfOk result (λ plan. (steps : ℕ) → steps < step_limit → (m : Machine) → IsNow (present clock steps closing registry.old.shown.services registry.old.shown.next_sid) m
+        → Plans m input.now plan registry.new.prepared effect.new) }
+    ensures grows { OnOk result ((n : ℕ) → All (λ c. c.generation ≤ n) (charts_of registry.old.shown.services) → All (λ c. c.generation ≤ n + 2) (charts_of registry.new.prepared.services)) }
+    ensures next { OnOk result (registry.new.prepared.next_sid ≤ registry.old.shown.next_sid + 64) }
     ensures count { IfOk result (λ plan. length plan.moments.items ≤ 1024) }
-    ensures step { IfOk result (λ plan. (m : Machine) → IsNow (present clock steps closing services.now next_sid) m → Plans m input.now plan) }
-    ensures timers { (m : Machine) → IsNow (present clock steps closing services.now next_sid) m → (timers : List Timer) → TimersAgree timers (states_of services.now)
-        → IfOk result (λ plan. TimersAgree (changed_all plan.timers.items timers) (states_of (planned plan))) }
-    ensures quiet { (m : Machine) → IsNow (present clock steps closing services.now next_sid) m → IsQuiet input.now clock (states_of services.now) → due.now ≡ []
-        → IsOkAnd result (λ plan. (plan.moments.items ≡ []) × (plan.timers.items ≡ []) × (length plan.standing.items ≡ length services.now)) }
+    ensures timers { IfOk result (λ plan. (timers : List Timer) → TimersAgree timers (charts_of registry.old.shown.services) → TimersAgree (changed_all plan.timers.items timers) (charts_of registry.new.prepared.services)) }
+    ensures quiet { IsQuiet input.now clock (charts_of registry.old.shown.services) → due.now ≡ [] → IsOkAnd result (λ plan. (plan.moments.items ≡ []) × (plan.timers.items ≡ [])) }
 {
+    let alloc = registry.allocator();
+    let _count = registry.len();
     let now = later(clock, input.at);
-    let charts = charts_of(services);
-    let mut output = StepOutput::new(alloc);
-    let fired = fire_due(charts, due, now, &mut output)?;
-    let context = StepContext {
-        services,
-        events: output.events.as_slice(),
-    };
-    let act_result = act(alloc, &input.act, closing, now, fired, next_sid, &context)?;
-    output.append(&act_result.output)?;
-    let moments = moments_of(alloc, clock, input.at, output.events.as_slice())?;
-    let after = act_result.charts.as_slice();
-    let timers = changes_between(alloc, services, after)?;
-    let events = output.events.as_slice();
-    let standing = standing_after(services, events, after, now);
+    let choice = choose(alloc, registry, &input.act, closing, now)?;
+    registry.prepare(due, &choice.work(), now)?;
+    effect.reply = reply_to(alloc, registry, &choice)?;
+    effect.tell(registry.events(), registry.orders())?;
+    let moments = moments_of(alloc, clock, input.at, registry.events())?;
+    let timers = registry.timers()?;
     Ok(StepPlan {
         now,
-        standing,
-        next_sid: act_result.next_sid,
+        closing: closes(&choice, closing),
         moments,
         timers,
-        effect: Effect {
-            reply: act_result.reply,
-            events: output.events,
-            orders: output.orders,
-            matched: Vec::new(alloc),
-            released: Vec::new(alloc),
-        },
     })
 }

@@ -4,6 +4,7 @@ use s6_events::{Name, Sid};
 use std::alloc::Allocator;
 use std::marker::Model;
 use supervise_core::Row;
+use svscan_core::Listed;
 
 /// Why an act was refused. A refused act changes nothing itself; the clock and the timers of its step stand. The reasons are
 /// this project's own.
@@ -31,15 +32,6 @@ pub enum Refusal {
     Ended = 10,
     /// The tree has taken 2^48 steps. Then nothing at all is done.
     Spent = 11,
-}
-
-/// What became of a listed name for which no service stood.
-#[derive(Clone, Copy, Debug, PartialEq, Eq)]
-pub enum Listed {
-    /// It has a new service, of this serial.
-    Added(Sid, Name),
-    /// 64 services stood.
-    Full(Name),
 }
 
 /// What a scan answers: the services that were dropped, in rising serial, and what became of each name for which no service

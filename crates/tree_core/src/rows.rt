@@ -1,39 +1,42 @@
-ghost use Rattle.std.specs.Prelude.{◌≡◌, ◌≤◌, map, length, find, bytes_eq, option_map, option_copied, List};
+ghost use Rattle.std.specs.Prelude.{◌≡◌, ◌<◌, List, Some, slice_get, length, map, find, bytes_eq, option_map};
 ghost use Rattle.s6_events.specs.declared.moment.Moment.{Moment};
 ghost use Rattle.supervise_core.specs.StatusRow.{status_row};
-ghost use Rattle.tree_core.specs.StandsFor.{AllAgree};
-ghost use Rattle.tree_core.specs.RecordedMarks.{charts_of};
+ghost use Rattle.svscan_core.specs.Sound.{AllAgree};
+ghost use Rattle.svscan_core.specs.Table.{charts_of};
 
 use arrayvec::ArrayVec;
 use s6_events::{At, Name};
-use supervise_core::{Row, Service};
-
-// The service of the name.
-fn find_name(services: &[Service], name: Name) -> Option<&Service>
-    ensures { option_copied result ≡ find (λ s. bytes_eq name s.chart.name) services.now }
-{
-    services.iter().find(|service| service.chart().name == name)
-}
+use std::alloc::Allocator;
+use supervise_core::Row;
+use svscan_core::Registry;
 
 /// The status row of the service of the name.
-pub fn row_of(services: &[Service], name: Name, now: At) -> Option<Row>
-    ensures { (history : List Moment) → AllAgree services.now history
-        → result ≡ option_map (status_row history now) (find (λ c. bytes_eq name c.name) (charts_of services.now)) }
+pub fn row_of<A: Allocator + Copy>(registry: &Registry<A>, name: Name, now: At) -> Option<Row>
+    ensures { (history : List Moment) → AllAgree registry.now.shown.services history
+        → result ≡ option_map (status_row history now) (find (λ c. bytes_eq name c.name) (charts_of registry.now.shown.services)) }
 {
-    match find_name(services, name) {
-        Some(service) => Some(service.row(now)),
-        None => None,
+    Some(registry.named(name)?.row(now))
+}
+
+// The status row of the service at a place.
+fn row_at<A: Allocator + Copy>(registry: &Registry<A>, place: usize, now: At) -> Row
+    requires { place < length registry.now.shown.services }
+    ensures { (history : List Moment) → AllAgree registry.now.shown.services history
+        → slice_get (map (status_row history now) (charts_of registry.now.shown.services)) place ≡ Some result }
+{
+    match registry.at(place) {
+        Some(service) => service.row(now),
+        None => unreachable!(),
     }
 }
 
 /// The status rows of all services.
-pub fn rows_of(services: &[Service], now: At) -> ArrayVec<Row, 64>
-    requires { length services.now ≤ 64 }
-    ensures { (history : List Moment) → AllAgree services.now history → result.items ≡ map (status_row history now) (charts_of services.now) }
+pub fn rows_of<A: Allocator + Copy>(registry: &Registry<A>, now: At) -> ArrayVec<Row, 64>
+    ensures { (history : List Moment) → AllAgree registry.now.shown.services history → result.items ≡ map (status_row history now) (charts_of registry.now.shown.services) }
 {
     let mut rows = ArrayVec::new();
-    for service in services {
-        rows.push(service.row(now));
+    for place in 0..registry.len() {
+        rows.push(row_at(registry, place, now));
     }
     rows
 }

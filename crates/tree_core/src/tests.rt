@@ -13,8 +13,9 @@ use svc_commands::{ControlLetter, Letters};
 // What one service is told, or the scan directory, before the act has memory of its own.
 #[derive(Clone, Copy, Debug)]
 enum Deed {
-    /// So many names are listed, each with a `finish` and a notification descriptor.
+    /// So many names are listed, each with a `finish` and a notification descriptor; the 66th couldn't be read.
     Scan(u8),
+    Scanctl(ScanOrder),
     /// One letter so many times.
     Svc(ControlLetter, u8),
     Started(u64),
@@ -42,6 +43,7 @@ fn listing_of<A: Allocator + Copy>(alloc: A, count: u8) -> Result<Listing<A>, Fa
     let mut entries = Vec::new(alloc);
     for serial in 0..count {
         let name = name_of(serial.saturating_add(1))?;
+        let config = if serial < 65 { Some(config) } else { None };
         entries.push(Entry { name, config })?;
     }
     Ok(Listing::new(entries))
@@ -68,6 +70,7 @@ fn input<A: Allocator + Copy>(alloc: A, at: u64, deed: Deed, serial: u8) -> Resu
     let sid = Sid(u64::from(serial));
     let act = match deed {
         Deed::Scan(count) => Act::Scan(listing_of(alloc, count)?),
+        Deed::Scanctl(order) => Act::Scanctl(order),
         Deed::Svc(letter, count) => Act::Svc(name_of(serial)?, letters_of(letter, count)?),
         Deed::Started(generation) => Act::Started(sid, generation, 500),
         Deed::StartFailed(generation) => Act::StartFailed(sid, generation),
@@ -85,7 +88,7 @@ fn input<A: Allocator + Copy>(alloc: A, at: u64, deed: Deed, serial: u8) -> Resu
 }
 
 // Each of 64 services in turn is told this: the moment, what it is told, and how many events and orders that gives in all.
-const ROUNDS: [(u64, Deed, usize, usize); 14] = [
+const ROUNDS: [(u64, Deed, usize, usize); 16] = [
     (0, Deed::Scan(66), 64, 64),
     (0, Deed::Started(1), 64, 0),
     (0, Deed::Notify(1, 63), 64, 0),
@@ -96,10 +99,12 @@ const ROUNDS: [(u64, Deed, usize, usize); 14] = [
     (1005, Deed::Tick, 0, 64),
     (1006, Deed::StartFailed(2), 0, 0),
     (1008, Deed::Scan(0), 0, 0),
-    (1009, Deed::Svc(ControlLetter::Exit, 1), 64, 0),
+    (1009, Deed::Scanctl(ScanOrder::Nuke), 64, 0),
     (1010, Deed::Scan(0), 0, 0),
     (1011, Deed::Status, 0, 0),
     (1012, Deed::Scan(66), 64, 64),
+    (1013, Deed::Scanctl(ScanOrder::Terminate), 0, 0),
+    (1014, Deed::Scan(66), 0, 0),
 ];
 
 // All 64 services are told this, with ample memory: how many events and orders that gives.
@@ -140,12 +145,12 @@ fn every_act_succeeds_with_ample_memory(rt: HostRuntime) -> Result<(), Fail> {
         let given = told_to_all(rt.alloc(), &mut tree, at, deed)?;
         assert_eq!(rt; given, (events, orders));
     }
-    assert_eq!(rt; shown(&tree)?, (1012, 896, 64, true, false));
+    assert_eq!(rt; shown(&tree)?, (1014, 1024, 64, true, false));
     Ok(())
 }
 
 // Every act, to the first service or all: each makes something grow, but for the last two.
-const DEEDS: [(u64, Deed); 12] = [
+const DEEDS: [(u64, Deed); 14] = [
     (0, Deed::Scan(3)),
     (0, Deed::Started(1)),
     (1, Deed::Notify(1, 3)),
@@ -156,6 +161,8 @@ const DEEDS: [(u64, Deed); 12] = [
     (1006, Deed::StartFailed(2)),
     (1007, Deed::Svc(ControlLetter::Exit, 1)),
     (1008, Deed::Scan(0)),
+    (1008, Deed::Scanctl(ScanOrder::Nuke)),
+    (1008, Deed::Scanctl(ScanOrder::Terminate)),
     (1008, Deed::Status),
     (1008, Deed::Tick),
 ];
@@ -198,7 +205,7 @@ fn refusals(alloc: Global) -> Result<(u32, u32, u64), Fail> {
     let mut without = 0u32;
     let mut steps = 0u64;
     for step in 0..150usize {
-        let (refused, taken) = apply_with_little(alloc, 16 * step)?;
+        let (refused, taken) = apply_with_little(alloc, 64 * step)?;
         refusals = refusals.saturating_add(refused);
         steps = steps.saturating_add(taken);
         if refused == 0 {
@@ -215,6 +222,6 @@ fn a_refused_step_hands_its_input_back_and_can_be_taken_again(rt: HostRuntime) -
         refusals > 50 && without > 5,
         "{refusals} refusals, {without} runs with none"
     );
-    assert_eq!(rt; steps, 1800);
+    assert_eq!(rt; steps, 2100);
     Ok(())
 }

@@ -6,3 +6,5 @@ pub mod InPlace
 pub mod StandsAfter
 pub mod Least
 pub mod Named
+pub mod Steps
+pub mod Calm

@@ -5,7 +5,7 @@ use Rattle.std.proofs.lemmas.List.Elements.{All-filter}
 use Rattle.s6_events.specs.declared.moment.Moment.{Moment}
 use Rattle.wait_conditions.specs.declared.waiter.Waiter.{Waiter}
 use Rattle.wait_conditions.specs.Kept.{Kept, kept_of, is_other, standing_stored, standing_kept}
-use Rattle.wait_conditions.specs.Stands.{Stored, kept, WaitsFor, CancelsWaiter}
+use Rattle.wait_conditions.specs.Stands.{Shown, kept, StandsFor, CancelsWaiter}
 use Rattle.wait_conditions.specs.Watch.{Placed, Watch, is_named, standing_of, standing_named, after_cancel}
 
 kept_inside : {X Y : Type 0} (f : X → Y) (b : Bool) (x : X) (us : List X) → cond b (f x ∷ map f us) (map f us) ≡ map f (cond b (x ∷ us) us)
@@ -29,7 +29,7 @@ written_left id h ps = filter-map (kept h) (is_other id) (λ p. not (is_named id
 pub still_within : (id : ℕ) (n : ℕ) (old new : List Kept) → new ≡ filter (is_other id) old → All (λ k. k.place ≤ n) old → All (λ k. k.place ≤ n) new
 still_within id n old new e h = rw e (All-filter (is_other id) (λ k. k.place ≤ n) old h)
 
-pub cancels_after : (s new : Stored) (id : ℕ) → CancelsWaiter s new id → (w : Watch) → WaitsFor s w → WaitsFor new (after_cancel w id)
+pub cancels_after : (s new : Shown) (id : ℕ) → CancelsWaiter s new id → (w : Watch) → StandsFor s w → StandsFor new (after_cancel w id)
 cancels_after s new id c w st = record {
   moments = st.moments ∙ sym c.moments;
   waiters = c.waiters ∙ (ap (filter (is_other id)) st.waiters ∙ written_left id w.history w.waiters);
@@ -51,8 +51,8 @@ standing_written id h (p ∷ ps) =
     ap (λ o. cond (p.id == id) (Some (standing_of h p)) o) (standing_written id h ps)
     ∙ found_at h (p.id == id) p (find (is_named id) ps)
 
-pub result_is : (s : Stored) (id : ℕ) (w : Watch) → WaitsFor s w → standing_kept id s.waiters ≡ standing_named w id
+pub result_is : (s : Shown) (id : ℕ) (w : Watch) → StandsFor s w → standing_kept id s.waiters ≡ standing_named w id
 result_is s id w st = ap (standing_kept id) st.waiters ∙ standing_written id w.history w.waiters
 
-pub count_is : (s : Stored) (w : Watch) → WaitsFor s w → length s.waiters ≡ length w.waiters
+pub count_is : (s : Shown) (w : Watch) → StandsFor s w → length s.waiters ≡ length w.waiters
 count_is s w st = ap length st.waiters ∙ length-map w.waiters (kept w.history)

@@ -12,7 +12,7 @@ use Rattle.wait_conditions.specs.declared.verdict.Standing.{Standing}
 use Rattle.wait_conditions.specs.Watch.{Placed, Watch, standing_of, newly, release_of, releases, after_moment, made_now, after_add}
 use Rattle.wait_conditions.specs.Kept.{Kept, kept_of, looked, release_seen}
 use Rattle.wait_conditions.specs.declared.waiter.Waiter.{Waiter}
-use Rattle.wait_conditions.specs.Stands.{Stored, kept, WaitsFor, TakesMoment, AddsWaiter, begun}
+use Rattle.wait_conditions.specs.Stands.{Shown, kept, StandsFor, TakesMoment, AddsWaiter, begun}
 use Rattle.wait_conditions.proofs.Standings.{standing_of-push}
 
 looked_one : (history : List Moment) (m : Moment) (p : Placed) → p.place ≤ length history → looked (history ++ m ∷ []) (kept history p) ≡ kept (history ++ m ∷ []) p
@@ -35,7 +35,7 @@ release_all history m (p ∷ ps) h =
     let rest = release_all history m ps (All-tail (λ q. q.place ≤ length history) p ps h) in
     ap (λ o. cons_option o (filter_map (release_seen (history ++ m ∷ [])) (map (kept history) ps))) one ∙ ap (λ rs. cons_option (release_of history m p) rs) rest
 
-pub stands_after : (s new : Stored) (m : Moment) (given : List (ℕ × Verdict)) → TakesMoment s new m given → (w : Watch) → WaitsFor s w → (given ≡ releases w m) × WaitsFor new (after_moment w m)
+pub stands_after : (s new : Shown) (m : Moment) (given : List (ℕ × Verdict)) → TakesMoment s new m given → (w : Watch) → StandsFor s w → (given ≡ releases w m) × StandsFor new (after_moment w m)
 stands_after s new m given t w st =
     let same : new.moments ≡ w.history ++ m ∷ [] = t.moments ∙ ap (λ h. h ++ m ∷ []) (sym st.moments) in
     let seen = ap (λ h. map (looked h) s.waiters) same ∙ (ap (map (looked (w.history ++ m ∷ []))) st.waiters ∙ looked_all w.history m w.waiters st.placed) in
@@ -62,15 +62,15 @@ first_one (Released v) = refl
 begins : (history : List Moment) (asked : Asked) → standing asked (take (length history) history) (drop (length history) history) ≡ verdict asked (take (length history) history) (drop (length history) history)
 begins history asked = rw (drop_all (length history) history (omega arith)) (first_one (verdict asked (take (length history) history) []))
 
-pub begun_is : (s : Stored) (w : Watch) (asked : Asked) → WaitsFor s w → begun s asked ≡ kept w.history (made_now w asked)
+pub begun_is : (s : Shown) (w : Watch) (asked : Asked) → StandsFor s w → begun s asked ≡ kept w.history (made_now w asked)
 begun_is s w asked st =
     let same : s.moments ≡ w.history = sym st.moments in
     let serial : s.next ≡ w.next = sym st.next in
     let at : standing asked (take (length w.history) w.history) (drop (length w.history) w.history) ≡ verdict asked (take (length w.history) w.history) (drop (length w.history) w.history) = begins w.history asked in
     rw (same, serial) (ap (λ (v : Standing). let k : Kept = record { id = w.next; asked = asked; place = length w.history; standing = v } in k) (sym at))
 
-pub adds_after : (s new : Stored) (asked : Asked) (id : ℕ) (given : Option Verdict) → AddsWaiter s new asked id given → (w : Watch) → WaitsFor s w
-    → (id ≡ w.next) × (given ≡ newly Waiting (standing_of w.history (made_now w asked))) × WaitsFor new (after_add w asked)
+pub adds_after : (s new : Shown) (asked : Asked) (id : ℕ) (given : Option Verdict) → AddsWaiter s new asked id given → (w : Watch) → StandsFor s w
+    → (id ≡ w.next) × (given ≡ newly Waiting (standing_of w.history (made_now w asked))) × StandsFor new (after_add w asked)
 adds_after s new asked id given t w st =
     let one = begun_is s w asked st in (
       t.serial ∙ sym st.next,

@@ -1,5 +1,6 @@
 -- What is stored of waiters, and what it stands for.
-use Rattle.std.specs.Prelude.{ℕ, ◌==◌, not, Bool, List, [], ◌∷◌, Option, Some, None, take, drop, option_map, if◌then◌else◌}
+use Rattle.std.specs.Prelude.{◌==◌, [], ◌∷◌, if◌then◌else◌}
+use Rattle.std.specs.Prelude.{ℕ, not, Bool, true, false, List, Option, Some, None, take, drop, option_map}
 use Rattle.s6_events.specs.declared.moment.Moment.{Moment}
 use Rattle.wait_conditions.specs.declared.verdict.Verdict.{Verdict}
 use Rattle.wait_conditions.specs.declared.verdict.Standing.{Standing}
@@ -19,6 +20,14 @@ pub record Kept : Type 0 where
 
 abbrev pub kept_of : Waiter → Kept
 kept_of w = record { id = w.id; asked = asked_of w; place = w.place; standing = w.standing }
+
+-- a stored waiter that waits still
+abbrev pub is_waiting : Standing → Bool
+is_waiting Waiting = true
+is_waiting (Released v) = false
+
+abbrev pub still_waits : Kept → Bool
+still_waits k = is_waiting k.standing
 
 -- a stored waiter, once it was looked at
 abbrev pub looked : List Moment → Kept → Kept

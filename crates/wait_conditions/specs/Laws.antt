@@ -8,12 +8,18 @@ use Rattle.wait_conditions.specs.Release.{standing, settled, IsLeast}
 
 -- a released waiter has the verdict that comes at the least number of moments since its place
 abbrev pub ReleasedAtTheLeast : Type 0
-ReleasedAtTheLeast = (a : Asked) (past since : List Moment) (v : Verdict) → standing a past since ≡ Released v → (k : ℕ) × IsLeast (verdict a past) since v k
+ReleasedAtTheLeast =
+    (a : Asked) (past since : List Moment) (v : Verdict) → standing a past since ≡ Released v
+    → (k : ℕ) × IsLeast (verdict a past) since v k
 
 -- a waiter that waits has waited at each number of moments since its place
 abbrev pub WaitsThroughout : Type 0
-WaitsThroughout = (a : Asked) (past since : List Moment) → standing a past since ≡ Waiting → (k : ℕ) → k ≤ length since → verdict a past (take k since) ≡ Waiting
+WaitsThroughout =
+    (a : Asked) (past since : List Moment) → standing a past since ≡ Waiting
+    → (k : ℕ) → k ≤ length since → verdict a past (take k since) ≡ Waiting
 
 -- one moment more: a waiter that waits takes the verdict over all of them, and a released one keeps its own
 abbrev pub GrowsByMoments : Type 0
-GrowsByMoments = (a : Asked) (past since : List Moment) (m : Moment) → standing a past (since ++ m ∷ []) ≡ settled (standing a past since) (verdict a past (since ++ m ∷ []))
+GrowsByMoments =
+    (a : Asked) (past since : List Moment) (m : Moment)
+    → standing a past (since ++ m ∷ []) ≡ settled (standing a past since) (verdict a past (since ++ m ∷ []))

@@ -9,6 +9,9 @@ pub mod ServiceState
 pub mod Waiter
 pub mod Watch
 pub mod Kept
-pub mod Stands
 pub mod Refusal
+pub mod Steps
+pub mod MomentList
+pub mod Stands
+pub mod WaitsFields
 pub mod Laws

@@ -1,5 +1,6 @@
 -- Which waiters are not made, and what deadline one has that is made.
-use Rattle.std.specs.Prelude.{ℕ, ◌+◌, ◌==◌, List, [], ◌∷◌, length, Bool, false, ◌||◌, Option, Some, None, if◌then◌else◌, nat_lt, nat_le}
+use Rattle.std.specs.Prelude.{◌+◌, ◌==◌, [], ◌∷◌, ◌||◌, if◌then◌else◌}
+use Rattle.std.specs.Prelude.{ℕ, List, length, Bool, false, Option, Some, None, nat_lt, nat_le}
 use Rattle.std.specs.List.{list_any}
 use Rattle.wait_conditions.specs.declared.add_fault.AddFault.{AddFault}
 use Rattle.wait_conditions.specs.declared.add_fault.AddFault.TheVariants as fault
@@ -8,16 +9,16 @@ use Rattle.wait_conditions.specs.declared.add_fault.AddFault.TheVariants as faul
 abbrev pub is_named_in : List ℕ → ℕ → Bool
 is_named_in sids sid = list_any (λ other. other == sid) sids
 
--- a service is named again later
-abbrev pub is_repeated : List ℕ → Bool
-is_repeated [] = false
-is_repeated (sid ∷ sids) = is_named_in sids sid || is_repeated sids
+-- a service is named twice
+abbrev pub repeats : List ℕ → Bool
+repeats [] = false
+repeats (sid ∷ sids) = is_named_in sids sid || repeats sids
 
 -- no service, one named twice, over 16, or 256 waiters that stand: what is found first
 abbrev pub refusal : ℕ → List ℕ → Option AddFault
 refusal standing sids =
     if length sids == 0 then Some fault.Empty
-    else if is_repeated sids then Some fault.Repeated
+    else if repeats sids then Some fault.Repeated
     else if nat_lt 16 (length sids) then Some fault.TooManyServices
     else if nat_le 256 standing then Some fault.TooMany
     else None

@@ -6,14 +6,21 @@ mod failure;
 mod judging;
 pub mod laws;
 mod looking;
+mod moments;
 mod refusing;
+mod roll;
 mod service_state;
+mod step;
 #[cfg(test)]
 mod tests;
 mod verdict;
+mod wait_change;
+mod wait_plan;
 mod waiter;
 mod waits;
 
 pub use add_fault::AddFault;
 pub use verdict::{Standing, Verdict};
+pub use wait_change::{WaitAnswer, WaitChange};
+pub use wait_plan::WaitPlan;
 pub use waits::Waits;

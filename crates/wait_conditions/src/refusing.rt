@@ -1,5 +1,5 @@
 ghost use Rattle.std.specs.Prelude.{◌≡◌};
-ghost use Rattle.wait_conditions.specs.Refusal.{is_named_in, is_repeated, refusal, deadline_of};
+ghost use Rattle.wait_conditions.specs.Refusal.{is_named_in, repeats, refusal, deadline_of};
 
 use crate::add_fault::AddFault;
 use s6_events::{At, Sid};
@@ -18,7 +18,7 @@ fn is_among(sid: Sid, sids: &[Sid]) -> bool
 
 // Whether a service is named twice.
 fn has_repeat(sids: &[Sid]) -> bool
-    ensures { result ≡ is_repeated sids.now }
+    ensures { result ≡ repeats sids.now }
 {
     for i in 0..sids.len() {
         if is_among(sids[i], &sids[i + 1..]) {

@@ -1,9 +1,10 @@
-ghost use Rattle.std.specs.Prelude.{◌≡◌, ◌<◌, ◌+◌, ◌≤◌, IfOk};
+ghost use Rattle.std.specs.Prelude.{◌≡◌, ◌<◌, ◌+◌, ◌≤◌, ◌^◌, IfOk, OnOk, length};
 
 use super::*;
 use linked_list_allocator::LocalHeap;
 use s6_events::{At, Condition, Mark, Mode, Moment, NoMemory, Sid, WaitId};
 use std::alloc::{Allocator, Global};
+use std::process::Abort;
 use std::test::Fail;
 
 fn at(millis: u64) -> Result<At, Fail> {
@@ -307,6 +308,170 @@ fn a_refused_growth_is_told(rt: HostRuntime) -> Result<(), Fail> {
             Ok(2) => done = done.saturating_add(1),
             Err(AddFault::NoMemory) => refused = refused.saturating_add(1),
             _ => return Err("another answer".into()),
+        }
+    }
+    assert!(rt; refused > 2 && done > 2, "{refused} {done}");
+    Ok(())
+}
+
+// Where the waiters 1, 2 and 3 stand.
+fn stands<A: Allocator + Copy>(waits: &Waits<A>) -> [Option<Standing>; 3] {
+    [
+        waits.result(WaitId(1)),
+        waits.result(WaitId(2)),
+        waits.result(WaitId(3)),
+    ]
+}
+
+// A step: its moments by their letters and its change, then what it releases, answers and leaves.
+type Row<'a> = (
+    &'a str,
+    WaitChange<'a>,
+    &'a [(WaitId, Verdict)],
+    WaitAnswer,
+    [Option<Standing>; 3],
+);
+
+// The step is prepared, which shows nothing, and made.
+fn takes_step(
+    rt: &impl Abort,
+    alloc: Global,
+    waits: &mut Waits<Global>,
+    row: &Row,
+) -> Result<(), Fail>
+    requires { waits.old.next < 2 ^ 63 }
+    ensures { OnOk result (waits.new.next ≤ waits.old.next + 1) }
+{
+    let (moments, change, released, answer, after) = row;
+    let before = stands(waits);
+    let plan = waits.prepare(&moments_of(alloc, moments)?, change)?;
+    let shown = stands(waits);
+    waits.commit();
+    assert!(rt;
+        plan.released.as_slice() == *released
+            && plan.answer == *answer
+            && shown == before
+            && stands(waits) == *after,
+        "{moments} {answer:?}"
+    );
+    Ok(())
+}
+
+fn take_steps(
+    rt: &impl Abort,
+    alloc: Global,
+    waits: &mut Waits<Global>,
+    rows: &[Row],
+) -> Result<(), Fail>
+    requires few { length rows.now < 1000 }
+    requires next { waits.old.next ≡ 1 }
+{
+    for row in rows {
+        takes_step(rt, alloc, waits, row)?;
+    }
+    Ok(())
+}
+
+#[test]
+fn a_step_is_prepared_and_made(rt: HostRuntime) -> Result<(), Fail> {
+    let waiting = Some(Standing::Waiting);
+    let held = Some(Standing::Released(Verdict::Held));
+    let start = At::zero();
+    let one: &[Sid] = &[Sid(1)];
+    let two: &[Sid] = &[Sid(2)];
+    // In the third step service 1 is up for one moment.
+    let rows: &[Row] = &[
+        (
+            "1s2s",
+            WaitChange::Add(Condition::Ready, Mode::All, two, 0, start),
+            &[],
+            WaitAnswer::Added(WaitId(1), None),
+            [waiting, None, None],
+        ),
+        (
+            "",
+            WaitChange::Add(Condition::Up, Mode::All, one, 0, start),
+            &[],
+            WaitAnswer::Added(WaitId(2), None),
+            [waiting, waiting, None],
+        ),
+        (
+            "1ud2U",
+            WaitChange::Nothing,
+            &[(WaitId(2), Verdict::Held), (WaitId(1), Verdict::Held)],
+            WaitAnswer::Nothing,
+            [held, held, None],
+        ),
+        (
+            "1D",
+            WaitChange::Cancel(WaitId(1)),
+            &[],
+            WaitAnswer::Cancelled(true),
+            [None, held, None],
+        ),
+        (
+            "2d",
+            WaitChange::Add(Condition::Down, Mode::All, two, 0, start),
+            &[],
+            WaitAnswer::Added(WaitId(3), Some(Verdict::Held)),
+            [None, held, held],
+        ),
+        (
+            "",
+            WaitChange::Add(Condition::Up, Mode::All, &[], 0, start),
+            &[],
+            WaitAnswer::Refused(AddFault::Empty),
+            [None, held, held],
+        ),
+    ];
+    take_steps(&rt, rt.alloc(), &mut Waits::new(rt.alloc()), rows)
+}
+
+// How a step ends that releases a waiter and makes another, where memory may be wanting.
+#[derive(PartialEq)]
+enum Ending {
+    Unmade,
+    Refused,
+    Made,
+    Other,
+}
+
+fn step_on<A: Allocator + Copy>(alloc: A) -> Ending {
+    let mut waits = Waits::new(alloc);
+    if waits
+        .add(Condition::Up, Mode::All, &[Sid(1)], 0, At::zero())
+        .is_err()
+    {
+        return Ending::Unmade;
+    }
+    let before = stands(&waits);
+    let moments: &[Moment] = &[Moment::Event(Sid(1), Mark::Spawned)];
+    let change = WaitChange::Add(Condition::Up, Mode::All, &[Sid(1)], 0, At::zero());
+    let released = match waits.prepare(moments, &change) {
+        Ok(plan) => plan.released.len(),
+        Err(_) => 0,
+    };
+    let shown = stands(&waits) == before;
+    waits.commit();
+    match (shown, released) {
+        (true, 0) if stands(&waits) == before => Ending::Refused,
+        (true, 1) => Ending::Made,
+        _ => Ending::Other,
+    }
+}
+
+// On heaps of a growing size each growth of the step is the first one refused.
+#[test]
+fn a_refused_step_leaves_what_is_shown(rt: HostRuntime) -> Result<(), Fail> {
+    let mut refused = 0u32;
+    let mut done = 0u32;
+    for step in 0..100usize {
+        let heap = LocalHeap::new(rt.alloc(), 64 * step)?;
+        match step_on(&heap) {
+            Ending::Unmade => {}
+            Ending::Refused => refused = refused.saturating_add(1),
+            Ending::Made => done = done.saturating_add(1),
+            Ending::Other => return Err("another ending".into()),
         }
     }
     assert!(rt; refused > 2 && done > 2, "{refused} {done}");

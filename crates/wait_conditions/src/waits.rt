@@ -1,17 +1,22 @@
 //! The waiters of all services.
-ghost use Rattle.std.specs.Prelude.{◌≡◌, ◌≤◌, ◌<◌, ◌+◌, ◌^◌, ◌++◌, IfOk, IfErr, OnOk, OnErr, None, is_some, length, map, filter};
-ghost use Rattle.wait_conditions.specs.Kept.{kept_of, is_other, standing_stored, standing_kept};
+ghost use Rattle.std.specs.Prelude.{◌≡◌, ◌≤◌, ◌<◌, ◌+◌, ◌^◌, [], IfOk, IfErr, OnOk, OnErr, IsOk, None, is_some, length};
+ghost use Rattle.wait_conditions.specs.Kept.{standing_kept};
 ghost use Rattle.wait_conditions.specs.Refusal.{refusal, fault_told, deadline_of};
-ghost use Rattle.wait_conditions.specs.Stands.{WaitsFor, TakesMoment, AddsWaiter, CancelsWaiter};
+ghost use Rattle.wait_conditions.specs.Stands.{WaitsFor, StandsFor, TakesMoment, AddsWaiter, CancelsWaiter, MakesStep, IsIdle, shown};
+ghost use Rattle.wait_conditions.specs.Steps.{asked_by, releases_by, after_moments, after_change, answer_to};
+ghost use Rattle.wait_conditions.specs.Steps.Change.{leave};
 ghost use Rattle.wait_conditions.specs.declared.verdict.Standing.TheVariants.{Waiting};
-ghost use Rattle.wait_conditions.specs.Watch.{Watch, new_watch, releases, after_moment, asking, made_now, after_add, after_cancel, newly, standing_of, standing_named};
+ghost use Rattle.wait_conditions.specs.Watch.{Watch, new_watch, releases, after_moment, after_add, after_cancel, standing_named};
+ghost use Rattle.wait_conditions.specs.Watch.{asking, made_now, newly, standing_of};
 
 use crate::add_fault::AddFault;
-use crate::looking::{look_at_every, look_for_release};
-use crate::refusing::{deadline_for, refusal_for};
+use crate::looking::look_at_every;
+use crate::moments::Moments;
+use crate::roll::Roll;
+use crate::step::{is_calm, work_out};
 use crate::verdict::{Standing, Verdict};
-use crate::waiter::Waiter;
-use arrayvec::ArrayVec;
+use crate::wait_change::WaitChange;
+use crate::wait_plan::WaitPlan;
 use s6_events::{At, Condition, Mode, Moment, NoMemory, Sid, WaitId};
 use std::alloc::Allocator;
 use std::marker::Model;
@@ -19,24 +24,29 @@ use std::marker::Model;
 /// The waiters that stand, at most 256, and all moments that were handed in. Pages `s6-svwait` and `s6-svlisten`; that the
 /// history alone says when a waiter is released is this project's own.
 ///
+/// A step is worked out first (`prepare`), which changes nothing that is shown, and then made (`commit`), which takes no memory;
+/// or one thing alone is done at once (`add`, `moment`, `cancel`), and then nothing is prepared any more. The waiters of a step
+/// are worked out on a copy, which is made where one waits or the step changes any.
+///
 /// Each moment is kept, and at each moment the verdict of each waiter that waits is read from all of them.
 #[derive(Drop)]
 pub struct Waits<A: Allocator> {
-    moments: Vec<Moment, A>,
-    waiters: Vec<Waiter, A>,
-    next: u64,
+    moments: Moments<A>,
+    roll: Roll<A>,
+    // The waiters that the prepared step leaves, where it looks at any or changes any.
+    later: Option<Roll<A>>,
 }
 
 impl<A: Allocator> Model for Waits<A> {
-    ghost use Rattle.std.specs.Prelude.{map, ◌≤◌, length, All};
     ghost use Rattle.wait_conditions.specs.Stands.{Stored};
-    ghost use Rattle.wait_conditions.specs.Kept.{kept_of};
 
     ghost Value = { Stored };
 
-    ghost view = { λ w. record { moments = w.moments.items; waiters = map kept_of w.waiters.items; next = w.next } };
+    ghost use Rattle.wait_conditions.specs.WaitsFields.{stored, IsKept};
 
-    ghost invariant = { λ w. All (λ k. k.place ≤ length w.moments.items) (map kept_of w.waiters.items) };
+    ghost view = { stored };
+
+    ghost invariant = { IsKept };
 }
 
 impl<A: Allocator + Copy> Waits<A> {
@@ -44,11 +54,12 @@ impl<A: Allocator + Copy> Waits<A> {
     pub fn new(alloc: A) -> Waits<A>
         ensures empty { WaitsFor result new_watch }
         ensures serials { result.next ≡ 1 }
+        ensures idle { IsIdle result }
     {
         Waits {
-            moments: Vec::new(alloc),
-            waiters: Vec::new(alloc),
-            next: 1,
+            moments: Moments::new(alloc),
+            roll: Roll::new(alloc),
+            later: None,
         }
     }
 
@@ -63,7 +74,7 @@ impl<A: Allocator + Copy> Waits<A> {
     fn stored_result(&self, id: WaitId) -> Option<Standing>
         ensures { result ≡ standing_kept id self.now.waiters }
     {
-        standing_in(&self.waiters, id)
+        self.roll.standing(id)
     }
 
     /// Makes a waiter for these services, 1 to 16, each named once. Its deadline is `timeout` milliseconds after `start`, and with
@@ -85,6 +96,7 @@ impl<A: Allocator + Copy> Waits<A> {
         ensures fault { IfErr result (λ fault. (w : Watch) → WaitsFor self.old w → fault ≡ fault_told (refusal (length w.waiters) sids.now)) }
         ensures serial { OnOk result (self.new.next ≡ self.old.next + 1) }
         ensures err { OnErr result (self.new ≡ self.old) }
+        ensures idle { OnOk result (IsIdle self.new) }
     {
         self.admit(condition, mode, sids, timeout, start)
     }
@@ -99,48 +111,21 @@ impl<A: Allocator + Copy> Waits<A> {
         start: At,
     ) -> Result<(WaitId, Option<Verdict>), AddFault>
         requires { self.old.next < 2 ^ 63 }
-        ensures ok { IfOk result (λ made. AddsWaiter self.old self.new (asking condition mode sids.now (deadline_of timeout start)) made.0 made.1) }
+        ensures ok { IfOk result (λ made. AddsWaiter (shown self.old) (shown self.new)
+            (asking condition mode sids.now (deadline_of timeout start)) made.0 made.1) }
         ensures possible { IfOk result (λ made. refusal (length self.old.waiters) sids.now ≡ None) }
         ensures fault { IfErr result (λ fault. fault ≡ fault_told (refusal (length self.old.waiters) sids.now)) }
         ensures serial { OnOk result (self.new.next ≡ self.old.next + 1) }
         ensures err { OnErr result (self.new ≡ self.old) }
+        ensures idle { OnOk result (IsIdle self.new) }
     {
-        if let Some(fault) = refusal_for(self.waiters.len(), sids) {
-            return Err(fault);
-        }
-        let deadline = deadline_for(timeout, start);
-        let made = self.put(condition, mode, list_of(sids), deadline)?;
+        let moments = self.moments.shown();
+        let made = self
+            .roll
+            .admit(moments, condition, mode, sids, timeout, start)?;
+        self.later = None;
+        self.moments.forget();
         Ok(made)
-    }
-
-    // A new waiter, which nothing refuses but memory.
-    fn put(
-        &mut self,
-        condition: Condition,
-        mode: Mode,
-        sids: ArrayVec<Sid, 16>,
-        deadline: Option<u64>,
-    ) -> Result<(WaitId, Option<Verdict>), NoMemory>
-        requires { self.old.next < 2 ^ 63 }
-        ensures ok { IfOk result (λ made. AddsWaiter self.old self.new (asking condition mode sids.items deadline) made.0 made.1) }
-        ensures serial { OnOk result (self.new.next ≡ self.old.next + 1) }
-        ensures err { OnErr result (self.new ≡ self.old) }
-    {
-        self.waiters.reserve(1)?;
-        let id = WaitId(self.next);
-        let mut waiter = Waiter {
-            id,
-            condition,
-            mode,
-            sids,
-            deadline,
-            place: self.moments.len(),
-            standing: Standing::Waiting,
-        };
-        let release = look_for_release(&mut waiter, self.moments.as_slice());
-        self.waiters.push_reserved(waiter);
-        self.next += 1;
-        Ok((id, release.map(|pair| pair.1)))
     }
 
     /// Hands in the next moment. Answers the waiters that it releases, in rising serial, each with its verdict. NoMemory: nothing
@@ -150,21 +135,24 @@ impl<A: Allocator + Copy> Waits<A> {
             (released.items ≡ releases w moment.now) × WaitsFor self.new (after_moment w moment.now)) }
         ensures serials { self.new.next ≡ self.old.next }
         ensures err { OnErr result (self.new ≡ self.old) }
+        ensures idle { OnOk result (IsIdle self.new) }
     {
         self.take_moment(moment)
     }
 
     // `moment`, by what is stored alone.
     fn take_moment(&mut self, moment: &Moment) -> Result<Vec<(WaitId, Verdict), A>, NoMemory>
-        ensures ok { IfOk result (λ released. TakesMoment self.old self.new moment.now released.items) }
+        ensures ok { IfOk result (λ released. TakesMoment (shown self.old) (shown self.new) moment.now released.items) }
         ensures serials { self.new.next ≡ self.old.next }
         ensures err { OnErr result (self.new ≡ self.old) }
+        ensures idle { OnOk result (IsIdle self.new) }
     {
-        let mut released = Vec::new(*self.moments.allocator());
-        released.reserve(self.waiters.len())?;
-        self.moments.reserve(1)?;
-        self.moments.push_reserved(*moment);
-        look_at_every(&mut self.waiters, self.moments.as_slice(), &mut released);
+        let mut released = Vec::new(self.moments.allocator());
+        released.reserve(self.roll.waiters.len())?;
+        self.moments.take(*moment)?;
+        self.later = None;
+        let moments = self.moments.shown();
+        look_at_every(&mut self.roll.waiters, moments, &mut released);
         Ok(released)
     }
 
@@ -173,6 +161,7 @@ impl<A: Allocator + Copy> Waits<A> {
         ensures stood { (w : Watch) → WaitsFor self.old w → result ≡ is_some (standing_named w id) }
         ensures after { (w : Watch) → WaitsFor self.old w → WaitsFor self.new (after_cancel w id) }
         ensures serials { self.new.next ≡ self.old.next }
+        ensures idle { IsIdle self.new }
     {
         let stood = self.result(id).is_some();
         self.take_out(id);
@@ -181,42 +170,75 @@ impl<A: Allocator + Copy> Waits<A> {
 
     // `cancel`, by what is stored alone.
     fn take_out(&mut self, id: WaitId)
-        ensures { CancelsWaiter self.old self.new id }
+        ensures after { CancelsWaiter (shown self.old) (shown self.new) id }
+        ensures idle { IsIdle self.new }
     {
-        drop_named(&mut self.waiters, id);
+        self.roll.take_out(id);
+        self.later = None;
+        self.moments.forget();
     }
-}
 
-fn list_of(sids: &[Sid]) -> ArrayVec<Sid, 16>
-    requires { length sids.now ≤ 16 }
-    ensures { result.items ≡ sids.now }
-{
-    let mut list = ArrayVec::new();
-    list.try_extend_from_slice(sids).unwrap();
-    list
-}
+    /// Works out a step: its moments in order, each looked at as it joins, so that the releases come by moment and then in rising
+    /// serial; and after all of them one change. A waiter that is added begins after these moments, and its verdict is looked at
+    /// once right then. Nothing that is shown changes, and what was prepared before is forgotten. This project's own.
+    ///
+    /// NoMemory where a growth was refused; then nothing is prepared. A step that does nothing takes no memory. Where no waiter
+    /// waits, the moments alone ask for any; a change asks for some too.
+    pub fn prepare(
+        &mut self,
+        moments: &[Moment],
+        change: &WaitChange,
+    ) -> Result<WaitPlan<A>, NoMemory>
+        requires { self.old.next < 2 ^ 63 }
+        ensures released { IfOk result (λ plan. (w : Watch) → WaitsFor self.old w → plan.released.items ≡ releases_by w moments.now) }
+        ensures answer { IfOk result (λ plan. (w : Watch) → WaitsFor self.old w →
+            plan.answer ≡ answer_to (after_moments w moments.now) (asked_by change.now)) }
+        ensures prepared { OnOk result ((w : Watch) → WaitsFor self.old w →
+            StandsFor self.new.prepared (after_change (after_moments w moments.now) (asked_by change.now))) }
+        ensures serials { OnOk result (self.new.prepared.next ≤ self.old.next + 1) }
+        ensures shown { shown self.new ≡ shown self.old }
+        ensures idle { OnErr result (IsIdle self.new) }
+        ensures quiet { moments.now ≡ [] → asked_by change.now ≡ leave → IsOk result }
+    {
+        let plan = self.prepare_stored(moments, change)?;
+        Ok(plan)
+    }
 
-// Where the waiter of this serial stands.
-fn standing_in(waiters: &[Waiter], id: WaitId) -> Option<Standing>
-    ensures { result ≡ standing_kept id (map kept_of waiters.now) }
-{
-    find_standing(waiters, id)
-}
-
-fn find_standing(waiters: &[Waiter], id: WaitId) -> Option<Standing>
-    ensures { result ≡ standing_stored id waiters.now }
-{
-    for waiter in waiters {
-        if waiter.id == id {
-            return Some(waiter.standing);
+    // `prepare`, by what is stored alone.
+    fn prepare_stored(
+        &mut self,
+        moments: &[Moment],
+        change: &WaitChange,
+    ) -> Result<WaitPlan<A>, NoMemory>
+        requires { self.old.next < 2 ^ 63 }
+        ensures ok { IfOk result (λ plan. MakesStep (shown self.old) self.new.prepared
+            moments.now (asked_by change.now) plan.released.items plan.answer) }
+        ensures shown { shown self.new ≡ shown self.old }
+        ensures idle { OnErr result (IsIdle self.new) }
+        ensures quiet { moments.now ≡ [] → asked_by change.now ≡ leave → IsOk result }
+    {
+        let alloc = self.moments.allocator();
+        self.later = None;
+        self.moments.forget();
+        if is_calm(&self.roll, moments, change) {
+            self.moments.join_all(moments)?;
+            return Ok(WaitPlan::empty(alloc));
         }
+        let mut later = self.roll.copied(alloc)?;
+        let plan = work_out(&mut self.moments, &mut later, moments, change)?;
+        self.later = Some(later);
+        Ok(plan)
     }
-    None
-}
 
-// Takes the waiter of this serial out, if there is one.
-fn drop_named<A: Allocator>(waiters: &mut Vec<Waiter, A>, id: WaitId)
-    ensures { map kept_of waiters.new.items ≡ filter (is_other id) (map kept_of waiters.old.items) }
-{
-    waiters.retain(|waiter| waiter.id != id);
+    /// Makes the step that was prepared: what it releases and answers is in its plan. Where nothing is prepared, nothing changes.
+    /// Takes no memory. This project's own.
+    pub fn commit(&mut self)
+        ensures shown { shown self.new ≡ self.old.prepared }
+        ensures idle { IsIdle self.new }
+    {
+        if let Some(later) = self.later.take() {
+            self.roll = later;
+        }
+        self.moments.settle();
+    }
 }

@@ -66,7 +66,13 @@ fn lines_that_spell_no_input(rt: HostRuntime) {
         b"0 1 scan .web:down",
         b"0 1 scan web,down",
         b"0 1 scan web:up",
-        b"0 1 scan web!",
+        b"0 1 scan !",
+        b"0 1 scan web!!",
+        b"0 1 scan web:down!",
+        b"0 1 scan web!:down",
+        b"0 1 scanctl",
+        b"0 1 scanctl a",
+        b"0 1 scanctl n t",
         b"0 1 started 1 1",
         b"0 1 started 1 1 0",
         b"0 1 started 1 1 2147483648",
@@ -121,6 +127,9 @@ fn lines_that_spell_an_input(rt: HostRuntime) {
         b"0 1 scan",
         b"0 1 scan web:down,finish,notify=3,kill=1,fintime=0,tally=0,signal=64",
         b"0 1 scan web @-_.9 web",
+        b"0 1 scan web! @-_.9! log",
+        b"0 1 scanctl n",
+        b"0 1 scanctl t",
     ];
     for line in lines {
         check_line(&rt, rt.alloc(), line, None);
@@ -136,8 +145,13 @@ fn first_entry<A: Allocator + Copy>(alloc: A, line: &[u8]) -> Result<Entry, Fail
     Ok(*listing.entries().first().ok_or("an entry")?)
 }
 
-// A line is a scan whose first entry is `web` with this configuration.
-fn check_entry(rt: &impl Abort, alloc: Global, line: &[u8], config: Config) -> Result<(), Fail> {
+// A line is a scan whose first entry is `web` with this configuration, or one that wasn't read.
+fn check_entry(
+    rt: &impl Abort,
+    alloc: Global,
+    line: &[u8],
+    config: Option<Config>,
+) -> Result<(), Fail> {
     let entry = first_entry(alloc, line)?;
     let is_web = entry.name.as_bytes() == b"web".as_slice();
     assert!(rt; is_web && entry.config == config, "{line:?}");
@@ -167,12 +181,13 @@ fn an_entry_has_its_options(rt: HostRuntime) -> Result<(), Fail> {
     let rows = [
         (
             b"0 1 scan web:down,finish,notify=3,kill=1,fintime=0,tally=0,signal=64".as_slice(),
-            all,
+            Some(all),
         ),
         (
             b"0 1 scan web:notify=1,kill=4294967295,fintime=4294967295,tally=4096,signal=1",
-            most,
+            Some(most),
         ),
+        (b"0 1 scan web! log", None),
     ];
     for (line, config) in rows {
         check_entry(&rt, rt.alloc(), line, config)?;

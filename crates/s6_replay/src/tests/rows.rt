@@ -221,6 +221,12 @@ const ROWS: &[Row] = &[
         answer: Ok((11, 1, 1)),
     },
     Row {
+        name: "unread-entry-and-closing",
+        script: "s6-script 1\n0 1 scan a! b\n0 1 scanctl t\n0 1 scan c\n5 1 startfailed 1 1\n",
+        transcript: "1 scanned unread:a +1:b\ne 1 s\no run 1 1\n2 done\n3 refused Closing\n4 done\ne 1 x\n",
+        answer: Ok((4, 2, 1)),
+    },
+    Row {
         name: "line with a byte zero",
         script: "s6-script 1\n0 1 tick\n0 1 ti\0ck\n",
         transcript: "1 done\n",
@@ -249,6 +255,13 @@ const ENDS: &[(&str, &str, &str)] = &[
         "finish-is-killed-at-its-timeout",
         "s6-script 1\n0 1 scan web:finish\n0 1 started 1 1 5\n10 1 death 1 1 code 0\n5009 1 tick\n5010 1 tick\n5011 1 finished 1 1 signal 9\n",
         "\n4 done\n5 done\no killfinish 1 1\n6 done\ne 1 D\no run 1 2\n",
+    ),
+    (
+        "dropped-name-comes-again-as-a-new-service",
+        "s6-script 1\n0 1 scan a b\n0 1 started 1 1 7\n0 1 started 2 1 8\n5 1 scan a\n6 1 scanctl n\n9 1 death 2 1 signal 15\n10 1 scan a\n\
+        11 1 scan a b\n",
+        "\n4 scanned\n5 done\no signal 2 1 15\no signal 2 1 18\n6 done\ne 2 d\ne 2 D\ne 2 x\n7 scanned -2\n8 scanned +3:b\ne 3 s\n\
+        o run 3 1\n",
     ),
     (
         "status-of-a-running-service",

@@ -158,7 +158,11 @@ fn change<A: Allocator + Copy>(
 
 // What a name says of its directory: with `!` it couldn't be read, with `-` it has a `down`, with `+` a `finish`.
 fn entry(word: &str) -> Result<Entry, Fail> {
-    let plain = Config::plain();
+    // Few deaths are kept, so that their memory is small beside that of a step.
+    let plain = Config {
+        max_death_tally: 2,
+        ..Config::plain()
+    };
     let (text, config) = if let Some(text) = word.strip_suffix('!') {
         (text, None)
     } else if let Some(text) = word.strip_suffix('-') {

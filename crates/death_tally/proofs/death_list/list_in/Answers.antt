@@ -1,4 +1,4 @@
-use Rattle.std.proofs.Common.{◌∙◌, ◌≤◌, sym, arith}
+use Rattle.std.proofs.Common.{◌∙◌, sym, arith}
 use Rattle.death_tally.proofs.Items.{next_item, no_list}
 use Rattle.death_tally.proofs.death_list.list_in.Goals as goal
 

@@ -1,6 +1,6 @@
 use Rattle.std.proofs.Common.{◌≡◌, List, map, take}
 use Rattle.std.specs.Prelude.{All}
-use Rattle.tree_core.specs.declared.input.Entry.{Entry}
+use Rattle.svscan_core.specs.declared.entry.Entry.{Entry}
 use Rattle.s6_replay.specs.Options.{entry_text, IsEntry}
 use Rattle.s6_replay.proofs.entry_options.entries_of.Given as goal
 

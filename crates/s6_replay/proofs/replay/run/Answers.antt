@@ -1,5 +1,5 @@
 use Rattle.std.proofs.Common.{arith}
-use Rattle.s6_replay.proofs.Runs.{starts, goes_on, stops_after, stops_at_end}
+use Rattle.s6_replay.proofs.Runs.{starts, goes_on, ends_whole, stops_after, stops_at_end}
 use Rattle.s6_replay.proofs.replay.run.Goals as goal
 
 pub loop-done-init : goal.loop-done-init
@@ -20,3 +20,10 @@ pub returns-in-Err-read_end-clause-fault : goal.returns-in-Err-read_end-clause-f
 returns-in-Err-read_end-clause-fault g c =
     stops_at_end _ c.in-Err-read_end.fault _ _ _ _ _ _ c.loop-done.done c.loop-done.counts
     c.loop-done.invariant.0 c.loop-done.invariant.1 (omega arith) c.in-Err-read_end.ensures.fault
+
+pub returns-in-Ok-End-clause-ok : goal.returns-in-Ok-End-clause-ok
+returns-in-Ok-End-clause-ok g c = (
+  c.loop-done.invariant.0,
+  ends_whole _ _ _ _ _ _ _ _ c.take_turn.new.tree c.loop-done.done c.loop-done.counts c.loop-done.invariant.0 c.loop-done.invariant.1 (omega arith)
+      (rw c.in-Ok-End.field-0-is at c.in-Ok-End.ensures.ok),
+)

@@ -1,7 +1,8 @@
 use Rattle.std.proofs.Common.{◌≡◌, take}
-use Rattle.std.specs.Prelude.{Some, slice_get}
+use Rattle.std.specs.Prelude.{Some, slice_get, option_map}
+use Rattle.supervise_core.specs.Service.{stands_of}
 use Rattle.svscan_core.specs.Moving.{with_touched}
 use Rattle.svscan_core.proofs.moves.standing_at.Given as goal
 
 abbrev pub invariant-loop-other : goal.invariant-loop-other
-invariant-loop-other g l = Some l.standing ≡ slice_get (with_touched l.slots.services (take l.other-index l.touched)) l.place
+invariant-loop-other g l = Some l.standing ≡ option_map stands_of (slice_get (with_touched l.slots.services (take l.other-index l.touched)) l.place)

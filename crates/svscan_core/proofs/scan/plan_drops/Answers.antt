@@ -1,13 +1,13 @@
 use Rattle.std.proofs.Common.{◌≡◌, ◌++◌, take, filter, ◌<◌, ◌∙◌, sym, ap, arith, length}
-use Rattle.std.specs.Prelude.{Some, slice_get}
+use Rattle.std.specs.Prelude.{Some, slice_get, option_map}
 use Rattle.std.proofs.lemmas.Option.{none-some}
-use Rattle.supervise_core.specs.Service.{Supervised}
+use Rattle.supervise_core.specs.Service.{Supervised, Stands, stands_of}
 use Rattle.svscan_core.specs.Moving.{with_touched}
 use Rattle.svscan_core.specs.Table.{charts_of, names_of, serials_of}
 use Rattle.svscan_core.specs.Scan.{stays, leaves}
 use Rattle.svscan_core.proofs.Dropping.{one_stays, one_leaves, all_taken}
 use Rattle.svscan_core.proofs.Places.{get_map, stands_at}
-use Rattle.svscan_core.proofs.Taking.{length_touched}
+use Rattle.svscan_core.proofs.Taking.{stood, length_touched}
 use Rattle.svscan_core.proofs.scan.plan_drops.Goals.{in-Some+then-is_retained, in-Some+else-is_retained+in_ok-drop_service, in_default}
 use Rattle.svscan_core.proofs.scan.plan_drops.Goals as goal
 
@@ -15,8 +15,10 @@ pub loop-place-preserved : goal.loop-place-preserved
 loop-place-preserved g c =
     let ss = with_touched c.args.slots.now.services c.args.touched.now in
     let so_far = c.loop-place.invariant in
-    let at : (s : Supervised) → c.standing_at.result ≡ Some s → slice_get (charts_of ss) c.loop-place.place ≡ Some s.chart =
-    λ s is. get_map (λ (t : Supervised). t.chart) ss c.loop-place.place s (sym c.standing_at.ensures ∙ is) in
+    let at : (b : Stands) → c.standing_at.result ≡ Some b → slice_get (charts_of ss) c.loop-place.place ≡ Some b.chart =
+    λ b is.
+    let old = stood (slice_get ss c.loop-place.place) b (sym is ∙ c.standing_at.ensures) in
+    get_map (λ (t : Supervised). t.chart) ss c.loop-place.place old.0 old.1 ∙ ap (λ (x : Stands). Some x.chart) old.2 in
     elim c.match-standing_at.branch [
       | in-Some+then-is_retained w ↦
           let there : slice_get (charts_of ss) c.loop-place.place ≡ Some w.chart-chart.result = at w.in-Some.standing w.in-Some.is ∙ ap Some (sym w.chart-chart.ensures) in
@@ -44,7 +46,7 @@ loop-place-preserved g c =
           let count : c.len-place-end.result ≡ length c.args.slots.now.services = c.len-place-end.ensures.count in
           let within : c.loop-place.place < length ss = omega (arith, c.loop-place-test.true, long, count) in
           let stands = stands_at ss c.loop-place.place within in
-          absurd (none-some stands.item (sym (sym c.standing_at.ensures ∙ w.in_default.is) ∙ stands.there))
+          absurd (none-some (stands_of stands.item) (sym (sym c.standing_at.ensures ∙ w.in_default.is) ∙ ap (option_map stands_of) stands.there))
     ]
 
 -- all services were looked at

@@ -1,20 +1,25 @@
-use Rattle.std.proofs.Common.{◌≡◌, ◌∙◌, ◌≤◌, ◌++◌, sym, ap, subst, length, List, ℕ, arith, filter, map}
+use Rattle.std.proofs.Common.{◌≡◌, ◌∙◌, ◌≤◌, ◌++◌, sym, ap, subst, length, List, ℕ, true, arith, filter, map}
 use Rattle.std.proofs.lemmas.List.{length-map}
 use Rattle.supervise_core.specs.Service.{Supervised}
 use Rattle.svscan_core.specs.declared.moves.Touched.{Touched}
 use Rattle.svscan_core.specs.Adding.{adding_of}
 use Rattle.svscan_core.specs.Listing.{names_in}
 use Rattle.svscan_core.specs.Moves.{moment_of}
-use Rattle.svscan_core.specs.Moving.{with_touched, moving_of}
+use Rattle.svscan_core.specs.Moving.{with_touched, timers_of, moving_of}
 use Rattle.svscan_core.specs.Names.{repeats}
 use Rattle.svscan_core.specs.Scan.{ScanState, stays, leaves, scanned}
 use Rattle.svscan_core.specs.Scanning.{prepared_services}
+use Rattle.deadlines.specs.declared.timer.TimerChange.TheVariants.{Clear}
+use Rattle.deadlines.specs.Timers.{changed_all, is_rising}
+use Rattle.svscan_core.specs.Timers.{timer_change, TimersAgree}
+use Rattle.svscan_core.specs.Work.Work.{apply_listing}
 use Rattle.svscan_core.specs.Sound.{AllAgree}
 use Rattle.svscan_core.specs.Table.{charts_of, names_of, serials_of}
 use Rattle.svscan_core.proofs.ByteOrder.{order_once}
 use Rattle.svscan_core.proofs.Few.{length-filter}
 use Rattle.svscan_core.proofs.Scanned.{LeadsToScanned, leads_to_scanned, same_events, same_orders}
-use Rattle.svscan_core.proofs.SerialsRise.{rising_before}
+use Rattle.svscan_core.proofs.ScanTimers.{scan_timers}
+use Rattle.svscan_core.proofs.SerialsRise.{rising_before, looked_serials, work_numbers}
 use Rattle.svscan_core.proofs.Taking.{length_touched}
 use Rattle.svscan_core.proofs.scan.plan_scan.Goals as goal
 
@@ -93,3 +98,29 @@ returns-clause-agrees g c = λ h at all.
     (sym c.add_names.ensures.touched)
     (subst (λ (ns : List (List ℕ)). AllAgree (prepared_services slots c.visit_all.new.self.touched.items ns c.add_names.new.self.added.items) (h ++ map moment_of c.add_names.new.moves.events.items))
     (sym c.add_names.ensures.dropped) ((leads g c).agrees h seen))
+
+pub returns-clause-timers : goal.returns-clause-timers
+returns-clause-timers g c = λ ts a.
+    let slots = c.args.slots.now.services in
+    let standing = with_touched slots c.args.moves.now.touched.items in
+    let visited = with_touched slots c.visit_all.new.self.touched.items in
+    let same : with_touched slots c.as_slice.result.now ≡ visited = ap (with_touched slots) c.as_slice.ensures.value in
+    let rising : is_rising (serials_of (charts_of standing)) ≡ true = rising_before (serials_of (charts_of standing)) c.args.scan.now.next_sid c.requires.order in
+    let looked : serials_of (charts_of visited) ≡ serials_of (charts_of standing) = ap serials_of c.in_ok-visit_all.ensures.takes.services ∙ looked_serials c.args.listing.now c.args.now (charts_of standing) in
+    let next = (scanned c.args.listing.now c.args.now (charts_of standing) c.args.scan.now.next_sid).next_sid in
+    let done = (scanned c.args.listing.now c.args.now (charts_of standing) c.args.scan.now.next_sid).services in
+    let rises : is_rising (serials_of done) ≡ true = rising_before (serials_of done) next (work_numbers (apply_listing c.args.listing.now) c.args.now (charts_of standing) c.args.scan.now.next_sid c.requires.order) in
+    let sids : c.add_names.new.self.dropped_sids.items ≡ serials_of (filter leaves (charts_of visited)) =
+    c.add_names.ensures.dropped_sids
+    ∙ (c.in_ok-retained.ensures.dropped_sids
+    ∙ (ap (λ ns. ns ++ serials_of (filter leaves (charts_of (with_touched slots c.as_slice.result.now)))) c.requires.dropped_sids
+    ∙ ap (λ ss. serials_of (filter leaves (charts_of ss))) same)) in
+    subst (λ (us : List Touched). TimersAgree (changed_all (timers_of us ++ (map (λ sid. Clear sid) c.add_names.new.self.dropped_sids.items ++ map timer_change (charts_of c.add_names.new.self.added.items))) ts)
+    (charts_of (prepared_services slots us c.add_names.new.self.dropped.items c.add_names.new.self.added.items))) (sym c.add_names.ensures.touched)
+    (subst (λ (ns : List (List ℕ)). TimersAgree (changed_all (timers_of c.visit_all.new.self.touched.items ++ (map (λ sid. Clear sid) c.add_names.new.self.dropped_sids.items ++ map timer_change (charts_of c.add_names.new.self.added.items))) ts)
+    (charts_of (prepared_services slots c.visit_all.new.self.touched.items ns c.add_names.new.self.added.items))) (sym c.add_names.ensures.dropped)
+    (scan_timers ts (timers_of c.visit_all.new.self.touched.items) c.add_names.new.self.dropped_sids.items (charts_of c.add_names.new.self.added.items) (charts_of visited) _
+    (ap is_rising looked ∙ rising) sids
+    ((leads g c).services ∙ sym (ap (λ (s : ScanState). s.services) (leads g c).given))
+    (ap (λ xs. is_rising (serials_of xs)) (leads g c).services ∙ rises)
+    (c.in_ok-visit_all.ensures.takes.timers ts a)))

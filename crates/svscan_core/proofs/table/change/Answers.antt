@@ -5,7 +5,7 @@ use Rattle.supervise_core.specs.Service.{Supervised}
 use Rattle.svscan_core.specs.Table.{charts_of}
 use Rattle.svscan_core.proofs.OnePlace.{none_reported}
 use Rattle.svscan_core.proofs.Places.{get_map}
-use Rattle.svscan_core.proofs.Found.{not_empty, read_there, any_chart, all_at, IsChanged, changed_there}
+use Rattle.svscan_core.proofs.Found.{not_empty, any_chart, all_at, IsChanged, changed_there}
 use Rattle.svscan_core.proofs.Reported.{any_found}
 use Rattle.svscan_core.proofs.table.change.Given.{Over}
 use Rattle.svscan_core.proofs.table.change.Goals as goal
@@ -30,17 +30,20 @@ returns-in_err-nth-clause-known g c =
 pub change-out-requires : goal.change-out-requires
 change-out-requires g c =
     let services = c.args.slots.now.services in
-    let there = read_there services c.in_ok-place.place c.in_ok-nth.field-0.now c.standing-standing.result c.in_ok-nth.ensures c.standing-standing.ensures in
-    all_at (λ (k : ChartState). k.generation + 1 < 2 ^ 64) (charts_of services) c.in_ok-place.place c.standing-standing.result.chart c.requires.generations
-    (get_map (λ (s : Supervised). s.chart) services c.in_ok-place.place c.standing-standing.result there)
+    let s = c.in_ok-nth.field-0.now in
+    rw c.standing-standing.ensures
+    (all_at (λ (k : ChartState). k.generation + 1 < 2 ^ 64) (charts_of services) c.in_ok-place.place s.chart c.requires.generations
+    (get_map (λ (t : Supervised). t.chart) services c.in_ok-place.place s (sym c.in_ok-nth.ensures)))
 
 changed : (g : Over) (c : goal.After-adopt g) → IsChanged c.args.sid c.args.now c.args.change.now c.args.slots.now.services c.adopt.new.self.services c.change-out.result
 changed g c =
     let services = c.args.slots.now.services in
-    let there = read_there services c.in_ok-place.place c.in_ok-nth.field-0.now c.standing-standing.result c.in_ok-nth.ensures c.standing-standing.ensures in
-    changed_there c.args.sid c.args.now c.args.change.now services c.adopt.new.self.services c.in_ok-place.place c.standing-standing.result c.change-out.new.self
-    c.change-out.result c.requires.order c.in_ok-place.ensures.found there c.change-out.ensures.gives c.change-out.ensures.agrees c.change-out.ensures.sid
-    c.adopt.ensures.services
+    let s = c.in_ok-nth.field-0.now in
+    let there = sym c.in_ok-nth.ensures in
+    let is = c.standing-standing.ensures in
+    changed_there c.args.sid c.args.now c.args.change.now services c.adopt.new.self.services c.in_ok-place.place s c.change-out.new.self c.death.result
+    c.change-out.result c.requires.order c.in_ok-place.ensures.found there (rw is at c.change-out.ensures.gives) (rw is at c.change-out.ensures.agrees)
+    (rw is at c.change-out.ensures.sid) (c.adopt.ensures.services s there)
 
 pub returns-clause-services : goal.returns-clause-services
 returns-clause-services g c = (changed g c).services

@@ -79,7 +79,7 @@ fn with_little(rt: &impl Abort, alloc: Global, left: usize) -> Result<(u32, usiz
 fn a_refused_step_leaves_what_is_shown(rt: HostRuntime) -> Result<(), Fail> {
     let mut refusals = 0u32;
     let mut without = 0u32;
-    for step in 0..120usize {
+    for step in 0..180usize {
         let (refused, count) = with_little(&rt, rt.alloc(), 64 * step)?;
         assert_eq!(rt; count, 9, "with {step}");
         refusals = refusals.saturating_add(refused);

@@ -1,6 +1,6 @@
 use Rattle.std.proofs.Common.{[]}
-use Rattle.tree_core.proofs.ByteOrder.{order_rises}
-use Rattle.tree_core.proofs.ListingOrder.{all_found}
+use Rattle.svscan_core.proofs.ByteOrder.{order_rises}
+use Rattle.svscan_core.proofs.ListingOrder.{all_found}
 use Rattle.tree_core.proofs.laws.byte_order.Goals as goal
 
 pub returns : goal.returns

@@ -1,5 +1,5 @@
 use Rattle.std.proofs.Common.{◌≡◌, ◌≤◌, ◌+◌, ◌++◌, take, map, length}
-use Rattle.tree_core.specs.Moves.{moment_of}
+use Rattle.svscan_core.specs.Moves.{moment_of}
 use Rattle.tree_core.specs.Step.{clock_moments}
 use Rattle.tree_core.proofs.plan.moments_of.Given as goal
 

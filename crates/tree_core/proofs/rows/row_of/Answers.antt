@@ -1,17 +1,17 @@
-use Rattle.std.proofs.Common.{◌≡◌, ◌∙◌, ap, sym, Some, find, option_map, option_copied, bytes_eq}
+use Rattle.std.proofs.Common.{◌∙◌, ap, Some, option_map, bytes_eq}
 use Rattle.supervise_core.specs.Service.{Supervised}
 use Rattle.supervise_core.specs.StatusRow.{status_row}
 use Rattle.tree_core.proofs.RowFound.{find_charts, agrees_with_found}
 use Rattle.tree_core.proofs.rows.row_of.Goals as goal
 
-pub returns-in-Some : goal.returns-in-Some
-returns-in-Some c = λ history agrees.
-    let found : Some c.in-Some.service.now ≡ find (λ s. bytes_eq c.args.name s.chart.name) c.args.services.now = ap option_copied (sym c.in-Some.is) ∙ c.find_name.ensures in
-    ap Some (c.row.ensures history (agrees_with_found _ c.args.services.now history c.in-Some.service.now agrees found))
-    ∙ (ap (option_map (λ (s : Supervised). status_row history c.args.now s.chart)) found
-    ∙ find_charts (status_row history c.args.now) (λ x. bytes_eq c.args.name x.name) c.args.services.now)
+pub returns-in_err-named : goal.returns-in_err-named
+returns-in_err-named g c = λ history agrees.
+    rw c.from_residual.ensures
+    (ap (option_map (λ (s : Supervised). status_row history c.args.now s.chart)) c.in_err-named.ensures
+    ∙ find_charts (status_row history c.args.now) (λ x. bytes_eq c.args.name x.name) c.args.registry.now.shown.services)
 
-pub returns-in-None : goal.returns-in-None
-returns-in-None c = λ history agrees.
-    ap (option_map (λ (s : Supervised). status_row history c.args.now s.chart)) (ap option_copied (sym c.in-None.is) ∙ c.find_name.ensures)
-    ∙ find_charts (status_row history c.args.now) (λ x. bytes_eq c.args.name x.name) c.args.services.now
+pub returns : goal.returns
+returns g c = λ history agrees.
+    ap Some (c.row.ensures history (agrees_with_found _ c.args.registry.now.shown.services history c.in_ok-named.field-0.now agrees c.in_ok-named.ensures))
+    ∙ (ap (option_map (λ (s : Supervised). status_row history c.args.now s.chart)) c.in_ok-named.ensures
+    ∙ find_charts (status_row history c.args.now) (λ x. bytes_eq c.args.name x.name) c.args.registry.now.shown.services)

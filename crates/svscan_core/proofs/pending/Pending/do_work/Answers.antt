@@ -1,4 +1,4 @@
-use Rattle.std.proofs.Common.{◌∙◌, sym, ap}
+use Rattle.std.proofs.Common.{[], ◌∙◌, sym, ap}
 use Rattle.deadlines.specs.Timers.{is_rising}
 use Rattle.svscan_core.specs.Moving.{with_touched, moving_of}
 use Rattle.svscan_core.specs.Asked.{asked_by}
@@ -16,7 +16,7 @@ returns-in_ok-self-in-Change-clause-worked g c =
     let services = c.args.slots.now.services in
     let new = c.change_one.new.self in
     moves_work (prepared_services services new.touched.items c.args.self.now.scan.dropped.items c.args.self.now.scan.added.items) c.args.self.now.scan.next_sid c.in_ok-self-in-Change.field-0 _
-    c.args.self.now.scan.dropped_sids.items c.args.self.now.scan.listed.items c.args.now (changed_at c.in-Change.sid c.in-Change.change.now c.args.now)
+    c.args.self.now.scan.dropped_sids.items c.args.self.now.scan.listed.items [] c.args.now (changed_at c.in-Change.sid c.in-Change.change.now c.args.now)
     (moving_of services c.args.self.now.moves) (moving_of services new)
     (nothing_dropped (with_touched services new.touched.items) c.args.self.now.scan.dropped.items c.args.self.now.scan.added.items c.requires.dropped c.requires.added)
     c.in_ok-self-in-Change.ensures.stale c.requires.dropped_sids c.requires.listed c.in_ok-self-in-Change.ensures.takes

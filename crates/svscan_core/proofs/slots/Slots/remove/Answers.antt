@@ -6,13 +6,13 @@ use Rattle.svscan_core.proofs.Removed.{held_named, removes, without-absent}
 use Rattle.svscan_core.proofs.slots.Slots.remove.Given.{Over}
 use Rattle.svscan_core.proofs.slots.Slots.remove.Goals as goal
 
-removed : (g : Over) (c : goal.After-try_remove-removed g) → (services_in c.try_remove-removed.new.self c.shift_remove.new.self.entries
-    ≡ without_name (services_in c.self.inside.slots c.self.inside.index.entries) c.args.name) × AreHeld c.try_remove-removed.new.self c.shift_remove.new.self.entries
+removed : (g : Over) (c : goal.After-empty_slot g) → (services_in c.empty_slot.new.slots c.shift_remove.new.self.entries
+    ≡ without_name (services_in c.self.inside.slots c.self.inside.index.entries) c.args.name) × AreHeld c.empty_slot.new.slots c.shift_remove.new.self.entries
 removed g c =
     let at = sym c.in-Some.ensures.value in
     let s = held_named c.self.inside.slots c.self.inside.index.entries c.args.name c.in-Some.slot c.self.invariant at in
     rw c.in-Some.ensures.entries
-    (removes c.self.inside.slots c.try_remove-removed.new.self c.in-Some.slot s.0 c.args.name c.self.inside.index.entries c.try_remove-removed.ensures.updates
+    (removes c.self.inside.slots c.empty_slot.new.slots c.in-Some.slot s.0 c.args.name c.self.inside.index.entries c.empty_slot.ensures.updates
     s.1 s.2 at c.len-count.ensures.unique c.self.invariant)
 
 pub invariant_of-self : goal.invariant_of-self

@@ -1,12 +1,11 @@
--- A new tree stands for the new machine.
 use Rattle.std.proofs.Common.{refl, arith}
 use Rattle.tree_core.specs.Machine.{new_machine}
 use Rattle.tree_core.proofs.tree.Tree.new.Goals as goal
 
 pub invariant_of-result : goal.invariant_of-result
 invariant_of-result g c =
-    rw (c.zero.ensures, c.new.ensures.items, c.new-2.ensures, c.new-3.ensures.forgotten, c.new-3.ensures.kept) (
-      record { steps = omega arith; few = omega arith; names = refl; order = refl; serials = omega arith; generations = λ k d lt. absurd (omega (arith, lt)) },
+    rw (c.new.ensures.shown, c.new-2.ensures, c.new-3.ensures.forgotten, c.new-3.ensures.kept, c.zero.ensures) (
+      record { steps = omega arith; serials = omega arith; generations = λ k d lt. absurd (omega (arith, lt)) },
       record { few = omega arith },
       record { order = refl; moments = λ sid. refl },
       (

@@ -1,11 +1,20 @@
-use Rattle.std.proofs.Common.{◌∙◌, ◌∷◌, [], ◌++◌, ap, map}
+use Rattle.std.proofs.Common.{◌∙◌, ap, map, refl}
 use Rattle.wait_conditions.specs.Kept.{kept_of, looked}
-use Rattle.wait_conditions.proofs.StandsAfter.{still_placed}
+use Rattle.wait_conditions.specs.Stands.{shown_of, AllPlaced}
+use Rattle.wait_conditions.proofs.Steps.{placed_taken, placed_idle}
 use Rattle.wait_conditions.proofs.waits.Waits.take_moment.Goals as goal
 
 pub invariant_of-self-2 : goal.invariant_of-self-2
 invariant_of-self-2 g c =
-    still_placed c.self.inside.moments.items _ c.args.moment.now (map kept_of c.self.inside.waiters.items) _
-    (c.push_reserved.ensures.items ∙ ap (λ ms. ms ++ c.args.moment.now ∷ []) c.in_ok-reserve-2.ensures.items)
-    (c.look_at_every.ensures.waiters ∙ ap (λ ms. map (looked ms) (map kept_of c.self.inside.waiters.items)) c.as_slice.ensures.value)
-    c.self.invariant
+    let new = shown_of c.take.new.self.shown (record { waiters = c.look_at_every.new.waiters; next = c.self.inside.roll.next }) in
+    let placed : AllPlaced new =
+    placed_taken (shown_of c.self.inside.moments.shown c.self.inside.roll) new c.args.moment.now _
+    (record {
+      moments = c.in_ok-take.ensures.shown;
+      waiters = c.look_at_every.ensures.waiters ∙ ap (λ ms. map (looked ms) (map kept_of c.self.inside.roll.waiters.items)) c.shown-moments.ensures;
+      next = refl;
+      released = refl;
+    })
+    c.self.invariant.now in
+    let both = placed_idle c.take.new.self.shown _ c.take.new.self.step (map kept_of c.look_at_every.new.waiters.items) refl c.in_ok-take.ensures.step placed in
+    record { now = both.0; prepared = both.1 }

@@ -1,8 +1,15 @@
-use Rattle.std.proofs.Common.{length, map}
+use Rattle.std.proofs.Common.{map, refl}
 use Rattle.wait_conditions.specs.Kept.{kept_of}
-use Rattle.wait_conditions.proofs.Named.{still_within}
+use Rattle.wait_conditions.specs.Stands.{shown_of, AllPlaced}
+use Rattle.wait_conditions.proofs.Steps.{placed_left, placed_idle}
 use Rattle.wait_conditions.proofs.waits.Waits.take_out.Goals as goal
 
 pub invariant_of-self : goal.invariant_of-self
 invariant_of-self g c =
-    still_within c.args.id (length c.self.inside.moments.items) (map kept_of c.self.inside.waiters.items) _ c.drop_named.ensures c.self.invariant
+    let new = shown_of c.self.inside.moments.shown c.take_out.new.self in
+    let placed : AllPlaced new =
+    placed_left (shown_of c.self.inside.moments.shown c.self.inside.roll) new c.args.id
+    (record { moments = refl; waiters = c.take_out.ensures.waiters; next = c.take_out.ensures.next })
+    c.self.invariant.now in
+    let both = placed_idle c.self.inside.moments.shown c.forget.new.self.shown c.forget.new.self.step (map kept_of c.take_out.new.self.waiters.items) c.forget.ensures.shown c.forget.ensures.step placed in
+    record { now = both.0; prepared = both.1 }

@@ -1,0 +1,130 @@
+-- What an act does, found in the table.
+use Rattle.std.proofs.Common.{◌≡◌, ◌∙◌, ℕ, List, [], ◌∷◌, ◌++◌, Bool, true, false, ◌||◌, ◌==◌, cond, refl, sym, ap, find, subst, map}
+use Rattle.std.specs.Prelude.{Option, Some, None, is_some}
+use Rattle.std.specs.List.{list_any}
+use Rattle.supervise_core.specs.declared.chart.ChartState.{ChartState}
+use Rattle.supervise_core.specs.Service.{Supervised}
+use Rattle.std.specs.Prelude.{option_map, bytes_eq}
+use Rattle.s6_events.specs.declared.moment.Moment.{Moment}
+use Rattle.supervise_core.specs.declared.change.Change.{Change}
+use Rattle.supervise_core.specs.declared.change.Change.TheVariants.{Control}
+use Rattle.supervise_core.specs.declared.row.Row.{Row}
+use Rattle.supervise_core.specs.ChartState.{is_gone}
+use Rattle.supervise_core.specs.Chart.{fire}
+use Rattle.supervise_core.specs.StatusRow.{status_row}
+use Rattle.svscan_core.specs.Moves.{moment_of, services_after, events_after}
+use Rattle.svscan_core.specs.Table.{charts_of, serials_of}
+use Rattle.svscan_core.specs.Work.{Worked}
+use Rattle.svscan_core.specs.Work.Work.{leave, change_one}
+use Rattle.svscan_core.proofs.SerialsRise.{fired_serials}
+use Rattle.tree_core.specs.declared.input.Act.{Act}
+use Rattle.tree_core.specs.declared.input.Act.TheVariants.{Svc, Status}
+use Rattle.tree_core.specs.declared.reply.Refusal.TheVariants.{NoService, Ended}
+use Rattle.tree_core.specs.declared.reply.Reply.TheVariants.{Done}
+use Rattle.tree_core.specs.Acts.{refused, asked, answered, work_unless, reply_unless, refused_serial, refused_letters, change_found, report_reply, row_reply, work_done, named}
+use Rattle.tree_core.specs.Machine.{Machine}
+use Rattle.tree_core.specs.Plan.Chosen.{refuse, letters}
+use Rattle.tree_core.specs.Plan.{Chosen, Chooses, HasFired, chosen_work, chosen_reply, report_choice, letters_choice, row_choice}
+
+-- a serial is found where a service has it
+pub any_of : (sid : ℕ) (services : List Supervised) → is_some (find (λ s. s.chart.sid == sid) services) ≡ list_any (λ c. c.sid == sid) (charts_of services)
+any_of sid [] = refl
+any_of sid (s ∷ services) = by (s.chart.sid == sid) (any_of sid services)
+  where
+    by : (b : Bool) → is_some (find (λ t. t.chart.sid == sid) services) ≡ list_any (λ c. c.sid == sid) (charts_of services)
+        → is_some (cond b (Some s) (find (λ t. t.chart.sid == sid) services)) ≡ (b || list_any (λ c. c.sid == sid) (charts_of services))
+    by true e = refl
+    by false e = e
+
+-- the timers leave the serials
+any_serial : (sid : ℕ) (cs : List ChartState) → list_any (λ c. c.sid == sid) cs ≡ list_any (λ n. n == sid) (serials_of cs)
+any_serial sid [] = refl
+any_serial sid (c ∷ cs) = ap (λ b. (c.sid == sid) || b) (any_serial sid cs)
+
+pub still_known : (sid now : ℕ) (cs : List ChartState) → list_any (λ c. c.sid == sid) (services_after (fire now) cs) ≡ list_any (λ c. c.sid == sid) cs
+still_known sid now cs = any_serial sid (services_after (fire now) cs) ∙ (ap (λ ns. list_any (λ n. n == sid) ns) (fired_serials now cs) ∙ sym (any_serial sid cs))
+
+-- a report
+pub chooses_report : {A : Type 0} (act : Act A) (m : Machine) (sid : ℕ) (change : Change) (closing : Bool) (now : ℕ) (services : List Supervised) (history : List Moment) (chosen : Chosen)
+    → refused act m ≡ refused_serial sid m.services → asked act m ≡ change_one sid change → ((w : Worked) → answered act m w ≡ report_reply w)
+    → chosen ≡ report_choice (list_any (λ c. c.sid == sid) (charts_of services)) sid change → HasFired closing now services history m → Chooses act m chosen
+chooses_report {A} act m sid change closing now services history chosen r a w is fired =
+    by (list_any (λ c. c.sid == sid) (charts_of services)) known is
+  where
+    known : list_any (λ c. c.sid == sid) m.services ≡ list_any (λ c. c.sid == sid) (charts_of services)
+    known = ap (λ cs. list_any (λ c. c.sid == sid) cs) fired.services_are ∙ still_known sid now (charts_of services)
+
+    by : (b : Bool) → list_any (λ c. c.sid == sid) m.services ≡ b → chosen ≡ report_choice b sid change → Chooses act m chosen
+    by true k e =
+        let none : refused act m ≡ None = r ∙ ap (λ b. cond b None (Some NoService)) k in
+        record {
+          work = (λ i. work_unless (none i) (a i)) ∙ ap chosen_work (sym e);
+          reply = (λ i. reply_unless (none i) (w (work_done act m) i)) ∙ ap (λ x. chosen_reply x (work_done act m)) (sym e);
+        }
+    by false k e =
+        let some : refused act m ≡ Some NoService = r ∙ ap (λ b. cond b None (Some NoService)) k in
+        record {
+          work = ap (λ o. work_unless o (asked act m)) some ∙ ap chosen_work (sym e);
+          reply = ap (λ o. reply_unless o (answered act m (work_done act m))) some ∙ ap (λ x. chosen_reply x (work_done act m)) (sym e);
+        }
+
+-- letters
+letters_work : (o : Option ChartState) (change : Change) → work_unless (refused_letters o) (change_found o change) ≡ chosen_work (letters_choice o change)
+letters_work None change = refl
+letters_work (Some c) change = by (is_gone c.phase)
+  where
+    by : (b : Bool) → work_unless (cond b (Some Ended) None) (change_one c.sid change) ≡ chosen_work (cond b (refuse Ended) (letters c.sid change))
+    by true = refl
+    by false = refl
+
+letters_reply : {A : Type 0} (o : Option ChartState) (change : Change) (w : Worked) → reply_unless {A = A} (refused_letters o) Done ≡ chosen_reply (letters_choice o change) w
+letters_reply None change w = refl
+letters_reply {A} (Some c) change w = by (is_gone c.phase)
+  where
+    by : (b : Bool) → reply_unless {A = A} (cond b (Some Ended) None) Done ≡ chosen_reply (cond b (refuse Ended) (letters c.sid change)) w
+    by true = refl
+    by false = refl
+
+-- a row
+pub row_works : (o : Option Row) → chosen_work (row_choice o) ≡ leave
+row_works None = refl
+row_works (Some row) = refl
+
+row_replied : {A : Type 0} (o : Option Row) (w : Worked) → row_reply {A = A} o ≡ chosen_reply (row_choice o) w
+row_replied None w = refl
+row_replied (Some row) w = refl
+
+pub chooses_row : {A : Type 0} (name : List ℕ) (m : Machine) (closing : Bool) (now : ℕ) (services : List Supervised) (history : List Moment) (chosen : Chosen)
+    → chosen ≡ row_choice (option_map (status_row (history ++ map moment_of (events_after (fire now) (charts_of services))) now) (find (λ c. bytes_eq name c.name) (services_after (fire now) (charts_of services))))
+    → HasFired closing now services history m → Chooses {A = A} (Status name) m chosen
+chooses_row {A} name m closing now services history chosen is fired =
+    let seen : chosen ≡ row_choice (option_map (status_row m.history m.clock) (find (λ c. bytes_eq name c.name) m.services)) =
+    is ∙ sym (λ i. row_choice (option_map (status_row (fired.past i) (fired.clock i)) (find (λ c. bytes_eq name c.name) (fired.services_are i)))) in
+    let o = option_map (status_row m.history m.clock) (find (λ c. bytes_eq name c.name) m.services) in
+    record {
+      work = sym (ap chosen_work seen ∙ row_works o);
+      reply = row_replied o (work_done {A = A} (Status name) m) ∙ ap (λ x. chosen_reply x (work_done {A = A} (Status name) m)) (sym seen);
+    }
+
+pub chooses_letters : {A : Type 0} (name : List ℕ) (sent : _) (m : Machine) (closing : Bool) (now : ℕ) (services : List Supervised) (history : List Moment) (chosen : Chosen)
+    → chosen ≡ letters_choice (find (λ c. bytes_eq name c.name) (services_after (fire now) (charts_of services))) (Control sent) → HasFired closing now services history m
+    → Chooses {A = A} (Svc name sent) m chosen
+chooses_letters {A} name sent m closing now services history chosen is fired =
+    let seen : chosen ≡ letters_choice (named name m.services) (Control sent) = is ∙ sym (ap (λ cs. letters_choice (named name cs) (Control sent)) fired.services_are) in
+    record {
+      work = letters_work (named name m.services) (Control sent) ∙ ap chosen_work (sym seen);
+      reply = letters_reply (named name m.services) (Control sent) (work_done {A = A} (Svc name sent) m) ∙ ap (λ x. chosen_reply x (work_done {A = A} (Svc name sent) m)) (sym seen);
+    }
+
+-- an act that is this one
+pub chooses_act : {A : Type 0} (act this : Act A) (m : Machine) (chosen : Chosen) → act ≡ this → Chooses this m chosen → Chooses act m chosen
+chooses_act {A} act this m chosen is c = subst (λ (a : Act A). Chooses a m chosen) (sym is) c
+
+-- whether a serial was found
+pub known_by : {X : Type 0} (f : X → Supervised) (sid : ℕ) (services : List Supervised) (o : Option X) (b : Bool) → option_map f o ≡ find (λ s. s.chart.sid == sid) services → is_some o ≡ b
+    → list_any (λ c. c.sid == sid) (charts_of services) ≡ b
+known_by {X} f sid services o b found is = sym (any_of sid services) ∙ (sym (ap is_some found) ∙ (mapped o ∙ is))
+  where
+    mapped : (x : Option X) → is_some (option_map f x) ≡ is_some x
+    mapped None = refl
+    mapped (Some y) = refl

@@ -1,0 +1,170 @@
+ghost use Rattle.std.specs.Prelude.{◌≡◌, ◌==◌, ◌+◌, ◌<◌, ◌^◌, ◌++◌, List, map, find, bytes_eq, option_map, All, IfOk, IsOk, true};
+ghost use Rattle.std.specs.List.{list_any};
+ghost use Rattle.s6_events.specs.Clock.{clock_of};
+ghost use Rattle.supervise_core.specs.Chart.{fire};
+ghost use Rattle.supervise_core.specs.StatusRow.{status_row};
+ghost use Rattle.supervise_core.specs.declared.change.Change.TheVariants.{Control};
+ghost use Rattle.svscan_core.specs.Moves.{moment_of, services_after, events_after};
+ghost use Rattle.svscan_core.specs.Sound.{AllAgree};
+ghost use Rattle.s6_events.specs.declared.moment.Moment.{Moment};
+ghost use Rattle.svscan_core.specs.Asked.{asked_by, IsOrderly};
+ghost use Rattle.svscan_core.specs.Table.{charts_of};
+ghost use Rattle.svscan_core.specs.Work.Work.{leave};
+ghost use Rattle.tree_core.specs.Machine.{Machine};
+ghost use Rattle.tree_core.specs.Plan.{plain, chosen_work, report_choice, letters_choice, row_choice, scan_choice, Chooses, HasFired, is_reading};
+
+use super::input::Act;
+use super::reply::Refusal;
+use arrayvec::ArrayVec;
+use s6_events::{At, Name, NoMemory, Sid};
+use std::alloc::Allocator;
+use supervise_core::{Change, Phase, Row};
+use svc_commands::Letters as ControlLetters;
+use svscan_core::{Entry, Registry, ScanOrder, Work, has_repeats};
+
+/// What a step does for its act: why that is refused, or what it asks of the services.
+#[derive(Drop)]
+pub enum Choice<'a> {
+    Refuse(Refusal),
+    Leave,
+    Report(Sid, Change),
+    Letters(Sid, Change),
+    Listing(&'a [Entry]),
+    Command(ScanOrder),
+    Show(Row),
+}
+
+impl Choice<'_> {
+    /// What is asked of the services.
+    pub fn work(&self) -> Work<'_>
+        ensures { asked_by result ≡ chosen_work (plain self.now) }
+    {
+        match self {
+            Choice::Report(sid, change) => Work::Change(*sid, change),
+            Choice::Letters(sid, change) => Work::Change(*sid, change),
+            Choice::Listing(listing) => Work::Listing(listing),
+            Choice::Command(order) => Work::Command(*order),
+            _ => Work::Leave,
+        }
+    }
+}
+
+// The same list.
+fn copy_of<T: Copy + Default, const N: usize>(list: &ArrayVec<T, N>) -> ArrayVec<T, N>
+    ensures { result ≡ list.now }
+{
+    let mut copy = ArrayVec::new();
+    if copy.try_extend_from_slice(list.as_slice()).is_err() {
+        unreachable!()
+    }
+    copy
+}
+
+// A report for the service of a serial.
+fn report<'a, A: Allocator + Copy>(registry: &Registry<A>, sid: Sid, change: Change) -> Choice<'a>
+    ensures { plain result ≡ report_choice (list_any (λ c. c.sid == sid) (charts_of registry.now.shown.services)) sid change }
+{
+    if registry.get(sid).is_none() {
+        return Choice::Refuse(Refusal::NoService);
+    }
+    Choice::Report(sid, change)
+}
+
+// Letters for the service of a name.
+fn letters<'a, A: Allocator + Copy>(
+    registry: &Registry<A>,
+    name: Name,
+    letters: &ControlLetters,
+    now: At,
+) -> Choice<'a>
+    requires { All (λ c. c.generation + 1 < 2 ^ 64) (charts_of registry.now.shown.services) }
+    ensures { plain result ≡ letters_choice (find (λ c. bytes_eq name c.name) (services_after (fire now) (charts_of registry.now.shown.services))) (Control letters.now) }
+{
+    let Some(standing) = registry.after_timers(name, now) else {
+        return Choice::Refuse(Refusal::NoService);
+    };
+    if standing.chart().phase == Phase::Gone {
+        return Choice::Refuse(Refusal::Ended);
+    }
+    Choice::Letters(standing.sid(), Change::Control(copy_of(letters)))
+}
+
+// The status row of the service of a name.
+fn show<'a, A: Allocator + Copy>(registry: &Registry<A>, name: Name, now: At) -> Choice<'a>
+    requires { All (λ c. c.generation + 1 < 2 ^ 64) (charts_of registry.now.shown.services) }
+    ensures work { chosen_work (plain result) ≡ leave }
+    ensures row { (history : List Moment) → clock_of history ≡ now → AllAgree registry.now.shown.services history
+        → plain result ≡ row_choice (option_map (status_row (history ++ map moment_of (events_after (fire now) (charts_of registry.now.shown.services))) now)
+        (find (λ c. bytes_eq name c.name) (services_after (fire now) (charts_of registry.now.shown.services)))) }
+{
+    match registry.after_timers(name, now) {
+        Some(standing) => Choice::Show(standing.status().row(&standing.chart(), now)),
+        None => Choice::Refuse(Refusal::NoService),
+    }
+}
+
+// A listing is refused while the tree is closing, and where a name stands in it twice.
+fn scan<A: Allocator + Copy>(
+    alloc: A,
+    listing: &[Entry],
+    closing: bool,
+) -> Result<Choice<'_>, NoMemory>
+    ensures { IfOk result (λ choice. plain choice ≡ scan_choice closing listing.now) }
+{
+    if closing {
+        return Ok(Choice::Refuse(Refusal::Closing));
+    }
+    if has_repeats(alloc, listing)? {
+        return Ok(Choice::Refuse(Refusal::Repeated));
+    }
+    Ok(Choice::Listing(listing))
+}
+
+/// What the act does, on services whose timers are still to go off at this moment.
+pub fn choose<'a, A: Allocator + Copy>(
+    alloc: A,
+    registry: &Registry<A>,
+    act: &'a Act<A>,
+    closing: bool,
+    now: At,
+) -> Result<Choice<'a>, NoMemory>
+    requires { All (λ c. c.generation + 1 < 2 ^ 64) (charts_of registry.now.shown.services) }
+    ensures chosen { IfOk result (λ choice. (m : Machine) → (history : List Moment) → HasFired closing now registry.now.shown.services history m → Chooses act.now m (plain choice)) }
+    ensures orderly { IfOk result (λ choice. registry.now.shown.next_sid + 65 < 2 ^ 64 → IsOrderly registry.now.shown.next_sid (chosen_work (plain choice))) }
+    ensures quiet { is_reading act.now ≡ true → IsOk result }
+    ensures still { is_reading act.now ≡ true → IfOk result (λ choice. chosen_work (plain choice) ≡ leave) }
+{
+    match act {
+        Act::Scan(listing) => scan(alloc, listing.entries(), closing),
+        Act::Scanctl(_) if closing => Ok(Choice::Refuse(Refusal::Closing)),
+        Act::Scanctl(order) => Ok(Choice::Command(*order)),
+        Act::Svc(name, sent) => Ok(letters(registry, *name, sent, now)),
+        Act::Started(sid, generation, pid) => Ok(report(
+            registry,
+            *sid,
+            Change::Started(*generation, *pid),
+        )),
+        Act::StartFailed(sid, generation) => Ok(report(
+            registry,
+            *sid,
+            Change::StartFailed(*generation),
+        )),
+        Act::Notify(sid, generation, bytes) => Ok(report(
+            registry,
+            *sid,
+            Change::Notify(*generation, copy_of(bytes)),
+        )),
+        Act::Death(sid, generation, exit) => Ok(report(
+            registry,
+            *sid,
+            Change::Death(*generation, *exit),
+        )),
+        Act::FinishEnded(sid, generation, exit) => Ok(report(
+            registry,
+            *sid,
+            Change::FinishEnded(*generation, *exit),
+        )),
+        Act::Status(name) => Ok(show(registry, *name, now)),
+        Act::Tick => Ok(Choice::Leave),
+    }
+}

@@ -1,0 +1,27 @@
+use crate::add_fault::AddFault;
+use crate::verdict::Verdict;
+use s6_events::{At, Condition, Mode, Sid, WaitId};
+
+/// What a step asks of the waiters, after its moments. This project's own.
+#[derive(Clone, Copy)]
+pub enum WaitChange<'a> {
+    /// Nothing.
+    Nothing,
+    /// A waiter for these services: a timeout in milliseconds, 0 for none, and the moment from which it counts. Page `s6-svwait`.
+    Add(Condition, Mode, &'a [Sid], u32, At),
+    /// The waiter of this serial ends.
+    Cancel(WaitId),
+}
+
+/// What a step answers to its change. This project's own.
+#[derive(Clone, Copy, Debug, PartialEq, Eq)]
+pub enum WaitAnswer {
+    /// Nothing was asked.
+    Nothing,
+    /// The serial of the new waiter, and its verdict where it is released at once.
+    Added(WaitId, Option<Verdict>),
+    /// Why no waiter is made; it is never NoMemory.
+    Refused(AddFault),
+    /// Whether there was such a waiter.
+    Cancelled(bool),
+}
