@@ -33,10 +33,6 @@ set_itself (y ∷ xs) (suc p) x e = ap (λ zs. y ∷ zs) (set_itself xs p x e)
 abbrev pub half : {X : Type 0} → (X → X) → ℕ → List X → List X
 half f p xs = map f (take p xs) ++ drop p xs
 
-pub half_none : {X : Type 0} (f : X → X) (xs : List X) → half f 0 xs ≡ xs
-half_none f [] = refl
-half_none f (x ∷ xs) = refl
-
 pub half_get : {X : Type 0} (f : X → X) (p : ℕ) (xs : List X) → slice_get (half f p xs) p ≡ slice_get xs p
 half_get f zero [] = refl
 half_get f zero (x ∷ xs) = refl

@@ -1,5 +1,5 @@
 -- A machine that is closing: no step of it starts a run.
-use Rattle.std.proofs.Common.{◌≡◌, ℕ, List, [], ◌∷◌, ◌==◌, ◌||◌, if◌then◌else◌, Bool, true, false, Option, None, Some, refl, ap, sym, subst, ◌∙◌}
+use Rattle.std.proofs.Common.{◌≡◌, ℕ, List, [], ◌∷◌, ◌==◌, if◌then◌else◌, Bool, true, false, Option, None, Some, refl, ap, sym, subst, ◌∙◌}
 use Rattle.std.specs.List.{list_any}
 use Rattle.std.proofs.lemmas.List.Folds.{list_any-append}
 use Rattle.supervise_core.specs.declared.change.Change.{Change}
@@ -10,6 +10,7 @@ use Rattle.svscan_core.specs.declared.entry.ScanOrder.TheVariants.{Nuke, Termina
 use Rattle.svscan_core.specs.Moves.{orders_after}
 use Rattle.svscan_core.specs.Work.{Work, Worked, worked, closing_after}
 use Rattle.svscan_core.specs.Work.Work.{leave, change_one, apply_listing, command}
+use Rattle.svscan_core.proofs.Truth.{neither_of}
 use Rattle.tree_core.specs.declared.input.Act.{Act}
 use Rattle.tree_core.specs.declared.input.Act.TheVariants.{Scan, Scanctl, Svc, Started, StartFailed, Notify, Death, FinishEnded, Status, Tick}
 use Rattle.tree_core.specs.declared.input.Input.{Input}
@@ -84,9 +85,6 @@ record StaysSo {A : Type 0} (s : Stepped A) : Type 0 where
 fired_closed : (m : Machine) → IsClosed m → IsClosed (with_moves (fire m.clock) m)
 fired_closed m h = record { closing = h.closing; services = (moved_leave (fire m.clock) (fire_leaves m.clock) m.services h.services).0 }
 
-both_none : (a b : Bool) → a ≡ false → b ≡ false → (a || b) ≡ false
-both_none a b e f = rw (e, f) refl
-
 timed_closed : {A : Type 0} (act : Act A) (m : Machine) → IsClosed m → StaysSo (timed act m)
 timed_closed act m h =
     let fired = with_moves (fire m.clock) m in
@@ -95,7 +93,7 @@ timed_closed act m h =
       closed = record { closing = ap (closing_after (work_of act fired)) h.closing ∙ stays_closing (work_of act fired); services = done.0 };
       none =
           list_any-append is_run (orders_after (fire m.clock) m.services) (acted act fired).work.orders
-          ∙ both_none _ _ (moved_leave (fire m.clock) (fire_leaves m.clock) m.services h.services).1 done.1;
+          ∙ neither_of _ _ (moved_leave (fire m.clock) (fire_leaves m.clock) m.services h.services).1 done.1;
     }
 
 step_closed : {A : Type 0} (m : Machine) (input : Input A) → IsClosed m → StaysSo (step m input)

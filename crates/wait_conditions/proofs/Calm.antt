@@ -88,11 +88,6 @@ any_kept : (ws : List Waiter) → list_any (λ w. still_waits (kept_of w)) ws �
 any_kept [] = refl
 any_kept (w ∷ ws) = ap (λ b. still_waits (kept_of w) || b) (any_kept ws)
 
--- there is no moment
-pub calm_none : (xs ms : List Moment) (ws : List Waiter) (next : ℕ) → xs ≡ [] → All (λ k. k.place ≤ length ms) (map kept_of ws)
-    → TakesMoments (record { moments = ms; waiters = map kept_of ws; next = next }) (record { moments = ms ++ xs; waiters = map kept_of ws; next = next }) xs []
-calm_none xs ms ws next e placed = rw e (nothing_taken ms (map kept_of ws) next placed)
-
 -- no waiter waits
 pub calm_moments : (xs ms : List Moment) (ws : List Waiter) (next : ℕ) → list_any (λ w. still_waits (kept_of w)) ws ≡ false → All (λ k. k.place ≤ length ms) (map kept_of ws)
     → TakesMoments (record { moments = ms; waiters = map kept_of ws; next = next }) (record { moments = ms ++ xs; waiters = map kept_of ws; next = next }) xs []

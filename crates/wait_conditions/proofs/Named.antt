@@ -1,10 +1,10 @@
 -- A waiter that is looked for, or taken out, by its serial.
-use Rattle.std.proofs.Common.{◌≡◌, ◌==◌, ◌≤◌, not, ℕ, List, [], ◌∷◌, Bool, true, false, Option, Some, All, cond, length, map, filter, find, refl, sym, ap, ◌∙◌, option_map}
+use Rattle.std.proofs.Common.{◌≡◌, ◌==◌, ◌≤◌, not, ℕ, List, [], ◌∷◌, Bool, true, false, Option, Some, cond, length, map, filter, find, refl, sym, ap, ◌∙◌, option_map}
 use Rattle.std.proofs.lemmas.List.{length-map}
 use Rattle.std.proofs.lemmas.List.Elements.{All-filter}
 use Rattle.s6_events.specs.declared.moment.Moment.{Moment}
 use Rattle.wait_conditions.specs.declared.waiter.Waiter.{Waiter}
-use Rattle.wait_conditions.specs.Kept.{Kept, kept_of, is_other, standing_stored, standing_kept}
+use Rattle.wait_conditions.specs.Kept.{kept_of, is_other, standing_stored, standing_kept}
 use Rattle.wait_conditions.specs.Stands.{Shown, kept, StandsFor, CancelsWaiter}
 use Rattle.wait_conditions.specs.Watch.{Placed, Watch, is_named, standing_of, standing_named, after_cancel}
 
@@ -25,9 +25,6 @@ stored_left id ws = filter-map kept_of (is_other id) (λ w. not (w.id == id)) (�
 
 written_left : (id : ℕ) (h : List Moment) (ps : List Placed) → filter (is_other id) (map (kept h) ps) ≡ map (kept h) (filter (λ p. not (is_named id p)) ps)
 written_left id h ps = filter-map (kept h) (is_other id) (λ p. not (is_named id p)) (λ p. refl) ps
-
-pub still_within : (id : ℕ) (n : ℕ) (old new : List Kept) → new ≡ filter (is_other id) old → All (λ k. k.place ≤ n) old → All (λ k. k.place ≤ n) new
-still_within id n old new e h = rw e (All-filter (is_other id) (λ k. k.place ≤ n) old h)
 
 pub cancels_after : (s new : Shown) (id : ℕ) → CancelsWaiter s new id → (w : Watch) → StandsFor s w → StandsFor new (after_cancel w id)
 cancels_after s new id c w st = record {

@@ -4,14 +4,13 @@ use Rattle.std.proofs.lemmas.List.{drop_all, map-append}
 use Rattle.wait_conditions.specs.declared.verdict.Standing.TheVariants.{Waiting, Released}
 use Rattle.wait_conditions.specs.Verdict.{Asked, verdict}
 use Rattle.wait_conditions.specs.Release.{standing, first_release}
-use Rattle.std.proofs.lemmas.List.Elements.{All-push, All-head, All-tail, All-map}
+use Rattle.std.proofs.lemmas.List.Elements.{All-push, All-head, All-tail}
 use Rattle.std.specs.List.{filter_map, cons_option}
 use Rattle.s6_events.specs.declared.moment.Moment.{Moment}
 use Rattle.wait_conditions.specs.declared.verdict.Verdict.{Verdict}
 use Rattle.wait_conditions.specs.declared.verdict.Standing.{Standing}
 use Rattle.wait_conditions.specs.Watch.{Placed, Watch, standing_of, newly, release_of, releases, after_moment, made_now, after_add}
-use Rattle.wait_conditions.specs.Kept.{Kept, kept_of, looked, release_seen}
-use Rattle.wait_conditions.specs.declared.waiter.Waiter.{Waiter}
+use Rattle.wait_conditions.specs.Kept.{Kept, looked, release_seen}
 use Rattle.wait_conditions.specs.Stands.{Shown, kept, StandsFor, TakesMoment, AddsWaiter, begun}
 use Rattle.wait_conditions.proofs.Standings.{standing_of-push}
 
@@ -49,11 +48,6 @@ stands_after s new m given t w st =
       },
     )
 
--- each waiter keeps a place within the moments
-pub still_placed : (old new : List Moment) (m : Moment) (K K' : List Kept) → new ≡ old ++ m ∷ [] → K' ≡ map (looked new) K → All (λ k. k.place ≤ length old) K → All (λ k. k.place ≤ length new) K'
-still_placed old new m K K' same seen h =
-    rw seen (All-map (λ k. k.place ≤ length new) (looked new) K (λ k d b. omega (arith, h k d b, ap length same, length-append old (m ∷ []))))
-
 -- over no moment, a waiter stands as its verdict is
 first_one : (s : Standing) → first_release (s ∷ []) ≡ s
 first_one Waiting = refl
@@ -82,9 +76,3 @@ adds_after s new asked id given t w st =
         placed = All-push (λ p. p.place ≤ length w.history) w.waiters (made_now w asked) st.placed (omega arith);
       },
     )
-
--- a waiter that is made has its place within the moments
-pub made_placed : (ms : List Moment) (ws new : List Waiter) (w : Waiter) → new ≡ ws ++ w ∷ [] → w.place ≤ length ms
-    → All (λ k. k.place ≤ length ms) (map kept_of ws) → All (λ k. k.place ≤ length ms) (map kept_of new)
-made_placed ms ws new w pushed h all =
-    rw (pushed, map-append kept_of ws (w ∷ [])) (All-push (λ j. j.place ≤ length ms) (map kept_of ws) (kept_of w) all h)
