@@ -54,7 +54,7 @@ fn refuse_in_turn(
 ) -> Result<(), Fail> {
     let mut done = 0u32;
     let mut stopped = 0u32;
-    for step in 0..400usize {
+    for step in 0..800usize {
         if done == 3 {
             break;
         }
