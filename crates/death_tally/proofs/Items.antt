@@ -32,7 +32,7 @@ pub next_item : (words : List (Bor (List ℕ))) (i : ℕ) (items : List DeathIte
     → item_of (text_at words i) ≡ Some item → items_of (take (i + 1) (texts_of words)) ≡ Some (items ++ item ∷ [])
 next_item words i items item lt before is = more_words words i items lt before ∙ ap (and_item items) is
 
-none_stays : (words : List (List ℕ)) → fold with_word None words ≡ None
+pub none_stays : (words : List (List ℕ)) → fold with_word None words ≡ None
 none_stays [] = refl
 none_stays (word ∷ words) = none_stays words
 

@@ -136,6 +136,13 @@ impl DeathList {
         Ok(list_in(words.as_slice()))
     }
 
+    /// Its items, in the order in which they were written.
+    pub fn items(&self) -> &[DeathItem]
+        ensures { result.now ≡ self.now }
+    {
+        self.items.as_slice()
+    }
+
     /// Whether the list names the exit.
     pub fn names(&self, exit: Exit) -> bool
         ensures { result ≡ list_names self.now exit }

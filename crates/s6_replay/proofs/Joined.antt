@@ -5,14 +5,20 @@ use Rattle.std.proofs.lemmas.List.Elements.{All-nil, All-cons}
 use Rattle.std.proofs.lemmas.List.Splits.{slice_split_none, slice_split_at}
 use Rattle.std.specs.List.{join_with_byte, flat_map, slice_split, list_all}
 use Rattle.std.proofs.lemmas.Bool.{and_parts}
+use Rattle.death_tally.specs.declared.death_list.DeathItem.{DeathItem}
 use Rattle.tree_core.specs.declared.input.Act.{Act}
 use Rattle.svscan_core.specs.declared.entry.Entry.{Entry}
+use Rattle.s6_replay.specs.DeathList.{item_text, list_text}
 use Rattle.s6_replay.specs.Options.{entry_text}
 use Rattle.s6_replay.specs.Spelling.{act_words}
 
 pub join_entries : (word : List ℕ) (entries : List Entry) → join_with_byte 32 (word ∷ map entry_text entries) ≡ word ++ flat_map (λ e. 32 ∷ entry_text e) entries
 join_entries word [] = sym (append-nil word)
 join_entries word (e ∷ entries) = ap (λ rest. word ++ (32 ∷ rest)) (join_entries (entry_text e) entries)
+
+pub join_items : (item : DeathItem) (items : List DeathItem) → list_text (item ∷ items) ≡ item_text item ++ flat_map (λ i. 44 ∷ item_text i) items
+join_items item [] = sym (append-nil (item_text item))
+join_items item (next ∷ items) = ap (λ rest. item_text item ++ (44 ∷ rest)) (join_items next items)
 
 pub join_act : {A : Type 0} (word : List ℕ) (act : Act A) → join_with_byte 32 (word ∷ act_words act) ≡ word ++ (32 ∷ join_with_byte 32 (act_words act))
 join_act word act = refl

@@ -3,6 +3,7 @@ pub mod Hexadecimal
 pub mod Joined
 pub mod LineRead
 pub mod Entries
+pub mod DeathLists
 pub mod Plain
 pub mod Reading
 pub mod Runs

@@ -1,14 +1,18 @@
 -- What is spelled is read.
 use Rattle.std.proofs.Common.{◌≡◌, ℕ, ◌^◌, ◌<◌, ◌≤◌, List, [], ◌∷◌, refl, ap, ◌∙◌, arith, drop, map, rules}
-use Rattle.std.specs.Prelude.{All, true, codes, ◌==◌, decimal, slice_index_or}
+use Rattle.std.specs.Prelude.{All, Some, None, true, codes, ◌==◌, decimal, slice_index_or}
 use Rattle.std.specs.List.{slice_split, list_all}
+use Rattle.std.proofs.lemmas.Option.{same_Some, none-some}
+use Rattle.death_tally.specs.declared.death_list.DeathItem.{DeathItem}
+use Rattle.death_tally.specs.DeathList.{death_list}
+use Rattle.s6_events.specs.Name.{is_name}
 use Rattle.s6_events.specs.declared.exit.Exit.{Exit}
 use Rattle.s6_events.specs.declared.exit.Exit.TheVariants.{Code, Killed}
 use Rattle.tree_core.specs.declared.input.Act.{Act}
-use Rattle.tree_core.specs.declared.input.Act.TheVariants.{Scan, Scanctl, Svc, Started, StartFailed, Notify, Death, FinishEnded, Status, Tick}
+use Rattle.tree_core.specs.declared.input.Act.TheVariants.{Scan, Scanctl, Svc, Started, StartFailed, Notify, Death, FinishEnded, Status, Tally, Permafailon, Tick}
 use Rattle.tree_core.specs.declared.input.Input.{Input}
 use Rattle.s6_replay.specs.declared.parse.Verb.{Verb}
-use Rattle.s6_replay.specs.declared.parse.Verb.TheVariants.{Scan as ScanVerb}
+use Rattle.s6_replay.specs.declared.parse.Verb.TheVariants.{Scan as ScanVerb, Permafailon as PermafailonVerb}
 use Rattle.svscan_core.specs.declared.entry.Entry.{Entry}
 use Rattle.svscan_core.specs.declared.entry.ScanOrder.{ScanOrder}
 use Rattle.s6_replay.specs.Options.{entry_text, IsEntry}
@@ -19,6 +23,7 @@ use Rattle.svc_commands.specs.declared.control_letter.ControlLetter.{ControlLett
 use Rattle.s6_replay.proofs.Hexadecimal.{hex_plain}
 use Rattle.s6_replay.proofs.Joined.{is_no_space, has_no_space, split_joined}
 use Rattle.s6_replay.proofs.Plain.{digits_plain, name_plain, no_space_in}
+use Rattle.s6_replay.proofs.DeathLists.{list_back, list_no_space}
 use Rattle.s6_replay.proofs.Entries.{entries_no_space}
 
 pub scan_read : {A : Type 0} (texts : List (List ℕ)) (listing : List Entry) → ((entries : List Entry) → All IsEntry entries → texts ≡ map entry_text entries → listing ≡ entries)
@@ -32,7 +37,51 @@ scan_read texts listing reads (Notify sid generation bytes) h v d = cc
 scan_read texts listing reads (FinishEnded sid generation exit) h v d = cc
 scan_read texts listing reads (Death sid generation exit) h v d = cc
 scan_read texts listing reads (Status name) h v d = cc
+scan_read texts listing reads (Tally name) h v d = cc
+scan_read texts listing reads (Permafailon name seconds count items) h v d = cc
 scan_read texts listing reads Tick h v d = cc
+
+-- a permafailon, where what is found is the one of these words
+pub permafailon_read : {A : Type 0} (texts : List (List ℕ)) (found : Act A)
+    → ((name : List ℕ) (seconds count : ℕ) (items : List DeathItem) → IsAct {A = A} (Permafailon name seconds count items) → texts ≡ details {A = A} (Permafailon name seconds count items)
+    → found ≡ Permafailon name seconds count items)
+    → (act : Act A) → IsAct act → PermafailonVerb ≡ verb_of_act act → texts ≡ details act → found ≡ act
+permafailon_read texts found reads (Scan entries) h v d = cc
+permafailon_read texts found reads (Scanctl order) h v d = cc
+permafailon_read texts found reads (Svc name letters) h v d = cc
+permafailon_read texts found reads (Started sid generation pid) h v d = cc
+permafailon_read texts found reads (StartFailed sid generation) h v d = cc
+permafailon_read texts found reads (Notify sid generation bytes) h v d = cc
+permafailon_read texts found reads (FinishEnded sid generation exit) h v d = cc
+permafailon_read texts found reads (Death sid generation exit) h v d = cc
+permafailon_read texts found reads (Status name) h v d = cc
+permafailon_read texts found reads (Tally name) h v d = cc
+permafailon_read texts found reads (Permafailon name seconds count items) h v d = reads name seconds count items h d
+permafailon_read texts found reads Tick h v d = cc
+
+-- the parts of a permafailon are read, each from its word
+pub permafailon_found : {A : Type 0} (texts : List (List ℕ)) (name : List ℕ) (seconds count : ℕ) (items : List DeathItem) (w0 w1 w2 w3 : List ℕ)
+    → w0 ≡ slice_index_or texts 0 [] → w1 ≡ slice_index_or texts 1 [] → w2 ≡ slice_index_or texts 2 [] → w3 ≡ slice_index_or texts 3 []
+    → (is_name w0 ≡ true → name ≡ w0)
+    → ((n : ℕ) → n ≤ 4294967295 → w1 ≡ decimal n → seconds ≡ n)
+    → ((n : ℕ) → n ≤ 4294967295 → w2 ≡ decimal n → count ≡ n)
+    → Some items ≡ death_list w3
+    → (act : Act A) → IsAct act → PermafailonVerb ≡ verb_of_act act → texts ≡ details act → Permafailon name seconds count items ≡ act
+permafailon_found {A} texts name seconds count items w0 w1 w2 w3 e0 e1 e2 e3 reads_name reads_seconds reads_count reads_list =
+    permafailon_read texts (Permafailon name seconds count items) (λ n s k ds fits spelled.
+    let first : w0 ≡ n = e0 ∙ ap (λ ws. slice_index_or ws 0 []) spelled in
+    let same_name : name ≡ n = reads_name (ap is_name first ∙ fits.0) ∙ first in
+    let same_seconds : seconds ≡ s = reads_seconds s fits.1 (e1 ∙ ap (λ ws. slice_index_or ws 1 []) spelled) in
+    let same_count : count ≡ k = reads_count k fits.2 (e2 ∙ ap (λ ws. slice_index_or ws 2 []) spelled) in
+    let same_list : items ≡ ds = same_Some items ds (reads_list ∙ (ap death_list (e3 ∙ ap (λ ws. slice_index_or ws 3 []) spelled) ∙ list_back ds fits.3)) in
+    λ i. Permafailon (same_name i) (same_seconds i) (same_count i) (same_list i))
+
+-- where the fourth word is no list, the words are those of no permafailon
+pub permafailon_lost : {A : Type 0} (texts : List (List ℕ)) (found : Act A) (w3 : List ℕ) → w3 ≡ slice_index_or texts 3 [] → None ≡ death_list w3
+    → (act : Act A) → IsAct act → PermafailonVerb ≡ verb_of_act act → texts ≡ details act → found ≡ act
+permafailon_lost texts found w3 e3 none =
+    permafailon_read texts found (λ n s k ds fits spelled.
+    absurd (none-some ds (none ∙ (ap death_list (e3 ∙ ap (λ ws. slice_index_or ws 3 []) spelled) ∙ list_back ds fits.3))))
 
 -- decimal digits are no spaces
 digits_no_space : (n : ℕ) → n < 2 ^ 64 → has_no_space (decimal n) ≡ true
@@ -63,6 +112,9 @@ act_plain (Notify sid generation bytes) h = rw (digits_no_space sid h.0, digits_
 act_plain (FinishEnded sid generation exit) h = rw (digits_no_space sid h.0, digits_no_space generation h.1) (exit_plain exit h.2)
 act_plain (Death sid generation exit) h = rw (digits_no_space sid h.0, digits_no_space generation h.1) (exit_plain exit h.2)
 act_plain (Status name) h = rw (no_space_in name (name_plain name h)) refl
+act_plain (Tally name) h = rw (no_space_in name (name_plain name h)) refl
+act_plain (Permafailon name seconds count items) h =
+    rw (no_space_in name (name_plain name h.0), digits_no_space seconds (omega arith), digits_no_space count (omega arith), list_no_space items h.3.fit) refl
 act_plain Tick h = refl
 
 -- a spelling has the words of its input

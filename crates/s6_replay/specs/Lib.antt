@@ -1,4 +1,5 @@
 pub mod Options
+pub mod DeathList
 pub mod Verb
 pub mod Spelling
 pub mod Transcript

@@ -17,7 +17,7 @@ use Rattle.svscan_core.specs.declared.entry.Listed.TheVariants.{Added, Full, Unr
 use Rattle.tree_core.specs.declared.reply.Refusal.{Refusal}
 use Rattle.tree_core.specs.declared.reply.Refusal.TheVariants.{NoService, Stale, Reserved, TooMany, NoSuch, Closing, Repeated, Empty, Exists, Ended, Spent}
 use Rattle.tree_core.specs.declared.reply.Reply.{Reply}
-use Rattle.tree_core.specs.declared.reply.Reply.TheVariants.{Done, Refused, Scanned, Row as RowReply}
+use Rattle.tree_core.specs.declared.reply.Reply.TheVariants.{Done, Refused, Scanned, Row as RowReply, Tally, PermanentFailure}
 use Rattle.tree_core.specs.declared.verdict.Verdict.{Verdict}
 use Rattle.tree_core.specs.declared.verdict.Verdict.TheVariants.{Held, Failed, Gone, TimedOut}
 use Rattle.tree_core.specs.Machine.{Outcome}
@@ -80,12 +80,27 @@ row_text r =
     ++ (truth_field r.up ++ truth_field r.wanted_up ++ truth_field r.normally_up ++ truth_field r.ready ++ truth_field r.paused)
     ++ (number_field r.pid ++ number_field (exit_code r.exit) ++ number_field (signal_number r.exit) ++ number_field r.up_down_for ++ number_field r.ready_for)
 
+-- how a run ended, by its code or its signal, and a death with its moment
+abbrev pub end_text : Exit → List ℕ
+end_text (Code n) = 99 ∷ decimal n
+end_text (Killed n) = 115 ∷ decimal n
+
+abbrev pub death_text : ℕ × Exit → List ℕ
+death_text death = codes " " ++ (decimal death.0 ++ (58 ∷ end_text death.1))
+
+-- 125 for a permanent failure, as the command ends
+abbrev pub failure_text : Bool → List ℕ
+failure_text true = codes "permafail 125"
+failure_text false = codes "permafail 0"
+
 -- a reply
 abbrev pub reply_text : {A : Type 0} → Reply A → List ℕ
 reply_text Done = codes "done"
 reply_text (Refused why) = codes "refused " ++ reason why
 reply_text (RowReply row) = row_text row
 reply_text (Scanned s) = codes "scanned" ++ flat_map dropped_text s.dropped ++ flat_map listed_text s.listed
+reply_text (Tally deaths) = codes "tally" ++ flat_map death_text deaths
+reply_text (PermanentFailure fails) = failure_text fails
 
 -- the line of an event
 abbrev pub event_line : Event → List ℕ

@@ -7,9 +7,10 @@ use Rattle.svc_commands.specs.ControlLetter.{byte_of}
 use Rattle.tree_core.specs.declared.input.Act.{Act}
 use Rattle.svscan_core.specs.declared.entry.ScanOrder.{ScanOrder}
 use Rattle.svscan_core.specs.declared.entry.ScanOrder.TheVariants.{Nuke, Terminate}
-use Rattle.tree_core.specs.declared.input.Act.TheVariants.{Scan, Scanctl, Svc, Started, StartFailed, Notify, Death, FinishEnded, Status, Tick}
+use Rattle.tree_core.specs.declared.input.Act.TheVariants.{Scan, Scanctl, Svc, Started, StartFailed, Notify, Death, FinishEnded, Status, Tally, Permafailon, Tick}
 use Rattle.s6_replay.specs.declared.parse.Verb.{Verb}
-use Rattle.s6_replay.specs.declared.parse.Verb.TheVariants.{Scan as ScanVerb, Scanctl as ScanctlVerb, Svc as SvcVerb, Started as StartedVerb, StartFailed as StartFailedVerb, Notify as NotifyVerb, Death as DeathVerb, Finished as FinishedVerb, Status as StatusVerb, Tick as TickVerb}
+use Rattle.s6_replay.specs.declared.parse.Verb.TheVariants.{Scan as ScanVerb, Scanctl as ScanctlVerb, Svc as SvcVerb, Started as StartedVerb, StartFailed as StartFailedVerb, Notify as NotifyVerb, Death as DeathVerb, Finished as FinishedVerb, Status as StatusVerb, Tally as TallyVerb, Permafailon as PermafailonVerb, Tick as TickVerb}
+use Rattle.s6_replay.specs.DeathList.{list_text}
 use Rattle.s6_replay.specs.Options.{entry_text}
 
 -- the word of a verb
@@ -23,6 +24,8 @@ verb_word NotifyVerb = codes "notify"
 verb_word DeathVerb = codes "death"
 verb_word FinishedVerb = codes "finished"
 verb_word StatusVerb = codes "status"
+verb_word TallyVerb = codes "tally"
+verb_word PermafailonVerb = codes "permafailon"
 verb_word TickVerb = codes "tick"
 
 -- the verb of an act
@@ -36,6 +39,8 @@ verb_of_act (Notify sid generation bytes) = NotifyVerb
 verb_of_act (Death sid generation exit) = DeathVerb
 verb_of_act (FinishEnded sid generation exit) = FinishedVerb
 verb_of_act (Status name) = StatusVerb
+verb_of_act (Tally name) = TallyVerb
+verb_of_act (Permafailon name seconds count items) = PermafailonVerb
 verb_of_act Tick = TickVerb
 
 -- the words of an exit
@@ -59,4 +64,6 @@ details (Notify sid generation bytes) = decimal sid ∷ decimal generation ∷ e
 details (Death sid generation exit) = decimal sid ∷ decimal generation ∷ exit_words exit
 details (FinishEnded sid generation exit) = decimal sid ∷ decimal generation ∷ exit_words exit
 details (Status name) = name ∷ []
+details (Tally name) = name ∷ []
+details (Permafailon name seconds count items) = name ∷ decimal seconds ∷ decimal count ∷ list_text items ∷ []
 details Tick = []

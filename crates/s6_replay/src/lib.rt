@@ -4,6 +4,7 @@
 
 mod block;
 mod counts;
+mod death_list;
 mod effect_lines;
 mod entry_options;
 mod fault;

@@ -9,11 +9,12 @@ ghost use Rattle.svc_commands.specs.declared.control_letter.ControlLetter.{Contr
 ghost use Rattle.s6_replay.specs.Verb.{exit_words, order_word, verb_word, verb_of_act, details};
 ghost use Rattle.svscan_core.specs.declared.entry.ScanOrder.{ScanOrder};
 
+use super::death_list::permafailon_of;
 use super::entry_options::entries_of;
 use super::spelling::spell;
 use super::words::{is_word, name_of, number, word_at, words_from, words_of};
 use arrayvec::ArrayVec;
-use s6_events::{Actor, At, Exit, Sid};
+use s6_events::{Actor, At, Exit, NoMemory, Sid};
 use std::alloc::{AllocError, Allocator};
 use svc_commands::{ControlLetter, Letters};
 use thiserror::Error;
@@ -43,6 +44,16 @@ impl From<AllocError> for LineFault {
     }
 }
 
+impl From<NoMemory> for LineFault {
+    ghost use Rattle.s6_replay.specs.declared.parse.LineFault.TheVariants.{NoMemory};
+
+    ghost from_gives = { λ _ fault. fault ≡ NoMemory };
+
+    fn from(_refused: NoMemory) -> LineFault {
+        LineFault::NoMemory
+    }
+}
+
 // The first word of an act.
 #[derive(Clone, Copy, Debug, PartialEq, Eq)]
 pub enum Verb {
@@ -55,6 +66,8 @@ pub enum Verb {
     Death,
     Finished,
     Status,
+    Tally,
+    Permafailon,
     Tick,
 }
 
@@ -92,6 +105,10 @@ fn verb_of(word: &[u8]) -> Verb
         Verb::Finished
     } else if is_word(word, b"status") {
         Verb::Status
+    } else if is_word(word, b"tally") {
+        Verb::Tally
+    } else if is_word(word, b"permafailon") {
+        Verb::Permafailon
     } else {
         Verb::Tick
     }
@@ -171,7 +188,7 @@ fn bytes_of(word: &[u8]) -> ArrayVec<u8, 64>
 }
 
 // Reads an act from its verb and the words behind it.
-fn act_of<A: Allocator + Copy>(alloc: A, verb: Verb, words: &[&[u8]]) -> Result<Act<A>, AllocError>
+fn act_of<A: Allocator + Copy>(alloc: A, verb: Verb, words: &[&[u8]]) -> Result<Act<A>, NoMemory>
     ensures spelled { IfOk result (λ found. (act : Act A) → IsAct act → verb ≡ verb_of_act act
         → map (λ w. w.now) words.now ≡ details act → found ≡ act) }
     ensures fits { IfOk result IsAct }
@@ -191,6 +208,8 @@ fn act_of<A: Allocator + Copy>(alloc: A, verb: Verb, words: &[&[u8]]) -> Result<
         Verb::Death => Ok(Act::Death(sid, generation, exit)),
         Verb::Finished => Ok(Act::FinishEnded(sid, generation, exit)),
         Verb::Status => Ok(Act::Status(name)),
+        Verb::Tally => Ok(Act::Tally(name)),
+        Verb::Permafailon => permafailon_of(alloc, words),
         Verb::Tick => Ok(Act::Tick),
     }
 }
@@ -212,7 +231,7 @@ fn actor_of(word: &[u8]) -> Actor
 }
 
 // Reads an input.
-fn input_of<A: Allocator + Copy>(alloc: A, words: &[&[u8]]) -> Result<Input<A>, AllocError>
+fn input_of<A: Allocator + Copy>(alloc: A, words: &[&[u8]]) -> Result<Input<A>, NoMemory>
     ensures spelled { IfOk result (λ found. (i : Input A) → IsSpelt i → map (λ w. w.now) words.now ≡ input_words i → found ≡ i) }
     ensures fits { IfOk result IsSpelt }
 {

@@ -1,9 +1,9 @@
 //! The text of a reply.
 ghost use Rattle.std.specs.Prelude.{◌≡◌, ◌++◌, string_bytes, IfOk, OnOk};
 ghost use Rattle.std.specs.List.{flat_map};
-ghost use Rattle.s6_replay.specs.Transcript.{reason, dropped_text, listed_text, truth_text, truth_field, number_field, exit_code, signal_number, row_text, reply_text};
+ghost use Rattle.s6_replay.specs.Transcript.{reason, dropped_text, listed_text, truth_text, truth_field, number_field, exit_code, signal_number, row_text, end_text, death_text, failure_text, reply_text};
 
-use s6_events::{Exit, Sid};
+use s6_events::{At, Exit, Sid};
 use std::alloc::{AllocError, Allocator};
 use supervise_core::Row;
 use tree_core::{Listed, Refusal, Reply};
@@ -193,6 +193,54 @@ fn push_row<A: Allocator + Copy>(
     push_numbers(alloc, text, row)
 }
 
+fn end_of<A: Allocator + Copy>(alloc: A, exit: Exit) -> Result<String<A>, AllocError>
+    ensures { IfOk result (λ text. string_bytes text ≡ end_text exit) }
+{
+    match exit {
+        Exit::Code(code) => format!(in alloc; "c{code}"),
+        Exit::Killed(signal) => format!(in alloc; "s{signal}"),
+    }
+}
+
+// Adds a death, behind a space.
+fn push_death<A: Allocator + Copy>(
+    alloc: A,
+    text: &mut Vec<u8, A>,
+    death: (At, Exit),
+) -> Result<(), AllocError>
+    ensures { OnOk result (text.new.items ≡ text.old.items ++ death_text death) }
+{
+    let (at, exit) = death;
+    let millis = at.millis();
+    let end = end_of(alloc, exit)?;
+    let part = format!(in alloc; " {millis}:{end}")?;
+    text.extend_from_slice(part.as_bytes())
+}
+
+fn push_deaths<A: Allocator + Copy>(
+    alloc: A,
+    text: &mut Vec<u8, A>,
+    deaths: &[(At, Exit)],
+) -> Result<(), AllocError>
+    ensures { OnOk result (text.new.items ≡ text.old.items ++ flat_map death_text deaths.now) }
+{
+    for death in deaths {
+        push_death(alloc, text, *death)?;
+    }
+    Ok(())
+}
+
+// What is said of a permanent failure.
+fn failure_bytes(fails: bool) -> &'static str
+    ensures { result.now ≡ failure_text fails }
+{
+    if fails {
+        "permafail 125"
+    } else {
+        "permafail 0"
+    }
+}
+
 // Adds the text of the reply.
 pub fn push_reply<A: Allocator + Copy>(
     alloc: A,
@@ -208,6 +256,13 @@ pub fn push_reply<A: Allocator + Copy>(
             text.extend_from_slice(reason_text(*refusal).as_bytes())?;
         }
         Reply::Row(row) => push_row(alloc, text, row)?,
+        Reply::Tally(report) => {
+            text.extend_from_slice(b"tally")?;
+            push_deaths(alloc, text, report.deaths())?;
+        }
+        Reply::PermanentFailure(fails) => {
+            text.extend_from_slice(failure_bytes(*fails).as_bytes())?;
+        }
         Reply::Scanned(report) => {
             text.extend_from_slice(b"scanned")?;
             push_all_dropped(alloc, text, report.dropped())?;

@@ -7,6 +7,7 @@ ghost use Rattle.s6_replay.specs.Options.{entry_text};
 ghost use Rattle.s6_replay.specs.Spelling.{act_words, spelling};
 ghost use Rattle.s6_replay.specs.Verb.{exit_words};
 
+use super::death_list::permafailon_text;
 use super::entry_options::push_entries;
 use s6_events::{Exit, Name, Sid};
 use std::alloc::{AllocError, Allocator};
@@ -114,6 +115,14 @@ fn act_text<A: Allocator + Copy>(alloc: A, act: &Act<A>) -> Result<Vec<u8, A>, A
             let mut text = b"status ".to_vec(alloc)?;
             text.extend_from_slice(name.as_bytes())?;
             Ok(text)
+        }
+        Act::Tally(name) => {
+            let mut text = b"tally ".to_vec(alloc)?;
+            text.extend_from_slice(name.as_bytes())?;
+            Ok(text)
+        }
+        Act::Permafailon(name, seconds, count, list) => {
+            permafailon_text(alloc, name, *seconds, *count, list)
         }
         Act::Tick => b"tick".to_vec(alloc),
     }

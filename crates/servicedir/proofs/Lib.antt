@@ -1,3 +1,3 @@
 mod Digits
 mod Places
-mod Decimals
+pub mod Decimals

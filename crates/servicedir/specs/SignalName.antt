@@ -1,5 +1,5 @@
 -- The names of signals, on Linux for x86-64.
-use Rattle.std.specs.Prelude.{ℕ, List, [], ◌∷◌, Option, Some, None, ◌+◌, take, drop, codes, position, option_map, nat_le, if◌then◌else◌}
+use Rattle.std.specs.Prelude.{ℕ, List, [], ◌∷◌, Option, Some, None, ◌+◌, ◌-◌, slice_get, take, drop, codes, position, option_map, nat_le, if◌then◌else◌}
 use Rattle.std.specs.Str.{bytes_eq}
 use Rattle.servicedir.specs.Number.{number_up_to, line_of}
 
@@ -15,6 +15,10 @@ signal_names =
 -- the number of the signal of this name, written without SIG
 unfoldable pub signal_of_name : List ℕ → Option ℕ
 signal_of_name name = option_map (λ place. place + 1) (position (λ known. bytes_eq known name) signal_names)
+
+-- the name of the signal of a number, written without SIG, where it has one
+abbrev pub name_of_signal : ℕ → Option (List ℕ)
+name_of_signal number = if nat_le 1 number then slice_get signal_names (number - 1) else None
 
 -- a word without the SIG that may begin it
 abbrev pub without_sig : List ℕ → List ℕ

@@ -18,4 +18,4 @@ pub use files::{Files, ReadFault, ServiceFile};
 pub use number::{parse_digits, parse_number};
 pub use reading::{Found, read};
 pub use service_name::{Seen, name_of};
-pub use signal::{parse_signal, signal_named};
+pub use signal::{parse_signal, signal_name, signal_named};

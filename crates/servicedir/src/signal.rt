@@ -1,6 +1,6 @@
-ghost use Rattle.std.specs.Prelude.{◌≡◌, ◌<◌, IfSome, length, position};
+ghost use Rattle.std.specs.Prelude.{◌≡◌, ◌<◌, IfSome, length, map, position, option_map, slice_get};
 ghost use Rattle.std.specs.Str.{bytes_eq};
-ghost use Rattle.servicedir.specs.SignalName.{signal_of_name, without_sig, signal_of_word, signal_number, signal_of};
+ghost use Rattle.servicedir.specs.SignalName.{name_of_signal, signal_of_name, without_sig, signal_of_word, signal_number, signal_of};
 ghost use Rattle.servicedir.specs.Number.{number_up_to};
 
 use crate::number::{parse_digits, without_newline};
@@ -33,6 +33,23 @@ pub fn signal_named(word: &[u8]) -> Option<u8>
     ensures { result ≡ signal_of_word word.now }
 {
     number_of_name(without_prefix(word))
+}
+
+/// The name of the signal of this number, without `SIG`; None for 0 and for every number over 31, which have none here. Takes no
+/// memory. Linux on x86-64.
+#[tactic(auto, unfolding(crate::specs::SignalName::signal_names))]
+pub fn signal_name(number: u8) -> Option<&'static str>
+    ensures { option_map (λ name. name.now) result ≡ name_of_signal number }
+{
+    let place = number.checked_sub(1)?;
+    name_at(SIGNAL_NAMES.as_slice(), usize::from(place))
+}
+
+// The name at a place in a table of names.
+fn name_at(table: &[&'static str], place: usize) -> Option<&'static str>
+    ensures { option_map (λ name. name.now) result ≡ slice_get (map (λ name. name.now) table.now) place }
+{
+    Some(*table.get(place)?)
 }
 
 // The word without the SIG that may begin it.

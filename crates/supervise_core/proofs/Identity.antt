@@ -1,4 +1,4 @@
--- A service keeps its serial and its name.
+-- A service keeps its serial, its name and the number of deaths that its tally was opened with.
 use Rattle.std.proofs.Common.{◌≡◌, refl, ◌∙◌, ℕ, List, [], ◌∷◌, Bool, fold, rules}
 use Rattle.s6_events.specs.declared.exit.Exit.{Exit}
 use Rattle.servicedir.specs.declared.config.Config.{Config}
@@ -11,48 +11,49 @@ use Rattle.supervise_core.specs.Moves.{begin_supervisor}
 use Rattle.supervise_core.specs.ControlLetters.{take_letter, followed_by}
 use Rattle.supervise_core.specs.Chart.{started, start_failed, notified, death, finish_ended, fire, set_active, changed_by}
 
--- a state with the serial and the name of another one
+-- a state with the serial and the name of another one, whose tally keeps as many deaths
 pub record IsSame (c after : ChartState) : Type 0 where
   pub sid : after.sid ≡ c.sid
   pub name : after.name ≡ c.name
+  pub most : after.config.max_death_tally ≡ c.config.max_death_tally
 
--- a move leaves the serial and the name as they were
+-- a move leaves these as they were
 abbrev pub KeepsIdentity : ChartState → Moved → Type 0
 KeepsIdentity c moved = IsSame c moved.chart
 
 keeps_letter : (now : ℕ) (letter : ControlLetter) (c : ChartState) → KeepsIdentity c (take_letter now letter c)
-keeps_letter now letter c = record { sid = search rules; name = search rules }
+keeps_letter now letter c = record { sid = search rules; name = search rules; most = search rules }
 
 keeps_rest : (now : ℕ) (letters : List ControlLetter) (c : ChartState) (m : Moved) → KeepsIdentity c m
     → KeepsIdentity c (fold (λ so_far letter. followed_by (take_letter now letter) so_far) m letters)
 keeps_rest now [] c m h = h
 keeps_rest now (letter ∷ rest) c m h =
     let one = keeps_letter now letter m.chart in
-    keeps_rest now rest c (followed_by (take_letter now letter) m) (record { sid = one.sid ∙ h.sid; name = one.name ∙ h.name })
+    keeps_rest now rest c (followed_by (take_letter now letter) m) (record { sid = one.sid ∙ h.sid; name = one.name ∙ h.name; most = one.most ∙ h.most })
 
 pub keeps_fire : (now : ℕ) (c : ChartState) → KeepsIdentity c (fire now c)
-keeps_fire now c = record { sid = search rules; name = search rules }
+keeps_fire now c = record { sid = search rules; name = search rules; most = search rules }
 
 pub keeps_active : (active : Bool) (now : ℕ) (c : ChartState) → IsSame c (set_active active now c)
-keeps_active active now c = record { sid = search rules; name = search rules }
+keeps_active active now c = record { sid = search rules; name = search rules; most = search rules }
 
 pub keeps_begin : (sid : ℕ) (name : List ℕ) (config : Config) → KeepsIdentity (new_service sid name config) (begin_supervisor (new_service sid name config))
-keeps_begin sid name config = record { sid = search rules; name = search rules }
+keeps_begin sid name config = record { sid = search rules; name = search rules; most = search rules }
 
 keeps_started : (generation pid now : ℕ) (c : ChartState) → KeepsIdentity c (started generation pid now c)
-keeps_started generation pid now c = record { sid = search rules; name = search rules }
+keeps_started generation pid now c = record { sid = search rules; name = search rules; most = search rules }
 
 keeps_start_failed : (generation now : ℕ) (c : ChartState) → KeepsIdentity c (start_failed generation now c)
-keeps_start_failed generation now c = record { sid = search rules; name = search rules }
+keeps_start_failed generation now c = record { sid = search rules; name = search rules; most = search rules }
 
 keeps_notified : (generation : ℕ) (bytes : List ℕ) (now : ℕ) (c : ChartState) → KeepsIdentity c (notified generation bytes now c)
-keeps_notified generation bytes now c = record { sid = search rules; name = search rules }
+keeps_notified generation bytes now c = record { sid = search rules; name = search rules; most = search rules }
 
 keeps_death : (generation : ℕ) (exit : Exit) (now : ℕ) (c : ChartState) → KeepsIdentity c (death generation exit now c)
-keeps_death generation exit now c = record { sid = search rules; name = search rules }
+keeps_death generation exit now c = record { sid = search rules; name = search rules; most = search rules }
 
 keeps_finish_ended : (generation : ℕ) (exit : Exit) (now : ℕ) (c : ChartState) → KeepsIdentity c (finish_ended generation exit now c)
-keeps_finish_ended generation exit now c = record { sid = search rules; name = search rules }
+keeps_finish_ended generation exit now c = record { sid = search rules; name = search rules; most = search rules }
 
 pub keeps_changed : (change : Change) (now : ℕ) (c : ChartState) → KeepsIdentity c (changed_by change now c)
 keeps_changed (Started generation pid) now c = keeps_started generation pid now c
@@ -60,7 +61,7 @@ keeps_changed (StartFailed generation) now c = keeps_start_failed generation now
 keeps_changed (Notify generation bytes) now c = keeps_notified generation bytes.items now c
 keeps_changed (Death generation exit) now c = keeps_death generation exit now c
 keeps_changed (FinishEnded generation exit) now c = keeps_finish_ended generation exit now c
-keeps_changed (Control letters) now c = keeps_rest now letters.items c (still c) (record { sid = refl; name = refl })
+keeps_changed (Control letters) now c = keeps_rest now letters.items c (still c) (record { sid = refl; name = refl; most = refl })
 keeps_changed Fire now c = keeps_fire now c
-keeps_changed (SetConfig config) now c = record { sid = refl; name = refl }
+keeps_changed (SetConfig config) now c = record { sid = refl; name = refl; most = refl }
 keeps_changed (SetActive active) now c = keeps_active active now c

@@ -96,7 +96,14 @@ one_added listing names i name retained slots old mid new once lt at finds so_fa
 
 -- what goes on twice goes on, and what grows twice grows
 pub goes_on_twice : (services : List Supervised) (old mid new : Adding) → GoesOn services old mid → GoesOn services mid new → GoesOn services old new
-goes_on_twice services old mid new a b = record { order = b.order; agrees = λ h all. b.agrees h (a.agrees h all) }
+goes_on_twice services old mid new a b =
+    let al = a.later in let bl = b.later in
+    record {
+      order = b.order;
+      agrees = λ h all. b.agrees h (a.agrees h all);
+      later = omega (arith, al, bl);
+      tallies = λ deaths before all. b.tallies deaths (λ k d lt. let below = before k d lt in omega (arith, below, al)) (a.tallies deaths before all);
+    }
 
 pub grows_twice : (retained : ℕ) (old mid new : Adding) → Grows retained old mid → Grows retained mid new → Grows retained old new
 grows_twice retained old mid new a b =

@@ -65,7 +65,7 @@ all_others_agree of (s ∷ services) h marks lack all =
     (all_others_agree of services h marks lack.1 (all_later (λ (x : Supervised). AgreesWith x h) s services all))
 
 -- a serial behind others is above them
-above_at : (m : ℕ) (services : List Supervised) (p : ℕ) (s : Supervised) → list_all (λ n. nat_lt m n) (serials_of (charts_of services)) ≡ true → slice_get services p ≡ Some s → nat_lt m s.chart.sid ≡ true
+pub above_at : (m : ℕ) (services : List Supervised) (p : ℕ) (s : Supervised) → list_all (λ n. nat_lt m n) (serials_of (charts_of services)) ≡ true → slice_get services p ≡ Some s → nat_lt m s.chart.sid ≡ true
 above_at m [] p s h e = search rules
 above_at m (x ∷ services) zero s h e = ap (λ (y : Supervised). nat_lt m y.chart.sid) (sym (some_is x s e)) ∙ both_left (nat_lt m x.chart.sid) _ h
   where

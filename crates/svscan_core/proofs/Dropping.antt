@@ -1,17 +1,15 @@
 -- The services that leave, and those that stay.
 use Rattle.std.proofs.Common.{◌≡◌, ℕ, zero, suc, ◌+◌, ◌≤◌, List, [], ◌∷◌, ◌++◌, Bool, true, false, cond, not, refl, sym, ◌∙◌, ap, filter, take, length, append-nil, append_assoc, rules, arith}
-use Rattle.std.specs.Prelude.{Some, slice_get, bytes_eq}
+use Rattle.std.specs.Prelude.{All, Some, slice_get, bytes_eq}
 use Rattle.std.specs.Cmp.Lexicographic.{nat_list_eq_equiv}
 use Rattle.std.proofs.lemmas.List.{map-append, length-append}
 use Rattle.std.proofs.lemmas.List.Elements.{filter-append}
 use Rattle.std.proofs.Math.Numerals.{add-one}
-use Rattle.s6_events.specs.declared.moment.Moment.{Moment}
 use Rattle.supervise_core.specs.declared.chart.ChartState.{ChartState}
-use Rattle.supervise_core.specs.Service.{Supervised, AgreesWith}
+use Rattle.supervise_core.specs.Service.{Supervised}
 use Rattle.svscan_core.specs.Names.{lists, repeats}
 use Rattle.svscan_core.specs.Scan.{stays, leaves}
 use Rattle.svscan_core.specs.Scanning.{without_names}
-use Rattle.svscan_core.specs.Sound.{AllAgree}
 use Rattle.svscan_core.specs.Table.{charts_of, names_of, serials_of, without_name}
 use Rattle.svscan_core.proofs.Agreeing.{all_of, all_later}
 use Rattle.svscan_core.proofs.Names.{unlisted_filtered}
@@ -104,17 +102,17 @@ without_dropped (s ∷ services) h = by (stays s.chart) (without_dropped service
         ap (λ b. charts_of (without_names (cond b services (s ∷ without_name services s.chart.name)) (names_of (filter leaves (charts_of services))))) (nat_list_eq_equiv.refl s.chart.name)
         ∙ rest
 
--- fewer services agree too
-one_less_agrees : (services : List Supervised) (name : List ℕ) (h : List Moment) → AllAgree services h → AllAgree (without_name services name) h
-one_less_agrees [] name h all = all
-one_less_agrees (s ∷ services) name h all =
-    let later = all_later (λ (x : Supervised). AgreesWith x h) s services all in
-    by (bytes_eq name s.chart.name) later (one_less_agrees services name h later)
+-- what is true of all services is true of fewer
+one_less : (P : Supervised → Type 0) (services : List Supervised) (name : List ℕ) → All P services → All P (without_name services name)
+one_less P [] name all = all
+one_less P (s ∷ services) name all =
+    let later = all_later P s services all in
+    by (bytes_eq name s.chart.name) later (one_less P services name later)
   where
-    by : (b : Bool) → AllAgree services h → AllAgree (without_name services name) h → AllAgree (cond b services (s ∷ without_name services name)) h
+    by : (b : Bool) → All P services → All P (without_name services name) → All P (cond b services (s ∷ without_name services name))
     by true later rest = later
-    by false later rest = all_of (λ (x : Supervised). AgreesWith x h) s (without_name services name) (all 0 s (omega arith)) rest
+    by false later rest = all_of P s (without_name services name) (all 0 s (omega arith)) rest
 
-pub without_agree : (services : List Supervised) (names : List (List ℕ)) (h : List Moment) → AllAgree services h → AllAgree (without_names services names) h
-without_agree services [] h all = all
-without_agree services (n ∷ names) h all = without_agree (without_name services n) names h (one_less_agrees services n h all)
+pub without_all : (P : Supervised → Type 0) (services : List Supervised) (names : List (List ℕ)) → All P services → All P (without_names services names)
+without_all P services [] all = all
+without_all P services (n ∷ names) all = without_all P (without_name services n) names (one_less P services n all)

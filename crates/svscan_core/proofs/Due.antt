@@ -3,10 +3,13 @@ use Rattle.std.proofs.Common.{◌≡◌, ◌∙◌, ℕ, zero, suc, List, [], �
 use Rattle.supervise_core.specs.declared.chart.ChartState.{ChartState}
 use Rattle.supervise_core.specs.ChartState.{still}
 use Rattle.supervise_core.specs.Chart.{fire, is_due, timer_rule}
+use Rattle.svscan_core.specs.declared.visit.Visit.TheVariants.{Fire}
+use Rattle.svscan_core.specs.Deaths.{DeathOf, AllTallied}
 use Rattle.svscan_core.specs.Moves.{events_of, services_after, events_after, orders_after}
 use Rattle.svscan_core.specs.Moving.{Moving, Takes}
 use Rattle.svscan_core.specs.Table.{charts_of}
 use Rattle.svscan_core.specs.Work.{AreDue}
+use Rattle.svscan_core.proofs.Tallied.{no_visit_deaths}
 
 pub empty_list : {X : Type 0} (xs : List X) → (length xs == 0) ≡ true → xs ≡ []
 empty_list [] h = refl
@@ -40,4 +43,6 @@ none_fires now due m none h =
       orders = sym (ap (λ os. m.orders ++ os) (unfired_orders now (charts_of m.services) nobody) ∙ append-nil m.orders);
       agrees = λ history at all. all;
       timers = λ ts a. a;
+      tallies = λ deaths all.
+          subst (λ (ds : List DeathOf). AllTallied m.services ds) (sym (ap (λ ds. deaths ++ ds) (no_visit_deaths Fire now (charts_of m.services)) ∙ append-nil deaths)) all;
     }

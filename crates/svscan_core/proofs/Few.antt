@@ -1,4 +1,4 @@
--- No step leaves more services than may stand, nor gives more serials than that.
+-- No step leaves more services than may stand, nor gives more serials than that, nor gives a serial again.
 use Rattle.std.proofs.Common.{◌≡◌, ℕ, ◌+◌, ◌≤◌, List, [], ◌∷◌, Bool, true, false, cond, refl, filter, length, arith}
 use Rattle.std.specs.Prelude.{nat_lt, Option, Some, None}
 use Rattle.std.proofs.lemmas.Bool.Decides.{nat_tests}
@@ -15,29 +15,30 @@ use Rattle.svscan_core.specs.Scan.{ScanState, looked_at, looked_up, stays, stand
 use Rattle.svscan_core.specs.Work.{Work, worked, stepped, changed_at, commanded}
 use Rattle.svscan_core.specs.Work.Work.{leave, change_one, apply_listing, command}
 
--- one state grew from another: the limit holds, and each serial that was given has its service
+-- one state grew from another: the limit holds, each serial that was given has its service, and the next one is no lower
 pub record Grew (g h : ScanState) : Type 0 where
   pub few : length h.services ≤ 64
   pub next : h.next_sid + length g.services ≤ g.next_sid + length h.services
+  pub later : g.next_sid ≤ h.next_sid
 
 grew_not : (g : ScanState) → length g.services ≤ 64 → Grew g g
-grew_not g few = record { few = few; next = omega arith }
+grew_not g few = record { few = few; next = omega arith; later = omega arith }
 
 grew_one : (config : Config) (g : ScanState) (name : List ℕ) (b : Bool) → nat_lt (length g.services) service_limit ≡ b → length g.services ≤ 64 → (full : ScanState)
     → Grew g full → Grew g (cond b (with_service config g name) full)
 grew_one config g name true lt few full same =
     let more : length (with_service config g name).services ≡ length g.services + 1 = length-append g.services ((begin_supervisor (new_service g.next_sid name config)).chart ∷ []) in
     let room : length g.services + 1 ≤ 64 = below (length g.services) lt in
-    record { few = omega (arith, more, room); next = omega (arith, more) }
+    record { few = omega (arith, more, room); next = omega (arith, more); later = omega arith }
   where
     below : (n : ℕ) → nat_lt n 64 ≡ true → n + 1 ≤ 64
     below n h = grind (arith, nat_tests)
 grew_one config g name false lt few full same = same
 
 grew_new : (found : Option Config) (g : ScanState) (name : List ℕ) → length g.services ≤ 64 → Grew g (with_new_name found g name)
-grew_new None g name few = record { few = few; next = omega arith }
+grew_new None g name few = record { few = few; next = omega arith; later = omega arith }
 grew_new (Some config) g name few =
-    grew_one config g name (nat_lt (length g.services) service_limit) refl few _ (record { few = few; next = omega arith })
+    grew_one config g name (nat_lt (length g.services) service_limit) refl few _ (record { few = few; next = omega arith; later = omega arith })
 
 grew_named : (listing : List Entry) (g : ScanState) (name : List ℕ) → length g.services ≤ 64 → Grew g (with_name listing g name)
 grew_named listing g name few = by (stands name g.services)
@@ -52,8 +53,8 @@ names_grew listing g [] few = grew_not g few
 names_grew listing g (name ∷ names) few =
     let one = grew_named listing g name few in
     let rest = names_grew listing (with_name listing g name) names one.few in
-    let a = one.next in let b = rest.next in
-    record { few = rest.few; next = omega (arith, a, b) }
+    let a = one.next in let b = rest.next in let c = one.later in let d = rest.later in
+    record { few = rest.few; next = omega (arith, a, b); later = omega (arith, c, d) }
 
 pub length-filter : (p : ChartState → Bool) (cs : List ChartState) → length (filter p cs) ≤ length cs
 length-filter p [] = omega arith
@@ -81,6 +82,13 @@ work_next (command order) now cs next few = omega arith
 work_next (apply_listing listing) now cs next few =
     let g = names_grew listing (scan_state_from (filter stays (looked_up listing now cs)) next) (in_byte_order (names_in listing)) (few_stay listing now cs few) in
     let a = g.few in let b = g.next in omega (arith, a, b)
+
+pub work_later : (work : Work) (now : ℕ) (cs : List ChartState) (next : ℕ) → length cs ≤ 64 → next ≤ (worked work now cs next).next_sid
+work_later leave now cs next few = omega arith
+work_later (change_one sid change) now cs next few = omega arith
+work_later (command order) now cs next few = omega arith
+work_later (apply_listing listing) now cs next few =
+    (names_grew listing (scan_state_from (filter stays (looked_up listing now cs)) next) (in_byte_order (names_in listing)) (few_stay listing now cs few)).later
 
 pub fired_few : (now : ℕ) (cs : List ChartState) → length cs ≤ 64 → length (services_after (fire now) cs) ≤ 64
 fired_few now cs few = let a = length-map cs (λ (c : ChartState). (fire now c).chart) in omega (arith, a, few)

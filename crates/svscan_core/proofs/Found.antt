@@ -12,11 +12,12 @@ use Rattle.supervise_core.specs.declared.change.Change.{Change}
 use Rattle.supervise_core.specs.declared.out.Out.{Out}
 use Rattle.supervise_core.specs.Chart.{changed_by}
 use Rattle.supervise_core.specs.MatchesMove.{MatchesMove}
-use Rattle.supervise_core.specs.Service.{Supervised, Stands, stands_of, adopted, AgreesWith, KeepsAgreeing}
+use Rattle.supervise_core.specs.Service.{Supervised, Stands, stands_of, adopted, death_by, AgreesWith, KeepsAgreeing}
 use Rattle.s6_events.specs.declared.exit.Exit.{Exit}
 use Rattle.s6_events.specs.Clock.{clock_of}
 use Rattle.s6_events.specs.declared.moment.Moment.{Moment}
 use Rattle.s6_events.specs.declared.moment.Moment.TheVariants.{Event as EventOf}
+use Rattle.svscan_core.specs.Deaths.{DeathOf, deaths_after, AllTallied}
 use Rattle.svscan_core.specs.Moves.{event, moment_of, services_after, events_after, orders_after}
 use Rattle.svscan_core.specs.Sound.{AllAgree}
 use Rattle.svscan_core.specs.Work.{changed_at}
@@ -26,6 +27,7 @@ use Rattle.svscan_core.proofs.Places.{get_map}
 use Rattle.svscan_core.proofs.OnePlace.{above_place, one_reported}
 use Rattle.svscan_core.proofs.Serials.{itself, earlier_other}
 use Rattle.svscan_core.proofs.Agreeing.{all_later, moments_of_marks, place_agrees}
+use Rattle.svscan_core.proofs.Tallied.{change_joins, place_tallied}
 
 lower : (m n : ℕ) → nat_lt m n ≡ true → m < n
 lower m n h = search rules
@@ -147,12 +149,13 @@ pub record IsChanged (sid now : ℕ) (change : Change) (old new : List Supervise
   pub orders : out.orders.items ≡ orders_after (changed_at sid change now) (charts_of old)
   pub stale : out.stale ≡ list_any (λ c. (changed_at sid change now c).stale) (charts_of old)
   pub agrees : (history : List Moment) → clock_of history ≡ now → AllAgree old history → AllAgree new (history ++ map moment_of (map (event sid) out.events.items))
+  pub tallies : (deaths : List DeathOf) → AllTallied old deaths → AllTallied new (deaths ++ deaths_after (changed_at sid change now) (charts_of old))
 
 set_there : (sid now : ℕ) (change : Change) (services : List Supervised) (p : ℕ) (before : Supervised) (after : Stands) (death : Option (ℕ × Exit)) (out : Out)
     → is_rising (serials_of (charts_of services)) ≡ true → slice_get (serials_of (charts_of services)) p ≡ Some sid → slice_get services p ≡ Some before
     → MatchesMove (changed_by change now before.chart) after.chart out → KeepsAgreeing now out.events.items (stands_of before) after → after.chart.sid ≡ before.chart.sid
-    → IsChanged sid now change services (slice_set services p (adopted after death before)) out
-set_there sid now change services p before after death out r e there gives keeps same =
+    → death ≡ death_by change out.stale now → IsChanged sid now change services (slice_set services p (adopted after death before)) out
+set_there sid now change services p before after death out r e there gives keeps same told =
     let now_there = adopted after death before in
     let own : before.chart.sid ≡ sid = own_serial services p sid before e there in
     let one = one_reported sid change now (charts_of services) p before.chart r (get_map (λ (s : Supervised). s.chart) services p before there) own in
@@ -167,11 +170,14 @@ set_there sid now change services p before after death out r e there gives keeps
           subst (λ (ms : List Moment). AllAgree (slice_set services p now_there) (h ++ ms))
           (ap (λ n. map (λ mark. EventOf n mark) marks) own ∙ sym (moments_of_marks sid marks))
           (place_agrees now p services before now_there marks h there same r (keeps h at (all_at (λ (s : Supervised). AgreesWith s h) services p before all there)) all);
+      tallies = λ deaths all.
+          subst (λ (ds : List DeathOf). AllTallied (slice_set services p now_there) (deaths ++ ds)) (sym one.deaths)
+          (place_tallied p services before after (changed_by change now before.chart) death deaths there gives.chart same (change_joins change now before.chart out.stale death gives.stale told) r all);
     }
 
 pub changed_there : (sid now : ℕ) (change : Change) (services new : List Supervised) (p : ℕ) (before : Supervised) (after : Stands) (death : Option (ℕ × Exit)) (out : Out)
     → is_rising (serials_of (charts_of services)) ≡ true → slice_get (serials_of (charts_of services)) p ≡ Some sid → slice_get services p ≡ Some before
     → MatchesMove (changed_by change now before.chart) after.chart out → KeepsAgreeing now out.events.items (stands_of before) after → after.chart.sid ≡ before.chart.sid
-    → new ≡ slice_set services p (adopted after death before) → IsChanged sid now change services new out
-changed_there sid now change services new p before after death out r e there gives keeps same is =
-    subst (λ (x : List Supervised). IsChanged sid now change services x out) (sym is) (set_there sid now change services p before after death out r e there gives keeps same)
+    → death ≡ death_by change out.stale now → new ≡ slice_set services p (adopted after death before) → IsChanged sid now change services new out
+changed_there sid now change services new p before after death out r e there gives keeps same told is =
+    subst (λ (x : List Supervised). IsChanged sid now change services x out) (sym is) (set_there sid now change services p before after death out r e there gives keeps same told)

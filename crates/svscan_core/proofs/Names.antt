@@ -33,7 +33,7 @@ keeps_either true c x y hx hy = hx
 keeps_either false c x y hx hy = hy
 
 pub keeps_still : (c : ChartState) → IsSame c c
-keeps_still c = record { sid = refl; name = refl }
+keeps_still c = record { sid = refl; name = refl; most = refl }
 
 -- the letters of a service that leaves
 keeps_letters : (now : ℕ) (c : ChartState) → KeepsIdentity c (control leaving now c)
@@ -45,17 +45,17 @@ keeps_commanded Nuke now c = keeps_either c.active c _ _ (keeps_still c) (keeps_
 keeps_commanded Terminate now c =
     let quiet = keeps_active false now c in
     let told = keeps_letters now (set_active false now c) in
-    record { sid = told.sid ∙ quiet.sid; name = told.name ∙ quiet.name }
+    record { sid = told.sid ∙ quiet.sid; name = told.name ∙ quiet.name; most = told.most ∙ quiet.most }
 
 keeps_configured : (found : Option Config) (c : ChartState) → IsSame c (configured found c)
 keeps_configured None c = keeps_still c
-keeps_configured (Some config) c = record { sid = refl; name = refl }
+keeps_configured (Some config) c = record { sid = refl; name = refl; most = refl }
 
 pub keeps_look : (listing : List Entry) (now : ℕ) (c : ChartState) → IsSame c (looked_at listing now c)
 keeps_look listing now c =
     let active = keeps_active (is_listed listing c.name) now c in
     let set = keeps_configured (config_in listing c.name) (set_active (is_listed listing c.name) now c) in
-    record { sid = set.sid ∙ active.sid; name = set.name ∙ active.name }
+    record { sid = set.sid ∙ active.sid; name = set.name ∙ active.name; most = set.most ∙ active.most }
 
 -- the names are as they were
 pub fired_names : (now : ℕ) (cs : List ChartState) → names_of (services_after (fire now) cs) ≡ names_of cs

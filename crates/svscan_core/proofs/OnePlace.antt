@@ -1,5 +1,5 @@
 -- Where one service takes a move and every other one stays, the step needs to look at that one alone.
-use Rattle.std.proofs.Common.{◌≡◌, ℕ, zero, suc, List, [], ◌∷◌, ◌++◌, Bool, true, false, ◌||◌, ◌==◌, cond, refl, sym, subst, ◌∙◌, ap, rules, append-nil}
+use Rattle.std.proofs.Common.{◌≡◌, ℕ, zero, suc, List, [], ◌∷◌, ◌++◌, Bool, true, false, ◌||◌, ◌==◌, cond, refl, sym, subst, map, ◌∙◌, ap, rules, append-nil}
 use Rattle.std.specs.Prelude.{Option, Some, None, nat_lt, slice_get, slice_set, unwrap_or}
 use Rattle.std.specs.List.{list_any, list_all}
 use Rattle.deadlines.specs.Timers.{is_rising}
@@ -7,6 +7,7 @@ use Rattle.supervise_core.specs.declared.chart.ChartState.{ChartState}
 use Rattle.supervise_core.specs.declared.change.Change.{Change}
 use Rattle.supervise_core.specs.ChartState.{Moved, still}
 use Rattle.supervise_core.specs.Chart.{changed_by}
+use Rattle.svscan_core.specs.Deaths.{death_of, deaths_after}
 use Rattle.svscan_core.specs.Work.{changed_at}
 use Rattle.svscan_core.specs.Moves.{events_of, services_after, events_after, orders_after}
 use Rattle.svscan_core.specs.Table.{serials_of}
@@ -18,6 +19,7 @@ pub record IsOne (move : ChartState → Moved) (cs : List ChartState) (p own : �
   pub services : services_after move cs ≡ slice_set cs p moved.chart
   pub events : events_after move cs ≡ events_of own moved
   pub orders : orders_after move cs ≡ moved.orders
+  pub deaths : deaths_after move cs ≡ map (death_of own) moved.deaths
   pub stale : list_any (λ c. (move c).stale) cs ≡ moved.stale
 
 -- what a move of all services gives, where each stays
@@ -25,6 +27,7 @@ pub record IsNone (move : ChartState → Moved) (cs : List ChartState) : Type 0 
   pub services : services_after move cs ≡ cs
   pub events : events_after move cs ≡ []
   pub orders : orders_after move cs ≡ []
+  pub deaths : deaths_after move cs ≡ []
   pub stale : list_any (λ c. (move c).stale) cs ≡ false
 
 -- a service that stays, before the others
@@ -33,6 +36,7 @@ none_more move c cs e rest = record {
   services = λ i. (e i).chart ∷ rest.services i;
   events = λ i. events_of c.sid (e i) ++ rest.events i;
   orders = λ i. (e i).orders ++ rest.orders i;
+  deaths = λ i. map (death_of c.sid) (e i).deaths ++ rest.deaths i;
   stale = λ i. (e i).stale || rest.stale i;
 }
 
@@ -41,6 +45,7 @@ one_later move c cs p own moved e rest = record {
   services = λ i. (e i).chart ∷ rest.services i;
   events = λ i. events_of c.sid (e i) ++ rest.events i;
   orders = λ i. (e i).orders ++ rest.orders i;
+  deaths = λ i. map (death_of c.sid) (e i).deaths ++ rest.deaths i;
   stale = λ i. (e i).stale || rest.stale i;
 }
 
@@ -53,6 +58,7 @@ one_here move c cs moved e rest = record {
   services = λ i. (e i).chart ∷ rest.services i;
   events = (λ i. events_of c.sid (e i) ++ rest.events i) ∙ append-nil (events_of c.sid moved);
   orders = (λ i. (e i).orders ++ rest.orders i) ∙ append-nil moved.orders;
+  deaths = (λ i. map (death_of c.sid) (e i).deaths ++ rest.deaths i) ∙ append-nil (map (death_of c.sid) moved.deaths);
   stale = (λ i. (e i).stale || rest.stale i) ∙ or_none moved.stale;
 }
 
@@ -65,14 +71,14 @@ own_moves sid change now c e = ap (λ b. cond b (changed_by change now c) (still
 
 -- no service has a serial below all of theirs
 none_above : (sid : ℕ) (change : Change) (now : ℕ) (cs : List ChartState) → list_all (λ m. nat_lt sid m) (serials_of cs) ≡ true → IsNone (changed_at sid change now) cs
-none_above sid change now [] h = record { services = refl; events = refl; orders = refl; stale = refl }
+none_above sid change now [] h = record { services = refl; events = refl; orders = refl; deaths = refl; stale = refl }
 none_above sid change now (c ∷ cs) h =
     none_more (changed_at sid change now) c cs (other_stays sid change now c (later_other sid c.sid (both_left (nat_lt sid c.sid) _ h)))
     (none_above sid change now cs (both_right (nat_lt sid c.sid) _ h))
 
 -- no service has the serial
 pub none_reported : (sid : ℕ) (change : Change) (now : ℕ) (cs : List ChartState) → list_any (λ c. c.sid == sid) cs ≡ false → IsNone (changed_at sid change now) cs
-none_reported sid change now [] h = record { services = refl; events = refl; orders = refl; stale = refl }
+none_reported sid change now [] h = record { services = refl; events = refl; orders = refl; deaths = refl; stale = refl }
 none_reported sid change now (c ∷ cs) h =
     none_more (changed_at sid change now) c cs (other_stays sid change now c (neither_left (c.sid == sid) _ h))
     (none_reported sid change now cs (neither_right (c.sid == sid) _ h))

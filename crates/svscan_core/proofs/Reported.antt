@@ -1,5 +1,5 @@
 -- The service of a serial takes a change, and every other one stays.
-use Rattle.std.proofs.Common.{◌≡◌, ℕ, zero, suc, List, [], ◌∷◌, ◌++◌, append-nil, Bool, true, false, ◌||◌, ◌==◌, refl, sym, ◌∙◌, ap, rules}
+use Rattle.std.proofs.Common.{◌≡◌, ℕ, zero, suc, List, [], ◌∷◌, ◌++◌, append-nil, Bool, true, false, ◌||◌, ◌==◌, refl, sym, subst, ◌∙◌, ap, rules}
 use Rattle.std.specs.Prelude.{Some, slice_get}
 use Rattle.std.specs.List.{list_any}
 use Rattle.deadlines.specs.Timers.{is_rising}
@@ -8,6 +8,7 @@ use Rattle.supervise_core.specs.declared.change.Change.{Change}
 use Rattle.supervise_core.specs.Service.{Supervised}
 use Rattle.svscan_core.specs.Moving.{Moving, Takes, TakesAt}
 use Rattle.supervise_core.specs.Chart.{changed_by}
+use Rattle.svscan_core.specs.Deaths.{DeathOf, AllTallied}
 use Rattle.svscan_core.specs.Work.{changed_at}
 use Rattle.svscan_core.specs.Table.{charts_of, serials_of}
 use Rattle.svscan_core.proofs.OnePlace.{IsOne, one_reported, none_reported}
@@ -67,6 +68,7 @@ one_takes now sid change p old new at r t =
       orders = t.orders ∙ ap (λ os. old.orders ++ os) (sym one.orders);
       agrees = t.agrees;
       timers = t.timers;
+      tallies = λ deaths all. subst (λ (ds : List DeathOf). AllTallied new.services (deaths ++ ds)) (sym one.deaths) (t.tallies deaths all);
     }
 
 -- none has the serial, so all stay
@@ -79,4 +81,5 @@ none_takes now sid change m none =
       orders = sym (ap (λ os. m.orders ++ os) rest.orders ∙ append-nil m.orders);
       agrees = λ history at all. all;
       timers = λ ts a. a;
+      tallies = λ deaths all. subst (λ (ds : List DeathOf). AllTallied m.services ds) (sym (ap (λ ds. deaths ++ ds) rest.deaths ∙ append-nil deaths)) all;
     }

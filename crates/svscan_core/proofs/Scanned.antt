@@ -11,10 +11,11 @@ use Rattle.supervise_core.specs.declared.chart.ChartState.{ChartState}
 use Rattle.supervise_core.specs.ChartState.{new_service, is_gone, still}
 use Rattle.supervise_core.specs.Chart.{set_active}
 use Rattle.supervise_core.specs.Moves.{begin_supervisor}
-use Rattle.supervise_core.specs.Service.{Supervised}
+use Rattle.supervise_core.specs.Service.{Supervised, AgreesWith}
 use Rattle.svscan_core.specs.declared.entry.Entry.{Entry}
 use Rattle.svscan_core.specs.declared.event.Event.{Event}
 use Rattle.svscan_core.specs.Adding.{Adding, state_behind, GoesOn}
+use Rattle.svscan_core.specs.Deaths.{DeathOf, IsTallied, AllTallied, AllBefore}
 use Rattle.svscan_core.specs.Listing.{names_in, is_listed, config_in, in_byte_order}
 use Rattle.svscan_core.specs.Moves.{moment_of, events_of}
 use Rattle.svscan_core.specs.Moving.{Moving, Takes}
@@ -24,7 +25,7 @@ use Rattle.svscan_core.specs.Scanning.{without_names}
 use Rattle.svscan_core.specs.Sound.{AllAgree, IsNumbered}
 use Rattle.svscan_core.specs.Table.{charts_of, names_of}
 use Rattle.svscan_core.proofs.Additions.{FindsEach}
-use Rattle.svscan_core.proofs.Dropping.{without_dropped, without_agree}
+use Rattle.svscan_core.proofs.Dropping.{without_dropped, without_all}
 use Rattle.svscan_core.proofs.ListingOrder.{all_found}
 use Rattle.svscan_core.proofs.Names.{looked_names, stands_listed, keeps_look}
 use Rattle.svscan_core.proofs.SerialsRise.{looked_serials, same_serials, numbered_filtered}
@@ -134,6 +135,7 @@ pub record LeadsToScanned (listing : List Entry) (now next : ℕ) (standing visi
   pub services : charts_of (without_names visited dropped ++ new.added) ≡ (scanned listing now (charts_of standing) next).services
   pub given : state_behind (filter stays (charts_of visited)) new ≡ given_before mid.events mid.orders (scanned listing now (charts_of standing) next)
   pub agrees : (history : List Moment) → AllAgree visited (history ++ map moment_of mid.events) → AllAgree (without_names visited dropped ++ new.added) (history ++ map moment_of new.events)
+  pub tallies : (deaths : List DeathOf) → AllBefore next deaths → AllTallied visited deaths → AllTallied (without_names visited dropped ++ new.added) deaths
 
 pub leads_to_scanned : (listing : List Entry) (now next : ℕ) (slots standing visited : List Supervised) (dropped sorted : List (List ℕ)) (mid new : Adding)
     → charts_of visited ≡ looked_up listing now (charts_of standing)
@@ -175,7 +177,9 @@ leads_to_scanned listing now next slots standing visited dropped sorted mid new 
           ∙ (ap (λ cs. cs ++ charts_of new.added) left
           ∙ ap (λ (g : ScanState). g.services) given);
       given = given;
-      agrees = λ h all. goes.agrees h (subst (λ (ss : List Supervised). AllAgree ss (h ++ map moment_of mid.events)) (sym none_behind) (without_agree visited dropped (h ++ map moment_of mid.events) all));
+      agrees = λ h all. goes.agrees h (subst (λ (ss : List Supervised). AllAgree ss (h ++ map moment_of mid.events)) (sym none_behind) (without_all (λ (x : Supervised). AgreesWith x (h ++ map moment_of mid.events)) visited dropped all));
+      tallies = λ deaths before all. goes.tallies deaths (subst (λ (n : ℕ). AllBefore n deaths) (sym at) before)
+          (subst (λ (ss : List Supervised). AllTallied ss deaths) (sym none_behind) (without_all (λ (x : Supervised). IsTallied x deaths) visited dropped all));
     }
   where
     starts : (kept stayed : List ChartState) → kept ++ charts_of mid.added ≡ stayed → state_behind kept mid ≡ given_before mid.events mid.orders (scan_state_from stayed next)

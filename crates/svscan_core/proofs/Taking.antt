@@ -22,10 +22,12 @@ use Rattle.svscan_core.specs.declared.event.Event.{Event}
 use Rattle.svscan_core.specs.declared.moves.Touched.{Touched}
 use Rattle.svscan_core.specs.Moves.{event, moment_of, events_of, events_after, orders_after}
 use Rattle.svscan_core.specs.Moving.{Moving, taken_over, with_one, with_touched, KeepNames, TakesAt, TakesUpTo, Takes}
+use Rattle.svscan_core.specs.Deaths.{DeathOf, death_of, deaths_after, AllTallied}
 use Rattle.svscan_core.specs.Sound.{AllAgree}
 use Rattle.svscan_core.specs.Timers.{timer_change, TimersAgree}
 use Rattle.svscan_core.specs.Table.{charts_of, serials_of}
 use Rattle.svscan_core.proofs.Agreeing.{moments_of_marks, clock_with_events, place_agrees}
+use Rattle.svscan_core.proofs.Tallied.{Joins, place_tallied}
 use Rattle.svscan_core.proofs.Timers.{agrees_one, changed_more}
 use Rattle.svscan_core.proofs.Places.{get_map, set_itself, half_get, half_set, half_all, flat_more, get_set_none, get_set_same, get_set_other}
 
@@ -70,9 +72,9 @@ taken : (now place : ℕ) (services new_services : List Supervised) (events new_
     (s : Supervised) (after : Stands) (death : Option (ℕ × Exit)) (moved : Moved) (out : Out)
     → slice_get services place ≡ Some s → is_rising (serials_of (charts_of services)) ≡ true
     → new_services ≡ slice_set services place (adopted after death s) → new_events ≡ events ++ map (event after.chart.sid) out.events.items → new_orders ≡ orders ++ out.orders.items → new_timers ≡ timers ++ timer_change after.chart ∷ []
-    → MatchesMove moved after.chart out → KeepsAgreeing now out.events.items (stands_of s) after → after.chart.sid ≡ s.chart.sid
+    → MatchesMove moved after.chart out → KeepsAgreeing now out.events.items (stands_of s) after → after.chart.sid ≡ s.chart.sid → Joins s.chart moved death
     → TakesAt now place s.chart moved (record { services = services; events = events; orders = orders; timers = timers }) (record { services = new_services; events = new_events; orders = new_orders; timers = new_timers })
-taken now place services new_services events new_events orders new_orders timers new_timers s after death moved out there rising ns ne os nt gives keeps same =
+taken now place services new_services events new_events orders new_orders timers new_timers s after death moved out there rising ns ne os nt gives keeps same joins =
     let own : new_events ≡ events ++ map (event s.chart.sid) out.events.items = ne ∙ ap (λ n. events ++ map (event n) out.events.items) same in
     let now_there = adopted after death s in
     record {
@@ -96,6 +98,9 @@ taken now place services new_services events new_events orders new_orders timers
           subst (λ (us : List Timer). TimersAgree us (charts_of new_services)) (sym told)
           (subst (λ (xs : List ChartState). TimersAgree (changed (changed_all timers ts) (timer_change after.chart)) xs) (sym charts)
           (agrees_one (changed_all timers ts) cs place after.chart a rising serial));
+      tallies = λ deaths all.
+          subst (λ (ss : List Supervised). AllTallied ss (deaths ++ map (death_of s.chart.sid) moved.deaths)) (sym ns)
+          (place_tallied place services s after moved death deaths there gives.chart same joins rising all);
     }
   where
     agreed_at : (ss : List Supervised) (p : ℕ) (t : Supervised) (h : List Moment) → slice_get ss p ≡ Some t → AllAgree ss h → AgreesWith t h
@@ -106,14 +111,14 @@ taken now place services new_services events new_events orders new_orders timers
 pub touched_takes : (now place : ℕ) (services new_services : List Supervised) (events new_events : List Event) (orders new_orders : List Order) (timers new_timers : List TimerChange)
     (s : Supervised) (before after : Stands) (death : Option (ℕ × Exit)) (moved : Moved) (out : Out)
     → slice_get services place ≡ Some s → stands_of s ≡ before → is_rising (serials_of (charts_of services)) ≡ true
-    → MatchesMove moved after.chart out → KeepsAgreeing now out.events.items before after → after.chart.sid ≡ before.chart.sid
+    → MatchesMove moved after.chart out → KeepsAgreeing now out.events.items before after → after.chart.sid ≡ before.chart.sid → Joins before.chart moved death
     → new_services ≡ slice_set services place (adopted after death s) → new_events ≡ events ++ map (event after.chart.sid) out.events.items → new_orders ≡ orders ++ out.orders.items → new_timers ≡ timers ++ timer_change after.chart ∷ []
     → TakesAt now place before.chart moved (record { services = services; events = events; orders = orders; timers = timers }) (record { services = new_services; events = new_events; orders = new_orders; timers = new_timers })
-touched_takes now place services new_services events new_events orders new_orders timers new_timers s before after death moved out there is rising gives keeps same ns ne os nt =
-    subst (λ (b : Stands). KeepsAgreeing now out.events.items b after → after.chart.sid ≡ b.chart.sid
+touched_takes now place services new_services events new_events orders new_orders timers new_timers s before after death moved out there is rising gives keeps same joins ns ne os nt =
+    subst (λ (b : Stands). KeepsAgreeing now out.events.items b after → after.chart.sid ≡ b.chart.sid → Joins b.chart moved death
     → TakesAt now place b.chart moved (record { services = services; events = events; orders = orders; timers = timers }) (record { services = new_services; events = new_events; orders = new_orders; timers = new_timers }))
     is (taken now place services new_services events new_events orders new_orders timers new_timers s after death moved out there rising ns ne os nt gives)
-    keeps same
+    keeps same joins
 
 -- a service that stays, where nothing is touched
 pub stays_takes : (now place : ℕ) (c : ChartState) (m : Moving) → slice_get (charts_of m.services) place ≡ Some c → TakesAt now place c (still c) m m
@@ -123,6 +128,7 @@ stays_takes now place c m there = record {
   orders = sym (append-nil m.orders);
   agrees = λ h at all. all;
   timers = λ ts a. a;
+  tallies = λ deaths all. subst (λ (ds : List DeathOf). AllTallied m.services ds) (sym (append-nil deaths)) all;
 }
 
 -- one more has
@@ -150,6 +156,13 @@ takes_more now move place c old mid new there so_far next =
           ∙ ap (λ k. flat_map (λ s. (move s).orders) (take k cs)) (sym (add-one place)))));
       agrees = λ h clock all. n.agrees h clock (so_far.agrees h clock all);
       timers = λ ts a. n.timers ts (so_far.timers ts a);
+      tallies = λ deaths all.
+          let before = deaths_after move (take place cs) in
+          let all_so_far : deaths_after move (take (place + 1) cs) ≡ before ++ map (death_of c.sid) (move c).deaths =
+          ap (λ k. flat_map (λ s. map (death_of s.sid) (move s).deaths) (take k cs)) (add-one place) ∙ flat_more (λ s. map (death_of s.sid) (move s).deaths) place cs c there in
+          subst (λ (ds : List DeathOf). AllTallied new.services ds)
+          (append_assoc deaths before (map (death_of c.sid) (move c).deaths) ∙ ap (λ ds. deaths ++ ds) (sym all_so_far))
+          (n.tallies (deaths ++ before) (so_far.tallies deaths all));
     }
 
 -- all have
@@ -174,6 +187,7 @@ takes_all now move old new up = by (length-charts old.services)
           orders = up.orders ∙ ap (λ x. old.orders ++ orders_after move x) all;
           agrees = up.agrees;
           timers = up.timers;
+          tallies = λ deaths listed. subst (λ (x : List ChartState). AllTallied new.services (deaths ++ deaths_after move x)) all (up.tallies deaths listed);
         }
 
 -- what stands at a place, once one more is touched

@@ -8,6 +8,7 @@ use Rattle.svscan_core.specs.declared.entry.Listed.{Listed}
 use Rattle.svscan_core.specs.declared.event.Event.{Event}
 use Rattle.svscan_core.specs.declared.moves.Moves.{Moves}
 use Rattle.svscan_core.specs.declared.scan.Scanning.{Scanning}
+use Rattle.svscan_core.specs.Deaths.{DeathOf, AllBefore, AllTallied}
 use Rattle.svscan_core.specs.Moves.{moment_of}
 use Rattle.svscan_core.specs.Scan.{ScanState}
 use Rattle.svscan_core.specs.Sound.{AllAgree, IsNumbered}
@@ -30,10 +31,13 @@ abbrev pub state_behind : List ChartState → Adding → ScanState
 state_behind retained a =
     record { services = retained ++ charts_of a.added; next_sid = a.next_sid; listed = a.listed; events = a.events; orders = a.orders }
 
--- behind these services the serials are in order, and a history that agreed agrees again, once the events have joined it
+-- behind these services the serials are in order, a history that agreed agrees again, once the events have joined it, and each
+-- service has the last of its deaths
 pub record GoesOn (services : List Supervised) (old new : Adding) : Type 0 where
   pub order : IsNumbered new.next_sid (charts_of (services ++ new.added))
   pub agrees : (history : List Moment) → AllAgree (services ++ old.added) (history ++ map moment_of old.events) → AllAgree (services ++ new.added) (history ++ map moment_of new.events)
+  pub later : old.next_sid ≤ new.next_sid
+  pub tallies : (deaths : List DeathOf) → AllBefore old.next_sid deaths → AllTallied (services ++ old.added) deaths → AllTallied (services ++ new.added) deaths
 
 -- the limit holds, and each new service has a serial and at most one order
 pub record Grows (retained : ℕ) (old new : Adding) : Type 0 where

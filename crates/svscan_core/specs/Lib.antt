@@ -8,6 +8,7 @@ pub mod Scan
 pub mod Work
 pub mod Sound
 pub mod Timers
+pub mod Deaths
 pub mod Visit
 pub mod Moving
 pub mod Scanning

@@ -13,6 +13,7 @@ use Rattle.svscan_core.specs.declared.event.Event.{Event}
 use Rattle.svscan_core.specs.declared.moves.Moves.{Moves}
 use Rattle.svscan_core.specs.declared.moves.Touched.{Touched}
 use Rattle.svscan_core.specs.Moves.{moment_of, events_of, services_after, events_after, orders_after}
+use Rattle.svscan_core.specs.Deaths.{DeathOf, death_of, deaths_after, AllTallied}
 use Rattle.svscan_core.specs.Sound.{AllAgree}
 use Rattle.svscan_core.specs.Table.{charts_of}
 use Rattle.svscan_core.specs.Timers.{timer_change, TimersAgree}
@@ -57,6 +58,10 @@ abbrev pub TimersGoOn : Moving → Moving → Type 0
 TimersGoOn old new =
     (timers : List Timer) → TimersAgree (changed_all old.timers timers) (charts_of old.services) → TimersAgree (changed_all new.timers timers) (charts_of new.services)
 
+-- whatever deaths the services had the last of, they have the last of them and of these
+abbrev pub TalliesGoOn : Moving → Moving → List DeathOf → Type 0
+TalliesGoOn old new more = (deaths : List DeathOf) → AllTallied old.services deaths → AllTallied new.services (deaths ++ more)
+
 -- the service at a place, which stood so, took a move
 pub record TakesAt (now place : ℕ) (c : ChartState) (moved : Moved) (old new : Moving) : Type 0 where
   pub services : charts_of new.services ≡ slice_set (charts_of old.services) place moved.chart
@@ -64,6 +69,7 @@ pub record TakesAt (now place : ℕ) (c : ChartState) (moved : Moved) (old new :
   pub orders : new.orders ≡ old.orders ++ moved.orders
   pub agrees : GoOnAgreeing now old new
   pub timers : TimersGoOn old new
+  pub tallies : TalliesGoOn old new (map (death_of c.sid) moved.deaths)
 
 -- each of the first services took the move
 pub record TakesUpTo (now : ℕ) (move : ChartState → Moved) (place : ℕ) (old new : Moving) : Type 0 where
@@ -72,6 +78,7 @@ pub record TakesUpTo (now : ℕ) (move : ChartState → Moved) (place : ℕ) (ol
   pub orders : new.orders ≡ old.orders ++ orders_after move (take place (charts_of old.services))
   pub agrees : GoOnAgreeing now old new
   pub timers : TimersGoOn old new
+  pub tallies : TalliesGoOn old new (deaths_after move (take place (charts_of old.services)))
 
 -- each service took the move
 pub record Takes (now : ℕ) (move : ChartState → Moved) (old new : Moving) : Type 0 where
@@ -80,3 +87,4 @@ pub record Takes (now : ℕ) (move : ChartState → Moved) (old new : Moving) : 
   pub orders : new.orders ≡ old.orders ++ orders_after move (charts_of old.services)
   pub agrees : GoOnAgreeing now old new
   pub timers : TimersGoOn old new
+  pub tallies : TalliesGoOn old new (deaths_after move (charts_of old.services))

@@ -7,7 +7,8 @@ ghost use Rattle.s6_events.specs.declared.moment.Moment.{Moment};
 ghost use Rattle.supervise_core.specs.Chart.{fire};
 ghost use Rattle.supervise_core.specs.MatchesMove.{most_orders};
 ghost use Rattle.svscan_core.specs.Asked.{asked_by, IsOrderly};
-ghost use Rattle.svscan_core.specs.Moves.{moment_of};
+ghost use Rattle.svscan_core.specs.Deaths.{deaths_given, KeepTallied};
+ghost use Rattle.svscan_core.specs.Moves.{moment_of, services_after};
 ghost use Rattle.svscan_core.specs.Moving.{with_touched, timers_of, moving_of, KeepNames, Takes};
 ghost use Rattle.svscan_core.specs.Names.{repeats};
 ghost use Rattle.svscan_core.specs.Pending.{prepared_of, IsBlank};
@@ -134,6 +135,8 @@ impl<A: Allocator + Copy> Pending<A> {
         ensures agrees { OnOk result ((history : List Moment) → clock_of history ≡ now
             → AllAgree (with_touched slots.now.services self.old.moves.touched.items) (history ++ map moment_of self.old.moves.events.items)
             → AllAgree (prepared_of slots.now.services self.new).services (history ++ map moment_of self.new.moves.events.items)) }
+        ensures tallies { OnOk result (KeepTallied self.old.scan.next_sid (with_touched slots.now.services self.old.moves.touched.items) (prepared_of slots.now.services self.new).services
+            (deaths_given (asked_by work.now) now (charts_of (with_touched slots.now.services self.old.moves.touched.items)))) }
         ensures timers { OnOk result ((timers : List Timer) → TimersAgree (changed_all (timers_of self.old.moves.touched.items) timers) (charts_of (with_touched slots.now.services self.old.moves.touched.items))
             → TimersAgree (changed_all (prepared_of slots.now.services self.new).timers timers) (charts_of (prepared_of slots.now.services self.new).services)) }
         ensures touched { KeepNames slots.now.services self.old.moves.touched.items → OnOk result (KeepNames slots.now.services self.new.moves.touched.items) }
@@ -174,6 +177,7 @@ impl<A: Allocator + Copy> Pending<A> {
         ensures worked { OnOk result (worked_of (prepared_of slots.now.services self.new) ≡ worked (asked_by work.now) now (charts_of slots.now.services) next_sid) }
         ensures agrees { OnOk result ((history : List Moment) → clock_of history ≡ now → AllAgree slots.now.services history
             → AllAgree (prepared_of slots.now.services self.new).services (history ++ map moment_of self.new.moves.events.items)) }
+        ensures tallies { OnOk result (KeepTallied next_sid slots.now.services (prepared_of slots.now.services self.new).services (deaths_given (asked_by work.now) now (charts_of slots.now.services))) }
         ensures timers { OnOk result ((timers : List Timer) → TimersAgree timers (charts_of slots.now.services)
             → TimersAgree (changed_all (prepared_of slots.now.services self.new).timers timers) (charts_of (prepared_of slots.now.services self.new).services)) }
         ensures touched { OnOk result (KeepNames slots.now.services self.new.moves.touched.items) }
@@ -202,6 +206,8 @@ impl<A: Allocator + Copy> Pending<A> {
         ensures worked { OnOk result (worked_of (prepared_of slots.now.services self.new) ≡ stepped (asked_by work.now) now (charts_of slots.now.services) next_sid) }
         ensures agrees { OnOk result ((history : List Moment) → clock_of history ≡ now → AllAgree slots.now.services history
             → AllAgree (prepared_of slots.now.services self.new).services (history ++ map moment_of self.new.moves.events.items)) }
+        ensures tallies { OnOk result (KeepTallied next_sid slots.now.services (prepared_of slots.now.services self.new).services
+            (deaths_given (asked_by work.now) now (services_after (fire now) (charts_of slots.now.services)))) }
         ensures timers { OnOk result ((timers : List Timer) → TimersAgree timers (charts_of slots.now.services)
             → TimersAgree (changed_all (prepared_of slots.now.services self.new).timers timers) (charts_of (prepared_of slots.now.services self.new).services)) }
         ensures touched { OnOk result (KeepNames slots.now.services self.new.moves.touched.items) }

@@ -7,6 +7,7 @@ ghost use Rattle.s6_events.specs.declared.moment.Moment.{Moment};
 ghost use Rattle.supervise_core.specs.Chart.{fire};
 ghost use Rattle.supervise_core.specs.Service.{AgreesAs};
 ghost use Rattle.svscan_core.specs.Asked.{asked_by, IsOrderly};
+ghost use Rattle.svscan_core.specs.Deaths.{deaths_after, deaths_given, KeepTallied};
 ghost use Rattle.svscan_core.specs.Moves.{event, moment_of, services_after, events_after, orders_after};
 ghost use Rattle.svscan_core.specs.Listing.{names_in};
 ghost use Rattle.svscan_core.specs.Names.{repeats};
@@ -176,6 +177,7 @@ impl<A: Allocator + Copy> Registry<A> {
         ensures stale { IfSome result (λ out. out.stale ≡ list_any (λ c. (changed_at sid change.now now c).stale) (charts_of self.old.shown.services)) }
         ensures agrees { (history : List Moment) → clock_of history ≡ now → AllAgree self.old.shown.services history
             → IfSome result (λ out. AllAgree self.new.shown.services (history ++ map moment_of (map (event sid) out.events.items))) }
+        ensures tallies { KeepTallied self.old.shown.next_sid self.old.shown.services self.new.shown.services (deaths_after (changed_at sid change.now now) (charts_of self.old.shown.services)) }
         ensures idle { IsIdle self.new }
     {
         let out = table::change(&mut self.slots, sid, change, now);
@@ -193,6 +195,8 @@ impl<A: Allocator + Copy> Registry<A> {
         ensures prepared { OnOk result (worked_of self.new.prepared ≡ stepped (asked_by work.now) now (charts_of self.old.shown.services) self.old.shown.next_sid) }
         ensures agrees { OnOk result ((history : List Moment) → clock_of history ≡ now → AllAgree self.old.shown.services history
             → AllAgree self.new.prepared.services (history ++ map moment_of self.new.prepared.events)) }
+        ensures tallies { OnOk result (KeepTallied self.old.shown.next_sid self.old.shown.services self.new.prepared.services
+            (deaths_given (asked_by work.now) now (services_after (fire now) (charts_of self.old.shown.services)))) }
         ensures timers { OnOk result ((timers : List Timer) → TimersAgree timers (charts_of self.old.shown.services)
             → TimersAgree (changed_all self.new.prepared.timers timers) (charts_of self.new.prepared.services)) }
         ensures idle { OnErr result (IsIdle self.new) }
@@ -275,6 +279,7 @@ impl<A: Allocator + Copy> Registry<A> {
         ensures prepared { OnOk result (worked_of self.new.prepared ≡ worked (asked_by work.now) now (charts_of self.old.shown.services) self.old.shown.next_sid) }
         ensures agrees { OnOk result ((history : List Moment) → clock_of history ≡ now → AllAgree self.old.shown.services history
             → AllAgree self.new.prepared.services (history ++ map moment_of self.new.prepared.events)) }
+        ensures tallies { OnOk result (KeepTallied self.old.shown.next_sid self.old.shown.services self.new.prepared.services (deaths_given (asked_by work.now) now (charts_of self.old.shown.services))) }
     {
         let worked = self
             .pending
@@ -311,6 +316,7 @@ impl<A: Allocator + Copy> Registry<A> {
         ensures listed { IfOk result (λ answer. answer.listed.items ≡ (worked (asked_by work.now) now (charts_of self.old.shown.services) self.old.shown.next_sid).listed) }
         ensures agrees { (history : List Moment) → clock_of history ≡ now → AllAgree self.old.shown.services history
             → IfOk result (λ answer. AllAgree self.new.shown.services (history ++ map moment_of answer.events.items)) }
+        ensures tallies { OnOk result (KeepTallied self.old.shown.next_sid self.old.shown.services self.new.shown.services (deaths_given (asked_by work.now) now (charts_of self.old.shown.services))) }
         ensures unchanged { OnErr result (self.new.shown ≡ self.old.shown) }
     {
         self.prepare_alone(work, now)?;
@@ -335,6 +341,7 @@ impl<A: Allocator + Copy> Registry<A> {
         ensures listed { IfOk result (λ answer. answer.listed.items ≡ (scanned listing.now now (charts_of self.old.shown.services) self.old.shown.next_sid).listed) }
         ensures agrees { (history : List Moment) → clock_of history ≡ now → AllAgree self.old.shown.services history
             → IfOk result (λ answer. AllAgree self.new.shown.services (history ++ map moment_of answer.events.items)) }
+        ensures tallies { OnOk result (KeepTallied self.old.shown.next_sid self.old.shown.services self.new.shown.services []) }
         ensures unchanged { OnErr result (self.new.shown ≡ self.old.shown) }
     {
         let work = Work::Listing(listing);
@@ -353,6 +360,7 @@ impl<A: Allocator + Copy> Registry<A> {
         ensures none { IfOk result (λ answer. (answer.dropped.items ≡ []) × (answer.listed.items ≡ [])) }
         ensures agrees { (history : List Moment) → clock_of history ≡ now → AllAgree self.old.shown.services history
             → IfOk result (λ answer. AllAgree self.new.shown.services (history ++ map moment_of answer.events.items)) }
+        ensures tallies { OnOk result (KeepTallied self.old.shown.next_sid self.old.shown.services self.new.shown.services []) }
         ensures unchanged { OnErr result (self.new.shown ≡ self.old.shown) }
     {
         self.make(&Work::Command(order), now)

@@ -5,6 +5,7 @@ ghost use Rattle.s6_events.specs.declared.moment.Moment.{Moment};
 ghost use Rattle.supervise_core.specs.Service.{Supervised};
 ghost use Rattle.supervise_core.specs.declared.chart.ChartState.{ChartState};
 ghost use Rattle.svscan_core.specs.Adding.{adding_of, state_behind, GoesOn, Grows};
+ghost use Rattle.svscan_core.specs.Deaths.{KeepTallied};
 ghost use Rattle.svscan_core.specs.Listing.{names_in};
 ghost use Rattle.svscan_core.specs.Moves.{moment_of};
 ghost use Rattle.svscan_core.specs.Moving.{with_touched, timers_of, KeepNames};
@@ -273,6 +274,7 @@ pub fn plan_scan<A: Allocator + Copy>(
     ensures listed { OnOk result (scan.new.listed.items ≡ (scanned listing.now now (charts_of (with_touched slots.now.services moves.old.touched.items)) scan.old.next_sid).listed) }
     ensures agrees { OnOk result ((history : List Moment) → clock_of history ≡ now → AllAgree (with_touched slots.now.services moves.old.touched.items) (history ++ map moment_of moves.old.events.items)
         → AllAgree (prepared_services slots.now.services moves.new.touched.items scan.new.dropped.items scan.new.added.items) (history ++ map moment_of moves.new.events.items)) }
+    ensures tallies { OnOk result (KeepTallied scan.old.next_sid (with_touched slots.now.services moves.old.touched.items) (prepared_services slots.now.services moves.new.touched.items scan.new.dropped.items scan.new.added.items) []) }
     ensures timers { OnOk result ((timers : List Timer) → TimersAgree (changed_all (timers_of moves.old.touched.items) timers) (charts_of (with_touched slots.now.services moves.old.touched.items))
         → TimersAgree (changed_all (timers_of moves.new.touched.items ++ (map (λ sid. Clear sid) scan.new.dropped_sids.items ++ map timer_change (charts_of scan.new.added.items))) timers)
         (charts_of (prepared_services slots.now.services moves.new.touched.items scan.new.dropped.items scan.new.added.items))) }

@@ -5,6 +5,7 @@ ghost use Rattle.s6_events.specs.Clock.{clock_of};
 ghost use Rattle.s6_events.specs.declared.moment.Moment.{Moment};
 ghost use Rattle.supervise_core.specs.Chart.{fire};
 ghost use Rattle.supervise_core.specs.Service.{AgreesAs, KeepsAgreeing};
+ghost use Rattle.svscan_core.specs.Deaths.{DeathOf, deaths_after, AllTallied};
 ghost use Rattle.svscan_core.specs.Moves.{event, moment_of, services_after, events_after, orders_after};
 ghost use Rattle.svscan_core.specs.Sound.{AllAgree};
 ghost use Rattle.svscan_core.specs.Table.{charts_of, serials_of};
@@ -56,6 +57,8 @@ pub fn change<A: Allocator + Copy>(
     ensures stale { IfSome result (λ out. out.stale ≡ list_any (λ c. (changed_at sid change.now now c).stale) (charts_of slots.old.services)) }
     ensures agrees { (history : List Moment) → clock_of history ≡ now → AllAgree slots.old.services history
         → IfSome result (λ out. AllAgree slots.new.services (history ++ map moment_of (map (event sid) out.events.items))) }
+    ensures tallies { (deaths : List DeathOf) → AllTallied slots.old.services deaths
+        → AllTallied slots.new.services (deaths ++ deaths_after (changed_at sid change.now now) (charts_of slots.old.services)) }
     ensures room { slots.new.room ≡ slots.old.room }
 {
     let place = place_of(slots, sid)?;

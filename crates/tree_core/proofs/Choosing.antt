@@ -1,7 +1,10 @@
 -- What an act does, found in the table.
-use Rattle.std.proofs.Common.{◌≡◌, ◌∙◌, ℕ, List, [], ◌∷◌, ◌++◌, Bool, true, false, ◌||◌, ◌==◌, cond, refl, sym, ap, find, subst, map}
+use Rattle.std.proofs.Common.{◌≡◌, ◌∙◌, ℕ, List, [], ◌∷◌, ◌++◌, Bool, true, false, ◌||◌, ◌==◌, cond, refl, sym, ap, find, subst, map, arith}
 use Rattle.std.specs.Prelude.{Option, Some, None, is_some}
 use Rattle.std.specs.List.{list_any}
+use Rattle.death_tally.specs.LastDeaths.{last_deaths}
+use Rattle.death_tally.specs.PermanentFailure.{is_permanent}
+use Rattle.death_tally.specs.declared.death_list.DeathItem.{DeathItem}
 use Rattle.supervise_core.specs.declared.chart.ChartState.{ChartState}
 use Rattle.supervise_core.specs.Service.{Supervised}
 use Rattle.std.specs.Prelude.{option_map, bytes_eq}
@@ -12,19 +15,23 @@ use Rattle.supervise_core.specs.declared.row.Row.{Row}
 use Rattle.supervise_core.specs.ChartState.{is_gone}
 use Rattle.supervise_core.specs.Chart.{fire}
 use Rattle.supervise_core.specs.StatusRow.{status_row}
+use Rattle.supervise_core.proofs.Identity.{keeps_fire}
+use Rattle.svscan_core.specs.Deaths.{deaths_of, IsTallied, AllTallied}
 use Rattle.svscan_core.specs.Moves.{moment_of, services_after, events_after}
 use Rattle.svscan_core.specs.Table.{charts_of, serials_of}
 use Rattle.svscan_core.specs.Work.{Worked}
 use Rattle.svscan_core.specs.Work.Work.{leave, change_one}
+use Rattle.svscan_core.proofs.Agreeing.{all_later}
 use Rattle.svscan_core.proofs.SerialsRise.{fired_serials}
 use Rattle.tree_core.specs.declared.input.Act.{Act}
-use Rattle.tree_core.specs.declared.input.Act.TheVariants.{Svc, Status}
+use Rattle.tree_core.specs.declared.input.Act.TheVariants.{Svc, Status, Tally, Permafailon}
 use Rattle.tree_core.specs.declared.reply.Refusal.TheVariants.{NoService, Ended}
 use Rattle.tree_core.specs.declared.reply.Reply.TheVariants.{Done}
-use Rattle.tree_core.specs.Acts.{refused, asked, answered, work_unless, reply_unless, refused_serial, refused_letters, change_found, report_reply, row_reply, work_done, named}
+use Rattle.tree_core.specs.Acts.{refused, asked, answered, work_unless, reply_unless, refused_serial, refused_letters, change_found, report_reply, row_reply, tally_reply, failure_reply, work_done, named}
 use Rattle.tree_core.specs.Machine.{Machine}
-use Rattle.tree_core.specs.Plan.Chosen.{refuse, letters}
-use Rattle.tree_core.specs.Plan.{Chosen, Chooses, HasFired, chosen_work, chosen_reply, report_choice, letters_choice, row_choice}
+use Rattle.tree_core.specs.Tallies.{tally_of, tally_named, failure_named}
+use Rattle.tree_core.specs.Plan.Chosen.{refuse, letters, tally}
+use Rattle.tree_core.specs.Plan.{Chosen, Chooses, HasFired, chosen_work, chosen_reply, report_choice, letters_choice, row_choice, failure_choice, tally_in}
 
 -- a serial is found where a service has it
 pub any_of : (sid : ℕ) (services : List Supervised) → is_some (find (λ s. s.chart.sid == sid) services) ≡ list_any (λ c. c.sid == sid) (charts_of services)
@@ -47,25 +54,25 @@ still_known sid now cs = any_serial sid (services_after (fire now) cs) ∙ (ap (
 -- a report
 pub chooses_report : {A : Type 0} (act : Act A) (m : Machine) (sid : ℕ) (change : Change) (closing : Bool) (now : ℕ) (services : List Supervised) (history : List Moment) (chosen : Chosen)
     → refused act m ≡ refused_serial sid m.services → asked act m ≡ change_one sid change → ((w : Worked) → answered act m w ≡ report_reply w)
-    → chosen ≡ report_choice (list_any (λ c. c.sid == sid) (charts_of services)) sid change → HasFired closing now services history m → Chooses act m chosen
+    → chosen ≡ report_choice (list_any (λ c. c.sid == sid) (charts_of services)) sid change → HasFired closing now services history m → Chooses act m services chosen
 chooses_report {A} act m sid change closing now services history chosen r a w is fired =
     by (list_any (λ c. c.sid == sid) (charts_of services)) known is
   where
     known : list_any (λ c. c.sid == sid) m.services ≡ list_any (λ c. c.sid == sid) (charts_of services)
     known = ap (λ cs. list_any (λ c. c.sid == sid) cs) fired.services_are ∙ still_known sid now (charts_of services)
 
-    by : (b : Bool) → list_any (λ c. c.sid == sid) m.services ≡ b → chosen ≡ report_choice b sid change → Chooses act m chosen
+    by : (b : Bool) → list_any (λ c. c.sid == sid) m.services ≡ b → chosen ≡ report_choice b sid change → Chooses act m services chosen
     by true k e =
         let none : refused act m ≡ None = r ∙ ap (λ b. cond b None (Some NoService)) k in
         record {
           work = (λ i. work_unless (none i) (a i)) ∙ ap chosen_work (sym e);
-          reply = (λ i. reply_unless (none i) (w (work_done act m) i)) ∙ ap (λ x. chosen_reply x (work_done act m)) (sym e);
+          reply = (λ i. reply_unless (none i) (w (work_done act m) i)) ∙ ap (λ x. chosen_reply x services (work_done act m)) (sym e);
         }
     by false k e =
         let some : refused act m ≡ Some NoService = r ∙ ap (λ b. cond b None (Some NoService)) k in
         record {
           work = ap (λ o. work_unless o (asked act m)) some ∙ ap chosen_work (sym e);
-          reply = ap (λ o. reply_unless o (answered act m (work_done act m))) some ∙ ap (λ x. chosen_reply x (work_done act m)) (sym e);
+          reply = ap (λ o. reply_unless o (answered act m (work_done act m))) some ∙ ap (λ x. chosen_reply x services (work_done act m)) (sym e);
         }
 
 -- letters
@@ -77,11 +84,11 @@ letters_work (Some c) change = by (is_gone c.phase)
     by true = refl
     by false = refl
 
-letters_reply : {A : Type 0} (o : Option ChartState) (change : Change) (w : Worked) → reply_unless {A = A} (refused_letters o) Done ≡ chosen_reply (letters_choice o change) w
-letters_reply None change w = refl
-letters_reply {A} (Some c) change w = by (is_gone c.phase)
+letters_reply : {A : Type 0} (o : Option ChartState) (change : Change) (services : List Supervised) (w : Worked) → reply_unless {A = A} (refused_letters o) Done ≡ chosen_reply (letters_choice o change) services w
+letters_reply None change services w = refl
+letters_reply {A} (Some c) change services w = by (is_gone c.phase)
   where
-    by : (b : Bool) → reply_unless {A = A} (cond b (Some Ended) None) Done ≡ chosen_reply (cond b (refuse Ended) (letters c.sid change)) w
+    by : (b : Bool) → reply_unless {A = A} (cond b (Some Ended) None) Done ≡ chosen_reply (cond b (refuse Ended) (letters c.sid change)) services w
     by true = refl
     by false = refl
 
@@ -90,35 +97,86 @@ pub row_works : (o : Option Row) → chosen_work (row_choice o) ≡ leave
 row_works None = refl
 row_works (Some row) = refl
 
-row_replied : {A : Type 0} (o : Option Row) (w : Worked) → row_reply {A = A} o ≡ chosen_reply (row_choice o) w
-row_replied None w = refl
-row_replied (Some row) w = refl
+row_replied : {A : Type 0} (o : Option Row) (services : List Supervised) (w : Worked) → row_reply {A = A} o ≡ chosen_reply (row_choice o) services w
+row_replied None services w = refl
+row_replied (Some row) services w = refl
 
 pub chooses_row : {A : Type 0} (name : List ℕ) (m : Machine) (closing : Bool) (now : ℕ) (services : List Supervised) (history : List Moment) (chosen : Chosen)
     → chosen ≡ row_choice (option_map (status_row (history ++ map moment_of (events_after (fire now) (charts_of services))) now) (find (λ c. bytes_eq name c.name) (services_after (fire now) (charts_of services))))
-    → HasFired closing now services history m → Chooses {A = A} (Status name) m chosen
+    → HasFired closing now services history m → Chooses {A = A} (Status name) m services chosen
 chooses_row {A} name m closing now services history chosen is fired =
     let seen : chosen ≡ row_choice (option_map (status_row m.history m.clock) (find (λ c. bytes_eq name c.name) m.services)) =
     is ∙ sym (λ i. row_choice (option_map (status_row (fired.past i) (fired.clock i)) (find (λ c. bytes_eq name c.name) (fired.services_are i)))) in
     let o = option_map (status_row m.history m.clock) (find (λ c. bytes_eq name c.name) m.services) in
     record {
       work = sym (ap chosen_work seen ∙ row_works o);
-      reply = row_replied o (work_done {A = A} (Status name) m) ∙ ap (λ x. chosen_reply x (work_done {A = A} (Status name) m)) (sym seen);
+      reply = row_replied o services (work_done {A = A} (Status name) m) ∙ ap (λ x. chosen_reply x services (work_done {A = A} (Status name) m)) (sym seen);
     }
 
 pub chooses_letters : {A : Type 0} (name : List ℕ) (sent : _) (m : Machine) (closing : Bool) (now : ℕ) (services : List Supervised) (history : List Moment) (chosen : Chosen)
     → chosen ≡ letters_choice (find (λ c. bytes_eq name c.name) (services_after (fire now) (charts_of services))) (Control sent) → HasFired closing now services history m
-    → Chooses {A = A} (Svc name sent) m chosen
+    → Chooses {A = A} (Svc name sent) m services chosen
 chooses_letters {A} name sent m closing now services history chosen is fired =
     let seen : chosen ≡ letters_choice (named name m.services) (Control sent) = is ∙ sym (ap (λ cs. letters_choice (named name cs) (Control sent)) fired.services_are) in
     record {
       work = letters_work (named name m.services) (Control sent) ∙ ap chosen_work (sym seen);
-      reply = letters_reply (named name m.services) (Control sent) (work_done {A = A} (Svc name sent) m) ∙ ap (λ x. chosen_reply x (work_done {A = A} (Svc name sent) m)) (sym seen);
+      reply = letters_reply (named name m.services) (Control sent) services (work_done {A = A} (Svc name sent) m) ∙ ap (λ x. chosen_reply x services (work_done {A = A} (Svc name sent) m)) (sym seen);
+    }
+
+-- the tally of a service has its last deaths, also once its timer went off
+tallied_so : (m : Machine) (now : ℕ) (s : Supervised) → IsTallied s m.deaths → tally_of m (fire now s.chart).chart ≡ s.tally.kept
+tallied_so m now s t =
+    let keeps = keeps_fire now s.chart in
+    (λ i. last_deaths (keeps.most i) (deaths_of (keeps.sid i) m.deaths)) ∙ (ap (λ n. last_deaths n (deaths_of s.chart.sid m.deaths)) (sym t.most) ∙ sym t.kept)
+
+tallies_found : (m : Machine) (now : ℕ) (name : List ℕ) (services : List Supervised) → AllTallied services m.deaths
+    → option_map (tally_of m) (find (λ c. bytes_eq name c.name) (services_after (fire now) (charts_of services))) ≡ tally_in name services
+tallies_found m now name [] all = refl
+tallies_found m now name (s ∷ services) all =
+    ap (λ n. option_map (tally_of m) (cond (bytes_eq name n) (Some (fire now s.chart).chart) (find (λ c. bytes_eq name c.name) (services_after (fire now) (charts_of services))))) (keeps_fire now s.chart).name
+    ∙ by (bytes_eq name s.chart.name) (tallies_found m now name services (all_later (λ (x : Supervised). IsTallied x m.deaths) s services all))
+  where
+    by : (b : Bool) → option_map (tally_of m) (find (λ c. bytes_eq name c.name) (services_after (fire now) (charts_of services))) ≡ tally_in name services
+        → option_map (tally_of m) (cond b (Some (fire now s.chart).chart) (find (λ c. bytes_eq name c.name) (services_after (fire now) (charts_of services))))
+        ≡ option_map (λ t. t.tally.kept) (cond b (Some s) (find (λ t. bytes_eq name t.chart.name) services))
+    by true e = ap Some (tallied_so m now s (all 0 s (omega arith)))
+    by false e = e
+
+tallies_seen : (name : List ℕ) (m : Machine) (closing : Bool) (now : ℕ) (services : List Supervised) (history : List Moment) → HasFired closing now services history m
+    → tally_named name m ≡ tally_in name services
+tallies_seen name m closing now services history fired =
+    ap (λ cs. option_map (tally_of m) (find (λ c. bytes_eq name c.name) cs)) fired.services_are ∙ tallies_found m now name services fired.tallies
+
+pub chooses_tally : {A : Type 0} (name : List ℕ) (m : Machine) (closing : Bool) (now : ℕ) (services : List Supervised) (history : List Moment) (chosen : Chosen)
+    → chosen ≡ tally name → HasFired closing now services history m → Chooses {A = A} (Tally name) m services chosen
+chooses_tally {A} name m closing now services history chosen is fired = record {
+  work = sym (ap chosen_work is);
+  reply = ap tally_reply (tallies_seen name m closing now services history fired) ∙ ap (λ x. chosen_reply x services (work_done {A = A} (Tally name) m)) (sym is);
+}
+
+failure_works : (o : Option Bool) → chosen_work (failure_choice o) ≡ leave
+failure_works None = refl
+failure_works (Some fails) = refl
+
+failure_replied : {A : Type 0} (o : Option Bool) (services : List Supervised) (w : Worked) → failure_reply {A = A} o ≡ chosen_reply (failure_choice o) services w
+failure_replied None services w = refl
+failure_replied (Some fails) services w = refl
+
+pub chooses_failure : {A : Type 0} (name : List ℕ) (seconds count : ℕ) (items : List DeathItem) (m : Machine) (closing : Bool) (now : ℕ) (services : List Supervised) (history : List Moment) (chosen : Chosen)
+    → chosen ≡ failure_choice (option_map (is_permanent now seconds count items) (tally_in name services)) → HasFired closing now services history m
+    → Chooses {A = A} (Permafailon name seconds count items) m services chosen
+chooses_failure {A} name seconds count items m closing now services history chosen is fired =
+    let o = failure_named name seconds count items m in
+    let seen : chosen ≡ failure_choice o =
+    is ∙ sym (λ i. failure_choice (option_map (is_permanent (fired.clock i) seconds count items) (tallies_seen name m closing now services history fired i))) in
+    record {
+      work = sym (ap chosen_work seen ∙ failure_works o);
+      reply = failure_replied o services (work_done {A = A} (Permafailon name seconds count items) m) ∙ ap (λ x. chosen_reply x services (work_done {A = A} (Permafailon name seconds count items) m)) (sym seen);
     }
 
 -- an act that is this one
-pub chooses_act : {A : Type 0} (act this : Act A) (m : Machine) (chosen : Chosen) → act ≡ this → Chooses this m chosen → Chooses act m chosen
-chooses_act {A} act this m chosen is c = subst (λ (a : Act A). Chooses a m chosen) (sym is) c
+pub chooses_act : {A : Type 0} (act this : Act A) (m : Machine) (services : List Supervised) (chosen : Chosen) → act ≡ this → Chooses this m services chosen → Chooses act m services chosen
+chooses_act {A} act this m services chosen is c = subst (λ (a : Act A). Chooses a m services chosen) (sym is) c
 
 -- whether a serial was found
 pub known_by : {X : Type 0} (f : X → Supervised) (sid : ℕ) (services : List Supervised) (o : Option X) (b : Bool) → option_map f o ≡ find (λ s. s.chart.sid == sid) services → is_some o ≡ b

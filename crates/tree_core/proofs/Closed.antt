@@ -12,7 +12,7 @@ use Rattle.svscan_core.specs.Work.{Work, Worked, worked, closing_after}
 use Rattle.svscan_core.specs.Work.Work.{leave, change_one, apply_listing, command}
 use Rattle.svscan_core.proofs.Truth.{neither_of}
 use Rattle.tree_core.specs.declared.input.Act.{Act}
-use Rattle.tree_core.specs.declared.input.Act.TheVariants.{Scan, Scanctl, Svc, Started, StartFailed, Notify, Death, FinishEnded, Status, Tick}
+use Rattle.tree_core.specs.declared.input.Act.TheVariants.{Scan, Scanctl, Svc, Started, StartFailed, Notify, Death, FinishEnded, Status, Tally, Permafailon, Tick}
 use Rattle.tree_core.specs.declared.input.Input.{Input}
 use Rattle.tree_core.specs.declared.reply.Refusal.{Refusal}
 use Rattle.tree_core.specs.declared.reply.Reply.TheVariants.{Done}
@@ -68,6 +68,8 @@ work_starts_none (Death sid generation exit) m h =
 work_starts_none (FinishEnded sid generation exit) m h =
     report_starts_none (refused_serial sid m.services) sid (FinishEndedReport generation exit) m.clock m.services m.next_sid (finish_ended_leaves generation exit m.clock) h.services
 work_starts_none (Status name) m h = (h.services, refl)
+work_starts_none (Tally name) m h = (h.services, refl)
+work_starts_none (Permafailon name seconds count items) m h = (h.services, refl)
 work_starts_none Tick m h = (h.services, refl)
 
 stays_closing : (work : Work) → closing_after work true ≡ true

@@ -13,19 +13,23 @@ use Rattle.supervise_core.specs.Service.{Supervised}
 use Rattle.supervise_core.specs.Status.{Agrees}
 use Rattle.supervise_core.proofs.Agreement.{agrees_clock}
 use Rattle.svscan_core.specs.declared.event.Event.{Event}
+use Rattle.svscan_core.specs.Deaths.{DeathOf, deaths_given, AllTallied, AllBefore, KeepTallied}
 use Rattle.svscan_core.specs.Moves.{services_after, events_after, orders_after, moment_of}
 use Rattle.svscan_core.specs.Registry.{Prepared, worked_of}
-use Rattle.svscan_core.specs.Sound.{AllAgree}
+use Rattle.svscan_core.specs.Sound.{AllAgree, IsSound}
 use Rattle.svscan_core.specs.Table.{charts_of}
 use Rattle.svscan_core.specs.Work.{Worked, worked, stepped, given_before, closing_after}
+use Rattle.svscan_core.proofs.Few.{fired_few}
+use Rattle.svscan_core.proofs.SerialsRise.{fired_numbers}
+use Rattle.svscan_core.proofs.Tallied.{joined_before}
 use Rattle.tree_core.specs.declared.effect.Effect.{Effect}
 use Rattle.tree_core.specs.declared.input.Input.{Input}
 use Rattle.tree_core.specs.declared.plan.StepPlan.{StepPlan}
-use Rattle.tree_core.specs.Acts.{acted}
-use Rattle.tree_core.specs.Machine.{Machine, DeathOf}
+use Rattle.tree_core.specs.Acts.{acted, work_of}
+use Rattle.tree_core.specs.Machine.{Machine}
 use Rattle.tree_core.specs.Plan.{Present, IsNow, Plans, HasFired, Chooses, Chosen, chosen_work, chosen_reply}
-use Rattle.tree_core.specs.Plan.Chosen.{refuse, nothing, report, letters, listing, order, show}
-use Rattle.tree_core.specs.Step.{step, timed, clocked, with_moves, step_limit, clock_moments}
+use Rattle.tree_core.specs.Plan.Chosen.{refuse, nothing, report, letters, listing, order, show, tally, failure}
+use Rattle.tree_core.specs.Step.{Stepped, step, timed, clocked, with_moves, step_limit, clock_moments}
 use Rattle.tree_core.proofs.Reading.{reading-clocked}
 
 -- a machine that is not spent takes the step
@@ -52,28 +56,33 @@ all_clocked : (services : List Supervised) (clock at : ℕ) (h : List Moment) �
 all_clocked services clock at h all = λ k d lt. clock_agrees (get_or services k d).chart.sid clock at (get_or services k d).status h (all k d lt)
 
 -- what was given before changes no reply
-reply_alone : {A : Type 0} (choice : Chosen) (events : List Event) (orders : List Order) (w : Worked) → chosen_reply {A = A} choice (given_before events orders w) ≡ chosen_reply choice w
-reply_alone (refuse why) events orders w = refl
-reply_alone nothing events orders w = refl
-reply_alone (report sid change) events orders w = refl
-reply_alone (letters sid change) events orders w = refl
-reply_alone (listing entries) events orders w = refl
-reply_alone (order which) events orders w = refl
-reply_alone (show row) events orders w = refl
+reply_alone : {A : Type 0} (choice : Chosen) (services : List Supervised) (events : List Event) (orders : List Order) (w : Worked)
+    → chosen_reply {A = A} choice services (given_before events orders w) ≡ chosen_reply choice services w
+reply_alone (refuse why) services events orders w = refl
+reply_alone nothing services events orders w = refl
+reply_alone (report sid change) services events orders w = refl
+reply_alone (letters sid change) services events orders w = refl
+reply_alone (listing entries) services events orders w = refl
+reply_alone (order which) services events orders w = refl
+reply_alone (show row) services events orders w = refl
+reply_alone (tally name) services events orders w = refl
+reply_alone (failure fails) services events orders w = refl
 
 -- the parts of a step at this moment
 pub record Makes {A : Type 0} (now clock : ℕ) (closing : Bool) (services : List Supervised) (next : ℕ) (input : Input A) (plan : StepPlan A) (prepared : Prepared) (effect : Effect A) (choice : Chosen) : Type 0 where
   pub now_is : plan.now ≡ now
   pub closes : plan.closing ≡ closing_after (chosen_work choice) closing
   pub works : worked_of prepared ≡ stepped (chosen_work choice) now (charts_of services) next
-  pub chooses : (m : Machine) (history : List Moment) → HasFired closing now services history m → Chooses input.act m choice
-  pub reply : effect.reply ≡ chosen_reply choice (worked_of prepared)
+  pub chooses : (m : Machine) (history : List Moment) → HasFired closing now services history m → Chooses input.act m services choice
+  pub reply : effect.reply ≡ chosen_reply choice services (worked_of prepared)
   pub events : effect.events.items ≡ prepared.events
   pub orders : effect.orders.items ≡ prepared.orders
   pub matched : effect.matched.items ≡ []
   pub released : effect.released.items ≡ []
   pub moments : plan.moments.items ≡ clock_moments clock input.at ++ map moment_of prepared.events
   pub agrees : (history : List Moment) → clock_of history ≡ now → AllAgree services history → AllAgree prepared.services (history ++ map moment_of prepared.events)
+  pub tallies : KeepTallied next services prepared.services (deaths_given (chosen_work choice) now (services_after (fire now) (charts_of services)))
+  pub sound : IsSound next (charts_of services)
 
 -- a machine, of what is there now and its past
 abbrev pub machine_with_history : ℕ → ℕ → Bool → List Supervised → ℕ → List Moment → List DeathOf → Machine
@@ -82,9 +91,9 @@ machine_with_history clock steps closing services next_sid history deaths =
 
 plan_makes : {A : Type 0} (clock steps : ℕ) (closing : Bool) (services : List Supervised) (next : ℕ) (input : Input A) (plan : StepPlan A) (prepared : Prepared) (effect : Effect A) (choice : Chosen)
     → steps < step_limit → Makes (max clock input.at) clock closing services next input plan prepared effect choice
-    → (history : List Moment) (deaths : List DeathOf) → AllAgree services history → clock ≡ clock_of history
+    → (history : List Moment) (deaths : List DeathOf) → AllAgree services history → AllTallied services deaths → AllBefore next deaths → clock ≡ clock_of history
     → Plans (machine_with_history clock steps closing services next history deaths) input plan prepared effect
-plan_makes {A} clock steps closing services next input plan prepared effect choice left p history deaths agrees reading =
+plan_makes {A} clock steps closing services next input plan prepared effect choice left p history deaths agrees tallied numbered reading =
     let m : Machine = machine_with_history clock steps closing services next history deaths in
     let now : ℕ = max clock input.at in
     let fired : Machine = with_moves (fire now) (clocked input.at m) in
@@ -92,12 +101,14 @@ plan_makes {A} clock steps closing services next input plan prepared effect choi
     let t = opened m input left in
     let seen : clock_of before ≡ now = sym (reading-clocked history clock input.at reading) in
     let all : AllAgree services before = all_clocked services clock input.at history agrees in
-    let chosen : Chooses input.act fired choice =
-    p.chooses fired before (record { clock = refl; closing_is = refl; services_are = refl; past = refl; agrees = all; reading = seen }) in
+    let chosen : Chooses input.act fired services choice =
+    p.chooses fired before (record { clock = refl; closing_is = refl; services_are = refl; past = refl; agrees = all; tallies = tallied; reading = seen }) in
     let cs = charts_of services in
     let given = given_before (events_after (fire now) cs) (orders_after (fire now) cs) in
     let work : worked_of prepared ≡ given (acted input.act fired).work =
     p.works ∙ ap given (ap (λ w. worked w now (services_after (fire now) cs) next) (sym chosen.work)) in
+    let died : deaths ++ deaths_given (chosen_work choice) now (services_after (fire now) cs) ≡ deaths ++ deaths_given (work_of input.act fired) now (services_after (fire now) cs) =
+    ap (λ w. deaths ++ deaths_given w now (services_after (fire now) cs)) (sym chosen.work) in
     let told : prepared.events ≡ events_after (fire now) cs ++ (acted input.act fired).work.events = ap (λ (w : Worked). w.events) work in
     record {
       clock = p.now_is ∙ sym (ap (λ s. s.machine.clock) t);
@@ -111,7 +122,7 @@ plan_makes {A} clock steps closing services next input plan prepared effect choi
           ∙ sym (ap (λ s. s.machine.history) t));
       outcome =
           (λ i. record {
-            reply = (p.reply ∙ (ap (chosen_reply choice) work ∙ (reply_alone choice (events_after (fire now) cs) (orders_after (fire now) cs) (acted input.act fired).work ∙ sym chosen.reply))) i;
+            reply = (p.reply ∙ (ap (chosen_reply choice services) work ∙ (reply_alone choice services (events_after (fire now) cs) (orders_after (fire now) cs) (acted input.act fired).work ∙ sym chosen.reply))) i;
             events = (p.events ∙ told) i;
             orders = (p.orders ∙ ap (λ (w : Worked). w.orders) work) i;
             matched = p.matched i;
@@ -122,6 +133,13 @@ plan_makes {A} clock steps closing services next input plan prepared effect choi
           subst (λ (h : List Moment). AllAgree prepared.services h)
           (append_assoc history (clock_moments clock input.at) (map moment_of prepared.events) ∙ ap (λ ms. history ++ ms) (sym p.moments))
           (p.agrees before seen all);
+      tallies =
+          subst (λ (ds : List DeathOf). AllTallied prepared.services ds) (died ∙ sym (ap (λ s. s.machine.deaths) t))
+          (p.tallies deaths numbered tallied);
+      numbered =
+          subst (λ (s : Stepped A). AllBefore prepared.next_sid s.machine.deaths) (sym t)
+          (subst (λ (n : ℕ). AllBefore n (deaths ++ deaths_given (work_of input.act fired) now (services_after (fire now) cs))) (sym (ap (λ (w : Worked). w.next_sid) work))
+          (joined_before (work_of input.act fired) now next (services_after (fire now) cs) deaths (fired_few now cs p.sound.few) (fired_numbers now next cs p.sound.order) numbered));
     }
 
 -- and it is the step of each machine that has now what a tree has
@@ -132,7 +150,7 @@ plans_all {A} pr now input plan prepared effect choice left later p m is =
     subst (λ (x : Machine). Plans x input plan prepared effect) (sym (λ i. record { clock = is.clock i; steps = is.steps i; closing = is.closing i; services = is.services i; next_sid = is.next_sid i; history = m.history; deaths = m.deaths }))
     (plan_makes pr.clock pr.steps pr.closing pr.services pr.next_sid input plan prepared effect choice left
     (subst (λ (n : ℕ). Makes n pr.clock pr.closing pr.services pr.next_sid input plan prepared effect choice) later p)
-    m.history m.deaths is.agrees (sym is.clock ∙ is.reading))
+    m.history m.deaths is.agrees is.tallies is.numbered (sym is.clock ∙ is.reading))
 
 -- what was refused was not done
 pub not_ok : {X E : Type 0} (r : Result X E) (e : E) (P : Type 0) → r ≡ Err e → IsOk r → P

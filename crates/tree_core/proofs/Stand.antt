@@ -18,6 +18,7 @@ use Rattle.tree_core.specs.Sound.{IsCounted, IsRecorded}
 use Rattle.tree_core.specs.StandsFor.{Stored, StandsFor}
 use Rattle.svscan_core.specs.Timers.{TimersAgree}
 use Rattle.svscan_core.specs.Registry.{Prepared}
+use Rattle.svscan_core.specs.Deaths.{AllTallied, AllBefore}
 use Rattle.svscan_core.specs.Sound.{AllAgree}
 use Rattle.svscan_core.specs.Table.{charts_of}
 use Rattle.tree_core.specs.declared.effect.Effect.{Effect}
@@ -36,6 +37,8 @@ is_now t m s = record {
   services = s.services;
   next_sid = s.next_sid;
   agrees = s.agrees;
+  tallies = s.tallies;
+  numbered = subst (λ (k : ℕ). AllBefore k m.deaths) s.next_sid s.numbered;
   reading = s.reading;
 }
 
@@ -70,6 +73,8 @@ stands_after {A} t new input plan prepared effect plans n m s =
             (subst (λ (h : List Moment). drop t.forgotten h ≡ t.kept ++ plan.moments.items) p.history
             (drop-append-le t.forgotten m.history plan.moments.items s.forgotten ∙ ap (λ h. h ++ plan.moments.items) s.kept));
         agrees = subst (λ (ss : List Supervised). AllAgree ss (after m input).history) (sym n.services) (subst (AllAgree prepared.services) p.history p.agrees);
+        tallies = subst (λ (ss : List Supervised). AllTallied ss (after m input).deaths) (sym n.services) p.tallies;
+        numbered = subst (λ (k : ℕ). AllBefore k (after m input).deaths) p.next_sid p.numbered;
         reading = step-reads m input s.reading;
       },
     )

@@ -1,6 +1,6 @@
 -- What each act does, and why it is refused.
-use Rattle.std.specs.Prelude.{ℕ, List, [], map, ◌==◌, if◌then◌else◌, bytes_eq, find, Option, None, Some}
-use Rattle.std.specs.List.{list_any, flat_map}
+use Rattle.std.specs.Prelude.{ℕ, List, [], Bool, ◌==◌, if◌then◌else◌, bytes_eq, find, Option, None, Some}
+use Rattle.std.specs.List.{list_any}
 use Rattle.s6_events.specs.declared.exit.Exit.{Exit}
 use Rattle.supervise_core.specs.declared.chart.ChartState.{ChartState}
 use Rattle.supervise_core.specs.declared.change.Change.{Change}
@@ -10,18 +10,19 @@ use Rattle.supervise_core.specs.ChartState.{is_gone}
 use Rattle.svscan_core.specs.declared.entry.Entry.{Entry}
 use Rattle.svscan_core.specs.Listing.{names_in}
 use Rattle.svscan_core.specs.Names.{repeats}
-use Rattle.svscan_core.specs.Work.{Work, Worked, worked, changed_at}
+use Rattle.svscan_core.specs.Work.{Work, Worked, worked}
 use Rattle.svscan_core.specs.Work.Work.{leave, change_one, apply_listing, command}
 use Rattle.tree_core.specs.declared.effect.Match.{Match}
 use Rattle.tree_core.specs.declared.effect.Release.{Release}
 use Rattle.tree_core.specs.declared.input.Act.{Act}
-use Rattle.tree_core.specs.declared.input.Act.TheVariants.{Scan, Scanctl, Svc, Started, StartFailed, Notify, Death, FinishEnded, Status}
+use Rattle.tree_core.specs.declared.input.Act.TheVariants.{Scan, Scanctl, Svc, Started, StartFailed, Notify, Death, FinishEnded, Status, Tally, Permafailon}
 use Rattle.tree_core.specs.declared.reply.Refusal.{Refusal}
 use Rattle.tree_core.specs.declared.reply.Refusal.TheVariants.{NoService, Stale, Closing, Repeated, Ended}
 use Rattle.tree_core.specs.declared.reply.Reply.{Reply}
-use Rattle.tree_core.specs.declared.reply.Reply.TheVariants.{Done, Refused, Scanned, Row as RowReply}
-use Rattle.tree_core.specs.Machine.{Machine, DeathOf}
+use Rattle.tree_core.specs.declared.reply.Reply.TheVariants.{Done, Refused, Scanned, Row as RowReply, Tally as TallyReply, PermanentFailure}
+use Rattle.tree_core.specs.Machine.{Machine}
 use Rattle.tree_core.specs.Rows.{row_named}
+use Rattle.tree_core.specs.Tallies.{tally_named, failure_named}
 
 -- what an act asks of those who listen; no act of today asks anything of them
 pub data Ask : Type 0 where
@@ -112,6 +113,15 @@ abbrev pub row_reply : {A : Type 0} → Option Row → Reply A
 row_reply None = Refused NoService
 row_reply (Some row) = RowReply row
 
+-- so are the last deaths of a service, and whether they are a permanent failure
+abbrev pub tally_reply : {A : Type 0} → Option (List (ℕ × Exit)) → Reply A
+tally_reply None = Refused NoService
+tally_reply (Some deaths) = TallyReply deaths
+
+abbrev pub failure_reply : {A : Type 0} → Option Bool → Reply A
+failure_reply None = Refused NoService
+failure_reply (Some fails) = PermanentFailure fails
+
 -- what each act is answered, where it is not refused, once its work was done
 abbrev pub answered : {A : Type 0} → Act A → Machine → Worked → Reply A
 answered (Scan listing) m w = Scanned (record { dropped = w.dropped; listed = w.listed })
@@ -121,6 +131,8 @@ answered (Notify sid generation bytes) m w = report_reply w
 answered (Death sid generation exit) m w = report_reply w
 answered (FinishEnded sid generation exit) m w = report_reply w
 answered (Status name) m w = row_reply (row_named name m)
+answered (Tally name) m w = tally_reply (tally_named name m)
+answered (Permafailon name seconds count items) m w = failure_reply (failure_named name seconds count items m)
 answered act m w = Done
 
 -- the work of an act, done
@@ -130,13 +142,3 @@ work_done act m = worked (work_of act m) m.clock m.services m.next_sid
 -- an act, done
 abbrev pub acted : {A : Type 0} → Act A → Machine → Acted A
 acted act m = record { reply = reply_unless (refused act m) (answered act m (work_done act m)); work = work_done act m }
-
--- a death of a service
-abbrev pub death_of : ℕ → ℕ × Exit → DeathOf
-death_of sid death = record { sid = sid; at = death.0; exit = death.1 }
-
--- the deaths that an act reports
-abbrev pub deaths_by : {A : Type 0} → Act A → Machine → List DeathOf
-deaths_by (Death sid generation exit) m =
-    flat_map (λ c. map (death_of c.sid) (changed_at sid (DeathReport generation exit) m.clock c).deaths) m.services
-deaths_by act m = []

@@ -1,6 +1,7 @@
 pub mod ScanReport
 pub mod Machine
 pub mod Rows
+pub mod Tallies
 pub mod Acts
 pub mod Effect
 pub mod Step

@@ -1,19 +1,13 @@
 -- The machine: what is there now, and all that has been.
 use Rattle.std.specs.Prelude.{ℕ, List, [], Bool, false}
-use Rattle.s6_events.specs.declared.exit.Exit.{Exit}
 use Rattle.s6_events.specs.declared.moment.Moment.{Moment}
 use Rattle.s6_events.specs.declared.order.Order.{Order}
 use Rattle.supervise_core.specs.declared.chart.ChartState.{ChartState}
 use Rattle.svscan_core.specs.declared.event.Event.{Event}
+use Rattle.svscan_core.specs.Deaths.{DeathOf}
 use Rattle.tree_core.specs.declared.effect.Match.{Match}
 use Rattle.tree_core.specs.declared.effect.Release.{Release}
 use Rattle.tree_core.specs.declared.reply.Reply.{Reply}
-
--- a death of a service: whose, when and how
-pub record DeathOf : Type 0 where
-  pub sid : ℕ
-  pub at : ℕ
-  pub exit : Exit
 
 -- the state: the clock, the steps taken, whether it is closing, the standing services in rising serial, the next serial, all
 -- moments so far, and all deaths so far

@@ -1,11 +1,13 @@
 -- A step that is known before anything is changed.
-use Rattle.std.specs.Prelude.{◌≡◌, ℕ, ◌+◌, ◌≤◌, ◌++◌, List, Bool, true, false, map, if◌then◌else◌, Option, None, Some}
+use Rattle.std.specs.Prelude.{◌≡◌, ℕ, ◌+◌, ◌≤◌, ◌++◌, List, Bool, true, false, map, if◌then◌else◌, find, bytes_eq, option_map, Option, None, Some}
 use Rattle.std.specs.List.{list_any}
 use Rattle.s6_events.specs.Clock.{clock_of}
+use Rattle.s6_events.specs.declared.exit.Exit.{Exit}
 use Rattle.s6_events.specs.declared.moment.Moment.{Moment}
 use Rattle.supervise_core.specs.declared.chart.ChartState.{ChartState}
 use Rattle.supervise_core.specs.Chart.{fire, is_due}
 use Rattle.supervise_core.specs.Service.{Supervised}
+use Rattle.svscan_core.specs.Deaths.{AllTallied, AllBefore}
 use Rattle.svscan_core.specs.Moves.{moment_of, services_after, events_after}
 use Rattle.svscan_core.specs.Registry.{Prepared}
 use Rattle.svscan_core.specs.Sound.{AllAgree}
@@ -13,14 +15,14 @@ use Rattle.svscan_core.specs.Table.{charts_of}
 use Rattle.svscan_core.specs.Work.{Work, Worked}
 use Rattle.svscan_core.specs.Work.Work.{leave, change_one, apply_listing, command}
 use Rattle.tree_core.specs.declared.choice.Choice.{Choice}
-use Rattle.tree_core.specs.declared.choice.Choice.TheVariants.{Refuse, Leave, Report, Letters, Listing, Command, Show}
+use Rattle.tree_core.specs.declared.choice.Choice.TheVariants.{Refuse, Leave, Report, Letters, Listing, Command, Show, Tally, Failure}
 use Rattle.tree_core.specs.declared.effect.Effect.{Effect}
 use Rattle.tree_core.specs.declared.input.Act.{Act}
-use Rattle.tree_core.specs.declared.input.Act.TheVariants.{Status, Tick}
+use Rattle.tree_core.specs.declared.input.Act.TheVariants.{Status, Permafailon, Tick}
 use Rattle.tree_core.specs.declared.input.Input.{Input}
 use Rattle.tree_core.specs.declared.plan.StepPlan.{StepPlan}
 use Rattle.tree_core.specs.declared.reply.Reply.{Reply}
-use Rattle.tree_core.specs.declared.reply.Reply.TheVariants.{Done, Refused, Scanned, Row as RowReply}
+use Rattle.tree_core.specs.declared.reply.Reply.TheVariants.{Done, Refused, Scanned, Row as RowReply, PermanentFailure}
 use Rattle.supervise_core.specs.ChartState.{is_gone}
 use Rattle.supervise_core.specs.declared.change.Change.{Change}
 use Rattle.supervise_core.specs.declared.row.Row.{Row}
@@ -30,7 +32,7 @@ use Rattle.tree_core.specs.declared.reply.Refusal.TheVariants.{NoService, Ended,
 use Rattle.svscan_core.specs.declared.entry.ScanOrder.{ScanOrder}
 use Rattle.svscan_core.specs.Listing.{names_in}
 use Rattle.svscan_core.specs.Names.{repeats}
-use Rattle.tree_core.specs.Acts.{acted, work_of, report_reply}
+use Rattle.tree_core.specs.Acts.{acted, work_of, report_reply, tally_reply}
 use Rattle.tree_core.specs.Effect.{outcome_of}
 use Rattle.tree_core.specs.Machine.{Machine}
 use Rattle.tree_core.specs.Step.{step}
@@ -44,6 +46,8 @@ pub data Chosen : Type 0 where
   listing : List Entry → Chosen
   order : ScanOrder → Chosen
   show : Row → Chosen
+  tally : List ℕ → Chosen
+  failure : Bool → Chosen
 
 -- as the code has it
 abbrev pub plain : Choice → Chosen
@@ -54,11 +58,14 @@ plain (Letters sid change) = letters sid change
 plain (Listing entries) = listing entries.now
 plain (Command which) = order which
 plain (Show row) = show row
+plain (Tally name) = tally name
+plain (Failure fails) = failure fails
 
--- whether a listing is handed on
-abbrev pub is_listing : Chosen → Bool
-is_listing (listing entries) = true
-is_listing chosen = false
+-- whether the answer has a list, for which there must be memory
+abbrev pub lists_more : Chosen → Bool
+lists_more (listing entries) = true
+lists_more (tally name) = true
+lists_more chosen = false
 
 -- what that asks of the services
 abbrev pub chosen_work : Chosen → Work
@@ -68,13 +75,19 @@ chosen_work (listing entries) = apply_listing entries
 chosen_work (order which) = command which
 chosen_work chosen = leave
 
--- and how it is answered, once that was done
-abbrev pub chosen_reply : {A : Type 0} → Chosen → Worked → Reply A
-chosen_reply (refuse why) w = Refused why
-chosen_reply (report sid change) w = report_reply w
-chosen_reply (listing entries) w = Scanned (record { dropped = w.dropped; listed = w.listed })
-chosen_reply (show row) w = RowReply row
-chosen_reply chosen w = Done
+-- the deaths that the service of a name has in its tally
+abbrev pub tally_in : List ℕ → List Supervised → Option (List (ℕ × Exit))
+tally_in name services = option_map (λ s. s.tally.kept) (find (λ s. bytes_eq name s.chart.name) services)
+
+-- and how it is answered, once that was done; the tallies are those of the services before the step
+abbrev pub chosen_reply : {A : Type 0} → Chosen → List Supervised → Worked → Reply A
+chosen_reply (refuse why) services w = Refused why
+chosen_reply (report sid change) services w = report_reply w
+chosen_reply (listing entries) services w = Scanned (record { dropped = w.dropped; listed = w.listed })
+chosen_reply (show row) services w = RowReply row
+chosen_reply (tally name) services w = tally_reply (tally_in name services)
+chosen_reply (failure fails) services w = PermanentFailure fails
+chosen_reply chosen services w = Done
 
 -- a machine whose timers went off at this moment, of these services
 pub record HasFired (closing : Bool) (now : ℕ) (services : List Supervised) (history : List Moment) (m : Machine) : Type 0 where
@@ -83,12 +96,13 @@ pub record HasFired (closing : Bool) (now : ℕ) (services : List Supervised) (h
   pub services_are : m.services ≡ services_after (fire now) (charts_of services)
   pub past : m.history ≡ history ++ map moment_of (events_after (fire now) (charts_of services))
   pub agrees : AllAgree services history
+  pub tallies : AllTallied services m.deaths
   pub reading : clock_of history ≡ now
 
--- what was chosen is what the act does on the machine
-pub record Chooses {A : Type 0} (act : Act A) (m : Machine) (chosen : Chosen) : Type 0 where
+-- what was chosen is what the act does on the machine, whose timers went off on these services
+pub record Chooses {A : Type 0} (act : Act A) (m : Machine) (services : List Supervised) (chosen : Chosen) : Type 0 where
   pub work : work_of act m ≡ chosen_work chosen
-  pub reply : (acted act m).reply ≡ chosen_reply chosen (acted act m).work
+  pub reply : (acted act m).reply ≡ chosen_reply chosen services (acted act m).work
 
 -- a report for a service that is there, or not
 abbrev pub report_choice : Bool → ℕ → Change → Chosen
@@ -104,6 +118,11 @@ letters_choice (Some c) change = if is_gone c.phase then refuse Ended else lette
 abbrev pub row_choice : Option Row → Chosen
 row_choice None = refuse NoService
 row_choice (Some row) = show row
+
+-- deaths that were found, and whether they are a permanent failure
+abbrev pub failure_choice : Option Bool → Chosen
+failure_choice None = refuse NoService
+failure_choice (Some fails) = failure fails
 
 -- a listing that is refused, or handed on
 abbrev pub scan_choice : Bool → List Entry → Chosen
@@ -121,7 +140,8 @@ abbrev pub present : ℕ → ℕ → Bool → List Supervised → ℕ → Presen
 present clock steps closing services next_sid =
     record { clock = clock; steps = steps; closing = closing; services = services; next_sid = next_sid }
 
--- the machine has this now, and a history that agrees with what the services store of their marks
+-- the machine has this now, a history that agrees with what the services store of their marks, and deaths of which their tallies
+-- have the last
 pub record IsNow (p : Present) (m : Machine) : Type 0 where
   pub clock : m.clock ≡ p.clock
   pub steps : m.steps ≡ p.steps
@@ -129,11 +149,14 @@ pub record IsNow (p : Present) (m : Machine) : Type 0 where
   pub services : m.services ≡ charts_of p.services
   pub next_sid : m.next_sid ≡ p.next_sid
   pub agrees : AllAgree p.services m.history
+  pub tallies : AllTallied p.services m.deaths
+  pub numbered : AllBefore p.next_sid m.deaths
   pub reading : m.clock ≡ clock_of m.history
 
 -- the act reads, and does nothing
 abbrev pub is_reading : {A : Type 0} → Act A → Bool
 is_reading (Status name) = true
+is_reading (Permafailon name seconds count items) = true
 is_reading Tick = true
 is_reading act = false
 
@@ -153,3 +176,5 @@ pub record Plans {A : Type 0} (m : Machine) (input : Input A) (plan : StepPlan A
   pub history : m.history ++ plan.moments.items ≡ (step m input).machine.history
   pub outcome : outcome_of effect ≡ (step m input).outcome
   pub agrees : AllAgree prepared.services (m.history ++ plan.moments.items)
+  pub tallies : AllTallied prepared.services (step m input).machine.deaths
+  pub numbered : AllBefore prepared.next_sid (step m input).machine.deaths

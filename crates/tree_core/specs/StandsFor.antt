@@ -4,6 +4,7 @@ use Rattle.s6_events.specs.Clock.{clock_of}
 use Rattle.s6_events.specs.declared.moment.Moment.{Moment}
 use Rattle.supervise_core.specs.Service.{Supervised}
 use Rattle.tree_core.specs.Machine.{Machine}
+use Rattle.svscan_core.specs.Deaths.{AllTallied, AllBefore}
 use Rattle.svscan_core.specs.Sound.{AllAgree}
 use Rattle.svscan_core.specs.Table.{charts_of}
 
@@ -18,8 +19,8 @@ pub record Stored : Type 0 where
   pub forgotten : ℕ
   pub kept : List Moment
 
--- a tree stands for each machine with which it agrees in all that it stores, whatever it has forgotten, and whose clock is the
--- last clock reading of its history
+-- a tree stands for each machine with which it agrees in all that it stores, whatever it has forgotten: whose clock is the last
+-- clock reading of its history, and whose deaths are those of serials given so far, of which each tally has the last
 pub record StandsFor (t : Stored) (m : Machine) : Type 0 where
   pub clock : m.clock ≡ t.clock
   pub steps : m.steps ≡ t.steps
@@ -29,4 +30,6 @@ pub record StandsFor (t : Stored) (m : Machine) : Type 0 where
   pub forgotten : t.forgotten ≤ length m.history
   pub kept : drop t.forgotten m.history ≡ t.kept
   pub agrees : AllAgree t.services m.history
+  pub tallies : AllTallied t.services m.deaths
+  pub numbered : AllBefore m.next_sid m.deaths
   pub reading : m.clock ≡ clock_of m.history

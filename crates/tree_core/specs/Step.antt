@@ -11,8 +11,9 @@ use Rattle.tree_core.specs.declared.input.Act.{Act}
 use Rattle.tree_core.specs.declared.input.Input.{Input}
 use Rattle.tree_core.specs.declared.reply.Refusal.TheVariants.{Spent}
 use Rattle.tree_core.specs.declared.reply.Reply.TheVariants.{Refused}
-use Rattle.tree_core.specs.Acts.{acted, work_of, deaths_by, ask_of, heard}
+use Rattle.tree_core.specs.Acts.{acted, work_of, ask_of, heard}
 use Rattle.tree_core.specs.Machine.{Machine, Outcome}
+use Rattle.svscan_core.specs.Deaths.{deaths_given}
 use Rattle.svscan_core.specs.Moves.{services_after, events_after, orders_after, moment_of}
 use Rattle.svscan_core.specs.Work.{closing_after}
 
@@ -37,14 +38,14 @@ clocked at m = record m { clock = max m.clock at; history = m.history ++ clock_m
 abbrev pub with_moves : (ChartState → Moved) → Machine → Machine
 with_moves move m = record m { services = services_after move m.services; history = m.history ++ map moment_of (events_after move m.services) }
 
--- an act is done: its marks join the history, and its deaths the deaths; after a terminate the tree is closing
+-- an act is done: its marks join the history, and the deaths that its work reports join the deaths; after a terminate the tree is closing
 abbrev pub with_act : {A : Type 0} → Act A → Machine → Machine
 with_act act m = record m {
   services = (acted act m).work.services;
   next_sid = (acted act m).work.next_sid;
   closing = closing_after (work_of act m) m.closing;
   history = m.history ++ map moment_of (acted act m).work.events;
-  deaths = m.deaths ++ deaths_by act m;
+  deaths = m.deaths ++ deaths_given (work_of act m) m.clock m.services;
 }
 
 -- the act is done on the machine, after its timers gave these events and orders, and the step is counted

@@ -1,5 +1,6 @@
-ghost use Rattle.std.specs.Prelude.{◌≡◌, ◌==◌, ◌+◌, ◌<◌, ◌^◌, ◌++◌, List, map, find, bytes_eq, option_map, All, IfOk, IsOk, true};
+ghost use Rattle.std.specs.Prelude.{◌≡◌, ◌==◌, ◌+◌, ◌<◌, ◌^◌, ◌++◌, List, map, find, bytes_eq, option_map, All, IfOk, IsOk, true, false};
 ghost use Rattle.std.specs.List.{list_any};
+ghost use Rattle.death_tally.specs.PermanentFailure.{is_permanent};
 ghost use Rattle.s6_events.specs.Clock.{clock_of};
 ghost use Rattle.supervise_core.specs.Chart.{fire};
 ghost use Rattle.supervise_core.specs.StatusRow.{status_row};
@@ -11,11 +12,12 @@ ghost use Rattle.svscan_core.specs.Asked.{asked_by, IsOrderly};
 ghost use Rattle.svscan_core.specs.Table.{charts_of};
 ghost use Rattle.svscan_core.specs.Work.Work.{leave};
 ghost use Rattle.tree_core.specs.Machine.{Machine};
-ghost use Rattle.tree_core.specs.Plan.{plain, chosen_work, report_choice, letters_choice, row_choice, scan_choice, Chooses, HasFired, is_reading};
+ghost use Rattle.tree_core.specs.Plan.{plain, chosen_work, lists_more, report_choice, letters_choice, row_choice, failure_choice, scan_choice, tally_in, Chooses, HasFired, is_reading};
 
 use super::input::Act;
 use super::reply::Refusal;
 use arrayvec::ArrayVec;
+use death_tally::{DeathList, permafails};
 use s6_events::{At, Name, NoMemory, Sid};
 use std::alloc::Allocator;
 use supervise_core::{Change, Phase, Row};
@@ -32,6 +34,8 @@ pub enum Choice<'a> {
     Listing(&'a [Entry]),
     Command(ScanOrder),
     Show(Row),
+    Tally(Name),
+    Failure(bool),
 }
 
 impl Choice<'_> {
@@ -93,12 +97,32 @@ fn letters<'a, A: Allocator + Copy>(
 fn show<'a, A: Allocator + Copy>(registry: &Registry<A>, name: Name, now: At) -> Choice<'a>
     requires { All (λ c. c.generation + 1 < 2 ^ 64) (charts_of registry.now.shown.services) }
     ensures work { chosen_work (plain result) ≡ leave }
+    ensures short { lists_more (plain result) ≡ false }
     ensures row { (history : List Moment) → clock_of history ≡ now → AllAgree registry.now.shown.services history
         → plain result ≡ row_choice (option_map (status_row (history ++ map moment_of (events_after (fire now) (charts_of registry.now.shown.services))) now)
         (find (λ c. bytes_eq name c.name) (services_after (fire now) (charts_of registry.now.shown.services)))) }
 {
     match registry.after_timers(name, now) {
         Some(standing) => Choice::Show(standing.status().row(&standing.chart(), now)),
+        None => Choice::Refuse(Refusal::NoService),
+    }
+}
+
+// Whether the last deaths of the service of a name are a permanent failure.
+fn judge<'a, A: Allocator + Copy>(
+    registry: &Registry<A>,
+    name: Name,
+    now: At,
+    seconds: u32,
+    count: u32,
+    list: &DeathList,
+) -> Choice<'a>
+    ensures work { chosen_work (plain result) ≡ leave }
+    ensures short { lists_more (plain result) ≡ false }
+    ensures failure { plain result ≡ failure_choice (option_map (is_permanent now seconds count list.now) (tally_in name registry.now.shown.services)) }
+{
+    match registry.named(name) {
+        Some(service) => { Choice::Failure(permafails(service.tally(), now, seconds, count, list)) }
         None => Choice::Refuse(Refusal::NoService),
     }
 }
@@ -129,10 +153,11 @@ pub fn choose<'a, A: Allocator + Copy>(
     now: At,
 ) -> Result<Choice<'a>, NoMemory>
     requires { All (λ c. c.generation + 1 < 2 ^ 64) (charts_of registry.now.shown.services) }
-    ensures chosen { IfOk result (λ choice. (m : Machine) → (history : List Moment) → HasFired closing now registry.now.shown.services history m → Chooses act.now m (plain choice)) }
+    ensures chosen { IfOk result (λ choice. (m : Machine) → (history : List Moment) → HasFired closing now registry.now.shown.services history m → Chooses act.now m registry.now.shown.services (plain choice)) }
     ensures orderly { IfOk result (λ choice. registry.now.shown.next_sid + 65 < 2 ^ 64 → IsOrderly registry.now.shown.next_sid (chosen_work (plain choice))) }
     ensures quiet { is_reading act.now ≡ true → IsOk result }
     ensures still { is_reading act.now ≡ true → IfOk result (λ choice. chosen_work (plain choice) ≡ leave) }
+    ensures short { is_reading act.now ≡ true → IfOk result (λ choice. lists_more (plain choice) ≡ false) }
 {
     match act {
         Act::Scan(listing) => scan(alloc, listing.entries(), closing),
@@ -165,6 +190,10 @@ pub fn choose<'a, A: Allocator + Copy>(
             Change::FinishEnded(*generation, *exit),
         )),
         Act::Status(name) => Ok(show(registry, *name, now)),
+        Act::Tally(name) => Ok(Choice::Tally(*name)),
+        Act::Permafailon(name, seconds, count, list) => {
+            Ok(judge(registry, *name, now, *seconds, *count, list))
+        }
         Act::Tick => Ok(Choice::Leave),
     }
 }

@@ -1,6 +1,7 @@
 ghost use Rattle.std.specs.Prelude.{◌≡◌};
 
 use arrayvec::ArrayVec;
+use death_tally::DeathList;
 use s6_events::{Actor, At, Exit, Name, Sid};
 use std::alloc::Allocator;
 use std::marker::Model;
@@ -59,6 +60,12 @@ pub enum Act<A: Allocator> {
     FinishEnded(Sid, u64, Exit),
     /// A user asked for the status row of the service of this name. Page `s6-svstat`.
     Status(Name),
+    /// A user asked for the last deaths of the service of this name. Page `servicedir`, `max-death-tally`.
+    Tally(Name),
+    /// A user asked whether the service of this name fails for good: whether at least so many of its last deaths are named by this
+    /// list and came no longer ago than so many seconds. In this order: the name, the seconds, how many, and the list. Page
+    /// `s6-permafailon`.
+    Permafailon(Name, u32, u32, DeathList),
     /// Nothing but the clock.
     Tick,
 }

@@ -17,7 +17,7 @@ mod verdict;
 pub use effect::{Effect, Match, Release};
 pub use hit::Hit;
 pub use input::{Act, Input, Listing};
-pub use reply::{Refusal, Reply, ScanReport};
+pub use reply::{Refusal, Reply, ScanReport, TallyReport};
 pub use svscan_core::{Entry, Event, Listed, ScanOrder};
 pub use tree::Tree;
 pub use verdict::Verdict;

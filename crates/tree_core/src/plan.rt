@@ -7,16 +7,17 @@ ghost use Rattle.svscan_core.specs.Table.{charts_of};
 ghost use Rattle.svscan_core.specs.Timers.{TimersAgree};
 ghost use Rattle.svscan_core.specs.Registry.{worked_of};
 ghost use Rattle.svscan_core.specs.Work.{AreDue, closing_after};
+ghost use Rattle.tree_core.specs.Acts.{tally_reply};
 ghost use Rattle.tree_core.specs.Machine.{Machine};
-ghost use Rattle.tree_core.specs.Plan.{present, plain, is_listing, chosen_work, chosen_reply, IsNow, Plans, IsQuiet};
+ghost use Rattle.tree_core.specs.Plan.{present, plain, lists_more, tally_in, chosen_work, chosen_reply, IsNow, Plans, IsQuiet};
 ghost use Rattle.tree_core.specs.Step.{clock_moments, step_limit};
 
 use super::choice::{Choice, choose};
 use super::effect::Effect;
 use super::input::Input;
-use super::reply::{Refusal, Reply, ScanReport};
+use super::reply::{Refusal, Reply, ScanReport, TallyReport};
 use deadlines::TimerChange;
-use s6_events::{At, Moment, NoMemory, Sid};
+use s6_events::{At, Moment, Name, NoMemory, Sid};
 use std::alloc::Allocator;
 use svscan_core::{Event, Registry, ScanOrder};
 
@@ -58,14 +59,28 @@ fn moments_of<A: Allocator + Copy>(
     Ok(moments)
 }
 
+// The last deaths of the service of a name are answered.
+fn tally_of<A: Allocator + Copy>(
+    alloc: A,
+    registry: &Registry<A>,
+    name: Name,
+) -> Result<Reply<A>, NoMemory>
+    ensures { IfOk result (λ reply. reply ≡ tally_reply (tally_in name registry.now.shown.services)) }
+{
+    match registry.named(name) {
+        Some(service) => Ok(Reply::Tally(TallyReport::new(service.tally().list(alloc)?))),
+        None => Ok(Reply::Refused(Refusal::NoService)),
+    }
+}
+
 // What is answered, once the work of the choice was prepared.
 fn reply_to<A: Allocator + Copy>(
     alloc: A,
     registry: &Registry<A>,
     choice: &Choice,
 ) -> Result<Reply<A>, NoMemory>
-    ensures reply { IfOk result (λ reply. reply ≡ chosen_reply (plain choice.now) (worked_of registry.now.prepared)) }
-    ensures quiet { is_listing (plain choice.now) ≡ false → IsOk result }
+    ensures reply { IfOk result (λ reply. reply ≡ chosen_reply (plain choice.now) registry.now.shown.services (worked_of registry.now.prepared)) }
+    ensures quiet { lists_more (plain choice.now) ≡ false → IsOk result }
 {
     Ok(match choice {
         Choice::Refuse(why) => Reply::Refused(*why),
@@ -75,6 +90,8 @@ fn reply_to<A: Allocator + Copy>(
             registry.listed().to_vec(alloc)?,
         )),
         Choice::Show(row) => Reply::Row(*row),
+        Choice::Tally(name) => tally_of(alloc, registry, *name)?,
+        Choice::Failure(fails) => Reply::PermanentFailure(*fails),
         Choice::Report(_, _) | Choice::Leave | Choice::Letters(_, _) | Choice::Command(_) => {
             Reply::Done
         }

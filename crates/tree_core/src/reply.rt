@@ -1,6 +1,6 @@
 ghost use Rattle.std.specs.Prelude.{◌≡◌};
 
-use s6_events::{Name, Sid};
+use s6_events::{At, Exit, Name, Sid};
 use std::alloc::Allocator;
 use std::marker::Model;
 use supervise_core::Row;
@@ -74,6 +74,37 @@ impl<A: Allocator> ScanReport<A> {
     }
 }
 
+/// The last deaths of a service, each with its moment, oldest first.
+#[derive(Drop)]
+pub struct TallyReport<A: Allocator> {
+    deaths: Vec<(At, Exit), A>,
+}
+
+impl<A: Allocator> Model for TallyReport<A> {
+    ghost use Rattle.std.specs.Prelude.{List, ℕ};
+    ghost use Rattle.s6_events.specs.declared.exit.Exit.{Exit};
+
+    ghost Value = { List (ℕ × Exit) };
+
+    ghost view = { λ r. r.deaths.items };
+}
+
+impl<A: Allocator> TallyReport<A> {
+    /// The report of these.
+    pub fn new(deaths: Vec<(At, Exit), A>) -> TallyReport<A>
+        ensures { result ≡ deaths.items }
+    {
+        TallyReport { deaths }
+    }
+
+    /// The deaths, oldest first.
+    pub fn deaths(&self) -> &[(At, Exit)]
+        ensures { result.now ≡ self.now }
+    {
+        self.deaths.as_slice()
+    }
+}
+
 /// The answer to an act.
 #[derive(Drop)]
 pub enum Reply<A: Allocator> {
@@ -85,4 +116,8 @@ pub enum Reply<A: Allocator> {
     Scanned(ScanReport<A>),
     /// The status row that was asked for.
     Row(Row),
+    /// The last deaths that were asked for.
+    Tally(TallyReport<A>),
+    /// Whether the last deaths are a permanent failure.
+    PermanentFailure(bool),
 }

@@ -2,6 +2,7 @@
 //! of a step may be refused. What a step gives is its clauses' matter; the worked rows run as scripts in `s6_replay`.
 use super::*;
 use arrayvec::ArrayVec;
+use death_tally::DeathList;
 use linked_list_allocator::LocalHeap;
 use s6_events::{Actor, At, Exit, Name, NoMemory, Sid};
 use servicedir::Config;
@@ -25,6 +26,8 @@ enum Deed {
     Death(u64, Exit),
     FinishEnded(u64, Exit),
     Status,
+    Tally,
+    Permafailon,
     Tick,
 }
 
@@ -66,6 +69,11 @@ fn bytes_of(count: u8) -> Result<ArrayVec<u8, 64>, Fail> {
     Ok(bytes)
 }
 
+fn list_of<A: Allocator + Copy>(alloc: A) -> Result<DeathList, Fail> {
+    let list = DeathList::parse(alloc, b"1,SIGKILL").ok().ok_or("memory")?;
+    Ok(list.ok_or("a list")?)
+}
+
 fn input<A: Allocator + Copy>(alloc: A, at: u64, deed: Deed, serial: u8) -> Result<Input<A>, Fail> {
     let sid = Sid(u64::from(serial));
     let act = match deed {
@@ -78,6 +86,8 @@ fn input<A: Allocator + Copy>(alloc: A, at: u64, deed: Deed, serial: u8) -> Resu
         Deed::Death(generation, exit) => Act::Death(sid, generation, exit),
         Deed::FinishEnded(generation, exit) => Act::FinishEnded(sid, generation, exit),
         Deed::Status => Act::Status(name_of(serial)?),
+        Deed::Tally => Act::Tally(name_of(serial)?),
+        Deed::Permafailon => Act::Permafailon(name_of(serial)?, 1, 1, list_of(alloc)?),
         Deed::Tick => Act::Tick,
     };
     Ok(Input {
@@ -88,7 +98,7 @@ fn input<A: Allocator + Copy>(alloc: A, at: u64, deed: Deed, serial: u8) -> Resu
 }
 
 // Each of 64 services in turn is told this: the moment, what it is told, and how many events and orders that gives in all.
-const ROUNDS: [(u64, Deed, usize, usize); 16] = [
+const ROUNDS: [(u64, Deed, usize, usize); 18] = [
     (0, Deed::Scan(66), 64, 64),
     (0, Deed::Started(1), 64, 0),
     (0, Deed::Notify(1, 63), 64, 0),
@@ -96,6 +106,8 @@ const ROUNDS: [(u64, Deed, usize, usize); 16] = [
     (5, Deed::Death(1, Exit::Killed(9)), 64, 64),
     (6, Deed::FinishEnded(1, Exit::Code(0)), 64, 0),
     (7, Deed::Status, 0, 0),
+    (7, Deed::Tally, 0, 0),
+    (7, Deed::Permafailon, 0, 0),
     (1005, Deed::Tick, 0, 64),
     (1006, Deed::StartFailed(2), 0, 0),
     (1008, Deed::Scan(0), 0, 0),
@@ -145,18 +157,20 @@ fn every_act_succeeds_with_ample_memory(rt: HostRuntime) -> Result<(), Fail> {
         let given = told_to_all(rt.alloc(), &mut tree, at, deed)?;
         assert_eq!(rt; given, (events, orders));
     }
-    assert_eq!(rt; shown(&tree)?, (1014, 1024, 64, true, false));
+    assert_eq!(rt; shown(&tree)?, (1014, 1152, 64, true, false));
     Ok(())
 }
 
-// Every act, to the first service or all: each makes something grow, but for the last two.
-const DEEDS: [(u64, Deed); 14] = [
+// Every act, to the first service or all: each makes something grow, but for the permafailon and the last two.
+const DEEDS: [(u64, Deed); 16] = [
     (0, Deed::Scan(3)),
     (0, Deed::Started(1)),
     (1, Deed::Notify(1, 3)),
     (2, Deed::Svc(ControlLetter::Terminate, 2)),
     (5, Deed::Death(1, Exit::Code(1))),
     (6, Deed::FinishEnded(1, Exit::Code(0))),
+    (6, Deed::Tally),
+    (6, Deed::Permafailon),
     (1005, Deed::Tick),
     (1006, Deed::StartFailed(2)),
     (1007, Deed::Svc(ControlLetter::Exit, 1)),
@@ -222,6 +236,6 @@ fn a_refused_step_hands_its_input_back_and_can_be_taken_again(rt: HostRuntime) -
         refusals > 50 && without > 5,
         "{refusals} refusals, {without} runs with none"
     );
-    assert_eq!(rt; steps, 2100);
+    assert_eq!(rt; steps, 2400);
     Ok(())
 }

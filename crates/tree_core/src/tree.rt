@@ -121,7 +121,7 @@ impl<A: Allocator + Copy> Tree<A> {
 
     /// Takes one input as `apply_into` does, with an effect of its own. A refused act is a step like any other. Where a growth was
     /// refused the same input comes back with `NoMemory`, and nothing has changed at all. A spent tree asks for no memory, nor does a
-    /// tick or a status at a moment that moves no clock while no timer is due.
+    /// tick, a status or a permafailon at a moment that moves no clock while no timer is due.
     pub fn apply(&mut self, input: Input<A>) -> Result<Effect<A>, (Input<A>, NoMemory)>
         ensures step { IfOk result (λ effect. (m : Machine) → StandsFor self.old m →
             (outcome_of effect ≡ outcome m input) × StandsFor self.new (after m input)) }

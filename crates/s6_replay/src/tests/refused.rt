@@ -30,6 +30,18 @@ const FINISH_BLOCKS: [&str; 5] = [
     "5 done\ne 1 O\ne 1 D\n",
 ];
 
+// A death, the tally that has it, and what it means.
+const TALLY: &str =
+    "s6-script 1\n0 1 scan web:tally=2\n0 1 started 1 1 5\n9 1 death 1 1 signal 11\n9 1 tally web\n9 1 permafailon web 1 1 1,SIGSEGV\n";
+
+const TALLY_BLOCKS: [&str; 5] = [
+    "1 scanned +1:web\ne 1 s\no run 1 1\n",
+    "2 done\ne 1 u\n",
+    "3 done\ne 1 d\ne 1 D\n",
+    "4 tally 9:s11\n",
+    "5 permafail 125\n",
+];
+
 // What a replay on a heap of so many bytes answers, and how many whole blocks it writes.
 fn replay_on_heap(
     alloc: Global,
@@ -75,6 +87,7 @@ fn each_growth_is_refused_in_turn(rt: HostRuntime) -> Result<(), Fail> {
         (SCRIPT, BLOCKS),
         (LETTERS, LETTERS_BLOCKS),
         (FINISH, FINISH_BLOCKS),
+        (TALLY, TALLY_BLOCKS),
     ];
     for (script, blocks) in scripts {
         refuse_in_turn(&rt, rt.alloc(), script, &blocks)?;
@@ -104,5 +117,6 @@ fn refuse_line_in_turn(rt: &impl Abort, alloc: Global, line: &[u8]) -> Result<()
 #[test]
 fn a_line_without_memory(rt: HostRuntime) -> Result<(), Fail> {
     refuse_line_in_turn(&rt, rt.alloc(), b"0 1 scan web:finish,kill=7 other")?;
-    refuse_line_in_turn(&rt, rt.alloc(), b"0 1 notify 1 1 0a0a")
+    refuse_line_in_turn(&rt, rt.alloc(), b"0 1 notify 1 1 0a0a")?;
+    refuse_line_in_turn(&rt, rt.alloc(), b"0 1 permafailon web 1 1 1-2,SIGHUP")
 }

@@ -268,6 +268,25 @@ const ENDS: &[(&str, &str, &str)] = &[
         "s6-script 1\n100 1 scan web\n50 1 started 1 1 7\n1100 1 status web\n",
         "\n3 row 1 web true true true false false 7 -1 -1 1 -1\n",
     ),
+    (
+        "tally-forgets-the-oldest",
+        "s6-script 1\n0 1 scan web:tally=3\n0 1 started 1 1 5\n100 1 death 1 1 code 1\n1100 1 started 1 2 5\n1200 1 death 1 2 code 1\n\
+        2200 1 started 1 3 5\n2300 1 death 1 3 code 1\n3300 1 started 1 4 5\n3400 1 death 1 4 code 1\n4400 1 started 1 5 5\n\
+        4500 1 death 1 5 code 1\n4500 1 tally web\n4500 1 permafailon web 60 4 1\n4500 1 permafailon web 60 3 1-2\n",
+        "\n12 tally 2300:c1 3400:c1 4500:c1\n13 permafail 0\n14 permafail 125\n",
+    ),
+    (
+        "tally-of-size-zero",
+        "s6-script 1\n0 1 scan web:tally=0\n0 1 started 1 1 5\n9 1 death 1 1 signal 11\n9 1 tally web\n\
+        9 1 permafailon web 1 0 SIGSEGV\n9 1 permafailon web 1 1 SIGSEGV\n",
+        "\n4 tally\n5 permafail 125\n6 permafail 0\n",
+    ),
+    (
+        "a stale death is not tallied, and a later scan brings no other size",
+        "s6-script 1\n0 1 scan web:tally=1\n0 1 started 1 1 5\n9 1 death 1 1 signal 11\n9 1 death 1 1 code 1\n10 1 scan web:tally=0\n\
+        10 1 tally web\n10 1 tally log\n10 1 permafailon log 1 0 1\n1009 1 permafailon web 1 1 1,SIGSEGV\n1010 1 permafailon web 1 1 SIGSEGV\n",
+        "\n6 tally 9:s11\n7 refused NoService\n8 refused NoService\n9 permafail 125\no run 1 2\n10 permafail 0\n",
+    ),
 ];
 
 // A replay of the script writes this transcript, and answers so.

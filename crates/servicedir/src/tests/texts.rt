@@ -1,4 +1,6 @@
-use crate::{Seen, ServiceFile, name_of, parse_digits, parse_number, parse_signal, signal_named};
+use crate::{
+    Seen, ServiceFile, name_of, parse_digits, parse_number, parse_signal, signal_name, signal_named,
+};
 use s6_events::Name;
 use std::process::Abort;
 use std::test::Fail;
@@ -73,6 +75,10 @@ fn reads_signals(rt: HostRuntime) {
     for name in SIGNALS.split(' ') {
         number = number.saturating_add(1);
         is_signal(&rt, name, signal_named(name.as_bytes()), Some(number));
+        assert!(&rt; signal_name(number) == Some(name), "{number}");
+    }
+    for number in [0u8, 32, 255] {
+        assert!(&rt; signal_name(number).is_none(), "{number}");
     }
     for (word, signal) in [("SIGKILL", Some(9)), ("KILL\n", None), ("9", None)] {
         is_signal(&rt, word, signal_named(word.as_bytes()), signal);

@@ -1,8 +1,10 @@
-use Rattle.std.proofs.Common.{◌≡◌, ◌∙◌, ◌≤◌, ◌++◌, sym, ap, subst, length, List, ℕ, true, arith, filter, map}
+use Rattle.std.proofs.Common.{◌≡◌, ◌∙◌, ◌≤◌, ◌++◌, [], append-nil, sym, ap, subst, length, List, ℕ, true, arith, filter, map}
 use Rattle.std.proofs.lemmas.List.{length-map}
 use Rattle.supervise_core.specs.Service.{Supervised}
 use Rattle.svscan_core.specs.declared.moves.Touched.{Touched}
 use Rattle.svscan_core.specs.Adding.{adding_of}
+use Rattle.svscan_core.specs.declared.visit.Visit.TheVariants.{Look}
+use Rattle.svscan_core.specs.Deaths.{DeathOf, AllBefore, AllTallied}
 use Rattle.svscan_core.specs.Listing.{names_in}
 use Rattle.svscan_core.specs.Moves.{moment_of}
 use Rattle.svscan_core.specs.Moving.{with_touched, timers_of, moving_of}
@@ -21,6 +23,7 @@ use Rattle.svscan_core.proofs.Scanned.{LeadsToScanned, leads_to_scanned, same_ev
 use Rattle.svscan_core.proofs.ScanTimers.{scan_timers}
 use Rattle.svscan_core.proofs.SerialsRise.{rising_before, looked_serials, work_numbers}
 use Rattle.svscan_core.proofs.Taking.{length_touched}
+use Rattle.svscan_core.proofs.Tallied.{no_visit_deaths}
 use Rattle.svscan_core.proofs.scan.plan_scan.Goals as goal
 
 pub visit_all-requires-clause-order : goal.visit_all-requires-clause-order
@@ -98,6 +101,19 @@ returns-clause-agrees g c = λ h at all.
     (sym c.add_names.ensures.touched)
     (subst (λ (ns : List (List ℕ)). AllAgree (prepared_services slots c.visit_all.new.self.touched.items ns c.add_names.new.self.added.items) (h ++ map moment_of c.add_names.new.moves.events.items))
     (sym c.add_names.ensures.dropped) ((leads g c).agrees h seen))
+
+pub returns-clause-tallies : goal.returns-clause-tallies
+returns-clause-tallies g c = λ deaths before all.
+    let slots = c.args.slots.now.services in
+    let standing = with_touched slots c.args.moves.now.touched.items in
+    let seen : AllTallied (with_touched slots c.visit_all.new.self.touched.items) (deaths ++ []) =
+    subst (λ (ds : List DeathOf). AllTallied (with_touched slots c.visit_all.new.self.touched.items) (deaths ++ ds))
+    (no_visit_deaths (Look c.args.listing) c.args.now (charts_of standing)) (c.in_ok-visit_all.ensures.takes.tallies deaths all) in
+    subst (λ (ts : List Touched). AllTallied (prepared_services slots ts c.add_names.new.self.dropped.items c.add_names.new.self.added.items) (deaths ++ []))
+    (sym c.add_names.ensures.touched)
+    (subst (λ (ns : List (List ℕ)). AllTallied (prepared_services slots c.visit_all.new.self.touched.items ns c.add_names.new.self.added.items) (deaths ++ []))
+    (sym c.add_names.ensures.dropped)
+    ((leads g c).tallies (deaths ++ []) (subst (λ (ds : List DeathOf). AllBefore c.args.scan.now.next_sid ds) (sym (append-nil deaths)) before) seen))
 
 pub returns-clause-timers : goal.returns-clause-timers
 returns-clause-timers g c = λ ts a.

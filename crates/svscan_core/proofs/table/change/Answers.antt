@@ -1,7 +1,8 @@
-use Rattle.std.proofs.Common.{◌+◌, ◌<◌, ◌^◌, ◌∙◌, sym, ap}
+use Rattle.std.proofs.Common.{◌+◌, ◌<◌, ◌^◌, ◌∙◌, ◌++◌, List, append-nil, sym, subst, ap}
 use Rattle.std.specs.Prelude.{is_some}
 use Rattle.supervise_core.specs.declared.chart.ChartState.{ChartState}
 use Rattle.supervise_core.specs.Service.{Supervised}
+use Rattle.svscan_core.specs.Deaths.{DeathOf, AllTallied}
 use Rattle.svscan_core.specs.Table.{charts_of}
 use Rattle.svscan_core.proofs.OnePlace.{none_reported}
 use Rattle.svscan_core.proofs.Places.{get_map}
@@ -19,8 +20,18 @@ pub returns-in_err-place-clause-known : goal.returns-in_err-place-clause-known
 returns-in_err-place-clause-known g c =
     ap is_some c.from_residual.ensures ∙ sym (any_chart c.args.slots.now.services c.args.sid ∙ c.in_err-place.ensures.none)
 
+pub returns-in_err-place-clause-tallies : goal.returns-in_err-place-clause-tallies
+returns-in_err-place-clause-tallies g c = λ deaths all.
+    let services = c.args.slots.now.services in
+    let none = none_reported c.args.sid c.args.change.now c.args.now (charts_of services) (any_chart services c.args.sid ∙ c.in_err-place.ensures.none) in
+    subst (λ (ds : List DeathOf). AllTallied services ds) (sym (ap (λ ds. deaths ++ ds) none.deaths ∙ append-nil deaths)) all
+
 pub returns-in_err-nth-clause-services : goal.returns-in_err-nth-clause-services
 returns-in_err-nth-clause-services g c =
+    absurd (not_empty c.args.slots.now.services c.in_ok-place.place c.args.sid c.in_ok-place.ensures.found c.in_err-nth.ensures)
+
+pub returns-in_err-nth-clause-tallies : goal.returns-in_err-nth-clause-tallies
+returns-in_err-nth-clause-tallies g c =
     absurd (not_empty c.args.slots.now.services c.in_ok-place.place c.args.sid c.in_ok-place.ensures.found c.in_err-nth.ensures)
 
 pub returns-in_err-nth-clause-known : goal.returns-in_err-nth-clause-known
@@ -43,7 +54,7 @@ changed g c =
     let is = c.standing-standing.ensures in
     changed_there c.args.sid c.args.now c.args.change.now services c.adopt.new.self.services c.in_ok-place.place s c.change-out.new.self c.death.result
     c.change-out.result c.requires.order c.in_ok-place.ensures.found there (rw is at c.change-out.ensures.gives) (rw is at c.change-out.ensures.agrees)
-    (rw is at c.change-out.ensures.sid) (c.adopt.ensures.services s there)
+    (rw is at c.change-out.ensures.sid) c.death.ensures (c.adopt.ensures.services s there)
 
 pub returns-clause-services : goal.returns-clause-services
 returns-clause-services g c = (changed g c).services
@@ -59,6 +70,9 @@ returns-clause-stale g c = (changed g c).stale
 
 pub returns-clause-agrees : goal.returns-clause-agrees
 returns-clause-agrees g c = (changed g c).agrees
+
+pub returns-clause-tallies : goal.returns-clause-tallies
+returns-clause-tallies g c = (changed g c).tallies
 
 pub returns-clause-known : goal.returns-clause-known
 returns-clause-known g c =

@@ -1,12 +1,15 @@
 use Rattle.std.proofs.Common.{length, subst, arith, ◌+◌, ◌∙◌, ◌++◌, refl, sym, ap, map}
-use Rattle.svscan_core.specs.Moves.{moment_of}
-use Rattle.svscan_core.specs.Table.{charts_of}
+use Rattle.supervise_core.specs.Chart.{fire}
+use Rattle.svscan_core.specs.Deaths.{deaths_given, KeepTallied}
+use Rattle.svscan_core.specs.Moves.{moment_of, services_after}
+use Rattle.svscan_core.specs.Registry.{worked_of}
+use Rattle.svscan_core.specs.Table.{Table, charts_of}
 use Rattle.svscan_core.specs.Asked.{asked_by}
-use Rattle.svscan_core.specs.Work.{Worked, stepped}
+use Rattle.svscan_core.specs.Work.{Work, Worked, stepped}
 use Rattle.svscan_core.proofs.Few.{step_next}
 use Rattle.svscan_core.proofs.Marks.{step_events}
 use Rattle.svscan_core.proofs.Growing.{Below, step_grows}
-use Rattle.tree_core.specs.Plan.{present, plain}
+use Rattle.tree_core.specs.Plan.{present, plain, chosen_reply}
 use Rattle.tree_core.specs.Step.{clock_moments}
 use Rattle.tree_core.proofs.PlanMakes.{plans_all, not_ok, not_ok_and}
 use Rattle.tree_core.proofs.plan.plan_step.Goals as goal
@@ -21,13 +24,16 @@ returns-clause-step g c = λ steps left m is.
       closes = c.closes.ensures;
       works = c.in_ok-prepare.ensures.prepared ∙ ap (λ w. stepped w c.later-now.result (charts_of services) next) c.work.ensures;
       chooses = λ n history fired. c.in_ok-choice.ensures.chosen n history fired;
-      reply = c.tell.ensures.reply ∙ c.in_ok-effect.ensures.reply;
+      reply = c.tell.ensures.reply ∙ (c.in_ok-effect.ensures.reply
+          ∙ ap (λ (t : Table). chosen_reply (plain c.in_ok-choice.choice) t.services (worked_of c.prepare.new.self.prepared)) c.prepare.ensures.shown);
       events = c.in_ok-tell.ensures.events ∙ (ap (λ es. es ++ c.events.result.now) c.requires.events ∙ c.events.ensures);
       orders = c.in_ok-tell.ensures.orders ∙ (ap (λ os. os ++ c.orders.result.now) c.requires.orders ∙ c.orders.ensures.orders);
       matched = c.tell.ensures.matched ∙ c.requires.matched;
       released = c.tell.ensures.released ∙ c.requires.released;
       moments = c.in_ok-moments.ensures.moments ∙ ap (λ es. clock_moments c.args.clock c.args.input.now.at ++ map moment_of es) c.events-2.ensures;
       agrees = c.in_ok-prepare.ensures.agrees;
+      tallies = subst (λ (w : Work). KeepTallied next services c.prepare.new.self.prepared.services (deaths_given w c.later-now.result (services_after (fire c.later-now.result) (charts_of services)))) c.work.ensures c.in_ok-prepare.ensures.tallies;
+      sound = c.len-count.ensures.sound;
     }) m is
 
 pub returns-clause-grows : goal.returns-clause-grows

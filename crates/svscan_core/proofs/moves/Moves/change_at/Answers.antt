@@ -9,6 +9,7 @@ use Rattle.svscan_core.specs.Moving.{with_touched, timers_of, moving_of, KeepNam
 use Rattle.supervise_core.specs.Chart.{changed_by}
 use Rattle.svscan_core.proofs.Places.{get_map}
 use Rattle.svscan_core.proofs.Taking.{stood, one_taken, touched_takes, touched_more, names_kept, chart_there}
+use Rattle.svscan_core.proofs.Tallied.{change_joins}
 use Rattle.svscan_core.proofs.moves.Moves.change_at.Goals as goal
 
 pub take-requires : goal.take-requires
@@ -29,6 +30,7 @@ returns-clause-takes g c = λ k there.
     (touched_takes c.args.now c.args.place ss (with_touched c.args.slots.now.services new.touched.items) c.args.self.now.events.items new.events.items c.args.self.now.orders.items new.orders.items (timers_of c.args.self.now.touched.items) (timers_of new.touched.items)
     old.0 c.in-Some.before after t.death (changed_by c.args.change.now c.args.now c.in-Some.before.chart) c.take.new.out old.1 old.2 c.requires.order
     c.take.ensures.gives c.take.ensures.agrees c.take.ensures.sid
+    (change_joins c.args.change.now c.args.now c.in-Some.before.chart _ c.death.result c.take.ensures.gives.stale c.death.ensures)
     (ap (with_touched c.args.slots.now.services) c.in_ok-touch.ensures.touched ∙ (touched_more c.args.slots.now.services c.args.self.now.touched.items t ∙ one_taken ss t old.0 old.1))
     c.in_ok-touch.ensures.events c.in_ok-touch.ensures.orders
     (ap timers_of c.in_ok-touch.ensures.touched ∙ map-append (λ (t : Touched). timer_change t.standing.chart) c.args.self.now.touched.items (t ∷ [])))

@@ -11,6 +11,7 @@ use Rattle.svscan_core.specs.Table.{charts_of, serials_of}
 use Rattle.svscan_core.specs.Visit.{visited}
 use Rattle.svscan_core.proofs.Places.{get_map}
 use Rattle.svscan_core.proofs.Taking.{stood, one_taken, stays_takes, touched_takes, touched_more, names_kept, serials_touched, chart_there}
+use Rattle.svscan_core.proofs.Tallied.{visit_joins}
 use Rattle.svscan_core.proofs.moves.Moves.visit_at.Goals as goal
 
 pub returns-then-passes-clause-takes : goal.returns-then-passes-clause-takes
@@ -39,7 +40,7 @@ returns-clause-takes g c = λ k there.
     subst (λ (x : ChartState). TakesAt c.args.now c.args.place x (visited c.args.visit c.args.now x) (moving_of c.args.slots.now.services c.args.self.now) (moving_of c.args.slots.now.services new)) is
     (touched_takes c.args.now c.args.place ss (with_touched c.args.slots.now.services new.touched.items) c.args.self.now.events.items new.events.items c.args.self.now.orders.items new.orders.items (timers_of c.args.self.now.touched.items) (timers_of new.touched.items)
     old.0 c.in-Some.before after t.death (visited c.args.visit c.args.now c.in-Some.before.chart) c.make.new.out old.1 old.2 c.requires.order
-    c.make.ensures.gives c.make.ensures.agrees c.make.ensures.sid
+    c.make.ensures.gives c.make.ensures.agrees c.make.ensures.sid (visit_joins c.args.visit c.args.now c.in-Some.before.chart)
     (ap (with_touched c.args.slots.now.services) c.in_ok-touch.ensures.touched ∙ (touched_more c.args.slots.now.services c.args.self.now.touched.items t ∙ one_taken ss t old.0 old.1))
     c.in_ok-touch.ensures.events c.in_ok-touch.ensures.orders
     (ap timers_of c.in_ok-touch.ensures.touched ∙ map-append (λ (t : Touched). timer_change t.standing.chart) c.args.self.now.touched.items (t ∷ [])))

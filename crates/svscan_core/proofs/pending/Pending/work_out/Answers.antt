@@ -1,4 +1,4 @@
-use Rattle.std.proofs.Common.{◌≡◌, ◌∙◌, ◌++◌, ◌+◌, ◌<◌, ◌∷◌, sym, ap, subst, List, [], append-nil, map}
+use Rattle.std.proofs.Common.{◌≡◌, ℕ, ◌∙◌, ◌++◌, ◌+◌, ◌<◌, ◌∷◌, sym, ap, subst, List, [], append-nil, map}
 use Rattle.std.specs.Prelude.{All}
 use Rattle.deadlines.specs.Timers.{is_rising}
 use Rattle.s6_events.specs.declared.moment.Moment.{Moment}
@@ -6,13 +6,18 @@ use Rattle.supervise_core.specs.declared.chart.ChartState.{ChartState}
 use Rattle.supervise_core.specs.Chart.{fire}
 use Rattle.svscan_core.specs.declared.event.Event.{Event}
 use Rattle.svscan_core.specs.declared.moves.Touched.{Touched}
+use Rattle.svscan_core.specs.declared.visit.Visit.TheVariants.{Fire}
+use Rattle.svscan_core.specs.Asked.{asked_by}
+use Rattle.svscan_core.specs.Deaths.{DeathOf, deaths_after, deaths_given, AllBefore, AllTallied}
 use Rattle.svscan_core.specs.Moves.{services_after, moment_of}
 use Rattle.svscan_core.specs.Moving.{with_touched}
 use Rattle.svscan_core.specs.Names.{repeats}
+use Rattle.svscan_core.specs.Pending.{prepared_of}
 use Rattle.svscan_core.specs.Sound.{AllAgree}
 use Rattle.svscan_core.specs.Table.{charts_of, names_of, serials_of}
 use Rattle.svscan_core.proofs.Generations.{all_fire}
 use Rattle.svscan_core.proofs.Names.{fired_names}
+use Rattle.svscan_core.proofs.Tallied.{no_visit_deaths}
 use Rattle.svscan_core.proofs.SerialsRise.{fired_serials, fired_numbers, rising_before}
 use Rattle.svscan_core.proofs.pending.Pending.work_out.Goals as goal
 
@@ -67,3 +72,18 @@ returns-clause-agrees g c = λ h at all.
     (subst (λ (es : List Event). AllAgree c.args.slots.now.services (h ++ map moment_of es)) (sym c.clear.ensures.events)
     (subst (λ (x : List Moment). AllAgree c.args.slots.now.services x) (sym (append-nil h)) all)) in
     c.in_ok-do_work.ensures.agrees h at (c.in_ok-fire_due.ensures.takes.agrees h at start)
+
+pub returns-clause-tallies : goal.returns-clause-tallies
+returns-clause-tallies g c = λ deaths before all.
+    let slots = c.args.slots.now.services in
+    let cs = charts_of slots in
+    let start : AllTallied (with_touched slots c.clear.new.self.moves.touched.items) deaths =
+    subst (λ (ts : List Touched). AllTallied (with_touched slots ts) deaths) (sym c.clear.ensures.touched) all in
+    let fired : charts_of (with_touched slots c.fire_due.new.moves.touched.items) ≡ services_after (fire c.args.now) cs =
+    c.in_ok-fire_due.ensures.takes.services ∙ ap (λ (ts : List Touched). services_after (fire c.args.now) (charts_of (with_touched slots ts))) c.clear.ensures.touched in
+    let none : deaths ++ deaths_after (fire c.args.now) (charts_of (with_touched slots c.clear.new.self.moves.touched.items)) ≡ deaths =
+    ap (λ ds. deaths ++ ds) (no_visit_deaths Fire c.args.now (charts_of (with_touched slots c.clear.new.self.moves.touched.items))) ∙ append-nil deaths in
+    let timed : AllTallied (with_touched slots c.fire_due.new.moves.touched.items) deaths =
+    subst (λ (ds : List DeathOf). AllTallied (with_touched slots c.fire_due.new.moves.touched.items) ds) none (c.in_ok-fire_due.ensures.takes.tallies deaths start) in
+    subst (λ (xs : List ChartState). AllTallied (prepared_of slots c.do_work.new.self).services (deaths ++ deaths_given (asked_by c.args.work.now) c.args.now xs)) fired
+    (c.in_ok-do_work.ensures.tallies deaths (subst (λ (n : ℕ). AllBefore n deaths) (sym c.clear.ensures.next_sid) before) timed)

@@ -26,3 +26,6 @@ returns-clause-stale g c = rw (← c.self.view_is) c.change-out.ensures.stale
 
 pub returns-clause-agrees : goal.returns-clause-agrees
 returns-clause-agrees g c = λ h at all. c.change-out.ensures.agrees h at (rw (← c.self.view_is) at all)
+
+pub returns-clause-tallies : goal.returns-clause-tallies
+returns-clause-tallies g c = rw (← c.self.view_is) (λ deaths before all. c.change-out.ensures.tallies deaths all)

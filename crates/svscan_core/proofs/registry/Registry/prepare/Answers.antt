@@ -1,7 +1,9 @@
 use Rattle.std.proofs.Common.{◌≤◌, ◌++◌, sym, subst, List, map, length}
+use Rattle.supervise_core.specs.Chart.{fire}
 use Rattle.supervise_core.specs.Service.{Supervised}
 use Rattle.svscan_core.specs.declared.pending.Pending.{Pending}
-use Rattle.svscan_core.specs.Moves.{moment_of}
+use Rattle.svscan_core.specs.Deaths.{deaths_given, KeepTallied}
+use Rattle.svscan_core.specs.Moves.{moment_of, services_after}
 use Rattle.svscan_core.specs.Moving.{KeepNames}
 use Rattle.svscan_core.specs.Asked.{asked_by}
 use Rattle.svscan_core.specs.Pending.{prepared_of}
@@ -38,3 +40,12 @@ returns-clause-agrees g c = λ h at all.
     let start : AllAgree services h = rw (← c.self.view_is) at all in
     subst (λ (ss : List Supervised). AllAgree (prepared_of ss c.settle.new.pending).services (h ++ map moment_of c.settle.new.pending.moves.events.items)) (sym c.settle.ensures.services)
     (subst (λ (p : Pending g.row.A.Denot). AllAgree (prepared_of services p).services (h ++ map moment_of p.moves.events.items)) (sym c.in_ok-settle.ensures.same) (agrees h at start))
+
+pub returns-clause-tallies : goal.returns-clause-tallies
+returns-clause-tallies g c =
+    let services = c.self.inside.slots.services in
+    let more = deaths_given (asked_by c.args.work.now) c.args.now (services_after (fire c.args.now) (charts_of services)) in
+    let tallies = on_ok c.work_out-worked.result _ c.work_out-worked.ensures.tallies c.in_ok-settle.ensures.ok in
+    rw (← c.self.view_is)
+    (subst (λ (ss : List Supervised). KeepTallied c.self.inside.next_sid services (prepared_of ss c.settle.new.pending).services more) (sym c.settle.ensures.services)
+    (subst (λ (p : Pending g.row.A.Denot). KeepTallied c.self.inside.next_sid services (prepared_of services p).services more) (sym c.in_ok-settle.ensures.same) tallies))

@@ -10,6 +10,6 @@ invariant_of-result g c =
       record { order = refl; moments = λ sid. refl },
       (
         new_machine,
-        record { clock = refl; steps = refl; closing = refl; services = refl; next_sid = refl; forgotten = omega arith; kept = refl; agrees = λ k d lt. absurd (omega (arith, lt)); reading = refl },
+        record { clock = refl; steps = refl; closing = refl; services = refl; next_sid = refl; forgotten = omega arith; kept = refl; agrees = λ k d lt. absurd (omega (arith, lt)); tallies = λ k d lt. absurd (omega (arith, lt)); numbered = λ k d lt. absurd (omega (arith, lt)); reading = refl },
       ),
     )
