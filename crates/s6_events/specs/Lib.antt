@@ -4,6 +4,7 @@ pub mod Mark
 pub mod Name
 pub mod NameInverse
 pub mod Clock
+pub mod Newest
 pub mod CurrentLetter
 pub mod History
 pub mod HistoryFields

@@ -12,6 +12,10 @@ use Rattle.s6_replay.specs.DeathList.{item_text, list_text}
 use Rattle.s6_replay.specs.Options.{entry_text}
 use Rattle.s6_replay.specs.Spelling.{act_words}
 
+pub join_words : (word : List ℕ) (words : List (List ℕ)) → join_with_byte 32 (word ∷ words) ≡ word ++ flat_map (λ w. 32 ∷ w) words
+join_words word [] = sym (append-nil word)
+join_words word (next ∷ words) = ap (λ rest. word ++ (32 ∷ rest)) (join_words next words)
+
 pub join_entries : (word : List ℕ) (entries : List Entry) → join_with_byte 32 (word ∷ map entry_text entries) ≡ word ++ flat_map (λ e. 32 ∷ entry_text e) entries
 join_entries word [] = sym (append-nil word)
 join_entries word (e ∷ entries) = ap (λ rest. word ++ (32 ∷ rest)) (join_entries (entry_text e) entries)

@@ -5,6 +5,7 @@ pub mod LineRead
 pub mod Entries
 pub mod DeathLists
 pub mod Plain
+pub mod Waits
 pub mod Reading
 pub mod Runs
 pub mod Letters

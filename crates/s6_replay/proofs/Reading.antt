@@ -9,7 +9,7 @@ use Rattle.s6_events.specs.Name.{is_name}
 use Rattle.s6_events.specs.declared.exit.Exit.{Exit}
 use Rattle.s6_events.specs.declared.exit.Exit.TheVariants.{Code, Killed}
 use Rattle.tree_core.specs.declared.input.Act.{Act}
-use Rattle.tree_core.specs.declared.input.Act.TheVariants.{Scan, Scanctl, Svc, Started, StartFailed, Notify, Death, FinishEnded, Status, Tally, Permafailon, Tick}
+use Rattle.tree_core.specs.declared.input.Act.TheVariants.{Scan, Scanctl, Svc, Started, StartFailed, Notify, Death, FinishEnded, Status, Tally, Permafailon, Wait, Cancel, Tick}
 use Rattle.tree_core.specs.declared.input.Input.{Input}
 use Rattle.s6_replay.specs.declared.parse.Verb.{Verb}
 use Rattle.s6_replay.specs.declared.parse.Verb.TheVariants.{Scan as ScanVerb, Permafailon as PermafailonVerb}
@@ -25,6 +25,7 @@ use Rattle.s6_replay.proofs.Joined.{is_no_space, has_no_space, split_joined}
 use Rattle.s6_replay.proofs.Plain.{digits_plain, name_plain, no_space_in}
 use Rattle.s6_replay.proofs.DeathLists.{list_back, list_no_space}
 use Rattle.s6_replay.proofs.Entries.{entries_no_space}
+use Rattle.s6_replay.proofs.Waits.{wait_no_space}
 
 pub scan_read : {A : Type 0} (texts : List (List ℕ)) (listing : List Entry) → ((entries : List Entry) → All IsEntry entries → texts ≡ map entry_text entries → listing ≡ entries)
     → (act : Act A) → IsAct act → ScanVerb ≡ verb_of_act act → texts ≡ details act → Scan listing ≡ act
@@ -39,6 +40,8 @@ scan_read texts listing reads (Death sid generation exit) h v d = cc
 scan_read texts listing reads (Status name) h v d = cc
 scan_read texts listing reads (Tally name) h v d = cc
 scan_read texts listing reads (Permafailon name seconds count items) h v d = cc
+scan_read texts listing reads (Wait condition mode timeout names) h v d = cc
+scan_read texts listing reads (Cancel id) h v d = cc
 scan_read texts listing reads Tick h v d = cc
 
 -- a permafailon, where what is found is the one of these words
@@ -57,6 +60,8 @@ permafailon_read texts found reads (Death sid generation exit) h v d = cc
 permafailon_read texts found reads (Status name) h v d = cc
 permafailon_read texts found reads (Tally name) h v d = cc
 permafailon_read texts found reads (Permafailon name seconds count items) h v d = reads name seconds count items h d
+permafailon_read texts found reads (Wait condition mode timeout names) h v d = cc
+permafailon_read texts found reads (Cancel id) h v d = cc
 permafailon_read texts found reads Tick h v d = cc
 
 -- the parts of a permafailon are read, each from its word
@@ -115,6 +120,8 @@ act_plain (Status name) h = rw (no_space_in name (name_plain name h)) refl
 act_plain (Tally name) h = rw (no_space_in name (name_plain name h)) refl
 act_plain (Permafailon name seconds count items) h =
     rw (no_space_in name (name_plain name h.0), digits_no_space seconds (omega arith), digits_no_space count (omega arith), list_no_space items h.3.fit) refl
+act_plain (Wait condition mode timeout names) h = wait_no_space condition mode timeout names (digits_no_space timeout (omega (arith, h.0))) h.1
+act_plain (Cancel id) h = rw (digits_no_space id h) refl
 act_plain Tick h = refl
 
 -- a spelling has the words of its input

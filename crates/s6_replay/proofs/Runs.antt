@@ -2,7 +2,7 @@
 use Rattle.std.proofs.Common.{◌≡◌, ℕ, ◌+◌, ◌*◌, ◌^◌, ◌<◌, ◌≤◌, List, [], ◌∷◌, ◌++◌, length, refl, sym, ap, ◌∙◌, subst, append_assoc, append-nil, arith, rules, inl, inr}
 use Rattle.std.specs.Prelude.{Option}
 use Rattle.std.specs.List.{flat_map, AllByRecursion}
-use Rattle.std.specs.Io.KnownBytes.{Consumes, Appends}
+use Rattle.std.specs.Io.KnownBytes.{IsAtEnd, Consumes, Appends}
 use Rattle.std.proofs.KnownBytes.{Consumes-trans, Appends-trans, Appends-nil}
 use Rattle.std.proofs.lemmas.List.{length-append}
 use Rattle.tree_core.specs.declared.input.Input.{Input}
@@ -192,6 +192,12 @@ ends_whole A a b c x y z tree new number counts inputs done few t = record {
   ended = t.1;
   counted = done.counted;
 }
+
+-- so it has where nothing is behind the last line that it may have
+pub ends_at_limit : (A : Type 0) (a b c x y : Option (List ℕ)) (tree : Stored) (number : ℕ) (counts : Counts) (inputs : List (Input A))
+    → RunsTo a b x y tree number counts inputs → number ≤ 1000000 → Consumes b c [] × IsAtEnd c → IsWhole inputs counts a c x y
+ends_at_limit A a b c x y tree number counts inputs done few t =
+    ends_whole A a b c x y y tree tree number counts inputs done few (t.0, t.1, refl)
 
 -- there was something behind the last line, or the reader failed there
 pub stops_at_end : (A : Type 0) (fault : ReplayFault) (a b c x y : Option (List ℕ)) (tree : Stored) (number : ℕ) (counts : Counts) (inputs : List (Input A))

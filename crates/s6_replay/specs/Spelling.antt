@@ -7,7 +7,7 @@ use Rattle.s6_events.specs.declared.exit.Exit.TheVariants.{Code, Killed}
 use Rattle.s6_events.specs.At.{last_moment}
 use Rattle.s6_events.specs.Name.{is_name}
 use Rattle.tree_core.specs.declared.input.Act.{Act}
-use Rattle.tree_core.specs.declared.input.Act.TheVariants.{Scan, Scanctl, Svc, Started, StartFailed, Notify, Death, FinishEnded, Status, Tally, Permafailon, Tick}
+use Rattle.tree_core.specs.declared.input.Act.TheVariants.{Scan, Scanctl, Svc, Started, StartFailed, Notify, Death, FinishEnded, Status, Tally, Permafailon, Wait, Cancel, Tick}
 use Rattle.tree_core.specs.declared.input.Input.{Input}
 use Rattle.s6_replay.specs.DeathList.{IsDeathList}
 use Rattle.s6_replay.specs.Options.{IsEntry}
@@ -31,7 +31,7 @@ IsExit (Code n) = n ≤ 255
 IsExit (Killed n) = n ≤ 64
 
 -- entries are entries, a name is a name, letters are 1 to 63, bytes are 1 to 64, serials and generations have 64 bits, a process number is positive
--- and has 31 bits, seconds and counts have 32 bits, and a list is a list
+-- and has 31 bits, seconds, counts and timeouts have 32 bits, and a list is a list
 abbrev pub IsAct : {A : Type 0} → Act A → Type 0
 IsAct (Scan listing) = All IsEntry listing
 IsAct (Scanctl order) = Unit {0}
@@ -45,6 +45,8 @@ IsAct (FinishEnded sid generation exit) = (sid < 2 ^ 64) × (generation < 2 ^ 64
 IsAct (Status name) = IsTrue (is_name name)
 IsAct (Tally name) = IsTrue (is_name name)
 IsAct (Permafailon name seconds count items) = IsTrue (is_name name) × (seconds ≤ 4294967295) × (count ≤ 4294967295) × IsDeathList items
+IsAct (Wait condition mode timeout names) = (timeout ≤ 4294967295) × All (λ name. IsTrue (is_name name)) names
+IsAct (Cancel id) = id < 2 ^ 64
 IsAct Tick = Unit {0}
 
 -- the input has a spelling

@@ -17,9 +17,9 @@ use Rattle.svscan_core.specs.declared.entry.Listed.TheVariants.{Added, Full, Unr
 use Rattle.tree_core.specs.declared.reply.Refusal.{Refusal}
 use Rattle.tree_core.specs.declared.reply.Refusal.TheVariants.{NoService, Stale, Reserved, TooMany, NoSuch, Closing, Repeated, Empty, Exists, Ended, Spent}
 use Rattle.tree_core.specs.declared.reply.Reply.{Reply}
-use Rattle.tree_core.specs.declared.reply.Reply.TheVariants.{Done, Refused, Scanned, Row as RowReply, Tally, PermanentFailure}
-use Rattle.tree_core.specs.declared.verdict.Verdict.{Verdict}
-use Rattle.tree_core.specs.declared.verdict.Verdict.TheVariants.{Held, Failed, Gone, TimedOut}
+use Rattle.tree_core.specs.declared.reply.Reply.TheVariants.{Done, Refused, Scanned, Row as RowReply, Tally, PermanentFailure, Waiter}
+use Rattle.wait_conditions.specs.declared.verdict.Verdict.{Verdict}
+use Rattle.wait_conditions.specs.declared.verdict.Verdict.TheVariants.{Held, Failed, Gone, TimedOut}
 use Rattle.tree_core.specs.Machine.{Outcome}
 
 -- a reason is printed by its name
@@ -101,6 +101,7 @@ reply_text (RowReply row) = row_text row
 reply_text (Scanned s) = codes "scanned" ++ flat_map dropped_text s.dropped ++ flat_map listed_text s.listed
 reply_text (Tally deaths) = codes "tally" ++ flat_map death_text deaths
 reply_text (PermanentFailure fails) = failure_text fails
+reply_text (Waiter id) = codes "wait " ++ decimal id
 
 -- the line of an event
 abbrev pub event_line : Event → List ℕ

@@ -1,15 +1,19 @@
 -- The words of an act: its verb, and the words behind it.
 use Rattle.std.specs.Prelude.{ℕ, List, [], ◌∷◌, codes, decimal, map}
 use Rattle.hex.specs.Hex.{encode_lower}
+use Rattle.s6_events.specs.declared.condition.Condition.{Condition}
+use Rattle.s6_events.specs.declared.condition.Condition.TheVariants as condition
+use Rattle.s6_events.specs.declared.condition.Mode.{Mode}
+use Rattle.s6_events.specs.declared.condition.Mode.TheVariants as mode
 use Rattle.s6_events.specs.declared.exit.Exit.{Exit}
 use Rattle.s6_events.specs.declared.exit.Exit.TheVariants.{Code, Killed}
 use Rattle.svc_commands.specs.ControlLetter.{byte_of}
 use Rattle.tree_core.specs.declared.input.Act.{Act}
 use Rattle.svscan_core.specs.declared.entry.ScanOrder.{ScanOrder}
 use Rattle.svscan_core.specs.declared.entry.ScanOrder.TheVariants.{Nuke, Terminate}
-use Rattle.tree_core.specs.declared.input.Act.TheVariants.{Scan, Scanctl, Svc, Started, StartFailed, Notify, Death, FinishEnded, Status, Tally, Permafailon, Tick}
+use Rattle.tree_core.specs.declared.input.Act.TheVariants.{Scan, Scanctl, Svc, Started, StartFailed, Notify, Death, FinishEnded, Status, Tally, Permafailon, Wait, Cancel, Tick}
 use Rattle.s6_replay.specs.declared.parse.Verb.{Verb}
-use Rattle.s6_replay.specs.declared.parse.Verb.TheVariants.{Scan as ScanVerb, Scanctl as ScanctlVerb, Svc as SvcVerb, Started as StartedVerb, StartFailed as StartFailedVerb, Notify as NotifyVerb, Death as DeathVerb, Finished as FinishedVerb, Status as StatusVerb, Tally as TallyVerb, Permafailon as PermafailonVerb, Tick as TickVerb}
+use Rattle.s6_replay.specs.declared.parse.Verb.TheVariants.{Scan as ScanVerb, Scanctl as ScanctlVerb, Svc as SvcVerb, Started as StartedVerb, StartFailed as StartFailedVerb, Notify as NotifyVerb, Death as DeathVerb, Finished as FinishedVerb, Status as StatusVerb, Tally as TallyVerb, Permafailon as PermafailonVerb, Wait as WaitVerb, Cancel as CancelVerb, Tick as TickVerb}
 use Rattle.s6_replay.specs.DeathList.{list_text}
 use Rattle.s6_replay.specs.Options.{entry_text}
 
@@ -26,6 +30,8 @@ verb_word FinishedVerb = codes "finished"
 verb_word StatusVerb = codes "status"
 verb_word TallyVerb = codes "tally"
 verb_word PermafailonVerb = codes "permafailon"
+verb_word WaitVerb = codes "wait"
+verb_word CancelVerb = codes "cancel"
 verb_word TickVerb = codes "tick"
 
 -- the verb of an act
@@ -41,6 +47,8 @@ verb_of_act (FinishEnded sid generation exit) = FinishedVerb
 verb_of_act (Status name) = StatusVerb
 verb_of_act (Tally name) = TallyVerb
 verb_of_act (Permafailon name seconds count items) = PermafailonVerb
+verb_of_act (Wait condition mode timeout names) = WaitVerb
+verb_of_act (Cancel id) = CancelVerb
 verb_of_act Tick = TickVerb
 
 -- the words of an exit
@@ -52,6 +60,19 @@ exit_words (Killed n) = codes "signal" ∷ decimal n ∷ []
 abbrev pub order_word : ScanOrder → List ℕ
 order_word Nuke = codes "n"
 order_word Terminate = codes "t"
+
+-- the letter of a condition, and that of a mode, as on the command line
+abbrev pub condition_word : Condition → List ℕ
+condition_word condition.Up = codes "u"
+condition_word condition.Ready = codes "U"
+condition_word condition.Down = codes "d"
+condition_word condition.Finished = codes "D"
+condition_word condition.Restarted = codes "r"
+condition_word condition.RestartedReady = codes "R"
+
+abbrev pub mode_word : Mode → List ℕ
+mode_word mode.All = codes "a"
+mode_word mode.One = codes "o"
 
 -- the words of an act behind its verb
 abbrev pub details : {A : Type 0} → Act A → List (List ℕ)
@@ -66,4 +87,6 @@ details (FinishEnded sid generation exit) = decimal sid ∷ decimal generation �
 details (Status name) = name ∷ []
 details (Tally name) = name ∷ []
 details (Permafailon name seconds count items) = name ∷ decimal seconds ∷ decimal count ∷ list_text items ∷ []
+details (Wait condition mode timeout names) = condition_word condition ∷ mode_word mode ∷ decimal timeout ∷ names
+details (Cancel id) = decimal id ∷ []
 details Tick = []

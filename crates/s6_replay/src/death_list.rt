@@ -1,5 +1,5 @@
 //! The list of exits of a `permafailon`, in a script: reading it, and its spelling.
-ghost use Rattle.std.specs.Prelude.{◌≡◌, ◌≤◌, ◌++◌, ◌∷◌, [], ℕ, unwrap_or, decimal, map, codes, string_bytes, IfOk, OnOk};
+ghost use Rattle.std.specs.Prelude.{◌≡◌, ◌++◌, ◌∷◌, [], unwrap_or, decimal, map, codes, string_bytes, IfOk, OnOk};
 ghost use Rattle.std.specs.List.{flat_map, join_with_byte};
 ghost use Rattle.servicedir.specs.SignalName.{name_of_signal};
 ghost use Rattle.s6_replay.specs.DeathList.{item_text, list_text};
@@ -7,20 +7,12 @@ ghost use Rattle.s6_replay.specs.Spelling.{IsAct};
 ghost use Rattle.s6_replay.specs.Verb.{verb_of_act, details};
 ghost use Rattle.s6_replay.specs.declared.parse.Verb.TheVariants.{Permafailon};
 
-use super::words::{name_of, number, word_at};
+use super::words::{count_of, name_of, word_at};
 use death_tally::{DeathItem, DeathList};
 use s6_events::{Name, NoMemory};
 use servicedir::signal_name;
 use std::alloc::{AllocError, Allocator};
 use tree_core::Act;
-
-// Reads a number of seconds, or of deaths.
-fn count_of(word: &[u8]) -> u32
-    ensures spelled { (n : ℕ) → n ≤ 4294967295 → word.now ≡ decimal n → result ≡ n }
-    ensures fits { result ≤ 4294967295 }
-{
-    number(word, u64::from(u32::MAX)) as u32
-}
 
 /// Reads a permafailon from the words behind its verb.
 pub fn permafailon_of<A: Allocator + Copy>(alloc: A, words: &[&[u8]]) -> Result<Act<A>, NoMemory>

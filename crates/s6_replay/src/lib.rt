@@ -16,6 +16,7 @@ mod spelling;
 #[cfg(test)]
 mod tests;
 mod turn;
+mod waiting;
 mod words;
 
 pub use block::{WriteFault, write_effect, write_whole};

@@ -12,9 +12,10 @@ ghost use Rattle.svscan_core.specs.declared.entry.ScanOrder.{ScanOrder};
 use super::death_list::permafailon_of;
 use super::entry_options::entries_of;
 use super::spelling::spell;
+use super::waiting::wait_of;
 use super::words::{is_word, name_of, number, word_at, words_from, words_of};
 use arrayvec::ArrayVec;
-use s6_events::{Actor, At, Exit, NoMemory, Sid};
+use s6_events::{Actor, At, Exit, NoMemory, Sid, WaitId};
 use std::alloc::{AllocError, Allocator};
 use svc_commands::{ControlLetter, Letters};
 use thiserror::Error;
@@ -68,6 +69,8 @@ pub enum Verb {
     Status,
     Tally,
     Permafailon,
+    Wait,
+    Cancel,
     Tick,
 }
 
@@ -109,6 +112,10 @@ fn verb_of(word: &[u8]) -> Verb
         Verb::Tally
     } else if is_word(word, b"permafailon") {
         Verb::Permafailon
+    } else if is_word(word, b"wait") {
+        Verb::Wait
+    } else if is_word(word, b"cancel") {
+        Verb::Cancel
     } else {
         Verb::Tick
     }
@@ -210,6 +217,8 @@ fn act_of<A: Allocator + Copy>(alloc: A, verb: Verb, words: &[&[u8]]) -> Result<
         Verb::Status => Ok(Act::Status(name)),
         Verb::Tally => Ok(Act::Tally(name)),
         Verb::Permafailon => permafailon_of(alloc, words),
+        Verb::Wait => wait_of(alloc, words),
+        Verb::Cancel => Ok(Act::Cancel(WaitId(number(word_at(words, 0), u64::MAX)))),
         Verb::Tick => Ok(Act::Tick),
     }
 }

@@ -2,6 +2,8 @@
 ghost use Rattle.std.specs.Prelude.{List, [], IfOk, IfErr, OnOk};
 ghost use Rattle.std.specs.Io.KnownBytes.{Consumes, IsAtEnd};
 ghost use Rattle.tree_core.specs.declared.input.Input.{Input};
+ghost use Rattle.tree_core.specs.Machine.{new_machine};
+ghost use Rattle.tree_core.specs.StandsFor.{StandsFor};
 ghost use Rattle.s6_replay.specs.Replay.{head_line, IsWhole, Stops};
 ghost use Rattle.s6_replay.specs.Turn.{HeadStops, EndStops};
 
@@ -47,6 +49,38 @@ fn read_end<R: BufRead>(reader: &mut R) -> Result<(), ReplayFault>
     }
 }
 
+// Replays a script on a tree that has taken no step, with a line and an effect whose memory is used again and again.
+fn replay_all<A: Allocator + Copy, R: BufRead, W: Write>(
+    alloc: A,
+    reader: &mut R,
+    writer: &mut W,
+    tree: &mut Tree<A>,
+    line: &mut Vec<u8, A>,
+    effect: &mut Effect<A>,
+) -> Result<Counts, ReplayFault>
+    requires { StandsFor tree.old new_machine }
+    ensures ok { IfOk result (λ counts. (inputs : List (Input A)) × IsWhole inputs counts
+        (R.remaining reader.old) (R.remaining reader.new) (W.contents writer.old) (W.contents writer.new)) }
+    ensures fault { IfErr result (λ fault. Stops A fault
+        (R.remaining reader.old) (R.remaining reader.new) (W.contents writer.old) (W.contents writer.new)) }
+{
+    if let Err(fault) = read_head(reader) {
+        return Err(fault);
+    }
+    let mut counts = Counts::none();
+    for done in 0..INPUT_LIMIT {
+        match take_turn(alloc, reader, writer, tree, line, effect, done + 1) {
+            Err(fault) => return Err(fault),
+            Ok(Turn::End) => return Ok(counts),
+            Ok(Turn::Done { events, orders }) => counts = counts.with_input(events, orders),
+        }
+    }
+    match read_end(reader) {
+        Err(fault) => Err(fault),
+        Ok(()) => Ok(counts),
+    }
+}
+
 /// Replays a script: reads its inputs one after the other, hands each to a new tree, and writes what the tree answers. The script is
 /// read through the reader's own buffer and written a block at a time, so hand in a buffered writer; it is not flushed here.
 ///
@@ -68,30 +102,8 @@ pub fn run<A: Allocator + Copy, R: BufRead, W: Write>(
     ensures fault { IfErr result (λ fault. Stops A fault
         (R.remaining reader.old) (R.remaining reader.new) (W.contents writer.old) (W.contents writer.new)) }
 {
-    if let Err(fault) = read_head(reader) {
-        return Err(fault);
-    }
     let mut tree = Tree::new(alloc);
     let mut line = Vec::new(alloc);
     let mut effect = Effect::new(alloc);
-    let mut counts = Counts::none();
-    for done in 0..INPUT_LIMIT {
-        match take_turn(
-            alloc,
-            reader,
-            writer,
-            &mut tree,
-            &mut line,
-            &mut effect,
-            done + 1,
-        ) {
-            Err(fault) => return Err(fault),
-            Ok(Turn::End) => return Ok(counts),
-            Ok(Turn::Done { events, orders }) => counts = counts.with_input(events, orders),
-        }
-    }
-    match read_end(reader) {
-        Err(fault) => Err(fault),
-        Ok(()) => Ok(counts),
-    }
+    replay_all(alloc, reader, writer, &mut tree, &mut line, &mut effect)
 }

@@ -263,6 +263,11 @@ pub fn push_reply<A: Allocator + Copy>(
         Reply::PermanentFailure(fails) => {
             text.extend_from_slice(failure_bytes(*fails).as_bytes())?;
         }
+        Reply::Waiter(waiter) => {
+            let waiter = waiter.0;
+            let part = format!(in alloc; "wait {waiter}")?;
+            text.extend_from_slice(part.as_bytes())?;
+        }
         Reply::Scanned(report) => {
             text.extend_from_slice(b"scanned")?;
             push_all_dropped(alloc, text, report.dropped())?;

@@ -9,6 +9,7 @@ ghost use Rattle.s6_replay.specs.Verb.{exit_words};
 
 use super::death_list::permafailon_text;
 use super::entry_options::push_entries;
+use super::waiting::wait_text;
 use s6_events::{Exit, Name, Sid};
 use std::alloc::{AllocError, Allocator};
 use svc_commands::ControlLetter;
@@ -123,6 +124,14 @@ fn act_text<A: Allocator + Copy>(alloc: A, act: &Act<A>) -> Result<Vec<u8, A>, A
         }
         Act::Permafailon(name, seconds, count, list) => {
             permafailon_text(alloc, name, *seconds, *count, list)
+        }
+        Act::Wait(condition, mode, timeout, names) => {
+            wait_text(alloc, *condition, *mode, *timeout, names.names())
+        }
+        Act::Cancel(waiter) => {
+            let waiter = waiter.0;
+            let text = format!(in alloc; "cancel {waiter}")?;
+            Ok(text.into_bytes())
         }
         Act::Tick => b"tick".to_vec(alloc),
     }

@@ -49,6 +49,14 @@ pub fn number(word: &[u8], most: u64) -> u64
     }
 }
 
+// Reads a number of 32 bits: of seconds, deaths or milliseconds.
+pub fn count_of(word: &[u8]) -> u32
+    ensures spelled { (n : ℕ) → n ≤ 4294967295 → word.now ≡ decimal n → result ≡ n }
+    ensures fits { result ≤ 4294967295 }
+{
+    number(word, u64::from(u32::MAX)) as u32
+}
+
 // Whether the word is this text.
 pub fn is_word(word: &[u8], text: &[u8]) -> bool
     ensures { result ≡ bytes_eq word.now text.now }

@@ -27,11 +27,16 @@ use Rattle.tree_core.specs.declared.input.Act.{Act}
 use Rattle.tree_core.specs.declared.input.Act.TheVariants.{Svc, Status, Tally, Permafailon}
 use Rattle.tree_core.specs.declared.reply.Refusal.TheVariants.{NoService, Ended}
 use Rattle.tree_core.specs.declared.reply.Reply.TheVariants.{Done}
-use Rattle.tree_core.specs.Acts.{refused, asked, answered, work_unless, reply_unless, refused_serial, refused_letters, change_found, report_reply, row_reply, tally_reply, failure_reply, work_done, named}
+use Rattle.wait_conditions.specs.declared.wait_change.WaitAnswer.{WaitAnswer}
+use Rattle.wait_conditions.specs.Steps.{Change as WaitChange}
+use Rattle.wait_conditions.specs.Steps.Change.{leave as leave_waiters}
+use Rattle.tree_core.specs.Acts.{refused, asked, ask_of, answered, work_unless, reply_unless, refused_serial, refused_letters, change_found, report_reply, row_reply, tally_reply, failure_reply, work_done, named}
+use Rattle.tree_core.specs.Listening.{Ask}
+use Rattle.tree_core.specs.Listening.Ask.{same}
 use Rattle.tree_core.specs.Machine.{Machine}
 use Rattle.tree_core.specs.Tallies.{tally_of, tally_named, failure_named}
-use Rattle.tree_core.specs.Plan.Chosen.{refuse, letters, tally}
-use Rattle.tree_core.specs.Plan.{Chosen, Chooses, HasFired, chosen_work, chosen_reply, report_choice, letters_choice, row_choice, failure_choice, tally_in}
+use Rattle.tree_core.specs.Plan.Chosen.{refuse, report, letters, tally}
+use Rattle.tree_core.specs.Plan.{Chosen, Chooses, Hears, HasFired, chosen_work, chosen_change, chosen_reply, report_choice, letters_choice, row_choice, failure_choice, tally_in}
 
 -- a serial is found where a service has it
 pub any_of : (sid : ℕ) (services : List Supervised) → is_some (find (λ s. s.chart.sid == sid) services) ≡ list_any (λ c. c.sid == sid) (charts_of services)
@@ -51,11 +56,23 @@ any_serial sid (c ∷ cs) = ap (λ b. (c.sid == sid) || b) (any_serial sid cs)
 pub still_known : (sid now : ℕ) (cs : List ChartState) → list_any (λ c. c.sid == sid) (services_after (fire now) cs) ≡ list_any (λ c. c.sid == sid) cs
 still_known sid now cs = any_serial sid (services_after (fire now) cs) ∙ (ap (λ ns. list_any (λ n. n == sid) ns) (fired_serials now cs) ∙ sym (any_serial sid cs))
 
+-- an act that is this one, and what was chosen, where it is this
+pub chooses_act : {A : Type 0} (act this : Act A) (m : Machine) (services : List Supervised) (chosen : Chosen) → act ≡ this → Chooses this m services chosen → Chooses act m services chosen
+chooses_act {A} act this m services chosen is c = subst (λ (a : Act A). Chooses a m services chosen) (sym is) c
+
+pub chooses_this : {A : Type 0} (act : Act A) (m : Machine) (services : List Supervised) (chosen this : Chosen) → chosen ≡ this → Chooses act m services this → Chooses act m services chosen
+chooses_this act m services chosen this is c = subst (λ (x : Chosen). Chooses act m services x) (sym is) c
+
+-- nothing is asked of the waiters
+pub hears_nothing : (m : Machine) (ask : Ask) (change : WaitChange) → ask ≡ same → change ≡ leave_waiters → Hears ask change m
+hears_nothing m ask change a c =
+    subst (λ (x : Ask). Hears x change m) (sym a) (subst (λ (x : WaitChange). Hears same x m) (sym c) (record { after = λ h. refl; at_once = λ h. refl }))
+
 -- a report
 pub chooses_report : {A : Type 0} (act : Act A) (m : Machine) (sid : ℕ) (change : Change) (closing : Bool) (now : ℕ) (services : List Supervised) (history : List Moment) (chosen : Chosen)
-    → refused act m ≡ refused_serial sid m.services → asked act m ≡ change_one sid change → ((w : Worked) → answered act m w ≡ report_reply w)
+    → refused act m ≡ refused_serial sid m.services → asked act m ≡ change_one sid change → ask_of act m ≡ same → ((w : Worked) → answered act m w ≡ report_reply w)
     → chosen ≡ report_choice (list_any (λ c. c.sid == sid) (charts_of services)) sid change → HasFired closing now services history m → Chooses act m services chosen
-chooses_report {A} act m sid change closing now services history chosen r a w is fired =
+chooses_report {A} act m sid change closing now services history chosen r a q w is fired =
     by (list_any (λ c. c.sid == sid) (charts_of services)) known is
   where
     known : list_any (λ c. c.sid == sid) m.services ≡ list_any (λ c. c.sid == sid) (charts_of services)
@@ -64,16 +81,18 @@ chooses_report {A} act m sid change closing now services history chosen r a w is
     by : (b : Bool) → list_any (λ c. c.sid == sid) m.services ≡ b → chosen ≡ report_choice b sid change → Chooses act m services chosen
     by true k e =
         let none : refused act m ≡ None = r ∙ ap (λ b. cond b None (Some NoService)) k in
-        record {
-          work = (λ i. work_unless (none i) (a i)) ∙ ap chosen_work (sym e);
-          reply = (λ i. reply_unless (none i) (w (work_done act m) i)) ∙ ap (λ x. chosen_reply x services (work_done act m)) (sym e);
-        }
+        chooses_this act m services chosen (report sid change) e (record {
+          work = λ i. work_unless (none i) (a i);
+          hears = hears_nothing m (ask_of act m) leave_waiters q refl;
+          reply = λ h i. reply_unless (none i) (w (work_done act m) i);
+        })
     by false k e =
         let some : refused act m ≡ Some NoService = r ∙ ap (λ b. cond b None (Some NoService)) k in
-        record {
-          work = ap (λ o. work_unless o (asked act m)) some ∙ ap chosen_work (sym e);
-          reply = ap (λ o. reply_unless o (answered act m (work_done act m))) some ∙ ap (λ x. chosen_reply x services (work_done act m)) (sym e);
-        }
+        chooses_this act m services chosen (refuse NoService) e (record {
+          work = ap (λ o. work_unless o (asked act m)) some;
+          hears = hears_nothing m (ask_of act m) leave_waiters q refl;
+          reply = λ h. ap (λ o. reply_unless o (answered act m (work_done act m))) some;
+        })
 
 -- letters
 letters_work : (o : Option ChartState) (change : Change) → work_unless (refused_letters o) (change_found o change) ≡ chosen_work (letters_choice o change)
@@ -84,44 +103,58 @@ letters_work (Some c) change = by (is_gone c.phase)
     by true = refl
     by false = refl
 
-letters_reply : {A : Type 0} (o : Option ChartState) (change : Change) (services : List Supervised) (w : Worked) → reply_unless {A = A} (refused_letters o) Done ≡ chosen_reply (letters_choice o change) services w
-letters_reply None change services w = refl
-letters_reply {A} (Some c) change services w = by (is_gone c.phase)
+letters_reply : {A : Type 0} (o : Option ChartState) (change : Change) (services : List Supervised) (w : Worked) (told : WaitAnswer) → reply_unless {A = A} (refused_letters o) Done ≡ chosen_reply (letters_choice o change) services w told
+letters_reply None change services w told = refl
+letters_reply {A} (Some c) change services w told = by (is_gone c.phase)
   where
-    by : (b : Bool) → reply_unless {A = A} (cond b (Some Ended) None) Done ≡ chosen_reply (cond b (refuse Ended) (letters c.sid change)) services w
+    by : (b : Bool) → reply_unless {A = A} (cond b (Some Ended) None) Done ≡ chosen_reply (cond b (refuse Ended) (letters c.sid change)) services w told
     by true = refl
     by false = refl
 
--- a row
-pub row_works : (o : Option Row) → chosen_work (row_choice o) ≡ leave
-row_works None = refl
-row_works (Some row) = refl
-
-row_replied : {A : Type 0} (o : Option Row) (services : List Supervised) (w : Worked) → row_reply {A = A} o ≡ chosen_reply (row_choice o) services w
-row_replied None services w = refl
-row_replied (Some row) services w = refl
-
-pub chooses_row : {A : Type 0} (name : List ℕ) (m : Machine) (closing : Bool) (now : ℕ) (services : List Supervised) (history : List Moment) (chosen : Chosen)
-    → chosen ≡ row_choice (option_map (status_row (history ++ map moment_of (events_after (fire now) (charts_of services))) now) (find (λ c. bytes_eq name c.name) (services_after (fire now) (charts_of services))))
-    → HasFired closing now services history m → Chooses {A = A} (Status name) m services chosen
-chooses_row {A} name m closing now services history chosen is fired =
-    let seen : chosen ≡ row_choice (option_map (status_row m.history m.clock) (find (λ c. bytes_eq name c.name) m.services)) =
-    is ∙ sym (λ i. row_choice (option_map (status_row (fired.past i) (fired.clock i)) (find (λ c. bytes_eq name c.name) (fired.services_are i)))) in
-    let o = option_map (status_row m.history m.clock) (find (λ c. bytes_eq name c.name) m.services) in
-    record {
-      work = sym (ap chosen_work seen ∙ row_works o);
-      reply = row_replied o services (work_done {A = A} (Status name) m) ∙ ap (λ x. chosen_reply x services (work_done {A = A} (Status name) m)) (sym seen);
-    }
+letters_change : (now : ℕ) (o : Option ChartState) (change : Change) → chosen_change now (letters_choice o change) ≡ leave_waiters
+letters_change now None change = refl
+letters_change now (Some c) change = by (is_gone c.phase)
+  where
+    by : (b : Bool) → chosen_change now (cond b (refuse Ended) (letters c.sid change)) ≡ leave_waiters
+    by true = refl
+    by false = refl
 
 pub chooses_letters : {A : Type 0} (name : List ℕ) (sent : _) (m : Machine) (closing : Bool) (now : ℕ) (services : List Supervised) (history : List Moment) (chosen : Chosen)
     → chosen ≡ letters_choice (find (λ c. bytes_eq name c.name) (services_after (fire now) (charts_of services))) (Control sent) → HasFired closing now services history m
     → Chooses {A = A} (Svc name sent) m services chosen
 chooses_letters {A} name sent m closing now services history chosen is fired =
     let seen : chosen ≡ letters_choice (named name m.services) (Control sent) = is ∙ sym (ap (λ cs. letters_choice (named name cs) (Control sent)) fired.services_are) in
-    record {
-      work = letters_work (named name m.services) (Control sent) ∙ ap chosen_work (sym seen);
-      reply = letters_reply (named name m.services) (Control sent) services (work_done {A = A} (Svc name sent) m) ∙ ap (λ x. chosen_reply x services (work_done {A = A} (Svc name sent) m)) (sym seen);
-    }
+    chooses_this (Svc name sent) m services chosen (letters_choice (named name m.services) (Control sent)) seen (record {
+      work = letters_work (named name m.services) (Control sent);
+      hears = hears_nothing m same _ refl (letters_change m.clock (named name m.services) (Control sent));
+      reply = λ h. letters_reply (named name m.services) (Control sent) services (work_done {A = A} (Svc name sent) m) _;
+    })
+
+-- a row
+pub row_works : (o : Option Row) → chosen_work (row_choice o) ≡ leave
+row_works None = refl
+row_works (Some row) = refl
+
+row_change : (now : ℕ) (o : Option Row) → chosen_change now (row_choice o) ≡ leave_waiters
+row_change now None = refl
+row_change now (Some row) = refl
+
+row_replied : {A : Type 0} (o : Option Row) (services : List Supervised) (w : Worked) (told : WaitAnswer) → row_reply {A = A} o ≡ chosen_reply (row_choice o) services w told
+row_replied None services w told = refl
+row_replied (Some row) services w told = refl
+
+pub chooses_row : {A : Type 0} (name : List ℕ) (m : Machine) (closing : Bool) (now : ℕ) (services : List Supervised) (history : List Moment) (chosen : Chosen)
+    → chosen ≡ row_choice (option_map (status_row (history ++ map moment_of (events_after (fire now) (charts_of services))) now) (find (λ c. bytes_eq name c.name) (services_after (fire now) (charts_of services))))
+    → HasFired closing now services history m → Chooses {A = A} (Status name) m services chosen
+chooses_row {A} name m closing now services history chosen is fired =
+    let o = option_map (status_row m.history m.clock) (find (λ c. bytes_eq name c.name) m.services) in
+    let seen : chosen ≡ row_choice o =
+    is ∙ sym (λ i. row_choice (option_map (status_row (fired.past i) (fired.clock i)) (find (λ c. bytes_eq name c.name) (fired.services_are i)))) in
+    chooses_this (Status name) m services chosen (row_choice o) seen (record {
+      work = sym (row_works o);
+      hears = hears_nothing m same _ refl (row_change m.clock o);
+      reply = λ h. row_replied o services (work_done {A = A} (Status name) m) _;
+    })
 
 -- the tally of a service has its last deaths, also once its timer went off
 tallied_so : (m : Machine) (now : ℕ) (s : Supervised) → IsTallied s m.deaths → tally_of m (fire now s.chart).chart ≡ s.tally.kept
@@ -149,18 +182,21 @@ tallies_seen name m closing now services history fired =
 
 pub chooses_tally : {A : Type 0} (name : List ℕ) (m : Machine) (closing : Bool) (now : ℕ) (services : List Supervised) (history : List Moment) (chosen : Chosen)
     → chosen ≡ tally name → HasFired closing now services history m → Chooses {A = A} (Tally name) m services chosen
-chooses_tally {A} name m closing now services history chosen is fired = record {
-  work = sym (ap chosen_work is);
-  reply = ap tally_reply (tallies_seen name m closing now services history fired) ∙ ap (λ x. chosen_reply x services (work_done {A = A} (Tally name) m)) (sym is);
-}
+chooses_tally name m closing now services history chosen is fired =
+    chooses_this (Tally name) m services chosen (tally name) is
+    (record { work = refl; hears = hears_nothing m same leave_waiters refl refl; reply = λ h. ap tally_reply (tallies_seen name m closing now services history fired) })
 
 failure_works : (o : Option Bool) → chosen_work (failure_choice o) ≡ leave
 failure_works None = refl
 failure_works (Some fails) = refl
 
-failure_replied : {A : Type 0} (o : Option Bool) (services : List Supervised) (w : Worked) → failure_reply {A = A} o ≡ chosen_reply (failure_choice o) services w
-failure_replied None services w = refl
-failure_replied (Some fails) services w = refl
+failure_change : (now : ℕ) (o : Option Bool) → chosen_change now (failure_choice o) ≡ leave_waiters
+failure_change now None = refl
+failure_change now (Some fails) = refl
+
+failure_replied : {A : Type 0} (o : Option Bool) (services : List Supervised) (w : Worked) (told : WaitAnswer) → failure_reply {A = A} o ≡ chosen_reply (failure_choice o) services w told
+failure_replied None services w told = refl
+failure_replied (Some fails) services w told = refl
 
 pub chooses_failure : {A : Type 0} (name : List ℕ) (seconds count : ℕ) (items : List DeathItem) (m : Machine) (closing : Bool) (now : ℕ) (services : List Supervised) (history : List Moment) (chosen : Chosen)
     → chosen ≡ failure_choice (option_map (is_permanent now seconds count items) (tally_in name services)) → HasFired closing now services history m
@@ -169,14 +205,11 @@ chooses_failure {A} name seconds count items m closing now services history chos
     let o = failure_named name seconds count items m in
     let seen : chosen ≡ failure_choice o =
     is ∙ sym (λ i. failure_choice (option_map (is_permanent (fired.clock i) seconds count items) (tallies_seen name m closing now services history fired i))) in
-    record {
-      work = sym (ap chosen_work seen ∙ failure_works o);
-      reply = failure_replied o services (work_done {A = A} (Permafailon name seconds count items) m) ∙ ap (λ x. chosen_reply x services (work_done {A = A} (Permafailon name seconds count items) m)) (sym seen);
-    }
-
--- an act that is this one
-pub chooses_act : {A : Type 0} (act this : Act A) (m : Machine) (services : List Supervised) (chosen : Chosen) → act ≡ this → Chooses this m services chosen → Chooses act m services chosen
-chooses_act {A} act this m services chosen is c = subst (λ (a : Act A). Chooses a m services chosen) (sym is) c
+    chooses_this (Permafailon name seconds count items) m services chosen (failure_choice o) seen (record {
+      work = sym (failure_works o);
+      hears = hears_nothing m same _ refl (failure_change m.clock o);
+      reply = λ h. failure_replied o services (work_done {A = A} (Permafailon name seconds count items) m) _;
+    })
 
 -- whether a serial was found
 pub known_by : {X : Type 0} (f : X → Supervised) (sid : ℕ) (services : List Supervised) (o : Option X) (b : Bool) → option_map f o ≡ find (λ s. s.chart.sid == sid) services → is_some o ≡ b

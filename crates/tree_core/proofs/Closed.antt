@@ -12,15 +12,15 @@ use Rattle.svscan_core.specs.Work.{Work, Worked, worked, closing_after}
 use Rattle.svscan_core.specs.Work.Work.{leave, change_one, apply_listing, command}
 use Rattle.svscan_core.proofs.Truth.{neither_of}
 use Rattle.tree_core.specs.declared.input.Act.{Act}
-use Rattle.tree_core.specs.declared.input.Act.TheVariants.{Scan, Scanctl, Svc, Started, StartFailed, Notify, Death, FinishEnded, Status, Tally, Permafailon, Tick}
+use Rattle.tree_core.specs.declared.input.Act.TheVariants.{Scan, Scanctl, Svc, Started, StartFailed, Notify, Death, FinishEnded, Status, Tally, Permafailon, Wait, Cancel, Tick}
 use Rattle.tree_core.specs.declared.input.Input.{Input}
 use Rattle.tree_core.specs.declared.reply.Refusal.{Refusal}
 use Rattle.tree_core.specs.declared.reply.Reply.TheVariants.{Done}
-use Rattle.tree_core.specs.Acts.{acted, named, refused_serial, refused_letters, change_found, work_unless, work_of}
+use Rattle.tree_core.specs.Acts.{acted, named, refused_serial, refused_letters, refused_wait, refused_cancel, change_found, work_unless, work_of}
 use Rattle.tree_core.specs.Closing.{is_run, starts_run, IsTerminated}
 use Rattle.tree_core.specs.Machine.{Machine}
 use Rattle.tree_core.specs.Run.{after, outcomes}
-use Rattle.tree_core.specs.Step.{Stepped, clocked, with_moves, timed, spent, step, step_limit}
+use Rattle.tree_core.specs.Step.{Stepped, clocked, with_moves, timed, noticed, spent, step, step_limit}
 use Rattle.tree_core.proofs.Leaving.{AllLeave, IsLeaving, Leaves, fire_leaves, started_leaves, start_failed_leaves, notified_leaves, death_leaves, finish_ended_leaves, control_leaves, changed_leaves, moved_leave, all_terminated}
 
 -- a terminate was done, and all services leave
@@ -51,6 +51,11 @@ letters_start_none None None change now services next leaves h = (h, refl)
 letters_start_none None (Some c) change now services next leaves h = change_starts_none c.sid change now services next leaves h
 letters_start_none (Some why) found change now services next leaves h = (h, refl)
 
+-- what is asked of the waiters, whether it is refused or not
+waiters_start_none : (why : Option Refusal) (now : ℕ) (services : List ChartState) (next : ℕ) → AllLeave services → StartsNone (worked (work_unless why leave) now services next)
+waiters_start_none None now services next h = (h, refl)
+waiters_start_none (Some why) now services next h = (h, refl)
+
 work_starts_none : {A : Type 0} (act : Act A) (m : Machine) → IsClosed m → StartsNone (worked (work_of act m) m.clock m.services m.next_sid)
 work_starts_none (Scan listing) m h = rw h.closing (h.services, refl)
 work_starts_none (Scanctl order) m h = rw h.closing (h.services, refl)
@@ -70,6 +75,8 @@ work_starts_none (FinishEnded sid generation exit) m h =
 work_starts_none (Status name) m h = (h.services, refl)
 work_starts_none (Tally name) m h = (h.services, refl)
 work_starts_none (Permafailon name seconds count items) m h = (h.services, refl)
+work_starts_none (Wait condition mode timeout names) m h = waiters_start_none (refused_wait names m) m.clock m.services m.next_sid h.services
+work_starts_none (Cancel id) m h = waiters_start_none (refused_cancel id m) m.clock m.services m.next_sid h.services
 work_starts_none Tick m h = (h.services, refl)
 
 stays_closing : (work : Work) → closing_after work true ≡ true
@@ -101,9 +108,11 @@ timed_closed act m h =
 step_closed : {A : Type 0} (m : Machine) (input : Input A) → IsClosed m → StaysSo (step m input)
 step_closed {A} m input h = by (m.steps == step_limit)
   where
-    by : (b : Bool) → StaysSo {A = A} (if b then spent m else timed input.act (clocked input.at m))
+    by : (b : Bool) → StaysSo {A = A} (if b then spent m else noticed m input.at (timed input.act (clocked input.at m)))
     by true = record { closed = h; none = refl }
-    by false = timed_closed input.act (clocked input.at m) (record { closing = h.closing; services = h.services })
+    by false =
+        let done = timed_closed input.act (clocked input.at m) (record { closing = h.closing; services = h.services }) in
+        record { closed = done.closed; none = done.none }
 
 closed_starts_none : {A : Type 0} (m : Machine) (later : List (Input A)) → IsClosed m → list_any starts_run (outcomes m later) ≡ false
 closed_starts_none m [] h = refl
@@ -122,8 +131,8 @@ command_closes {A} m = by m.closing refl
 terminate_closes : {A : Type 0} (m : Machine) (input : Input A) → IsTerminated m input → IsClosed (after m input)
 terminate_closes {A} m input h = by (m.steps == step_limit) h.done
   where
-    by : (b : Bool) → (if b then spent m else timed input.act (clocked input.at m)).outcome.reply ≡ Done
-        → IsClosed (if b then spent {A = A} m else timed input.act (clocked input.at m)).machine
+    by : (b : Bool) → (if b then spent m else noticed m input.at (timed input.act (clocked input.at m))).outcome.reply ≡ Done
+        → IsClosed (if b then spent {A = A} m else noticed m input.at (timed input.act (clocked input.at m))).machine
     by true done = cc done
     by false done =
         subst (λ (act : Act A). (timed act (clocked input.at m)).outcome.reply ≡ Done → IsClosed (timed act (clocked input.at m)).machine)

@@ -2,6 +2,9 @@ pub mod Reading
 pub mod TimersDue
 pub mod RowFound
 pub mod Choosing
+pub mod Naming
+pub mod WaitChosen
+pub mod Listened
 pub mod PlanMakes
 pub mod Stand
 pub mod Leaving

@@ -1,6 +1,6 @@
 -- A plan with the parts of a step is the step.
 use Rattle.std.proofs.Common.{rules, ◌≡◌, ℕ, ◌<◌, List, [], ◌∷◌, ◌++◌, Bool, true, false, cond, refl, sym, ◌∙◌, ap, map, max, subst, arith, nat_eq, get_or, append-nil, append_assoc}
-use Rattle.std.specs.Prelude.{nat_lt, Result, Ok, Err, IsOk, IsOkAnd}
+use Rattle.std.specs.Prelude.{nat_lt, Result, Ok, Err, IfOk, IsOk, IsOkAnd}
 use Rattle.std.proofs.lemmas.Bool.Decides.{nat_tests}
 use Rattle.std.proofs.lemmas.List.{map-append}
 use Rattle.s6_events.specs.Clock.{clock_of}
@@ -25,15 +25,22 @@ use Rattle.svscan_core.proofs.Tallied.{joined_before}
 use Rattle.tree_core.specs.declared.effect.Effect.{Effect}
 use Rattle.tree_core.specs.declared.input.Input.{Input}
 use Rattle.tree_core.specs.declared.plan.StepPlan.{StepPlan}
-use Rattle.tree_core.specs.Acts.{acted, work_of}
-use Rattle.tree_core.specs.Machine.{Machine}
-use Rattle.tree_core.specs.Plan.{Present, IsNow, Plans, HasFired, Chooses, Chosen, chosen_work, chosen_reply}
-use Rattle.tree_core.specs.Plan.Chosen.{refuse, nothing, report, letters, listing, order, show, tally, failure}
-use Rattle.tree_core.specs.Step.{Stepped, step, timed, clocked, with_moves, step_limit, clock_moments}
+use Rattle.wait_conditions.specs.declared.verdict.Verdict.{Verdict}
+use Rattle.wait_conditions.specs.declared.wait_change.WaitAnswer.{WaitAnswer}
+use Rattle.wait_conditions.specs.Stands.{Shown, StandsFor as AreKept}
+use Rattle.wait_conditions.specs.Steps.{Change as WaitChange, after_moments, after_change, answer_to, releases_by}
+use Rattle.wait_conditions.specs.Watch.{Placed, Watch}
+use Rattle.tree_core.specs.Acts.{acted, ask_of, work_of}
+use Rattle.tree_core.specs.Listening.{Ask, as_release, listened, released_at_once}
+use Rattle.tree_core.specs.Machine.{Machine, watch_at, watch_of}
+use Rattle.tree_core.specs.Plan.{Present, IsNow, Plans, HasFired, Chooses, Chosen, chosen_work, chosen_change, chosen_reply, released_by_answer}
+use Rattle.tree_core.specs.Plan.Chosen.{refuse, nothing, report, letters, listing, order, show, tally, failure, wait, cancel}
+use Rattle.tree_core.specs.Step.{Stepped, step, timed, noticed, clocked, with_act, with_moves, step_limit, clock_moments}
+use Rattle.tree_core.proofs.Listened.{history_stays, moments_join}
 use Rattle.tree_core.proofs.Reading.{reading-clocked}
 
 -- a machine that is not spent takes the step
-opened : {A : Type 0} (m : Machine) (input : Input A) → m.steps < step_limit → step m input ≡ timed input.act (clocked input.at m)
+opened : {A : Type 0} (m : Machine) (input : Input A) → m.steps < step_limit → step m input ≡ noticed m input.at (timed input.act (clocked input.at m))
 opened m input left = let open_step : nat_eq m.steps step_limit ≡ false = grind (arith, nat_tests) in rw open_step
 
 -- the moments of a step behind the history, the clock reading and the marks of timers and act
@@ -56,77 +63,112 @@ all_clocked : (services : List Supervised) (clock at : ℕ) (h : List Moment) �
 all_clocked services clock at h all = λ k d lt. clock_agrees (get_or services k d).chart.sid clock at (get_or services k d).status h (all k d lt)
 
 -- what was given before changes no reply
-reply_alone : {A : Type 0} (choice : Chosen) (services : List Supervised) (events : List Event) (orders : List Order) (w : Worked)
-    → chosen_reply {A = A} choice services (given_before events orders w) ≡ chosen_reply choice services w
-reply_alone (refuse why) services events orders w = refl
-reply_alone nothing services events orders w = refl
-reply_alone (report sid change) services events orders w = refl
-reply_alone (letters sid change) services events orders w = refl
-reply_alone (listing entries) services events orders w = refl
-reply_alone (order which) services events orders w = refl
-reply_alone (show row) services events orders w = refl
-reply_alone (tally name) services events orders w = refl
-reply_alone (failure fails) services events orders w = refl
+reply_alone : {A : Type 0} (choice : Chosen) (services : List Supervised) (events : List Event) (orders : List Order) (w : Worked) (told : WaitAnswer)
+    → chosen_reply {A = A} choice services (given_before events orders w) told ≡ chosen_reply choice services w told
+reply_alone (refuse why) services events orders w told = refl
+reply_alone nothing services events orders w told = refl
+reply_alone (report sid change) services events orders w told = refl
+reply_alone (letters sid change) services events orders w told = refl
+reply_alone (listing entries) services events orders w told = refl
+reply_alone (order which) services events orders w told = refl
+reply_alone (show row) services events orders w told = refl
+reply_alone (tally name) services events orders w told = refl
+reply_alone (failure fails) services events orders w told = refl
+reply_alone (wait condition mode timeout sids) services events orders w told = refl
+reply_alone (cancel id) services events orders w told = refl
+
+-- what the waiters tell of a step, and what is kept of them then
+pub record Listens (old new : Shown) (ms : List Moment) (change : WaitChange) (given : List (ℕ × Verdict)) (told : WaitAnswer) : Type 0 where
+  pub stands : (w : Watch) → AreKept old w → AreKept new (after_change (after_moments w ms) change)
+  pub released : (w : Watch) → AreKept old w → given ≡ releases_by w ms
+  pub answer : (w : Watch) → AreKept old w → told ≡ answer_to (after_moments w ms) change
 
 -- the parts of a step at this moment
-pub record Makes {A : Type 0} (now clock : ℕ) (closing : Bool) (services : List Supervised) (next : ℕ) (input : Input A) (plan : StepPlan A) (prepared : Prepared) (effect : Effect A) (choice : Chosen) : Type 0 where
+pub record Makes {A : Type 0} (now clock : ℕ) (closing : Bool) (services : List Supervised) (next : ℕ) (waits : Shown) (input : Input A) (plan : StepPlan A) (prepared : Prepared) (later : Shown) (effect : Effect A) (choice : Chosen) : Type 0 where
+  pub given : List (ℕ × Verdict)
+  pub told : WaitAnswer
   pub now_is : plan.now ≡ now
   pub closes : plan.closing ≡ closing_after (chosen_work choice) closing
   pub works : worked_of prepared ≡ stepped (chosen_work choice) now (charts_of services) next
   pub chooses : (m : Machine) (history : List Moment) → HasFired closing now services history m → Chooses input.act m services choice
-  pub reply : effect.reply ≡ chosen_reply choice services (worked_of prepared)
+  pub reply : effect.reply ≡ chosen_reply choice services (worked_of prepared) told
   pub events : effect.events.items ≡ prepared.events
   pub orders : effect.orders.items ≡ prepared.orders
   pub matched : effect.matched.items ≡ []
-  pub released : effect.released.items ≡ []
+  pub released : effect.released.items ≡ map as_release given ++ map as_release (released_by_answer told)
   pub moments : plan.moments.items ≡ clock_moments clock input.at ++ map moment_of prepared.events
+  pub listens : Listens waits later plan.moments.items (chosen_change now choice) given told
   pub agrees : (history : List Moment) → clock_of history ≡ now → AllAgree services history → AllAgree prepared.services (history ++ map moment_of prepared.events)
   pub tallies : KeepTallied next services prepared.services (deaths_given (chosen_work choice) now (services_after (fire now) (charts_of services)))
   pub sound : IsSound next (charts_of services)
 
 -- a machine, of what is there now and its past
-abbrev pub machine_with_history : ℕ → ℕ → Bool → List Supervised → ℕ → List Moment → List DeathOf → Machine
-machine_with_history clock steps closing services next_sid history deaths =
-    record { clock = clock; steps = steps; closing = closing; services = charts_of services; next_sid = next_sid; history = history; deaths = deaths }
+abbrev pub machine_with_past : ℕ → ℕ → Bool → List Supervised → ℕ → List Moment → List DeathOf → List Placed → ℕ → Machine
+machine_with_past clock steps closing services next_sid history deaths waiters next_waiter = record {
+  clock = clock;
+  steps = steps;
+  closing = closing;
+  services = charts_of services;
+  next_sid = next_sid;
+  history = history;
+  deaths = deaths;
+  waiters = waiters;
+  next_waiter = next_waiter;
+}
 
-plan_makes : {A : Type 0} (clock steps : ℕ) (closing : Bool) (services : List Supervised) (next : ℕ) (input : Input A) (plan : StepPlan A) (prepared : Prepared) (effect : Effect A) (choice : Chosen)
-    → steps < step_limit → Makes (max clock input.at) clock closing services next input plan prepared effect choice
-    → (history : List Moment) (deaths : List DeathOf) → AllAgree services history → AllTallied services deaths → AllBefore next deaths → clock ≡ clock_of history
-    → Plans (machine_with_history clock steps closing services next history deaths) input plan prepared effect
-plan_makes {A} clock steps closing services next input plan prepared effect choice left p history deaths agrees tallied numbered reading =
-    let m : Machine = machine_with_history clock steps closing services next history deaths in
+plan_makes : {A : Type 0} (clock steps : ℕ) (closing : Bool) (services : List Supervised) (next : ℕ) (waits : Shown) (input : Input A) (plan : StepPlan A) (prepared : Prepared) (later : Shown) (effect : Effect A) (choice : Chosen)
+    → steps < step_limit → Makes (max clock input.at) clock closing services next waits input plan prepared later effect choice
+    → (history : List Moment) (deaths : List DeathOf) (waiters : List Placed) (next_waiter : ℕ) → AllAgree services history → AllTallied services deaths → AllBefore next deaths → clock ≡ clock_of history
+    → AreKept waits (record { history = history; waiters = waiters; next = next_waiter })
+    → Plans (machine_with_past clock steps closing services next history deaths waiters next_waiter) input plan prepared later effect
+plan_makes {A} clock steps closing services next waits input plan prepared later effect choice left p history deaths waiters next_waiter agrees tallied numbered reading kept =
+    let m : Machine = machine_with_past clock steps closing services next history deaths waiters next_waiter in
     let now : ℕ = max clock input.at in
     let fired : Machine = with_moves (fire now) (clocked input.at m) in
+    let done : Machine = with_act input.act fired in
     let before : List Moment = history ++ clock_moments clock input.at in
     let t = opened m input left in
     let seen : clock_of before ≡ now = sym (reading-clocked history clock input.at reading) in
     let all : AllAgree services before = all_clocked services clock input.at history agrees in
     let chosen : Chooses input.act fired services choice =
-    p.chooses fired before (record { clock = refl; closing_is = refl; services_are = refl; past = refl; agrees = all; tallies = tallied; reading = seen }) in
+    p.chooses fired before (record { clock = refl; closing_is = refl; services_are = refl; past = refl; agrees = all; tallies = tallied; order = p.sound.order; reading = seen }) in
     let cs = charts_of services in
     let given = given_before (events_after (fire now) cs) (orders_after (fire now) cs) in
     let work : worked_of prepared ≡ given (acted input.act fired).work =
     p.works ∙ ap given (ap (λ w. worked w now (services_after (fire now) cs) next) (sym chosen.work)) in
     let died : deaths ++ deaths_given (chosen_work choice) now (services_after (fire now) cs) ≡ deaths ++ deaths_given (work_of input.act fired) now (services_after (fire now) cs) =
     ap (λ w. deaths ++ deaths_given w now (services_after (fire now) cs)) (sym chosen.work) in
-    let told : prepared.events ≡ events_after (fire now) cs ++ (acted input.act fired).work.events = ap (λ (w : Worked). w.events) work in
+    let marks : prepared.events ≡ events_after (fire now) cs ++ (acted input.act fired).work.events = ap (λ (w : Worked). w.events) work in
+    let joined : plan.moments.items ≡ clock_moments clock input.at ++ map moment_of (events_after (fire now) cs ++ (acted input.act fired).work.events) =
+    p.moments ∙ ap (λ e. clock_moments clock input.at ++ map moment_of e) marks in
+    let past : history ++ plan.moments.items ≡ done.history =
+    ap (λ ms. history ++ ms) joined ∙ regrouped history (clock_moments clock input.at) (events_after (fire now) cs) _ in
+    let at : watch_at (history ++ plan.moments.items) fired ≡ watch_of done = ap (λ h. watch_at h fired) past in
+    let ask : Ask = ask_of input.act fired in
+    let change : WaitChange = chosen_change now choice in
+    let told : p.told ≡ answer_to (watch_at (history ++ plan.moments.items) fired) change =
+    p.listens.answer (watch_of m) kept ∙ ap (λ w. answer_to w change) (moments_join (watch_of m) plan.moments.items) in
     record {
       clock = p.now_is ∙ sym (ap (λ s. s.machine.clock) t);
       steps = sym (ap (λ s. s.machine.steps) t);
       closing = p.closes ∙ (ap (λ w. closing_after w closing) (sym chosen.work) ∙ sym (ap (λ s. s.machine.closing) t));
       services = ap (λ (w : Worked). w.services) work ∙ sym (ap (λ s. s.machine.services) t);
       next_sid = ap (λ (w : Worked). w.next_sid) work ∙ sym (ap (λ s. s.machine.next_sid) t);
-      history =
-          ap (λ ms. history ++ ms) (p.moments ∙ ap (λ e. clock_moments clock input.at ++ map moment_of e) told)
-          ∙ (regrouped history (clock_moments clock input.at) (events_after (fire now) cs) _
-          ∙ sym (ap (λ s. s.machine.history) t));
+      history = past ∙ sym (ap (λ s. s.machine.history) t);
       outcome =
           (λ i. record {
-            reply = (p.reply ∙ (ap (chosen_reply choice services) work ∙ (reply_alone choice services (events_after (fire now) cs) (orders_after (fire now) cs) (acted input.act fired).work ∙ sym chosen.reply))) i;
-            events = (p.events ∙ told) i;
+            reply =
+                (p.reply
+                ∙ (ap (λ w. chosen_reply choice services w p.told) work
+                ∙ (reply_alone choice services (events_after (fire now) cs) (orders_after (fire now) cs) (acted input.act fired).work p.told
+                ∙ (ap (chosen_reply choice services (acted input.act fired).work) told ∙ sym (chosen.reply (history ++ plan.moments.items)))))) i;
+            events = (p.events ∙ marks) i;
             orders = (p.orders ∙ ap (λ (w : Worked). w.orders) work) i;
             matched = p.matched i;
-            released = p.released i;
+            released =
+                (p.released
+                ∙ λ j. map as_release ((p.listens.released (watch_of m) kept ∙ ap (releases_by (watch_of m)) joined) j)
+                ++ map as_release ((ap released_by_answer told ∙ (chosen.hears.at_once (history ++ plan.moments.items) ∙ ap (released_at_once ask) at)) j)) i;
           })
           ∙ sym (ap (λ s. s.outcome) t);
       agrees =
@@ -140,17 +182,26 @@ plan_makes {A} clock steps closing services next input plan prepared effect choi
           subst (λ (s : Stepped A). AllBefore prepared.next_sid s.machine.deaths) (sym t)
           (subst (λ (n : ℕ). AllBefore n (deaths ++ deaths_given (work_of input.act fired) now (services_after (fire now) cs))) (sym (ap (λ (w : Worked). w.next_sid) work))
           (joined_before (work_of input.act fired) now next (services_after (fire now) cs) deaths (fired_few now cs p.sound.few) (fired_numbers now next cs p.sound.order) numbered));
+      waiting =
+          subst (AreKept later)
+          (ap (λ w. after_change w change) (moments_join (watch_of m) plan.moments.items)
+          ∙ (chosen.hears.after (history ++ plan.moments.items)
+          ∙ (ap (listened ask) at
+          ∙ ((λ i. record { history = history_stays ask (watch_of done) i; waiters = (listened ask (watch_of done)).waiters; next = (listened ask (watch_of done)).next })
+          ∙ sym (ap (λ s. watch_of s.machine) t)))))
+          (p.listens.stands (watch_of m) kept);
     }
 
 -- and it is the step of each machine that has now what a tree has
-pub plans_all : {A : Type 0} (pr : Present) (now : ℕ) (input : Input A) (plan : StepPlan A) (prepared : Prepared) (effect : Effect A) (choice : Chosen)
-    → pr.steps < step_limit → now ≡ max pr.clock input.at → Makes now pr.clock pr.closing pr.services pr.next_sid input plan prepared effect choice
-    → (m : Machine) → IsNow pr m → Plans m input plan prepared effect
-plans_all {A} pr now input plan prepared effect choice left later p m is =
-    subst (λ (x : Machine). Plans x input plan prepared effect) (sym (λ i. record { clock = is.clock i; steps = is.steps i; closing = is.closing i; services = is.services i; next_sid = is.next_sid i; history = m.history; deaths = m.deaths }))
-    (plan_makes pr.clock pr.steps pr.closing pr.services pr.next_sid input plan prepared effect choice left
-    (subst (λ (n : ℕ). Makes n pr.clock pr.closing pr.services pr.next_sid input plan prepared effect choice) later p)
-    m.history m.deaths is.agrees is.tallies is.numbered (sym is.clock ∙ is.reading))
+pub plans_all : {A : Type 0} (pr : Present) (now : ℕ) (input : Input A) (plan : StepPlan A) (prepared : Prepared) (later : Shown) (effect : Effect A) (choice : Chosen)
+    → pr.steps < step_limit → now ≡ max pr.clock input.at → Makes now pr.clock pr.closing pr.services pr.next_sid pr.waits input plan prepared later effect choice
+    → (m : Machine) → IsNow pr m → Plans m input plan prepared later effect
+plans_all {A} pr now input plan prepared later effect choice left latest p m is =
+    subst (λ (x : Machine). Plans x input plan prepared later effect)
+    (sym (λ i. record { clock = is.clock i; steps = is.steps i; closing = is.closing i; services = is.services i; next_sid = is.next_sid i; history = m.history; deaths = m.deaths; waiters = m.waiters; next_waiter = m.next_waiter }))
+    (plan_makes pr.clock pr.steps pr.closing pr.services pr.next_sid pr.waits input plan prepared later effect choice left
+    (subst (λ (n : ℕ). Makes n pr.clock pr.closing pr.services pr.next_sid pr.waits input plan prepared later effect choice) latest p)
+    m.history m.deaths m.waiters m.next_waiter is.agrees is.tallies is.numbered (sym is.clock ∙ is.reading) is.waiting)
 
 -- what was refused was not done
 pub not_ok : {X E : Type 0} (r : Result X E) (e : E) (P : Type 0) → r ≡ Err e → IsOk r → P
@@ -160,3 +211,8 @@ not_ok (Err y) e P h ok = search rules
 pub not_ok_and : {X E : Type 0} (r : Result X E) (e : E) (Is : X → Type 0) (P : Type 0) → r ≡ Err e → IsOkAnd r Is → P
 not_ok_and (Ok x) e Is P h ok = search rules
 not_ok_and (Err y) e Is P h ok = absurd ok
+
+-- what holds of each value holds of the one that was given
+pub if_ok : {X E : Type 0} (r : Result X E) (P Q : X → Type 0) → ((x : X) → P x → Q x) → IfOk r P → IfOk r Q
+if_ok (Ok x) P Q gives p = gives x p
+if_ok (Err e) P Q gives p = p

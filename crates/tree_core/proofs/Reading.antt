@@ -11,7 +11,7 @@ use Rattle.tree_core.specs.declared.input.Input.{Input}
 use Rattle.tree_core.specs.Acts.{acted}
 use Rattle.tree_core.specs.Machine.{Machine}
 use Rattle.svscan_core.specs.Moves.{moment_of, events_after}
-use Rattle.tree_core.specs.Step.{step, spent, timed, clocked, with_moves, step_limit, clock_moments, Stepped}
+use Rattle.tree_core.specs.Step.{step, spent, timed, noticed, clocked, with_moves, step_limit, clock_moments, Stepped}
 
 clock-append : (clock : ℕ) (xs ys : List Moment) → fold clock_after clock (xs ++ ys) ≡ fold clock_after (fold clock_after clock xs) ys
 clock-append clock [] ys = refl
@@ -36,7 +36,7 @@ reading-clocked history clock at e =
     ∙ (ap (λ c. fold clock_after c (clock_moments clock at)) e ∙ sym (clock-append 0 history (clock_moments clock at)))
 
 abbrev step_by : {A : Type 0} → Bool → Machine → Input A → Stepped A
-step_by b m input = if b then spent m else timed input.act (clocked input.at m)
+step_by b m input = if b then spent m else noticed m input.at (timed input.act (clocked input.at m))
 
 reads_by : {A : Type 0} (b : Bool) (m : Machine) (input : Input A) → m.clock ≡ clock_of m.history → (step_by b m input).machine.clock ≡ clock_of (step_by b m input).machine.history
 reads_by true m input e = e

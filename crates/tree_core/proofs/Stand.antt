@@ -9,7 +9,8 @@ use Rattle.supervise_core.specs.Service.{Supervised}
 use Rattle.tree_core.specs.declared.input.Input.{Input}
 use Rattle.tree_core.specs.declared.plan.StepPlan.{StepPlan}
 use Rattle.tree_core.specs.Effect.{outcome_of}
-use Rattle.tree_core.specs.Machine.{Machine}
+use Rattle.wait_conditions.specs.Stands.{Shown, StandsFor as AreKept}
+use Rattle.tree_core.specs.Machine.{Machine, watch_of}
 use Rattle.tree_core.specs.Plan.{Present, present, IsNow, IsQuiet, Plans}
 use Rattle.tree_core.specs.Run.{after, outcome}
 use Rattle.std.specs.Prelude.{All, get_or}
@@ -27,7 +28,7 @@ use Rattle.tree_core.proofs.TimersDue.{none_for_quiet}
 
 -- what is there now in a tree, and in each machine for which it stands
 abbrev pub present_of : Stored → Present
-present_of t = present t.clock t.steps t.closing t.services t.next_sid
+present_of t = present t.clock t.steps t.closing t.services t.next_sid t.waits
 
 pub is_now : (t : Stored) (m : Machine) → StandsFor t m → IsNow (present_of t) m
 is_now t m s = record {
@@ -40,14 +41,15 @@ is_now t m s = record {
   tallies = s.tallies;
   numbered = subst (λ (k : ℕ). AllBefore k m.deaths) s.next_sid s.numbered;
   reading = s.reading;
+  waiting = s.waiting;
 }
 
 -- a plan for every machine that has now what a tree has
-abbrev PlansAll : {A : Type 0} → Stored → Input A → StepPlan A → Prepared → Effect A → Type 0
-PlansAll t input plan prepared effect = (m : Machine) → IsNow (present_of t) m → Plans m input plan prepared effect
+abbrev PlansAll : {A : Type 0} → Stored → Input A → StepPlan A → Prepared → Shown → Effect A → Type 0
+PlansAll t input plan prepared later effect = (m : Machine) → IsNow (present_of t) m → Plans m input plan prepared later effect
 
 -- what a step leaves in a tree, by its plan
-pub record Installs {A : Type 0} (t new : Stored) (plan : StepPlan A) (prepared : Prepared) : Type 0 where
+pub record Installs {A : Type 0} (t new : Stored) (plan : StepPlan A) (prepared : Prepared) (later : Shown) : Type 0 where
   pub clock : new.clock ≡ plan.now
   pub steps : new.steps ≡ t.steps + 1
   pub closing : new.closing ≡ plan.closing
@@ -55,11 +57,12 @@ pub record Installs {A : Type 0} (t new : Stored) (plan : StepPlan A) (prepared 
   pub next_sid : new.next_sid ≡ prepared.next_sid
   pub forgotten : new.forgotten ≡ t.forgotten
   pub kept : new.kept ≡ t.kept ++ plan.moments.items
+  pub waits : new.waits ≡ later
 
-pub stands_after : {A : Type 0} (t new : Stored) (input : Input A) (plan : StepPlan A) (prepared : Prepared) (effect : Effect A) → PlansAll t input plan prepared effect → Installs t new plan prepared
+pub stands_after : {A : Type 0} (t new : Stored) (input : Input A) (plan : StepPlan A) (prepared : Prepared) (later : Shown) (effect : Effect A) → PlansAll t input plan prepared later effect → Installs t new plan prepared later
     → (m : Machine) → StandsFor t m → (outcome_of effect ≡ outcome m input) × StandsFor new (after m input)
-stands_after {A} t new input plan prepared effect plans n m s =
-    let p : Plans m input plan prepared effect = plans m (is_now t m s) in (
+stands_after {A} t new input plan prepared later effect plans n m s =
+    let p : Plans m input plan prepared later effect = plans m (is_now t m s) in (
       p.outcome,
       record {
         clock = sym (n.clock ∙ p.clock);
@@ -76,6 +79,7 @@ stands_after {A} t new input plan prepared effect plans n m s =
         tallies = subst (λ (ss : List Supervised). AllTallied ss (after m input).deaths) (sym n.services) p.tallies;
         numbered = subst (λ (k : ℕ). AllBefore k (after m input).deaths) p.next_sid p.numbered;
         reading = step-reads m input s.reading;
+        waiting = subst (λ (x : Shown). AreKept x (watch_of (after m input))) (sym n.waits) p.waiting;
       },
     )
 
@@ -97,10 +101,11 @@ recorded_after t plan forgotten kept r few same more = record {
 }
 
 -- its numbers after a step
-pub counted_after : (taken next new_next : ℕ) (old new : List ChartState) → IsCounted taken next old → taken < 281474976710656 → new_next ≤ next + 64
-    → ((n : ℕ) → All (λ c. c.generation ≤ n) old → All (λ c. c.generation ≤ n + 2) new) → IsCounted (taken + 1) new_next new
-counted_after taken next new_next old new c left few grows = record {
+pub counted_after : (taken next new_next waiter new_waiter : ℕ) (old new : List ChartState) → IsCounted taken next waiter old → taken < 281474976710656 → new_next ≤ next + 64 → new_waiter ≤ waiter + 1
+    → ((n : ℕ) → All (λ c. c.generation ≤ n) old → All (λ c. c.generation ≤ n + 2) new) → IsCounted (taken + 1) new_next new_waiter new
+counted_after taken next new_next waiter new_waiter old new c left few one grows = record {
   steps = omega (arith, left);
   serials = let was = c.serials in omega (arith, was, few);
+  waiters = let was = c.waiters in omega (arith, was, one);
   generations = λ k d lt. let here : (get_or new k d).generation ≤ 2 * taken + 2 = grows (2 * taken) c.generations k d lt in omega arith;
 }

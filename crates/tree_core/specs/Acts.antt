@@ -1,6 +1,8 @@
 -- What each act does, and why it is refused.
-use Rattle.std.specs.Prelude.{ℕ, List, [], Bool, ◌==◌, if◌then◌else◌, bytes_eq, find, Option, None, Some}
-use Rattle.std.specs.List.{list_any}
+use Rattle.std.specs.Prelude.{ℕ, List, length, Bool, not, ◌==◌, if◌then◌else◌, bytes_eq, find, Option, None, Some, is_some, option_map, nat_le, nat_lt}
+use Rattle.std.specs.List.{list_all, list_any, filter_map}
+use Rattle.s6_events.specs.declared.condition.Condition.{Condition}
+use Rattle.s6_events.specs.declared.condition.Mode.{Mode}
 use Rattle.s6_events.specs.declared.exit.Exit.{Exit}
 use Rattle.supervise_core.specs.declared.chart.ChartState.{ChartState}
 use Rattle.supervise_core.specs.declared.change.Change.{Change}
@@ -12,26 +14,20 @@ use Rattle.svscan_core.specs.Listing.{names_in}
 use Rattle.svscan_core.specs.Names.{repeats}
 use Rattle.svscan_core.specs.Work.{Work, Worked, worked}
 use Rattle.svscan_core.specs.Work.Work.{leave, change_one, apply_listing, command}
-use Rattle.tree_core.specs.declared.effect.Match.{Match}
-use Rattle.tree_core.specs.declared.effect.Release.{Release}
+use Rattle.wait_conditions.specs.Refusal.{deadline_of}
+use Rattle.wait_conditions.specs.Verdict.{Asked}
+use Rattle.wait_conditions.specs.Watch.{asking, is_named}
 use Rattle.tree_core.specs.declared.input.Act.{Act}
-use Rattle.tree_core.specs.declared.input.Act.TheVariants.{Scan, Scanctl, Svc, Started, StartFailed, Notify, Death, FinishEnded, Status, Tally, Permafailon}
+use Rattle.tree_core.specs.declared.input.Act.TheVariants.{Scan, Scanctl, Svc, Started, StartFailed, Notify, Death, FinishEnded, Status, Tally, Permafailon, Wait, Cancel}
 use Rattle.tree_core.specs.declared.reply.Refusal.{Refusal}
-use Rattle.tree_core.specs.declared.reply.Refusal.TheVariants.{NoService, Stale, Closing, Repeated, Ended}
+use Rattle.tree_core.specs.declared.reply.Refusal.TheVariants.{NoService, Stale, TooMany, NoSuch, Closing, Repeated, Empty, Ended}
 use Rattle.tree_core.specs.declared.reply.Reply.{Reply}
-use Rattle.tree_core.specs.declared.reply.Reply.TheVariants.{Done, Refused, Scanned, Row as RowReply, Tally as TallyReply, PermanentFailure}
+use Rattle.tree_core.specs.declared.reply.Reply.TheVariants.{Done, Refused, Scanned, Row as RowReply, Tally as TallyReply, PermanentFailure, Waiter as WaiterMade}
+use Rattle.tree_core.specs.Listening.{Ask, ask_unless}
+use Rattle.tree_core.specs.Listening.Ask.{same, add_waiter, cancel_waiter}
 use Rattle.tree_core.specs.Machine.{Machine}
 use Rattle.tree_core.specs.Rows.{row_named}
 use Rattle.tree_core.specs.Tallies.{tally_named, failure_named}
-
--- what an act asks of those who listen; no act of today asks anything of them
-pub data Ask : Type 0 where
-  same : Ask
-
--- what those who listen are given
-pub record Heard : Type 0 where
-  pub matched : List Match
-  pub released : List Release
 
 -- what an act leaves and gives
 pub record Acted (A : Type 0) : Type 0 where
@@ -51,9 +47,34 @@ abbrev pub refused_letters : Option ChartState → Option Refusal
 refused_letters None = Some NoService
 refused_letters (Some c) = if is_gone c.phase then Some Ended else None
 
+-- the serial of the service of a name
+abbrev pub serial_of : List ℕ → List ChartState → Option ℕ
+serial_of name services = option_map (λ c. c.sid) (named name services)
+
+-- each of these names is that of a service, and their serials
+abbrev pub all_named : List (List ℕ) → List ChartState → Bool
+all_named names services = list_all (λ name. is_some (serial_of name services)) names
+
+abbrev pub serials_named : List (List ℕ) → List ChartState → List ℕ
+serials_named names services = filter_map (λ name. serial_of name services) names
+
 -- a listing is refused while the tree is closing, then where a name stands in it twice
 abbrev pub refused_listing : List Entry → Machine → Option Refusal
 refused_listing listing m = if m.closing then Some Closing else if repeats (names_in listing) then Some Repeated else None
+
+-- a wait is refused where it names nothing, a name twice, over 16 names, a name that no service has, and where 256 waiters stand
+abbrev pub refused_wait : List (List ℕ) → Machine → Option Refusal
+refused_wait names m =
+    if length names == 0 then Some Empty
+    else if repeats names then Some Repeated
+    else if nat_lt 16 (length names) then Some TooMany
+    else if not (all_named names m.services) then Some NoService
+    else if nat_le 256 (length m.waiters) then Some TooMany
+    else None
+
+-- a cancel is refused where no waiter has the serial
+abbrev pub refused_cancel : ℕ → Machine → Option Refusal
+refused_cancel id m = if is_some (find (is_named id) m.waiters) then None else Some NoSuch
 
 -- why an act is refused before anything is done
 abbrev pub refused : {A : Type 0} → Act A → Machine → Option Refusal
@@ -65,6 +86,8 @@ refused (StartFailed sid generation) m = refused_serial sid m.services
 refused (Notify sid generation bytes) m = refused_serial sid m.services
 refused (Death sid generation exit) m = refused_serial sid m.services
 refused (FinishEnded sid generation exit) m = refused_serial sid m.services
+refused (Wait condition mode timeout names) m = refused_wait names m
+refused (Cancel id) m = refused_cancel id m
 refused act m = None
 
 -- the service that was found takes a change
@@ -92,12 +115,15 @@ work_unless (Some why) work = leave
 abbrev pub work_of : {A : Type 0} → Act A → Machine → Work
 work_of act m = work_unless (refused act m) (asked act m)
 
--- what each act asks of those who listen, and what that gives them
-abbrev pub ask_of : {A : Type 0} → Act A → Machine → Ask
-ask_of act m = same
+-- what a wait is made with: the services that have these names now, and a timeout that counts from now
+abbrev pub wait_asked : Condition → Mode → ℕ → List (List ℕ) → Machine → Asked
+wait_asked condition mode timeout names m = asking condition mode (serials_named names m.services) (deadline_of timeout m.clock)
 
-abbrev pub heard : Ask → Heard
-heard same = record { matched = []; released = [] }
+-- what each act asks of the waiters
+abbrev pub ask_of : {A : Type 0} → Act A → Machine → Ask
+ask_of (Wait condition mode timeout names) m = ask_unless (refused_wait names m) (add_waiter (wait_asked condition mode timeout names m))
+ask_of (Cancel id) m = ask_unless (refused_cancel id m) (cancel_waiter id)
+ask_of act m = same
 
 -- the refusal, or else this reply
 abbrev pub reply_unless : {A : Type 0} → Option Refusal → Reply A → Reply A
@@ -133,6 +159,7 @@ answered (FinishEnded sid generation exit) m w = report_reply w
 answered (Status name) m w = row_reply (row_named name m)
 answered (Tally name) m w = tally_reply (tally_named name m)
 answered (Permafailon name seconds count items) m w = failure_reply (failure_named name seconds count items m)
+answered (Wait condition mode timeout names) m w = WaiterMade m.next_waiter
 answered act m w = Done
 
 -- the work of an act, done

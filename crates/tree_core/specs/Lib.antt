@@ -2,6 +2,7 @@ pub mod ScanReport
 pub mod Machine
 pub mod Rows
 pub mod Tallies
+pub mod Listening
 pub mod Acts
 pub mod Effect
 pub mod Step

@@ -5,12 +5,13 @@ use Rattle.s6_events.specs.declared.order.Order.{Order}
 use Rattle.supervise_core.specs.declared.chart.ChartState.{ChartState}
 use Rattle.svscan_core.specs.declared.event.Event.{Event}
 use Rattle.svscan_core.specs.Deaths.{DeathOf}
+use Rattle.wait_conditions.specs.Watch.{Placed, Watch}
 use Rattle.tree_core.specs.declared.effect.Match.{Match}
 use Rattle.tree_core.specs.declared.effect.Release.{Release}
 use Rattle.tree_core.specs.declared.reply.Reply.{Reply}
 
 -- the state: the clock, the steps taken, whether it is closing, the standing services in rising serial, the next serial, all
--- moments so far, and all deaths so far
+-- moments so far, all deaths so far, the standing waiters in rising serial, and the next serial of these
 pub record Machine : Type 0 where
   pub clock : ℕ
   pub steps : ℕ
@@ -19,10 +20,29 @@ pub record Machine : Type 0 where
   pub next_sid : ℕ
   pub history : List Moment
   pub deaths : List DeathOf
+  pub waiters : List Placed
+  pub next_waiter : ℕ
 
 -- before any input
 abbrev pub new_machine : Machine
-new_machine = record { clock = 0; steps = 0; closing = false; services = []; next_sid = 1; history = []; deaths = [] }
+new_machine = record {
+  clock = 0;
+  steps = 0;
+  closing = false;
+  services = [];
+  next_sid = 1;
+  history = [];
+  deaths = [];
+  waiters = [];
+  next_waiter = 1;
+}
+
+-- its waiters beside these moments, and beside its own
+abbrev pub watch_at : List Moment → Machine → Watch
+watch_at history m = record { history = history; waiters = m.waiters; next = m.next_waiter }
+
+abbrev pub watch_of : Machine → Watch
+watch_of m = watch_at m.history m
 
 -- what a step gives
 pub record Outcome (A : Type 0) : Type 0 where

@@ -1,7 +1,9 @@
 -- A step that is known before anything is changed.
-use Rattle.std.specs.Prelude.{◌≡◌, ℕ, ◌+◌, ◌≤◌, ◌++◌, List, Bool, true, false, map, if◌then◌else◌, find, bytes_eq, option_map, Option, None, Some}
+use Rattle.std.specs.Prelude.{◌≡◌, ◌==◌, ℕ, ◌+◌, ◌≤◌, ◌++◌, List, [], Bool, true, false, map, if◌then◌else◌, find, bytes_eq, option_map, Option, None, Some, length, nat_lt}
 use Rattle.std.specs.List.{list_any}
 use Rattle.s6_events.specs.Clock.{clock_of}
+use Rattle.s6_events.specs.declared.condition.Condition.{Condition}
+use Rattle.s6_events.specs.declared.condition.Mode.{Mode}
 use Rattle.s6_events.specs.declared.exit.Exit.{Exit}
 use Rattle.s6_events.specs.declared.moment.Moment.{Moment}
 use Rattle.supervise_core.specs.declared.chart.ChartState.{ChartState}
@@ -10,31 +12,40 @@ use Rattle.supervise_core.specs.Service.{Supervised}
 use Rattle.svscan_core.specs.Deaths.{AllTallied, AllBefore}
 use Rattle.svscan_core.specs.Moves.{moment_of, services_after, events_after}
 use Rattle.svscan_core.specs.Registry.{Prepared}
-use Rattle.svscan_core.specs.Sound.{AllAgree}
+use Rattle.svscan_core.specs.Sound.{AllAgree, IsNumbered}
 use Rattle.svscan_core.specs.Table.{charts_of}
 use Rattle.svscan_core.specs.Work.{Work, Worked}
 use Rattle.svscan_core.specs.Work.Work.{leave, change_one, apply_listing, command}
 use Rattle.tree_core.specs.declared.choice.Choice.{Choice}
-use Rattle.tree_core.specs.declared.choice.Choice.TheVariants.{Refuse, Leave, Report, Letters, Listing, Command, Show, Tally, Failure}
+use Rattle.tree_core.specs.declared.choice.Choice.TheVariants.{Refuse, Leave, Report, Letters, Listing, Command, Show, Tally, Failure, Wait, Cancel}
 use Rattle.tree_core.specs.declared.effect.Effect.{Effect}
 use Rattle.tree_core.specs.declared.input.Act.{Act}
 use Rattle.tree_core.specs.declared.input.Act.TheVariants.{Status, Permafailon, Tick}
 use Rattle.tree_core.specs.declared.input.Input.{Input}
 use Rattle.tree_core.specs.declared.plan.StepPlan.{StepPlan}
 use Rattle.tree_core.specs.declared.reply.Reply.{Reply}
-use Rattle.tree_core.specs.declared.reply.Reply.TheVariants.{Done, Refused, Scanned, Row as RowReply, PermanentFailure}
+use Rattle.tree_core.specs.declared.reply.Reply.TheVariants.{Done, Refused, Scanned, Row as RowReply, PermanentFailure, Waiter as WaiterMade}
 use Rattle.supervise_core.specs.ChartState.{is_gone}
 use Rattle.supervise_core.specs.declared.change.Change.{Change}
 use Rattle.supervise_core.specs.declared.row.Row.{Row}
 use Rattle.svscan_core.specs.declared.entry.Entry.{Entry}
 use Rattle.tree_core.specs.declared.reply.Refusal.{Refusal}
-use Rattle.tree_core.specs.declared.reply.Refusal.TheVariants.{NoService, Ended, Closing, Repeated}
+use Rattle.tree_core.specs.declared.reply.Refusal.TheVariants.{NoService, TooMany, NoSuch, Ended, Closing, Repeated, Empty}
 use Rattle.svscan_core.specs.declared.entry.ScanOrder.{ScanOrder}
 use Rattle.svscan_core.specs.Listing.{names_in}
 use Rattle.svscan_core.specs.Names.{repeats}
-use Rattle.tree_core.specs.Acts.{acted, work_of, report_reply, tally_reply}
+use Rattle.wait_conditions.specs.declared.verdict.Verdict.{Verdict}
+use Rattle.wait_conditions.specs.declared.wait_change.WaitAnswer.{WaitAnswer}
+use Rattle.wait_conditions.specs.declared.wait_change.WaitAnswer.TheVariants as waiter
+use Rattle.wait_conditions.specs.Refusal.{deadline_of}
+use Rattle.wait_conditions.specs.Stands.{Shown, StandsFor as AreKept}
+use Rattle.wait_conditions.specs.Steps.{Change as WaitChange, after_change, answer_to}
+use Rattle.wait_conditions.specs.Steps.Change.{leave as leave_waiters, add_one, cancel_one}
+use Rattle.wait_conditions.specs.Watch.{asking}
+use Rattle.tree_core.specs.Acts.{acted, all_named, ask_of, report_reply, serials_named, tally_reply, work_of}
+use Rattle.tree_core.specs.Listening.{Ask, listened, released_at_once, told_at_once}
 use Rattle.tree_core.specs.Effect.{outcome_of}
-use Rattle.tree_core.specs.Machine.{Machine}
+use Rattle.tree_core.specs.Machine.{Machine, watch_at, watch_of}
 use Rattle.tree_core.specs.Step.{step}
 
 -- what is done for an act
@@ -48,6 +59,8 @@ pub data Chosen : Type 0 where
   show : Row → Chosen
   tally : List ℕ → Chosen
   failure : Bool → Chosen
+  wait : Condition → Mode → ℕ → List ℕ → Chosen
+  cancel : ℕ → Chosen
 
 -- as the code has it
 abbrev pub plain : Choice → Chosen
@@ -60,6 +73,8 @@ plain (Command which) = order which
 plain (Show row) = show row
 plain (Tally name) = tally name
 plain (Failure fails) = failure fails
+plain (Wait condition mode timeout sids) = wait condition mode timeout sids.items
+plain (Cancel id) = cancel id
 
 -- whether the answer has a list, for which there must be memory
 abbrev pub lists_more : Chosen → Bool
@@ -75,19 +90,39 @@ chosen_work (listing entries) = apply_listing entries
 chosen_work (order which) = command which
 chosen_work chosen = leave
 
+-- what that asks of the waiters, at this moment
+abbrev pub chosen_change : ℕ → Chosen → WaitChange
+chosen_change now (wait condition mode timeout sids) = add_one (asking condition mode sids (deadline_of timeout now))
+chosen_change now (cancel id) = cancel_one id
+chosen_change now chosen = leave_waiters
+
 -- the deaths that the service of a name has in its tally
 abbrev pub tally_in : List ℕ → List Supervised → Option (List (ℕ × Exit))
 tally_in name services = option_map (λ s. s.tally.kept) (find (λ s. bytes_eq name s.chart.name) services)
 
+-- a waiter that is asked for: what else may refuse one is looked for before
+abbrev pub waiter_reply : {A : Type 0} → WaitAnswer → Reply A
+waiter_reply (waiter.Added id verdict) = WaiterMade id
+waiter_reply (waiter.Refused fault) = Refused TooMany
+waiter_reply (waiter.Cancelled stood) = if stood then Done else Refused NoSuch
+waiter_reply waiter.Nothing = Done
+
+-- a waiter that is released as it is made
+abbrev pub released_by_answer : WaitAnswer → List (ℕ × Verdict)
+released_by_answer (waiter.Added id verdict) = told_at_once id verdict
+released_by_answer told = []
+
 -- and how it is answered, once that was done; the tallies are those of the services before the step
-abbrev pub chosen_reply : {A : Type 0} → Chosen → List Supervised → Worked → Reply A
-chosen_reply (refuse why) services w = Refused why
-chosen_reply (report sid change) services w = report_reply w
-chosen_reply (listing entries) services w = Scanned (record { dropped = w.dropped; listed = w.listed })
-chosen_reply (show row) services w = RowReply row
-chosen_reply (tally name) services w = tally_reply (tally_in name services)
-chosen_reply (failure fails) services w = PermanentFailure fails
-chosen_reply chosen services w = Done
+abbrev pub chosen_reply : {A : Type 0} → Chosen → List Supervised → Worked → WaitAnswer → Reply A
+chosen_reply (refuse why) services w told = Refused why
+chosen_reply (report sid change) services w told = report_reply w
+chosen_reply (listing entries) services w told = Scanned (record { dropped = w.dropped; listed = w.listed })
+chosen_reply (show row) services w told = RowReply row
+chosen_reply (tally name) services w told = tally_reply (tally_in name services)
+chosen_reply (failure fails) services w told = PermanentFailure fails
+chosen_reply (wait condition mode timeout sids) services w told = waiter_reply told
+chosen_reply (cancel id) services w told = waiter_reply told
+chosen_reply chosen services w told = Done
 
 -- a machine whose timers went off at this moment, of these services
 pub record HasFired (closing : Bool) (now : ℕ) (services : List Supervised) (history : List Moment) (m : Machine) : Type 0 where
@@ -97,12 +132,21 @@ pub record HasFired (closing : Bool) (now : ℕ) (services : List Supervised) (h
   pub past : m.history ≡ history ++ map moment_of (events_after (fire now) (charts_of services))
   pub agrees : AllAgree services history
   pub tallies : AllTallied services m.deaths
+  pub order : IsNumbered m.next_sid (charts_of services)
   pub reading : clock_of history ≡ now
+
+-- a change does what is asked of the machine's waiters, whatever moments have joined by then
+pub record Hears (ask : Ask) (change : WaitChange) (m : Machine) : Type 0 where
+  pub after : (h : List Moment) → after_change (watch_at h m) change ≡ listened ask (watch_at h m)
+  pub at_once : (h : List Moment) → released_by_answer (answer_to (watch_at h m) change) ≡ released_at_once ask (watch_at h m)
 
 -- what was chosen is what the act does on the machine, whose timers went off on these services
 pub record Chooses {A : Type 0} (act : Act A) (m : Machine) (services : List Supervised) (chosen : Chosen) : Type 0 where
   pub work : work_of act m ≡ chosen_work chosen
-  pub reply : (acted act m).reply ≡ chosen_reply chosen services (acted act m).work
+  pub hears : Hears (ask_of act m) (chosen_change m.clock chosen) m
+  pub reply :
+      (h : List Moment)
+      → (acted act m).reply ≡ chosen_reply chosen services (acted act m).work (answer_to (watch_at h m) (chosen_change m.clock chosen))
 
 -- a report for a service that is there, or not
 abbrev pub report_choice : Bool → ℕ → Change → Chosen
@@ -128,6 +172,15 @@ failure_choice (Some fails) = failure fails
 abbrev pub scan_choice : Bool → List Entry → Chosen
 scan_choice closing entries = if closing then refuse Closing else if repeats (names_in entries) then refuse Repeated else listing entries
 
+-- a wait that is refused, or asked for
+abbrev pub wait_choice : Condition → Mode → ℕ → List (List ℕ) → List ChartState → Chosen
+wait_choice condition mode timeout names services =
+    if length names == 0 then refuse Empty
+    else if repeats names then refuse Repeated
+    else if nat_lt 16 (length names) then refuse TooMany
+    else if all_named names services then wait condition mode timeout (serials_named names services)
+    else refuse NoService
+
 -- what is there now, as a tree stores it
 pub record Present : Type 0 where
   pub clock : ℕ
@@ -135,13 +188,14 @@ pub record Present : Type 0 where
   pub closing : Bool
   pub services : List Supervised
   pub next_sid : ℕ
+  pub waits : Shown
 
-abbrev pub present : ℕ → ℕ → Bool → List Supervised → ℕ → Present
-present clock steps closing services next_sid =
-    record { clock = clock; steps = steps; closing = closing; services = services; next_sid = next_sid }
+abbrev pub present : ℕ → ℕ → Bool → List Supervised → ℕ → Shown → Present
+present clock steps closing services next_sid waits =
+    record { clock = clock; steps = steps; closing = closing; services = services; next_sid = next_sid; waits = waits }
 
--- the machine has this now, a history that agrees with what the services store of their marks, and deaths of which their tallies
--- have the last
+-- the machine has this now, a history that agrees with what the services store of their marks, deaths of which their tallies
+-- have the last, and waiters that are kept so
 pub record IsNow (p : Present) (m : Machine) : Type 0 where
   pub clock : m.clock ≡ p.clock
   pub steps : m.steps ≡ p.steps
@@ -152,6 +206,7 @@ pub record IsNow (p : Present) (m : Machine) : Type 0 where
   pub tallies : AllTallied p.services m.deaths
   pub numbered : AllBefore p.next_sid m.deaths
   pub reading : m.clock ≡ clock_of m.history
+  pub waiting : AreKept p.waits (watch_of m)
 
 -- the act reads, and does nothing
 abbrev pub is_reading : {A : Type 0} → Act A → Bool
@@ -166,8 +221,8 @@ pub record IsQuiet {A : Type 0} (input : Input A) (clock : ℕ) (services : List
   pub early : input.at ≤ clock
   pub rest : list_any (λ c. is_due clock c.timer) services ≡ false
 
--- the plan, with what the table has prepared and the effect, is the step of the input
-pub record Plans {A : Type 0} (m : Machine) (input : Input A) (plan : StepPlan A) (prepared : Prepared) (effect : Effect A) : Type 0 where
+-- the plan, with what the table and the waiters have prepared and the effect, is the step of the input
+pub record Plans {A : Type 0} (m : Machine) (input : Input A) (plan : StepPlan A) (prepared : Prepared) (waits : Shown) (effect : Effect A) : Type 0 where
   pub clock : plan.now ≡ (step m input).machine.clock
   pub steps : m.steps + 1 ≡ (step m input).machine.steps
   pub closing : plan.closing ≡ (step m input).machine.closing
@@ -178,3 +233,4 @@ pub record Plans {A : Type 0} (m : Machine) (input : Input A) (plan : StepPlan A
   pub agrees : AllAgree prepared.services (m.history ++ plan.moments.items)
   pub tallies : AllTallied prepared.services (step m input).machine.deaths
   pub numbered : AllBefore prepared.next_sid (step m input).machine.deaths
+  pub waiting : AreKept waits (watch_of (step m input).machine)

@@ -11,11 +11,13 @@ use Rattle.tree_core.specs.declared.input.Act.{Act}
 use Rattle.tree_core.specs.declared.input.Input.{Input}
 use Rattle.tree_core.specs.declared.reply.Refusal.TheVariants.{Spent}
 use Rattle.tree_core.specs.declared.reply.Reply.TheVariants.{Refused}
-use Rattle.tree_core.specs.Acts.{acted, work_of, ask_of, heard}
-use Rattle.tree_core.specs.Machine.{Machine, Outcome}
+use Rattle.tree_core.specs.Acts.{acted, work_of, ask_of}
+use Rattle.tree_core.specs.Listening.{Ask, listened, released_at_once, as_release}
+use Rattle.tree_core.specs.Machine.{Machine, Outcome, watch_of}
 use Rattle.svscan_core.specs.Deaths.{deaths_given}
 use Rattle.svscan_core.specs.Moves.{services_after, events_after, orders_after, moment_of}
 use Rattle.svscan_core.specs.Work.{closing_after}
+use Rattle.wait_conditions.specs.Steps.{releases_by}
 
 -- the most steps of a tree: 2 ^ 48
 abbrev pub step_limit : ℕ
@@ -48,22 +50,37 @@ with_act act m = record m {
   deaths = m.deaths ++ deaths_given (work_of act m) m.clock m.services;
 }
 
+-- what an act asks of the waiters is done, once all moments of the step have joined
+abbrev pub with_ask : Ask → Machine → Machine
+with_ask ask m = record m { waiters = (listened ask (watch_of m)).waiters; next_waiter = (listened ask (watch_of m)).next }
+
 -- the act is done on the machine, after its timers gave these events and orders, and the step is counted
 abbrev pub finished : {A : Type 0} → Act A → List Event → List Order → Machine → Stepped A
 finished act events orders m = record {
-  machine = record (with_act act m) { steps = m.steps + 1 };
+  machine = record (with_ask (ask_of act m) (with_act act m)) { steps = m.steps + 1 };
   outcome = record {
     reply = (acted act m).reply;
     events = events ++ (acted act m).work.events;
     orders = orders ++ (acted act m).work.orders;
-    matched = (heard (ask_of act m)).matched;
-    released = (heard (ask_of act m)).released;
+    matched = [];
+    released = map as_release (released_at_once (ask_of act m) (watch_of (with_act act m)));
   };
 }
 
 -- each service whose timer is due takes its rule once, and then the act is done
 abbrev pub timed : {A : Type 0} → Act A → Machine → Stepped A
 timed act m = finished act (events_after (fire m.clock) m.services) (orders_after (fire m.clock) m.services) (with_moves (fire m.clock) m)
+
+-- the moments that join the history in a step: the clock reading, and then the marks
+abbrev pub joining : ℕ → ℕ → List Event → List Moment
+joining clock at events = clock_moments clock at ++ map moment_of events
+
+-- the waiters that stood before the step look at each of its moments as it joins
+abbrev pub noticed : {A : Type 0} → Machine → ℕ → Stepped A → Stepped A
+noticed m at s = record {
+  machine = s.machine;
+  outcome = record s.outcome { released = map as_release (releases_by (watch_of m) (joining m.clock at s.outcome.events)) ++ s.outcome.released };
+}
 
 -- nothing is done, and no step is counted
 abbrev pub spent_outcome : {A : Type 0} → Outcome A
@@ -72,6 +89,6 @@ spent_outcome = record { reply = Refused Spent; events = []; orders = []; matche
 abbrev pub spent : {A : Type 0} → Machine → Stepped A
 spent m = record { machine = m; outcome = spent_outcome }
 
--- a step: the clock first, then the due timers, then the act
+-- a step: the clock first, then the due timers, then the act, while the waiters look on
 abbrev pub step : {A : Type 0} → Machine → Input A → Stepped A
-step m input = if m.steps == step_limit then spent m else timed input.act (clocked input.at m)
+step m input = if m.steps == step_limit then spent m else noticed m input.at (timed input.act (clocked input.at m))

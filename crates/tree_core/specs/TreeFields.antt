@@ -1,12 +1,13 @@
 -- What a contract sees of a tree, and what is true of every tree.
 use Rattle.svscan_core.specs.Table.{charts_of}
 use Rattle.svscan_core.specs.Timers.{TimersAgree}
+use Rattle.wait_conditions.specs.Stands.{shown}
 use Rattle.tree_core.specs.declared.tree.Tree.TheInside.{Inside}
 use Rattle.tree_core.specs.Sound.{IsCounted, IsRecorded}
 use Rattle.tree_core.specs.Machine.{Machine}
 use Rattle.tree_core.specs.StandsFor.{Stored, StandsFor}
 
--- its services, its numbers and its history
+-- its services, its numbers, its history and its waiters
 abbrev pub stored : {A : Type 0} → Inside A → Stored
 stored t = record {
   clock = t.clock;
@@ -16,12 +17,13 @@ stored t = record {
   next_sid = t.registry.shown.next_sid;
   forgotten = t.history.forgotten;
   kept = t.history.kept;
+  waits = shown t.waits;
 }
 
 -- its numbers don't outrun its steps, its deadlines agree with its services, and there is a machine for which it stands
 abbrev pub TreeInvariant : {A : Type 0} → Inside A → Type 0
 TreeInvariant t =
-    IsCounted t.steps t.registry.shown.next_sid (charts_of t.registry.shown.services)
+    IsCounted t.steps t.registry.shown.next_sid t.waits.next (charts_of t.registry.shown.services)
     × IsRecorded t.steps t.history.forgotten t.history.kept
     × TimersAgree t.deadlines.timers (charts_of t.registry.shown.services)
     × ((m : Machine) × StandsFor (stored t) m)

@@ -1,4 +1,4 @@
-ghost use Rattle.std.specs.Prelude.{◌≡◌, ◌==◌, ◌+◌, ◌<◌, ◌^◌, ◌++◌, List, map, find, bytes_eq, option_map, All, IfOk, IsOk, true, false};
+ghost use Rattle.std.specs.Prelude.{◌≡◌, ◌==◌, ◌+◌, ◌<◌, ◌≤◌, ◌^◌, ◌++◌, List, map, find, bytes_eq, length, option_map, All, IfOk, IsOk, None, Some, if◌then◌else◌, true, false};
 ghost use Rattle.std.specs.List.{list_any};
 ghost use Rattle.death_tally.specs.PermanentFailure.{is_permanent};
 ghost use Rattle.s6_events.specs.Clock.{clock_of};
@@ -11,18 +11,26 @@ ghost use Rattle.s6_events.specs.declared.moment.Moment.{Moment};
 ghost use Rattle.svscan_core.specs.Asked.{asked_by, IsOrderly};
 ghost use Rattle.svscan_core.specs.Table.{charts_of};
 ghost use Rattle.svscan_core.specs.Work.Work.{leave};
+ghost use Rattle.wait_conditions.specs.Steps.{asked_by as waiters_asked};
+ghost use Rattle.wait_conditions.specs.Steps.Change.{leave as leave_waiters};
+ghost use Rattle.tree_core.specs.Acts.{all_named, serials_named};
 ghost use Rattle.tree_core.specs.Machine.{Machine};
-ghost use Rattle.tree_core.specs.Plan.{plain, chosen_work, lists_more, report_choice, letters_choice, row_choice, failure_choice, scan_choice, tally_in, Chooses, HasFired, is_reading};
+ghost use Rattle.tree_core.specs.Plan.{plain, chosen_work, chosen_change, lists_more, report_choice, letters_choice, row_choice, failure_choice, scan_choice, wait_choice, tally_in, Chooses, HasFired, is_reading};
 
 use super::input::Act;
+use super::names::has_repeated_name;
 use super::reply::Refusal;
 use arrayvec::ArrayVec;
 use death_tally::{DeathList, permafails};
-use s6_events::{At, Name, NoMemory, Sid};
+use s6_events::{At, Condition, Mode, Name, NoMemory, Sid, WaitId};
 use std::alloc::Allocator;
 use supervise_core::{Change, Phase, Row};
 use svc_commands::Letters as ControlLetters;
 use svscan_core::{Entry, Registry, ScanOrder, Work, has_repeats};
+use wait_conditions::WaitChange;
+
+/// The most names of one wait.
+const MOST_NAMES: usize = 16;
 
 /// What a step does for its act: why that is refused, or what it asks of the services.
 #[derive(Drop)]
@@ -36,6 +44,8 @@ pub enum Choice<'a> {
     Show(Row),
     Tally(Name),
     Failure(bool),
+    Wait(Condition, Mode, u32, ArrayVec<Sid, 16>),
+    Cancel(WaitId),
 }
 
 impl Choice<'_> {
@@ -49,6 +59,19 @@ impl Choice<'_> {
             Choice::Listing(listing) => Work::Listing(listing),
             Choice::Command(order) => Work::Command(*order),
             _ => Work::Leave,
+        }
+    }
+
+    /// What is asked of the waiters, at this moment.
+    pub fn wait_change(&self, now: At) -> WaitChange<'_>
+        ensures { waiters_asked result ≡ chosen_change now (plain self.now) }
+    {
+        match self {
+            Choice::Wait(condition, mode, timeout, sids) => {
+                WaitChange::Add(*condition, *mode, sids.as_slice(), *timeout, now)
+            }
+            Choice::Cancel(id) => WaitChange::Cancel(*id),
+            _ => WaitChange::Nothing,
         }
     }
 }
@@ -97,6 +120,7 @@ fn letters<'a, A: Allocator + Copy>(
 fn show<'a, A: Allocator + Copy>(registry: &Registry<A>, name: Name, now: At) -> Choice<'a>
     requires { All (λ c. c.generation + 1 < 2 ^ 64) (charts_of registry.now.shown.services) }
     ensures work { chosen_work (plain result) ≡ leave }
+    ensures calm { chosen_change now (plain result) ≡ leave_waiters }
     ensures short { lists_more (plain result) ≡ false }
     ensures row { (history : List Moment) → clock_of history ≡ now → AllAgree registry.now.shown.services history
         → plain result ≡ row_choice (option_map (status_row (history ++ map moment_of (events_after (fire now) (charts_of registry.now.shown.services))) now)
@@ -118,6 +142,7 @@ fn judge<'a, A: Allocator + Copy>(
     list: &DeathList,
 ) -> Choice<'a>
     ensures work { chosen_work (plain result) ≡ leave }
+    ensures calm { chosen_change now (plain result) ≡ leave_waiters }
     ensures short { lists_more (plain result) ≡ false }
     ensures failure { plain result ≡ failure_choice (option_map (is_permanent now seconds count list.now) (tally_in name registry.now.shown.services)) }
 {
@@ -144,6 +169,51 @@ fn scan<A: Allocator + Copy>(
     Ok(Choice::Listing(listing))
 }
 
+// The serials of the services of these names, at most 16, where each name is that of one.
+fn serials_of<A: Allocator + Copy>(
+    registry: &Registry<A>,
+    names: &[Name],
+) -> Option<ArrayVec<Sid, 16>>
+    requires { length names.now ≤ 16 }
+    ensures { option_map (λ sids. sids.items) result
+        ≡ (if all_named names.now (charts_of registry.now.shown.services) then Some (serials_named names.now (charts_of registry.now.shown.services)) else None) }
+{
+    let mut sids = ArrayVec::new();
+    for name in names {
+        match registry.find(*name) {
+            Some(sid) => sids.push(sid),
+            None => return None,
+        }
+    }
+    Some(sids)
+}
+
+// A wait for the services of these names.
+fn wait<'a, A: Allocator + Copy>(
+    alloc: A,
+    registry: &Registry<A>,
+    condition: Condition,
+    mode: Mode,
+    timeout: u32,
+    names: &[Name],
+) -> Result<Choice<'a>, NoMemory>
+    ensures { IfOk result (λ choice. plain choice ≡ wait_choice condition mode timeout names.now (charts_of registry.now.shown.services)) }
+{
+    if names.is_empty() {
+        return Ok(Choice::Refuse(Refusal::Empty));
+    }
+    if has_repeated_name(alloc, names)? {
+        return Ok(Choice::Refuse(Refusal::Repeated));
+    }
+    if names.len() > MOST_NAMES {
+        return Ok(Choice::Refuse(Refusal::TooMany));
+    }
+    Ok(match serials_of(registry, names) {
+        Some(sids) => Choice::Wait(condition, mode, timeout, sids),
+        None => Choice::Refuse(Refusal::NoService),
+    })
+}
+
 /// What the act does, on services whose timers are still to go off at this moment.
 pub fn choose<'a, A: Allocator + Copy>(
     alloc: A,
@@ -157,6 +227,7 @@ pub fn choose<'a, A: Allocator + Copy>(
     ensures orderly { IfOk result (λ choice. registry.now.shown.next_sid + 65 < 2 ^ 64 → IsOrderly registry.now.shown.next_sid (chosen_work (plain choice))) }
     ensures quiet { is_reading act.now ≡ true → IsOk result }
     ensures still { is_reading act.now ≡ true → IfOk result (λ choice. chosen_work (plain choice) ≡ leave) }
+    ensures calm { is_reading act.now ≡ true → IfOk result (λ choice. chosen_change now (plain choice) ≡ leave_waiters) }
     ensures short { is_reading act.now ≡ true → IfOk result (λ choice. lists_more (plain choice) ≡ false) }
 {
     match act {
@@ -194,6 +265,10 @@ pub fn choose<'a, A: Allocator + Copy>(
         Act::Permafailon(name, seconds, count, list) => {
             Ok(judge(registry, *name, now, *seconds, *count, list))
         }
+        Act::Wait(condition, mode, timeout, names) => {
+            wait(alloc, registry, *condition, *mode, *timeout, names.names())
+        }
+        Act::Cancel(id) => Ok(Choice::Cancel(*id)),
         Act::Tick => Ok(Choice::Leave),
     }
 }

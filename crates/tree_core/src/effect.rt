@@ -1,13 +1,15 @@
-ghost use Rattle.std.specs.Prelude.{◌≡◌, ◌++◌, ◌+◌, ◌≤◌, [], length, OnOk, IsOk};
+ghost use Rattle.std.specs.Prelude.{◌≡◌, ◌++◌, ◌∷◌, ◌+◌, ◌≤◌, [], length, map, OnOk, IsOk};
+ghost use Rattle.tree_core.specs.Listening.{as_release};
+ghost use Rattle.tree_core.specs.Plan.{released_by_answer};
 ghost use Rattle.tree_core.specs.declared.reply.Reply.TheVariants.{Done};
 
 use super::hit::Hit;
 use super::reply::Reply;
-use super::verdict::Verdict;
 use arrayvec::ArrayVec;
 use s6_events::{NoMemory, Order, SubId, WaitId};
 use std::alloc::Allocator;
 use svscan_core::Event;
+use wait_conditions::{Verdict, WaitAnswer, WaitPlan};
 
 /// A hit of a subscription.
 #[derive(Clone, Copy, PartialEq, Eq, Debug)]
@@ -23,8 +25,9 @@ pub struct Release {
     pub verdict: Verdict,
 }
 
-/// All that one step gives: the reply to the input, the marks and orders in the order made, and who was told of what. No act
-/// of today makes a subscription or a waiter, so that the last two lists are empty.
+/// All that one step gives: the reply to the input, the marks and orders in the order made, and who was told of what: the matches
+/// by event and then in rising serial, the releases by moment and then in rising serial. No act of today makes a subscription, so
+/// that the matches are empty.
 #[derive(Drop)]
 pub struct Effect<A: Allocator> {
     pub reply: Reply<A>,
@@ -81,6 +84,36 @@ impl<A: Allocator + Copy> Effect<A> {
             unreachable!()
         }
         self.events.extend_from_slice(events)?;
+        Ok(())
+    }
+    // One more release.
+    fn release(&mut self, waiter: WaitId, verdict: Verdict) -> Result<(), NoMemory>
+        ensures reply { self.new.reply ≡ self.old.reply }
+        ensures events { self.new.events.items ≡ self.old.events.items }
+        ensures orders { self.new.orders.items ≡ self.old.orders.items }
+        ensures matched { self.new.matched.items ≡ self.old.matched.items }
+        ensures released { OnOk result (self.new.released.items ≡ self.old.released.items ++ as_release (waiter, verdict) ∷ []) }
+    {
+        self.released.push(Release { waiter, verdict })?;
+        Ok(())
+    }
+
+    // The waiters that a step releases: those of its moments, and then the one that it makes, where that is released at once.
+    pub(crate) fn release_all(&mut self, plan: &WaitPlan<A>) -> Result<(), NoMemory>
+        ensures reply { self.new.reply ≡ self.old.reply }
+        ensures events { self.new.events.items ≡ self.old.events.items }
+        ensures orders { self.new.orders.items ≡ self.old.orders.items }
+        ensures matched { self.new.matched.items ≡ self.old.matched.items }
+        ensures released { OnOk result (self.new.released.items
+            ≡ self.old.released.items ++ (map as_release plan.now.released.items ++ map as_release (released_by_answer plan.now.answer))) }
+        ensures quiet { plan.now.released.items ≡ [] → released_by_answer plan.now.answer ≡ [] → IsOk result }
+    {
+        for (waiter, verdict) in plan.released.as_slice() {
+            self.release(*waiter, *verdict)?;
+        }
+        if let WaitAnswer::Added(waiter, Some(verdict)) = &plan.answer {
+            self.release(*waiter, *verdict)?;
+        }
         Ok(())
     }
 }

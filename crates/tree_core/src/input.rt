@@ -1,8 +1,9 @@
 ghost use Rattle.std.specs.Prelude.{◌≡◌};
 
+use super::names::Names;
 use arrayvec::ArrayVec;
 use death_tally::DeathList;
-use s6_events::{Actor, At, Exit, Name, Sid};
+use s6_events::{Actor, At, Condition, Exit, Mode, Name, Sid, WaitId};
 use std::alloc::Allocator;
 use std::marker::Model;
 use svc_commands::Letters;
@@ -66,6 +67,11 @@ pub enum Act<A: Allocator> {
     /// list and came no longer ago than so many seconds. In this order: the name, the seconds, how many, and the list. Page
     /// `s6-permafailon`.
     Permafailon(Name, u32, u32, DeathList),
+    /// A user waits for services: for a condition of all or of one of them, at most so many milliseconds (0 for ever), and the
+    /// names of the services, 1 to 16. Pages `s6-svwait` and `s6-svlisten`.
+    Wait(Condition, Mode, u32, Names<A>),
+    /// The waiter of this serial ends, released or not.
+    Cancel(WaitId),
     /// Nothing but the clock.
     Tick,
 }

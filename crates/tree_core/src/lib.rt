@@ -6,18 +6,19 @@ mod effect;
 mod hit;
 mod input;
 pub mod laws;
+mod names;
 mod plan;
 mod reply;
 mod rows;
 #[cfg(test)]
 mod tests;
 mod tree;
-mod verdict;
 
 pub use effect::{Effect, Match, Release};
 pub use hit::Hit;
 pub use input::{Act, Input, Listing};
+pub use names::Names;
 pub use reply::{Refusal, Reply, ScanReport, TallyReport};
 pub use svscan_core::{Entry, Event, Listed, ScanOrder};
 pub use tree::Tree;
-pub use verdict::Verdict;
+pub use wait_conditions::{Standing, Verdict};

@@ -9,7 +9,8 @@ ghost use Rattle.svscan_core.specs.Registry.{worked_of};
 ghost use Rattle.svscan_core.specs.Work.{AreDue, closing_after};
 ghost use Rattle.tree_core.specs.Acts.{tally_reply};
 ghost use Rattle.tree_core.specs.Machine.{Machine};
-ghost use Rattle.tree_core.specs.Plan.{present, plain, lists_more, tally_in, chosen_work, chosen_reply, IsNow, Plans, IsQuiet};
+ghost use Rattle.wait_conditions.specs.Stands.{shown};
+ghost use Rattle.tree_core.specs.Plan.{present, plain, lists_more, tally_in, chosen_work, chosen_reply, waiter_reply, IsNow, Plans, IsQuiet};
 ghost use Rattle.tree_core.specs.Step.{clock_moments, step_limit};
 
 use super::choice::{Choice, choose};
@@ -20,8 +21,9 @@ use deadlines::TimerChange;
 use s6_events::{At, Moment, Name, NoMemory, Sid};
 use std::alloc::Allocator;
 use svscan_core::{Event, Registry, ScanOrder};
+use wait_conditions::{WaitAnswer, Waits};
 
-/// A step that is known before anything is changed; what becomes of the services lies in their table.
+/// A step that is known before anything is changed; what becomes of the services lies in their table, and of the waiters among them.
 #[derive(Drop)]
 pub struct StepPlan<A: Allocator> {
     pub now: At,
@@ -73,13 +75,26 @@ fn tally_of<A: Allocator + Copy>(
     }
 }
 
-// What is answered, once the work of the choice was prepared.
+// What is answered of a waiter that is asked for, or that is to end.
+fn waiter_reply<A: Allocator>(told: &WaitAnswer) -> Reply<A>
+    ensures { result ≡ waiter_reply told.now }
+{
+    match told {
+        WaitAnswer::Added(id, _) => Reply::Waiter(*id),
+        WaitAnswer::Refused(_) => Reply::Refused(Refusal::TooMany),
+        WaitAnswer::Cancelled(false) => Reply::Refused(Refusal::NoSuch),
+        WaitAnswer::Cancelled(true) | WaitAnswer::Nothing => Reply::Done,
+    }
+}
+
+// What is answered, once the work of the choice was prepared, and what it asks of the waiters was answered so.
 fn reply_to<A: Allocator + Copy>(
     alloc: A,
     registry: &Registry<A>,
     choice: &Choice,
+    told: &WaitAnswer,
 ) -> Result<Reply<A>, NoMemory>
-    ensures reply { IfOk result (λ reply. reply ≡ chosen_reply (plain choice.now) registry.now.shown.services (worked_of registry.now.prepared)) }
+    ensures reply { IfOk result (λ reply. reply ≡ chosen_reply (plain choice.now) registry.now.shown.services (worked_of registry.now.prepared) told.now) }
     ensures quiet { lists_more (plain choice.now) ≡ false → IsOk result }
 {
     Ok(match choice {
@@ -92,6 +107,7 @@ fn reply_to<A: Allocator + Copy>(
         Choice::Show(row) => Reply::Row(*row),
         Choice::Tally(name) => tally_of(alloc, registry, *name)?,
         Choice::Failure(fails) => Reply::PermanentFailure(*fails),
+        Choice::Wait(_, _, _, _) | Choice::Cancel(_) => waiter_reply(told),
         Choice::Report(_, _) | Choice::Leave | Choice::Letters(_, _) | Choice::Command(_) => {
             Reply::Done
         }
@@ -105,9 +121,11 @@ fn closes(choice: &Choice, closing: bool) -> bool
     closing || matches!(choice, Choice::Command(ScanOrder::Terminate))
 }
 
-/// The step of an input, from the serials of the services whose timers are due: the table prepares it, and the effect is filled.
+/// The step of an input, from the serials of the services whose timers are due: the table and the waiters prepare it, and the effect
+/// is filled.
 pub fn plan_step<A: Allocator + Copy>(
     registry: &mut Registry<A>,
+    waits: &mut Waits<A>,
     clock: At,
     closing: bool,
     due: &[Sid],
@@ -117,15 +135,18 @@ pub fn plan_step<A: Allocator + Copy>(
     requires due { AreDue due.now (max clock input.now.at) (charts_of registry.old.shown.services) }
     requires generations { All (λ c. c.generation + 2 < 2 ^ 64) (charts_of registry.old.shown.services) }
     requires next { registry.old.shown.next_sid + 65 < 2 ^ 64 }
+    requires waiters { waits.old.next < 2 ^ 63 }
     requires events { effect.old.events.items ≡ [] }
     requires orders { effect.old.orders.items ≡ [] }
     requires matched { effect.old.matched.items ≡ [] }
     requires released { effect.old.released.items ≡ [] }
     ensures shown { registry.new.shown ≡ registry.old.shown }
-    ensures step { IfOk result (λ plan. (steps : ℕ) → steps < step_limit → (m : Machine) → IsNow (present clock steps closing registry.old.shown.services registry.old.shown.next_sid) m
-        → Plans m input.now plan registry.new.prepared effect.new) }
+    ensures waits { shown waits.new ≡ shown waits.old }
+    ensures step { IfOk result (λ plan. (steps : ℕ) → steps < step_limit → (m : Machine) → IsNow (present clock steps closing registry.old.shown.services registry.old.shown.next_sid (shown waits.old)) m
+        → Plans m input.now plan registry.new.prepared waits.new.prepared effect.new) }
     ensures grows { OnOk result ((n : ℕ) → All (λ c. c.generation ≤ n) (charts_of registry.old.shown.services) → All (λ c. c.generation ≤ n + 2) (charts_of registry.new.prepared.services)) }
     ensures next { OnOk result (registry.new.prepared.next_sid ≤ registry.old.shown.next_sid + 64) }
+    ensures waiters { OnOk result (waits.new.prepared.next ≤ waits.old.next + 1) }
     ensures count { IfOk result (λ plan. length plan.moments.items ≤ 1024) }
     ensures timers { IfOk result (λ plan. (timers : List Timer) → TimersAgree timers (charts_of registry.old.shown.services) → TimersAgree (changed_all plan.timers.items timers) (charts_of registry.new.prepared.services)) }
     ensures quiet { IsQuiet input.now clock (charts_of registry.old.shown.services) → due.now ≡ [] → IsOkAnd result (λ plan. (plan.moments.items ≡ []) × (plan.timers.items ≡ [])) }
@@ -135,9 +156,11 @@ pub fn plan_step<A: Allocator + Copy>(
     let now = later(clock, input.at);
     let choice = choose(alloc, registry, &input.act, closing, now)?;
     registry.prepare(due, &choice.work(), now)?;
-    effect.reply = reply_to(alloc, registry, &choice)?;
-    effect.tell(registry.events(), registry.orders())?;
     let moments = moments_of(alloc, clock, input.at, registry.events())?;
+    let listened = waits.prepare(moments.as_slice(), &choice.wait_change(now))?;
+    effect.reply = reply_to(alloc, registry, &choice, &listened.answer)?;
+    effect.tell(registry.events(), registry.orders())?;
+    effect.release_all(&listened)?;
     let timers = registry.timers()?;
     Ok(StepPlan {
         now,

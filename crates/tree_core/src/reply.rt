@@ -1,6 +1,6 @@
 ghost use Rattle.std.specs.Prelude.{◌≡◌};
 
-use s6_events::{At, Exit, Name, Sid};
+use s6_events::{At, Exit, Name, Sid, WaitId};
 use std::alloc::Allocator;
 use std::marker::Model;
 use supervise_core::Row;
@@ -120,4 +120,6 @@ pub enum Reply<A: Allocator> {
     Tally(TallyReport<A>),
     /// Whether the last deaths are a permanent failure.
     PermanentFailure(bool),
+    /// The waiter that was made.
+    Waiter(WaitId),
 }

@@ -1,10 +1,11 @@
 //! What no clause says: that every act succeeds with ample memory, on a full table and with the longest lists, and that each growth
 //! of a step may be refused. What a step gives is its clauses' matter; the worked rows run as scripts in `s6_replay`.
+
 use super::*;
 use arrayvec::ArrayVec;
 use death_tally::DeathList;
 use linked_list_allocator::LocalHeap;
-use s6_events::{Actor, At, Exit, Name, NoMemory, Sid};
+use s6_events::{Actor, At, Condition, Exit, Mode, Name, NoMemory, Sid, WaitId};
 use servicedir::Config;
 use std::alloc::{Allocator, Global};
 use std::process::Abort;
@@ -16,6 +17,8 @@ use svc_commands::{ControlLetter, Letters};
 enum Deed {
     /// So many names are listed, each with a `finish` and a notification descriptor; the 66th couldn't be read.
     Scan(u8),
+    /// So many names are listed, each with the plain configuration.
+    ScanPlain(u8),
     Scanctl(ScanOrder),
     /// One letter so many times.
     Svc(ControlLetter, u8),
@@ -28,8 +31,17 @@ enum Deed {
     Status,
     Tally,
     Permafailon,
+    /// For the condition of all services of these serials, with this timeout.
+    Wait(Condition, u32, &'static [u8]),
+    /// Of the waiter of this serial.
+    Cancel,
     Tick,
 }
+
+// As many names as a wait may have, and one more.
+const MOST: [u8; 16] = [1, 2, 3, 4, 5, 6, 7, 8, 9, 10, 11, 12, 13, 14, 15, 16];
+
+const MANY: [u8; 17] = [1, 2, 3, 4, 5, 6, 7, 8, 9, 10, 11, 12, 13, 14, 15, 16, 17];
 
 // The name of the service of a serial: s01, s02 and so on.
 fn name_of(serial: u8) -> Result<Name, Fail> {
@@ -37,12 +49,20 @@ fn name_of(serial: u8) -> Result<Name, Fail> {
     Ok(Name::new(&text).ok_or("a name")?)
 }
 
-fn listing_of<A: Allocator + Copy>(alloc: A, count: u8) -> Result<Listing<A>, Fail> {
-    let config = Config {
+// The configuration of a service with a `finish` and a notification descriptor.
+fn with_finish() -> Config {
+    Config {
         finish: true,
         notification_fd: Some(3),
         ..Config::plain()
-    };
+    }
+}
+
+fn listing_of<A: Allocator + Copy>(
+    alloc: A,
+    count: u8,
+    config: Config,
+) -> Result<Listing<A>, Fail> {
     let mut entries = Vec::new(alloc);
     for serial in 0..count {
         let name = name_of(serial.saturating_add(1))?;
@@ -69,6 +89,14 @@ fn bytes_of(count: u8) -> Result<ArrayVec<u8, 64>, Fail> {
     Ok(bytes)
 }
 
+fn names_of<A: Allocator + Copy>(alloc: A, serials: &[u8]) -> Result<Names<A>, Fail> {
+    let mut names = Vec::new(alloc);
+    for serial in serials {
+        names.push(name_of(*serial)?)?;
+    }
+    Ok(Names::new(names))
+}
+
 fn list_of<A: Allocator + Copy>(alloc: A) -> Result<DeathList, Fail> {
     let list = DeathList::parse(alloc, b"1,SIGKILL").ok().ok_or("memory")?;
     Ok(list.ok_or("a list")?)
@@ -77,7 +105,8 @@ fn list_of<A: Allocator + Copy>(alloc: A) -> Result<DeathList, Fail> {
 fn input<A: Allocator + Copy>(alloc: A, at: u64, deed: Deed, serial: u8) -> Result<Input<A>, Fail> {
     let sid = Sid(u64::from(serial));
     let act = match deed {
-        Deed::Scan(count) => Act::Scan(listing_of(alloc, count)?),
+        Deed::Scan(count) => Act::Scan(listing_of(alloc, count, with_finish())?),
+        Deed::ScanPlain(count) => Act::Scan(listing_of(alloc, count, Config::plain())?),
         Deed::Scanctl(order) => Act::Scanctl(order),
         Deed::Svc(letter, count) => Act::Svc(name_of(serial)?, letters_of(letter, count)?),
         Deed::Started(generation) => Act::Started(sid, generation, 500),
@@ -88,6 +117,10 @@ fn input<A: Allocator + Copy>(alloc: A, at: u64, deed: Deed, serial: u8) -> Resu
         Deed::Status => Act::Status(name_of(serial)?),
         Deed::Tally => Act::Tally(name_of(serial)?),
         Deed::Permafailon => Act::Permafailon(name_of(serial)?, 1, 1, list_of(alloc)?),
+        Deed::Wait(condition, timeout, serials) => {
+            Act::Wait(condition, Mode::All, timeout, names_of(alloc, serials)?)
+        }
+        Deed::Cancel => Act::Cancel(WaitId(u64::from(serial))),
         Deed::Tick => Act::Tick,
     };
     Ok(Input {
@@ -97,37 +130,43 @@ fn input<A: Allocator + Copy>(alloc: A, at: u64, deed: Deed, serial: u8) -> Resu
     })
 }
 
-// Each of 64 services in turn is told this: the moment, what it is told, and how many events and orders that gives in all.
-const ROUNDS: [(u64, Deed, usize, usize); 18] = [
-    (0, Deed::Scan(66), 64, 64),
-    (0, Deed::Started(1), 64, 0),
-    (0, Deed::Notify(1, 63), 64, 0),
-    (0, Deed::Svc(ControlLetter::Hangup, 63), 0, 4032),
-    (5, Deed::Death(1, Exit::Killed(9)), 64, 64),
-    (6, Deed::FinishEnded(1, Exit::Code(0)), 64, 0),
-    (7, Deed::Status, 0, 0),
-    (7, Deed::Tally, 0, 0),
-    (7, Deed::Permafailon, 0, 0),
-    (1005, Deed::Tick, 0, 64),
-    (1006, Deed::StartFailed(2), 0, 0),
-    (1008, Deed::Scan(0), 0, 0),
-    (1009, Deed::Scanctl(ScanOrder::Nuke), 64, 0),
-    (1010, Deed::Scan(0), 0, 0),
-    (1011, Deed::Status, 0, 0),
-    (1012, Deed::Scan(66), 64, 64),
-    (1013, Deed::Scanctl(ScanOrder::Terminate), 0, 0),
-    (1014, Deed::Scan(66), 0, 0),
+// The moment, what each of 64 services in turn is told, and how many events, orders and releases that gives in all.
+type Round = (u64, Deed, usize, usize, usize);
+
+// Each waits for the first service and the last.
+const ROUNDS: &[Round] = &[
+    (0, Deed::Scan(66), 64, 64, 0),
+    (0, Deed::Started(1), 64, 0, 0),
+    (0, Deed::Notify(1, 63), 64, 0, 0),
+    (0, Deed::Svc(ControlLetter::Hangup, 63), 0, 4032, 0),
+    (5, Deed::Death(1, Exit::Killed(9)), 64, 64, 0),
+    (5, Deed::Wait(Condition::Finished, 0, &[1, 64]), 0, 0, 0),
+    (6, Deed::FinishEnded(1, Exit::Code(0)), 64, 0, 64),
+    (6, Deed::Cancel, 0, 0, 0),
+    (7, Deed::Status, 0, 0, 0),
+    (7, Deed::Tally, 0, 0, 0),
+    (7, Deed::Permafailon, 0, 0, 0),
+    (1005, Deed::Tick, 0, 64, 0),
+    (1006, Deed::StartFailed(2), 0, 0, 0),
+    (1008, Deed::Scan(0), 0, 0, 0),
+    (1009, Deed::Scanctl(ScanOrder::Nuke), 64, 0, 0),
+    (1010, Deed::Scan(0), 0, 0, 0),
+    (1011, Deed::Status, 0, 0, 0),
+    (1012, Deed::Scan(66), 64, 64, 0),
+    (1013, Deed::Scanctl(ScanOrder::Terminate), 0, 0, 0),
+    (1014, Deed::Scan(66), 0, 0, 0),
 ];
 
-// All 64 services are told this, with ample memory: how many events and orders that gives.
+// All 64 services are told this, with ample memory: how many events, orders and releases that gives.
 fn told_to_all<A: Allocator + Copy>(
     alloc: A,
     tree: &mut Tree<A>,
     at: u64,
     deed: Deed,
-) -> Result<(usize, usize), Fail> {
+) -> Result<(usize, usize, usize), Fail> {
     let mut events = 0usize;
     let mut orders = 0usize;
+    let mut released = 0usize;
     for serial in 1..65u8 {
         let effect = tree
             .apply(input(alloc, at, deed, serial)?)
@@ -135,8 +174,9 @@ fn told_to_all<A: Allocator + Copy>(
             .ok_or("memory")?;
         events = events.saturating_add(effect.events.len());
         orders = orders.saturating_add(effect.orders.len());
+        released = released.saturating_add(effect.released.len());
     }
-    Ok((events, orders))
+    Ok((events, orders, released))
 }
 
 // The clock, the steps, the number of rows, and whether the services of two names have one.
@@ -150,25 +190,42 @@ fn shown<A: Allocator + Copy>(tree: &Tree<A>) -> Result<(u64, u64, usize, bool, 
     ))
 }
 
+fn take_rounds(
+    rt: &impl Abort,
+    alloc: Global,
+    tree: &mut Tree<Global>,
+    rounds: &[Round],
+) -> Result<(), Fail> {
+    for (at, deed, events, orders, released) in rounds {
+        let given = told_to_all(alloc, tree, *at, *deed)?;
+        assert!(rt;
+            given == (*events, *orders, *released),
+            "{at} {deed:?}: {given:?}"
+        );
+    }
+    Ok(())
+}
+
 #[test]
 fn every_act_succeeds_with_ample_memory(rt: HostRuntime) -> Result<(), Fail> {
     let mut tree = Tree::new(rt.alloc());
-    for (at, deed, events, orders) in ROUNDS {
-        let given = told_to_all(rt.alloc(), &mut tree, at, deed)?;
-        assert_eq!(rt; given, (events, orders));
-    }
-    assert_eq!(rt; shown(&tree)?, (1014, 1152, 64, true, false));
+    take_rounds(&rt, rt.alloc(), &mut tree, ROUNDS)?;
+    assert_eq!(rt; shown(&tree)?, (1014, 1280, 64, true, false));
     Ok(())
 }
 
 // Every act, to the first service or all: each makes something grow, but for the permafailon and the last two.
-const DEEDS: [(u64, Deed); 16] = [
+const DEEDS: &[(u64, Deed)] = &[
     (0, Deed::Scan(3)),
     (0, Deed::Started(1)),
+    (0, Deed::Wait(Condition::Up, 0, &[1])),
+    (0, Deed::Wait(Condition::Finished, 4, &[1])),
     (1, Deed::Notify(1, 3)),
     (2, Deed::Svc(ControlLetter::Terminate, 2)),
     (5, Deed::Death(1, Exit::Code(1))),
     (6, Deed::FinishEnded(1, Exit::Code(0))),
+    (6, Deed::Wait(Condition::Up, 0, &MANY)),
+    (6, Deed::Cancel),
     (6, Deed::Tally),
     (6, Deed::Permafailon),
     (1005, Deed::Tick),
@@ -181,45 +238,102 @@ const DEEDS: [(u64, Deed); 16] = [
     (1008, Deed::Tick),
 ];
 
+// What a refused input may not change: the moment, the number of names that it waits for, the clock, the steps, the number of rows
+// and where the first two waiters stand.
+type Before = (
+    u64,
+    usize,
+    u64,
+    u64,
+    usize,
+    Option<Standing>,
+    Option<Standing>,
+);
+
+fn before<A: Allocator + Copy>(tree: &Tree<A>, input: &Input<A>) -> Before {
+    let names = match &input.act {
+        Act::Wait(_, _, _, names) => names.names().len(),
+        _ => 0,
+    };
+    (
+        input.at.millis(),
+        names,
+        tree.now().millis(),
+        tree.steps(),
+        tree.rows().len(),
+        tree.result(WaitId(1)),
+        tree.result(WaitId(2)),
+    )
+}
+
 // The tree takes the input, at once or, where a growth was refused, once more without the filler; whether one was refused.
 fn applies_at_last<A: Allocator + Copy>(
     tree: &mut Tree<A>,
     input: Input<A>,
     filler: Option<Vec<u8, A>>,
 ) -> Result<bool, Fail> {
+    let first = before(tree, &input);
     match tree.apply(input) {
         Ok(_) => Ok(false),
         Err((back, NoMemory)) => {
             drop(filler);
+            if before(tree, &back) != first {
+                return Err("a refused step changes nothing".into());
+            }
             tree.apply(back).ok().ok_or("memory")?;
             Ok(true)
         }
     }
 }
 
-// The deeds on a heap that has so many bytes left until a refusal gives it ample ones: how many refusals there were, and the steps.
-fn apply_with_little(alloc: Global, left: usize) -> Result<(u32, u64), Fail> {
-    let heap = LocalHeap::new(alloc, 65_536)?;
+// One deed on a heap that has so many bytes left until a refusal gives it ample ones: whether there was one.
+fn apply_one<'a>(
+    heap: &'a LocalHeap,
+    tree: &mut Tree<&'a LocalHeap>,
+    left: usize,
+    at: u64,
+    deed: Deed,
+) -> Result<bool, Fail> {
+    let input = input(heap, at, deed, 1)?;
+    let free = 65_536usize.saturating_sub(heap.used());
+    let filler = Vec::<u8, _>::with_capacity(heap, free.saturating_sub(left)).ok();
+    applies_at_last(tree, input, filler)
+}
+
+fn apply_all<'a>(
+    heap: &'a LocalHeap,
+    tree: &mut Tree<&'a LocalHeap>,
+    left: usize,
+    deeds: &[(u64, Deed)],
+) -> Result<u32, Fail> {
     let mut refused = 0u32;
-    let mut tree = Tree::new(&heap);
-    for (at, deed) in DEEDS {
-        let input = input(&heap, at, deed, 1)?;
-        let free = 65_536usize.saturating_sub(heap.used());
-        let filler = Vec::<u8, _>::with_capacity(&heap, free.saturating_sub(left)).ok();
-        if applies_at_last(&mut tree, input, filler)? {
+    for (at, deed) in deeds {
+        if apply_one(heap, tree, left, *at, *deed)? {
             refused = refused.saturating_add(1);
         }
     }
+    Ok(refused)
+}
+
+// The deeds on such a heap: how many refusals there were, and the steps.
+fn apply_with_little(
+    alloc: Global,
+    left: usize,
+    deeds: &[(u64, Deed)],
+) -> Result<(u32, u64), Fail> {
+    let heap = LocalHeap::new(alloc, 65_536)?;
+    let mut tree = Tree::new(&heap);
+    let refused = apply_all(&heap, &mut tree, left, deeds)?;
     Ok((refused, tree.steps()))
 }
 
 // With less and less memory: how many refusals there were, how many runs without one, and the steps of all runs.
-fn refusals(alloc: Global) -> Result<(u32, u32, u64), Fail> {
+fn refusals(alloc: Global, deeds: &[(u64, Deed)]) -> Result<(u32, u32, u64), Fail> {
     let mut refusals = 0u32;
     let mut without = 0u32;
     let mut steps = 0u64;
     for step in 0..150usize {
-        let (refused, taken) = apply_with_little(alloc, 64 * step)?;
+        let (refused, taken) = apply_with_little(alloc, 64 * step, deeds)?;
         refusals = refusals.saturating_add(refused);
         steps = steps.saturating_add(taken);
         if refused == 0 {
@@ -231,11 +345,11 @@ fn refusals(alloc: Global) -> Result<(u32, u32, u64), Fail> {
 
 #[test]
 fn a_refused_step_hands_its_input_back_and_can_be_taken_again(rt: HostRuntime) -> Result<(), Fail> {
-    let (refusals, without, steps) = refusals(rt.alloc())?;
+    let (refusals, without, steps) = refusals(rt.alloc(), DEEDS)?;
     assert!(&rt;
         refusals > 50 && without > 5,
         "{refusals} refusals, {without} runs with none"
     );
-    assert_eq!(rt; steps, 2400);
+    assert_eq!(rt; steps, 3000);
     Ok(())
 }

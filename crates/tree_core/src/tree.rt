@@ -1,6 +1,7 @@
 ghost use Rattle.std.specs.Prelude.{◌≡◌, IfOk, OnOk, IfErr, OnErr, IsOk};
 ghost use Rattle.tree_core.specs.Effect.{outcome_of};
-ghost use Rattle.tree_core.specs.Machine.{new_machine, Machine};
+ghost use Rattle.wait_conditions.specs.Watch.{standing_named};
+ghost use Rattle.tree_core.specs.Machine.{new_machine, watch_of, Machine};
 ghost use Rattle.tree_core.specs.Plan.{IsQuiet};
 ghost use Rattle.tree_core.specs.Rows.{row_named, rows_of as all_rows};
 ghost use Rattle.svscan_core.specs.Table.{charts_of};
@@ -15,11 +16,12 @@ use super::reply::{Refusal, Reply};
 use super::rows::{row_of, rows_of};
 use arrayvec::ArrayVec;
 use deadlines::Deadlines;
-use s6_events::{At, History, Name, NoMemory};
+use s6_events::{At, History, Name, NoMemory, WaitId};
 use std::alloc::Allocator;
 use std::marker::Model;
 use supervise_core::Row;
 use svscan_core::Registry;
+use wait_conditions::{Standing, Waits};
 
 /// The most steps of a tree: 2^48.
 const STEP_LIMIT: u64 = 281_474_976_710_656;
@@ -34,6 +36,7 @@ pub struct Tree<A: Allocator> {
     registry: Registry<A>,
     deadlines: Deadlines<A>,
     history: History<A>,
+    waits: Waits<A>,
 }
 
 impl<A: Allocator> Model for Tree<A> {
@@ -60,6 +63,7 @@ impl<A: Allocator + Copy> Tree<A> {
             registry: Registry::new(alloc),
             deadlines: Deadlines::new(alloc),
             history: History::new(alloc),
+            waits: Waits::new(alloc),
         }
     }
 
@@ -80,8 +84,10 @@ impl<A: Allocator + Copy> Tree<A> {
         let now = later(self.clock, input.at);
         let due = self.deadlines.due(self.registry.allocator(), now)?;
         let registry = &mut self.registry;
+        let waits = &mut self.waits;
         let plan = plan_step(
             registry,
+            waits,
             self.clock,
             self.closing,
             due.as_slice(),
@@ -96,6 +102,7 @@ impl<A: Allocator + Copy> Tree<A> {
         self.registry.commit();
         self.deadlines.commit(timers);
         self.history.commit(moments);
+        self.waits.commit();
         Ok(())
     }
 
@@ -154,6 +161,13 @@ impl<A: Allocator + Copy> Tree<A> {
         ensures { (m : Machine) → StandsFor self.now m → result.items ≡ all_rows m }
     {
         rows_of(&self.registry, self.clock)
+    }
+
+    /// Where the waiter of this serial stands, or None where there is none. Takes no memory. Page `s6-svwait`.
+    pub fn result(&self, id: WaitId) -> Option<Standing>
+        ensures { (m : Machine) → StandsFor self.now m → result ≡ standing_named (watch_of m) id }
+    {
+        self.waits.result(id)
     }
 
     /// How many steps it has taken, at most 2^48.

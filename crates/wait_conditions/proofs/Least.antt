@@ -1,11 +1,13 @@
 -- A waiter that is released has the verdict of the least number of moments.
-use Rattle.std.proofs.Common.{◌≡◌, ◌≤◌, ◌<◌, ℕ, zero, suc, List, [], ◌∷◌, length, take, map, refl, sym, ap, ◌∙◌, arith}
+use Rattle.std.proofs.Common.{◌≡◌, ◌≤◌, ◌<◌, ◌+◌, ℕ, zero, suc, List, [], ◌∷◌, ◌++◌, length, take, map, refl, sym, ap, ◌∙◌, arith}
+use Rattle.std.proofs.lemmas.List.{length-append, take-append-le, take_all}
 use Rattle.s6_events.specs.declared.moment.Moment.{Moment}
 use Rattle.wait_conditions.specs.declared.verdict.Verdict.{Verdict}
 use Rattle.wait_conditions.specs.declared.verdict.Standing.{Standing}
 use Rattle.wait_conditions.specs.declared.verdict.Standing.TheVariants.{Waiting, Released}
 use Rattle.wait_conditions.specs.Verdict.{Asked, verdict}
-use Rattle.wait_conditions.specs.Release.{beginnings, first_release, standing, IsLeast}
+use Rattle.wait_conditions.specs.Release.{beginnings, first_release, standing, settled, IsLeast}
+use Rattle.wait_conditions.proofs.Standings.{standing-push}
 
 map_twice : (f : List Moment → Standing) (g : List Moment → List Moment) (xs : List (List Moment)) → map f (map g xs) ≡ map (λ x. f (g x)) xs
 map_twice f g [] = refl
@@ -60,3 +62,19 @@ all_waited test (m ∷ ms) h (suc k) b =
 -- the law of waiting
 pub waits_at_each : (a : Asked) (past since : List Moment) → standing a past since ≡ Waiting → (k : ℕ) → k ≤ length since → verdict a past (take k since) ≡ Waiting
 waits_at_each a past since h k b = all_waited (verdict a past) since h k b
+
+-- a waiter that waited is released with the verdict over all moments
+verdict_now : (a : Asked) (past since : List Moment) (m : Moment) (v : Verdict)
+    → standing a past since ≡ Waiting → standing a past (since ++ m ∷ []) ≡ Released v → verdict a past (since ++ m ∷ []) ≡ Released v
+verdict_now a past since m v waits h = sym (standing-push a past since m ∙ ap (λ s. settled s (verdict a past (since ++ m ∷ []))) waits) ∙ h
+
+-- the law of the moment that releases
+pub released_by_last : (a : Asked) (past since : List Moment) (m : Moment) (v : Verdict)
+    → standing a past since ≡ Waiting → standing a past (since ++ m ∷ []) ≡ Released v → IsLeast (verdict a past) (since ++ m ∷ []) v (length since + 1)
+released_by_last a past since m v waits h =
+    let size : length (since ++ m ∷ []) ≡ length since + 1 = length-append since (m ∷ []) in
+    record {
+      within = omega (arith, size);
+      there = ap (verdict a past) (take_all (length since + 1) (since ++ m ∷ []) (omega (arith, size))) ∙ verdict_now a past since m v waits h;
+      before = λ j b. ap (verdict a past) (take-append-le j since (m ∷ []) (omega arith)) ∙ waits_at_each a past since waits j (omega arith);
+    }

@@ -1,5 +1,3 @@
-pub mod Newest
-pub mod Letters
 pub mod Pushed
 pub mod Standings
 pub mod InPlace

@@ -1,69 +1,43 @@
 -- One more moment changes what is known of a service by its mark alone.
-use Rattle.std.proofs.Common.{◌≡◌, ◌<◌, ◌+◌, ℕ, List, [], ◌∷◌, ◌++◌, Option, Some, None, is_some, length, take, get_or, refl, sym, ap, ◌∙◌}
+use Rattle.std.proofs.Common.{◌≡◌, ◌<◌, ◌+◌, ℕ, List, [], ◌∷◌, ◌++◌, Option, is_some, length, take, get_or, sym, ap, ◌∙◌, rules}
 use Rattle.std.proofs.lemmas.List.{take_more}
 use Rattle.wait_conditions.specs.declared.service_state.ServiceState.{ServiceState}
 use Rattle.wait_conditions.specs.declared.service_state.SinceState.{SinceState}
 use Rattle.s6_events.specs.declared.mark.Mark.{Mark}
-use Rattle.s6_events.specs.declared.mark.Mark.TheVariants as mark
 use Rattle.s6_events.specs.declared.moment.Moment.{Moment}
-use Rattle.wait_conditions.specs.Marks.{mark_of, newest, newer}
-use Rattle.wait_conditions.proofs.Newest.{newest-push}
-use Rattle.wait_conditions.proofs.Letters.{current_letter-push}
-use Rattle.wait_conditions.specs.Holds.{has_spawned, is_spawned}
-use Rattle.wait_conditions.specs.Fails.{has_failed, is_failed, tells_failure, has_ended, is_ended, tells_supervisor}
-use Rattle.wait_conditions.specs.OneMore.{ended_after, spawned_after, failed_after}
+use Rattle.s6_events.specs.Clock.{clock_of}
+use Rattle.s6_events.specs.Newest.{Dated, newest, mark_of, newer}
+use Rattle.s6_events.specs.CurrentLetter.{start_or, tells_state, mark_or_done}
+use Rattle.s6_events.proofs.Newest.{newest-push}
+use Rattle.wait_conditions.specs.Holds.{is_spawned}
+use Rattle.wait_conditions.specs.Fails.{is_failed, tells_failure, is_ended, tells_supervisor}
 use Rattle.wait_conditions.specs.ServiceState.{state_of, since_of, state_after, since_after}
 
-ended_of_newer : (o old : Option Mark) → is_ended (newer tells_supervisor o old) ≡ ended_after o (is_ended old)
-ended_of_newer None old = refl
-ended_of_newer (Some mark.SupervisorStarted) old = refl
-ended_of_newer (Some mark.Spawned) old = refl
-ended_of_newer (Some mark.Ready) old = refl
-ended_of_newer (Some mark.Died) old = refl
-ended_of_newer (Some mark.FinishDone) old = refl
-ended_of_newer (Some mark.PermanentFailure) old = refl
-ended_of_newer (Some mark.SupervisorEnded) old = refl
+-- what the newest marks tell
+abbrev state_told : Option Dated → Option Dated → ServiceState
+state_told letter supervisor = record { letter = mark_or_done letter; ended = is_ended supervisor }
 
-spawned_of_newer : (o old : Option Mark) → is_some (newer is_spawned o old) ≡ spawned_after o (is_some old)
-spawned_of_newer None old = refl
-spawned_of_newer (Some mark.SupervisorStarted) old = refl
-spawned_of_newer (Some mark.Spawned) old = refl
-spawned_of_newer (Some mark.Ready) old = refl
-spawned_of_newer (Some mark.Died) old = refl
-spawned_of_newer (Some mark.FinishDone) old = refl
-spawned_of_newer (Some mark.PermanentFailure) old = refl
-spawned_of_newer (Some mark.SupervisorEnded) old = refl
+abbrev since_told : Option Dated → Option Dated → SinceState
+since_told spawned failure = record { spawned = is_some spawned; failed = is_failed failure }
 
-failed_of_newer : (o old : Option Mark) → is_failed (newer tells_failure o old) ≡ failed_after o (is_failed old)
-failed_of_newer None old = refl
-failed_of_newer (Some mark.SupervisorStarted) old = refl
-failed_of_newer (Some mark.Spawned) old = refl
-failed_of_newer (Some mark.Ready) old = refl
-failed_of_newer (Some mark.Died) old = refl
-failed_of_newer (Some mark.FinishDone) old = refl
-failed_of_newer (Some mark.PermanentFailure) old = refl
-failed_of_newer (Some mark.SupervisorEnded) old = refl
+-- one more mark changes it as the mark says
+state_newer : (at : ℕ) (mark : Option Mark) (l s : Option Dated)
+    → state_told (newer (start_or tells_state) at mark l) (newer tells_supervisor at mark s) ≡ state_after mark (state_told l s)
+state_newer at mark l s = search rules
 
-pub has_ended-push : (sid : ℕ) (moments : List Moment) (m : Moment) → has_ended sid (moments ++ m ∷ []) ≡ ended_after (mark_of sid m) (has_ended sid moments)
-has_ended-push sid moments m = ap is_ended (newest-push tells_supervisor sid moments m) ∙ ended_of_newer (mark_of sid m) (newest tells_supervisor sid moments)
-
-pub has_spawned-push : (sid : ℕ) (since : List Moment) (m : Moment) → has_spawned sid (since ++ m ∷ []) ≡ spawned_after (mark_of sid m) (has_spawned sid since)
-has_spawned-push sid since m = ap is_some (newest-push is_spawned sid since m) ∙ spawned_of_newer (mark_of sid m) (newest is_spawned sid since)
-
-pub has_failed-push : (sid : ℕ) (since : List Moment) (m : Moment) → has_failed sid (since ++ m ∷ []) ≡ failed_after (mark_of sid m) (has_failed sid since)
-has_failed-push sid since m = ap is_failed (newest-push tells_failure sid since m) ∙ failed_of_newer (mark_of sid m) (newest tells_failure sid since)
+since_newer : (at : ℕ) (mark : Option Mark) (s f : Option Dated)
+    → since_told (newer is_spawned at mark s) (newer tells_failure at mark f) ≡ since_after mark (since_told s f)
+since_newer at mark s f = search rules
 
 pub state_of-push : (sid : ℕ) (moments : List Moment) (m : Moment) → state_of sid (moments ++ m ∷ []) ≡ state_after (mark_of sid m) (state_of sid moments)
 state_of-push sid moments m =
-    let letter = current_letter-push sid moments m in
-    let ended = has_ended-push sid moments m in
-    (cc)
+    (λ i. state_told (newest-push (start_or tells_state) sid moments m i) (newest-push tells_supervisor sid moments m i))
+    ∙ state_newer (clock_of moments) (mark_of sid m) (newest (start_or tells_state) sid moments) (newest tells_supervisor sid moments)
 
 pub since_of-push : (sid : ℕ) (since : List Moment) (m : Moment) → since_of sid (since ++ m ∷ []) ≡ since_after (mark_of sid m) (since_of sid since)
 since_of-push sid since m =
-    let spawned = has_spawned-push sid since m in
-    let failed = has_failed-push sid since m in
-    (cc)
+    (λ i. since_told (newest-push is_spawned sid since m i) (newest-push tells_failure sid since m i))
+    ∙ since_newer (clock_of since) (mark_of sid m) (newest is_spawned sid since) (newest tells_failure sid since)
 
 -- a loop's step over the moments
 pub state_more : (sid : ℕ) (moments : List Moment) (i : ℕ) (m : Moment) (state : ServiceState) → i < length moments → m ≡ get_or moments i m → state ≡ state_of sid (take i moments) → state_after (mark_of sid m) state ≡ state_of sid (take (i + 1) moments)

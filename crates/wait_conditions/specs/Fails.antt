@@ -5,9 +5,9 @@ use Rattle.s6_events.specs.declared.mark.Mark.TheVariants as mark
 use Rattle.s6_events.specs.declared.moment.Moment.{Moment}
 use Rattle.s6_events.specs.declared.condition.Condition.{Condition}
 use Rattle.s6_events.specs.declared.condition.Condition.TheVariants as condition
+use Rattle.s6_events.specs.Newest.{Dated, newest}
 use Rattle.wait_conditions.specs.declared.failure.Failure.{Failure}
 use Rattle.wait_conditions.specs.declared.failure.Failure.TheVariants.{Permanent, Unsupervised}
-use Rattle.wait_conditions.specs.Marks.{newest}
 use Rattle.wait_conditions.specs.Holds.{holds}
 
 -- the conditions that ask for a service that is up
@@ -23,11 +23,11 @@ tells_failure mark.PermanentFailure = true
 tells_failure _ = false
 
 -- it is an O
-abbrev pub is_failed : Option Mark → Bool
-is_failed (Some mark.PermanentFailure) = true
+abbrev pub is_failed : Option Dated → Bool
+is_failed (Some (_, mark.PermanentFailure)) = true
 is_failed _ = false
 
--- an O of the service is among the moments, with no later u
+-- the newest of a service's u and O is an O
 abbrev pub has_failed : ℕ → List Moment → Bool
 has_failed sid since = is_failed (newest tells_failure sid since)
 
@@ -38,11 +38,11 @@ tells_supervisor mark.SupervisorEnded = true
 tells_supervisor _ = false
 
 -- it is an x
-abbrev pub is_ended : Option Mark → Bool
-is_ended (Some mark.SupervisorEnded) = true
+abbrev pub is_ended : Option Dated → Bool
+is_ended (Some (_, mark.SupervisorEnded)) = true
 is_ended _ = false
 
--- the last of a service's s and x is an x
+-- the newest of a service's s and x is an x
 abbrev pub has_ended : ℕ → List Moment → Bool
 has_ended sid moments = is_ended (newest tells_supervisor sid moments)
 

@@ -5,7 +5,7 @@ use Rattle.s6_events.specs.declared.mark.Mark.TheVariants as mark
 use Rattle.s6_events.specs.declared.moment.Moment.{Moment}
 use Rattle.s6_events.specs.declared.condition.Condition.{Condition}
 use Rattle.s6_events.specs.declared.condition.Condition.TheVariants as condition
-use Rattle.wait_conditions.specs.Marks.{newest}
+use Rattle.s6_events.specs.Newest.{newest}
 use Rattle.s6_events.specs.CurrentLetter.{current_letter}
 
 -- a u

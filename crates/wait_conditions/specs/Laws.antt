@@ -1,5 +1,5 @@
 -- Laws of a waiter's release.
-use Rattle.std.specs.Prelude.{◌≡◌, ℕ, ◌≤◌, List, [], ◌∷◌, ◌++◌, length, take}
+use Rattle.std.specs.Prelude.{◌≡◌, ℕ, ◌+◌, ◌≤◌, List, [], ◌∷◌, ◌++◌, length, take}
 use Rattle.s6_events.specs.declared.moment.Moment.{Moment}
 use Rattle.wait_conditions.specs.declared.verdict.Verdict.{Verdict}
 use Rattle.wait_conditions.specs.declared.verdict.Standing.TheVariants.{Waiting, Released}
@@ -23,3 +23,10 @@ abbrev pub GrowsByMoments : Type 0
 GrowsByMoments =
     (a : Asked) (past since : List Moment) (m : Moment)
     → standing a past (since ++ m ∷ []) ≡ settled (standing a past since) (verdict a past (since ++ m ∷ []))
+
+-- a waiter that one moment more releases is released at the least number of moments since its place, and that number counts this one
+abbrev pub ReleasedByTheLastMoment : Type 0
+ReleasedByTheLastMoment =
+    (a : Asked) (past since : List Moment) (m : Moment) (v : Verdict)
+    → standing a past since ≡ Waiting → standing a past (since ++ m ∷ []) ≡ Released v
+    → IsLeast (verdict a past) (since ++ m ∷ []) v (length since + 1)

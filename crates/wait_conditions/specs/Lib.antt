@@ -1,5 +1,4 @@
 pub use Rattle.s6_events.specs.CurrentLetter
-pub mod Marks
 pub mod Holds
 pub mod Fails
 pub mod Verdict

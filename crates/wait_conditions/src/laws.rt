@@ -1,5 +1,5 @@
 //! Laws of a waiter's release. Each is the contract of a function that does nothing, so that its statement is proved.
-ghost use Rattle.wait_conditions.specs.Laws.{GrowsByMoments, ReleasedAtTheLeast, WaitsThroughout};
+ghost use Rattle.wait_conditions.specs.Laws.{GrowsByMoments, ReleasedAtTheLeast, ReleasedByTheLastMoment, WaitsThroughout};
 
 /// A waiter that is released has the verdict over the least number of moments since its place, from 0 on, at which its verdict
 /// isn't waiting. This project's own.
@@ -16,4 +16,10 @@ pub fn waits_throughout()
 /// own.
 pub fn one_moment_more()
     ensures { GrowsByMoments }
+{}
+
+/// A waiter that one moment more releases is released at the least number of moments since its place, and that number counts this
+/// moment. This project's own.
+pub fn released_by_the_last_moment()
+    ensures { ReleasedByTheLastMoment }
 {}

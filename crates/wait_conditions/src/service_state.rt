@@ -1,5 +1,5 @@
 ghost use Rattle.std.specs.Prelude.{◌≡◌, []};
-ghost use Rattle.wait_conditions.specs.Marks.{mark_of};
+ghost use Rattle.s6_events.specs.Newest.{mark_of};
 ghost use Rattle.wait_conditions.specs.OneMore.{letter_after, ended_after, spawned_after, failed_after};
 ghost use Rattle.wait_conditions.specs.ServiceState.{state_of, since_of, state_after, since_after};
 

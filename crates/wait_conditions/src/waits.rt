@@ -1,11 +1,12 @@
 //! The waiters of all services.
-ghost use Rattle.std.specs.Prelude.{◌≡◌, ◌≤◌, ◌<◌, ◌+◌, ◌^◌, [], IfOk, IfErr, OnOk, OnErr, IsOk, None, is_some, length};
+ghost use Rattle.std.specs.Prelude.{◌≡◌, ◌≤◌, ◌<◌, ◌+◌, ◌^◌, [], IfOk, IfErr, OnOk, OnErr, IsOkAnd, None, is_some, length};
 ghost use Rattle.wait_conditions.specs.Kept.{standing_kept};
 ghost use Rattle.wait_conditions.specs.Refusal.{refusal, fault_told, deadline_of};
 ghost use Rattle.wait_conditions.specs.Stands.{WaitsFor, StandsFor, TakesMoment, AddsWaiter, CancelsWaiter, MakesStep, IsIdle, shown};
 ghost use Rattle.wait_conditions.specs.Steps.{asked_by, releases_by, after_moments, after_change, answer_to};
 ghost use Rattle.wait_conditions.specs.Steps.Change.{leave};
 ghost use Rattle.wait_conditions.specs.declared.verdict.Standing.TheVariants.{Waiting};
+ghost use Rattle.wait_conditions.specs.declared.wait_change.WaitAnswer.TheVariants as answer;
 ghost use Rattle.wait_conditions.specs.Watch.{Watch, new_watch, releases, after_moment, after_add, after_cancel, standing_named};
 ghost use Rattle.wait_conditions.specs.Watch.{asking, made_now, newly, standing_of};
 
@@ -182,7 +183,7 @@ impl<A: Allocator + Copy> Waits<A> {
     /// serial; and after all of them one change. A waiter that is added begins after these moments, and its verdict is looked at
     /// once right then. Nothing that is shown changes, and what was prepared before is forgotten. This project's own.
     ///
-    /// NoMemory where a growth was refused; then nothing is prepared. A step that does nothing takes no memory. Where no waiter
+    /// NoMemory where a growth was refused; then nothing is prepared. A step that does nothing takes no memory, and releases nothing. Where no waiter
     /// waits, the moments alone ask for any; a change asks for some too.
     pub fn prepare(
         &mut self,
@@ -198,7 +199,7 @@ impl<A: Allocator + Copy> Waits<A> {
         ensures serials { OnOk result (self.new.prepared.next ≤ self.old.next + 1) }
         ensures shown { shown self.new ≡ shown self.old }
         ensures idle { OnErr result (IsIdle self.new) }
-        ensures quiet { moments.now ≡ [] → asked_by change.now ≡ leave → IsOk result }
+        ensures quiet { moments.now ≡ [] → asked_by change.now ≡ leave → IsOkAnd result (λ plan. (plan.released.items ≡ []) × (plan.answer ≡ answer.Nothing)) }
     {
         let plan = self.prepare_stored(moments, change)?;
         Ok(plan)
@@ -215,7 +216,7 @@ impl<A: Allocator + Copy> Waits<A> {
             moments.now (asked_by change.now) plan.released.items plan.answer) }
         ensures shown { shown self.new ≡ shown self.old }
         ensures idle { OnErr result (IsIdle self.new) }
-        ensures quiet { moments.now ≡ [] → asked_by change.now ≡ leave → IsOk result }
+        ensures quiet { moments.now ≡ [] → asked_by change.now ≡ leave → IsOkAnd result (λ plan. (plan.released.items ≡ []) × (plan.answer ≡ answer.Nothing)) }
     {
         let alloc = self.moments.allocator();
         self.later = None;

@@ -42,6 +42,18 @@ const TALLY_BLOCKS: [&str; 5] = [
     "5 permafail 125\n",
 ];
 
+// A waiter that is made, released and cancelled.
+const WAIT: &str =
+    "s6-script 1\n0 1 scan web\n0 1 started 1 1 5\n0 1 wait D a 500 web\n500 1 death 1 1 code 0\n500 1 cancel 1\n";
+
+const WAIT_BLOCKS: [&str; 5] = [
+    "1 scanned +1:web\ne 1 s\no run 1 1\n",
+    "2 done\ne 1 u\n",
+    "3 wait 1\n",
+    "4 done\ne 1 d\ne 1 D\nr 1 timedout\n",
+    "5 done\n",
+];
+
 // What a replay on a heap of so many bytes answers, and how many whole blocks it writes.
 fn replay_on_heap(
     alloc: Global,
@@ -88,6 +100,7 @@ fn each_growth_is_refused_in_turn(rt: HostRuntime) -> Result<(), Fail> {
         (LETTERS, LETTERS_BLOCKS),
         (FINISH, FINISH_BLOCKS),
         (TALLY, TALLY_BLOCKS),
+        (WAIT, WAIT_BLOCKS),
     ];
     for (script, blocks) in scripts {
         refuse_in_turn(&rt, rt.alloc(), script, &blocks)?;
@@ -118,5 +131,6 @@ fn refuse_line_in_turn(rt: &impl Abort, alloc: Global, line: &[u8]) -> Result<()
 fn a_line_without_memory(rt: HostRuntime) -> Result<(), Fail> {
     refuse_line_in_turn(&rt, rt.alloc(), b"0 1 scan web:finish,kill=7 other")?;
     refuse_line_in_turn(&rt, rt.alloc(), b"0 1 notify 1 1 0a0a")?;
-    refuse_line_in_turn(&rt, rt.alloc(), b"0 1 permafailon web 1 1 1-2,SIGHUP")
+    refuse_line_in_turn(&rt, rt.alloc(), b"0 1 permafailon web 1 1 1-2,SIGHUP")?;
+    refuse_line_in_turn(&rt, rt.alloc(), b"0 1 wait U o 9 web log")
 }

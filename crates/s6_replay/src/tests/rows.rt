@@ -287,6 +287,58 @@ const ENDS: &[(&str, &str, &str)] = &[
         10 1 tally web\n10 1 tally log\n10 1 permafailon log 1 0 1\n1009 1 permafailon web 1 1 1,SIGSEGV\n1010 1 permafailon web 1 1 SIGSEGV\n",
         "\n6 tally 9:s11\n7 refused NoService\n8 refused NoService\n9 permafail 125\no run 1 2\n10 permafail 0\n",
     ),
+    (
+        "all-services-must-hold-at-one-moment",
+        "s6-script 1\n0 1 scan a:notify=3 b:notify=3\n0 1 started 1 1 7\n0 1 started 2 1 8\n0 1 wait U a 0 a b\n\
+        10 1 notify 1 1 0a\n20 1 death 1 1 code 0\n30 1 notify 2 1 0a\n1020 1 started 1 2 9\n1030 1 notify 1 2 0a\n",
+        "\n4 wait 1\n5 done\ne 1 U\n6 done\ne 1 d\ne 1 D\n7 done\ne 2 U\n8 done\ne 1 u\no run 1 2 fd 3\n9 done\ne 1 U\n\
+        r 1 held\n",
+    ),
+    (
+        "deadline-comes-before-its-steps-letters",
+        "s6-script 1\n0 1 scan web\n0 1 started 1 1 5\n0 1 wait D a 500 web\n500 1 death 1 1 code 0\n",
+        "\n3 wait 1\n4 done\ne 1 d\ne 1 D\nr 1 timedout\n",
+    ),
+    (
+        "waiter-held-at-once-and-refused-waits",
+        "s6-script 1\n0 1 scan web\n0 1 started 1 1 5\n0 1 wait u a 0 web\n0 1 wait u a 0\n0 1 wait u a 0 web web\n",
+        "\n3 wait 1\nr 1 held\n4 refused Empty\n5 refused Repeated\n",
+    ),
+    (
+        "ended-supervisor-fails-a-waiter-and-returns",
+        "s6-script 1\n0 1 scan web:finish\n0 1 started 1 1 5\n0 1 wait d a 0 web\n10 1 svc web x\n\
+        20 1 death 1 1 code 0\n20 1 wait u a 0 web\n30 1 finished 1 1 code 0\n1029 1 tick\n1030 1 tick\n",
+        "\n3 wait 1\n4 done\n5 done\ne 1 d\no finish 1 1 0 0\nr 1 held\n6 wait 2\n7 done\ne 1 D\ne 1 x\nr 2 gone\n\
+        8 done\n9 done\ne 1 s\no run 1 2\n",
+    ),
+    (
+        "permanent-failure-fails-a-ready-waiter",
+        "s6-script 1\n0 1 scan web:finish,notify=3\n0 1 started 1 1 5\n0 1 wait U a 0 web\n10 1 death 1 1 code 1\n\
+        20 1 finished 1 1 code 125\n",
+        "\n4 done\ne 1 d\no finish 1 1 1 0\n5 done\ne 1 O\ne 1 D\nr 1 failed\n",
+    ),
+    (
+        "cancelled-waiter-is-gone",
+        "s6-script 1\n0 1 scan a b:notify=3\n0 1 started 1 1 7\n0 1 started 2 1 8\n0 1 wait U o 0 a b\n1 1 cancel 1\n\
+        2 1 notify 2 1 0a\n3 1 cancel 1\n3 1 wait U o 0 a b\n",
+        "\n4 wait 1\n5 done\n6 done\ne 2 U\n7 refused NoSuch\n8 wait 2\nr 2 held\n",
+    ),
+    (
+        "restart-waiter-needs-a-new-start",
+        "s6-script 1\n0 1 scan web\n0 1 started 1 1 5\n0 1 wait r a 0 web\n10 1 death 1 1 code 0\n1010 1 tick\n\
+        1011 1 started 1 2 6\n",
+        "\n3 wait 1\n4 done\ne 1 d\ne 1 D\n5 done\no run 1 2\n6 done\ne 1 u\nr 1 held\n",
+    ),
+    (
+        "waiter-made-after-the-supervisor-ended",
+        "s6-script 1\n0 1 scan web:down\n5 1 svc web x\n6 1 wait u a 0 web\n",
+        "\n2 done\ne 1 x\n3 wait 1\nr 1 gone\n",
+    ),
+    (
+        "waiter-and-status-after-the-history-was-cut",
+        "s6-script 1\n0 1 scan web\n0 1 started 1 1 5\n10 1 tick\n20 1 tick\n20 1 wait u a 0 web\n20 1 status web\n",
+        "\n5 wait 1\nr 1 held\n6 row 1 web true true true false false 5 -1 -1 0 -1\n",
+    ),
 ];
 
 // A replay of the script writes this transcript, and answers so.

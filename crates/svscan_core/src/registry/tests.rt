@@ -1,4 +1,5 @@
-//! What a registry gives, step by step, in tables whose values are those of the rules; and that each growth of a step may be refused.
+//! What no clause says: that 64 services come and leave with ample memory, and that each growth of a step may be refused. What a step
+//! gives is its clauses' matter; the worked rows run as scripts in `s6_replay`.
 ghost use Rattle.std.specs.Prelude.{◌≡◌, ℕ, ◌+◌, ◌<◌, ◌^◌, ◌==◌, All, IfOk, true};
 ghost use Rattle.std.specs.List.{list_any};
 ghost use Rattle.supervise_core.specs.Chart.{is_due};
@@ -8,17 +9,14 @@ ghost use Rattle.svscan_core.specs.Work.{AreDue};
 
 use super::*;
 use crate::listing::sort_listing;
-use s6_events::Exit;
 use servicedir::Config;
 use std::alloc::Global;
 use std::process::Abort;
 use std::test::Fail;
 use supervise_core::ChartState;
 
-mod alone;
 mod full;
 mod refused;
-mod steps;
 
 // Whether it is one of these.
 fn is_among(due: &[Sid], sid: Sid) -> bool
@@ -143,49 +141,17 @@ fn control<A: Allocator + Copy>(
     registry.control(order, now).ok()
 }
 
-// One service takes a change at once.
-fn change<A: Allocator + Copy>(
-    rt: &impl Abort,
-    registry: &mut Registry<A>,
-    sid: Sid,
-    change: &Change,
-    now: At,
-) -> Option<Out> {
-    let are_fit = are_fit(&registry.slots, &[], At::zero());
-    assert!(rt; are_fit);
-    registry.change(sid, change, now)
-}
-
-// What a name says of its directory: with `!` it couldn't be read, with `-` it has a `down`, with `+` a `finish`.
+// An entry of this name, which keeps few deaths, so that their memory is small beside that of a step.
 fn entry(word: &str) -> Result<Entry, Fail> {
-    // Few deaths are kept, so that their memory is small beside that of a step.
-    let plain = Config {
+    let name = Name::new(word.as_bytes()).ok_or("a name")?;
+    let config = Config {
         max_death_tally: 2,
         ..Config::plain()
     };
-    let (text, config) = if let Some(text) = word.strip_suffix('!') {
-        (text, None)
-    } else if let Some(text) = word.strip_suffix('-') {
-        (
-            text,
-            Some(Config {
-                down: true,
-                ..plain
-            }),
-        )
-    } else if let Some(text) = word.strip_suffix('+') {
-        (
-            text,
-            Some(Config {
-                finish: true,
-                ..plain
-            }),
-        )
-    } else {
-        (word, Some(plain))
-    };
-    let name = Name::new(text.as_bytes()).ok_or("a name")?;
-    Ok(Entry { name, config })
+    Ok(Entry {
+        name,
+        config: Some(config),
+    })
 }
 
 // The listing of these words, between spaces.

@@ -96,5 +96,7 @@ fn a_scan_adds_sixty_four_services(rt: HostRuntime) -> Result<(), Fail> {
     )?;
     answers(&rt, &answer.ok_or("memory")?, &wanted);
     assert_eq!(rt; shown(&rt, rt.alloc(), &registry)?.len(), 64);
+    let left = control(&rt, &mut registry, ScanOrder::Terminate, At::zero());
+    assert!(rt; left.is_some());
     Ok(())
 }

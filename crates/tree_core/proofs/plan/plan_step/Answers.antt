@@ -1,4 +1,4 @@
-use Rattle.std.proofs.Common.{length, subst, arith, ◌+◌, ◌∙◌, ◌++◌, refl, sym, ap, map}
+use Rattle.std.proofs.Common.{List, length, subst, arith, ◌+◌, ◌∙◌, ◌++◌, refl, sym, ap, map}
 use Rattle.supervise_core.specs.Chart.{fire}
 use Rattle.svscan_core.specs.Deaths.{deaths_given, KeepTallied}
 use Rattle.svscan_core.specs.Moves.{moment_of, services_after}
@@ -9,28 +9,43 @@ use Rattle.svscan_core.specs.Work.{Work, Worked, stepped}
 use Rattle.svscan_core.proofs.Few.{step_next}
 use Rattle.svscan_core.proofs.Marks.{step_events}
 use Rattle.svscan_core.proofs.Growing.{Below, step_grows}
-use Rattle.tree_core.specs.Plan.{present, plain, chosen_reply}
+use Rattle.s6_events.specs.declared.moment.Moment.{Moment}
+use Rattle.wait_conditions.specs.Stands.{shown}
+use Rattle.wait_conditions.specs.Steps.{Change as WaitChange, asked_by as asked_of_waiters}
+use Rattle.tree_core.specs.Listening.{as_release}
+use Rattle.tree_core.specs.Plan.{present, plain, chosen_reply, released_by_answer}
 use Rattle.tree_core.specs.Step.{clock_moments}
-use Rattle.tree_core.proofs.PlanMakes.{plans_all, not_ok, not_ok_and}
+use Rattle.tree_core.proofs.PlanMakes.{Listens, plans_all, not_ok, not_ok_and}
 use Rattle.tree_core.proofs.plan.plan_step.Goals as goal
 
 pub returns-clause-step : goal.returns-clause-step
 returns-clause-step g c = λ steps left m is.
     let services = c.args.registry.now.shown.services in
     let next = c.args.registry.now.shown.next_sid in
-    plans_all (present c.args.clock steps c.args.closing services next) c.later-now.result c.args.input.now _ c.prepare.new.self.prepared c.tell.new.self (plain c.in_ok-choice.choice) left c.later-now.ensures.later
+    let kept = shown c.args.waits.now in
+    let later = c.prepare-2.new.self.prepared in
+    let moments = c.in_ok-moments.moments.items in
+    let given = c.in_ok-listened.listened.released.items in
+    let told = c.in_ok-listened.listened.answer in
+    plans_all (present c.args.clock steps c.args.closing services next kept) c.later-now.result c.args.input.now _ c.prepare.new.self.prepared later c.release_all.new.self (plain c.in_ok-choice.choice) left c.later-now.ensures.later
     (record {
+      given = given;
+      told = told;
       now_is = refl;
       closes = c.closes.ensures;
       works = c.in_ok-prepare.ensures.prepared ∙ ap (λ w. stepped w c.later-now.result (charts_of services) next) c.work.ensures;
       chooses = λ n history fired. c.in_ok-choice.ensures.chosen n history fired;
-      reply = c.tell.ensures.reply ∙ (c.in_ok-effect.ensures.reply
-          ∙ ap (λ (t : Table). chosen_reply (plain c.in_ok-choice.choice) t.services (worked_of c.prepare.new.self.prepared)) c.prepare.ensures.shown);
-      events = c.in_ok-tell.ensures.events ∙ (ap (λ es. es ++ c.events.result.now) c.requires.events ∙ c.events.ensures);
-      orders = c.in_ok-tell.ensures.orders ∙ (ap (λ os. os ++ c.orders.result.now) c.requires.orders ∙ c.orders.ensures.orders);
-      matched = c.tell.ensures.matched ∙ c.requires.matched;
-      released = c.tell.ensures.released ∙ c.requires.released;
-      moments = c.in_ok-moments.ensures.moments ∙ ap (λ es. clock_moments c.args.clock c.args.input.now.at ++ map moment_of es) c.events-2.ensures;
+      reply = c.release_all.ensures.reply ∙ (c.tell.ensures.reply ∙ (c.in_ok-effect.ensures.reply
+          ∙ ap (λ (t : Table). chosen_reply (plain c.in_ok-choice.choice) t.services (worked_of c.prepare.new.self.prepared) told) c.prepare.ensures.shown));
+      events = c.release_all.ensures.events ∙ (c.in_ok-tell.ensures.events ∙ (ap (λ es. es ++ c.events-2.result.now) c.requires.events ∙ c.events-2.ensures));
+      orders = c.release_all.ensures.orders ∙ (c.in_ok-tell.ensures.orders ∙ (ap (λ os. os ++ c.orders.result.now) c.requires.orders ∙ c.orders.ensures.orders));
+      matched = c.release_all.ensures.matched ∙ (c.tell.ensures.matched ∙ c.requires.matched);
+      released = c.in_ok-release_all.ensures.released ∙ ap (λ rs. rs ++ (map as_release given ++ map as_release (released_by_answer told))) (c.tell.ensures.released ∙ c.requires.released);
+      moments = c.in_ok-moments.ensures.moments ∙ ap (λ es. clock_moments c.args.clock c.args.input.now.at ++ map moment_of es) c.events.ensures;
+      listens =
+          subst (λ (x : WaitChange). Listens kept later moments x given told) c.wait_change.ensures
+          (subst (λ (x : List Moment). Listens kept later x (asked_of_waiters c.wait_change.result) given told) c.as_slice.ensures.value
+          (record { stands = c.in_ok-listened.ensures.prepared; released = c.in_ok-listened.ensures.released; answer = c.in_ok-listened.ensures.answer }));
       agrees = c.in_ok-prepare.ensures.agrees;
       tallies = subst (λ (w : Work). KeepTallied next services c.prepare.new.self.prepared.services (deaths_given w c.later-now.result (services_after (fire c.later-now.result) (charts_of services)))) c.work.ensures c.in_ok-prepare.ensures.tallies;
       sound = c.len-count.ensures.sound;
@@ -53,14 +68,30 @@ returns-in_err-tell-clause-quiet g c = λ q none.
     let still = c.work.ensures ∙ c.in_ok-choice.ensures.still q.reading in
     let idle = c.prepare.ensures.still none still in
     let nothing = ap (λ (w : Worked). w.events) idle.0 in
-    not_ok c.tell.result _ _ c.in_err-tell.was (c.tell.ensures.quiet (c.events.ensures ∙ nothing))
+    not_ok c.tell.result _ _ c.in_err-tell.was (c.tell.ensures.quiet (c.events-2.ensures ∙ nothing))
+
+pub returns-in_err-listened-clause-quiet : goal.returns-in_err-listened-clause-quiet
+returns-in_err-listened-clause-quiet g c = λ q none.
+    let still = c.work.ensures ∙ c.in_ok-choice.ensures.still q.reading in
+    let idle = c.prepare.ensures.still none still in
+    let nothing = ap (λ (w : Worked). w.events) idle.0 in
+    not_ok_and c.prepare-2.result _ _ _ c.in_err-listened.was
+    (c.prepare-2.ensures.quiet (c.as_slice.ensures.value ∙ c.in_ok-moments.ensures.quiet q.early (c.events.ensures ∙ nothing)) (c.wait_change.ensures ∙ c.in_ok-choice.ensures.calm q.reading))
+
+pub returns-in_err-release_all-clause-quiet : goal.returns-in_err-release_all-clause-quiet
+returns-in_err-release_all-clause-quiet g c = λ q none.
+    let still = c.work.ensures ∙ c.in_ok-choice.ensures.still q.reading in
+    let idle = c.prepare.ensures.still none still in
+    let nothing = ap (λ (w : Worked). w.events) idle.0 in
+    let calm = c.in_ok-listened.ensures.quiet (c.as_slice.ensures.value ∙ c.in_ok-moments.ensures.quiet q.early (c.events.ensures ∙ nothing)) (c.wait_change.ensures ∙ c.in_ok-choice.ensures.calm q.reading) in
+    not_ok c.release_all.result _ _ c.in_err-release_all.was (c.release_all.ensures.quiet calm.0 (ap released_by_answer calm.1))
 
 pub returns-in_err-moments-clause-quiet : goal.returns-in_err-moments-clause-quiet
 returns-in_err-moments-clause-quiet g c = λ q none.
     let still = c.work.ensures ∙ c.in_ok-choice.ensures.still q.reading in
     let idle = c.prepare.ensures.still none still in
     let nothing = ap (λ (w : Worked). w.events) idle.0 in
-    not_ok_and c.moments_of.result _ _ _ c.in_err-moments.was (c.moments_of.ensures.quiet q.early (c.events-2.ensures ∙ nothing))
+    not_ok_and c.moments_of.result _ _ _ c.in_err-moments.was (c.moments_of.ensures.quiet q.early (c.events.ensures ∙ nothing))
 
 pub returns-in_err-timers-clause-quiet : goal.returns-in_err-timers-clause-quiet
 returns-in_err-timers-clause-quiet g c = λ q none.
@@ -74,11 +105,11 @@ returns-clause-quiet g c = λ q none.
     let still = c.work.ensures ∙ c.in_ok-choice.ensures.still q.reading in
     let idle = c.prepare.ensures.still none still in
     let nothing = ap (λ (w : Worked). w.events) idle.0 in
-    (c.in_ok-moments.ensures.quiet q.early (c.events-2.ensures ∙ nothing), c.in_ok-timers.ensures.changes ∙ idle.1)
+    (c.in_ok-moments.ensures.quiet q.early (c.events.ensures ∙ nothing), c.in_ok-timers.ensures.changes ∙ idle.1)
 
 pub returns-clause-count : goal.returns-clause-count
 returns-clause-count g c =
     let events = ap (λ (w : Worked). length w.events) c.in_ok-prepare.ensures.prepared in
     let few = step_events (asked_by c.work.result) c.later-now.result (charts_of c.args.registry.now.shown.services) c.args.registry.now.shown.next_sid c.len-count.ensures.sound.few in
-    let seen = ap length c.events-2.ensures in
+    let seen = ap length c.events.ensures in
     omega (arith, events, few, seen, c.in_ok-moments.ensures.count)

@@ -1,9 +1,9 @@
 use Rattle.std.proofs.Common.{arith}
-use Rattle.s6_replay.proofs.Runs.{starts, goes_on, ends_whole, stops_after, stops_at_end}
-use Rattle.s6_replay.proofs.replay.run.Goals as goal
+use Rattle.s6_replay.proofs.Runs.{starts, goes_on, ends_whole, ends_at_limit, stops_after, stops_at_end}
+use Rattle.s6_replay.proofs.replay.replay_all.Goals as goal
 
 pub loop-done-init : goal.loop-done-init
-loop-done-init g c = starts _ _ _ _ _ _ c.in_default.ensures.ok c.new-tree.ensures c.none-counts.ensures.inputs c.none-counts.ensures.events c.none-counts.ensures.orders
+loop-done-init g c = starts _ _ _ _ _ _ c.in_default.ensures.ok c.requires c.none-counts.ensures.inputs c.none-counts.ensures.events c.none-counts.ensures.orders
 
 pub loop-done-preserved : goal.loop-done-preserved
 loop-done-preserved g c =
@@ -26,4 +26,10 @@ returns-in-Ok-End-clause-ok g c = (
   c.loop-done.invariant.0,
   ends_whole _ _ _ _ _ _ _ _ c.take_turn.new.tree c.loop-done.done c.loop-done.counts c.loop-done.invariant.0 c.loop-done.invariant.1 (omega arith)
       (rw c.in-Ok-End.field-0-is at c.in-Ok-End.ensures.ok),
+)
+
+pub returns-in-Ok-clause-ok : goal.returns-in-Ok-clause-ok
+returns-in-Ok-clause-ok g c = (
+  c.loop-done.invariant.0,
+  ends_at_limit _ _ _ _ _ _ c.loop-done.tree c.loop-done.done c.loop-done.counts c.loop-done.invariant.0 c.loop-done.invariant.1 (omega arith) c.in-Ok.ensures.ok,
 )

@@ -1,0 +1,79 @@
+-- A wait is read back from its spelling.
+use Rattle.std.proofs.Common.{◌≡◌, ◌∙◌, ℕ, ◌<◌, ◌≤◌, ◌+◌, List, [], ◌∷◌, ◌++◌, ap, sym, refl, subst, arith, drop, map, take, length, get_or, rules}
+use Rattle.std.specs.Prelude.{All, IsTrue, true, decimal, slice_index_or, codes}
+use Rattle.std.specs.List.{list_all}
+use Rattle.std.proofs.lemmas.List.{length-map, get_or-map, take_more}
+use Rattle.std.proofs.lemmas.List.Elements.{All-get_or, All-head, All-tail}
+use Rattle.s6_events.specs.Name.{is_name}
+use Rattle.s6_events.specs.declared.condition.Condition.{Condition}
+use Rattle.s6_events.specs.declared.condition.Mode.{Mode}
+use Rattle.tree_core.specs.declared.input.Act.{Act}
+use Rattle.tree_core.specs.declared.input.Act.TheVariants.{Scan, Scanctl, Svc, Started, StartFailed, Notify, Death, FinishEnded, Status, Tally, Permafailon, Wait, Cancel, Tick}
+use Rattle.s6_replay.specs.declared.parse.Verb.TheVariants.{Wait as WaitVerb}
+use Rattle.s6_replay.specs.Spelling.{IsAct}
+use Rattle.s6_replay.specs.Verb.{condition_word, mode_word, verb_of_act, details}
+use Rattle.s6_replay.proofs.Joined.{has_no_space}
+use Rattle.s6_replay.proofs.Plain.{name_plain, no_space_in}
+
+-- one name more
+pub one_name_more : {X : Type 0} (now : X → List ℕ) (words : List X) (d : X) (names got new : List (List ℕ)) (read : List ℕ) (i : ℕ) → i < length words
+    → map now words ≡ names → All (λ name. IsTrue (is_name name)) names → got ≡ take i names
+    → (is_name (now (get_or words i d)) ≡ true → read ≡ now (get_or words i d)) → new ≡ got ++ read ∷ [] → new ≡ take (i + 1) names
+one_name_more now words d names got new read i here spelled fits so_far reads adds =
+    let long : length words ≡ length names = sym (length-map words now) ∙ ap length spelled in
+    let within : i < length names = omega (arith, here, long) in
+    let same : now (get_or words i d) ≡ get_or names i [] = sym (get_or-map now words i d [] here) ∙ ap (λ ws. get_or ws i []) spelled in
+    let named : is_name (now (get_or words i d)) ≡ true = ap is_name same ∙ All-get_or (λ name. IsTrue (is_name name)) names i [] within fits in
+    adds ∙ ((λ k. so_far k ++ (reads named ∙ same) k ∷ []) ∙ sym (take_more names i [] within))
+
+-- a wait, where what is found is the one of these words
+wait_read : {A : Type 0} (texts : List (List ℕ)) (found : Act A)
+    → ((condition : Condition) (mode : Mode) (timeout : ℕ) (names : List (List ℕ)) → IsAct {A = A} (Wait condition mode timeout names)
+    → texts ≡ details {A = A} (Wait condition mode timeout names) → found ≡ Wait condition mode timeout names)
+    → (act : Act A) → IsAct act → WaitVerb ≡ verb_of_act act → texts ≡ details act → found ≡ act
+wait_read texts found reads (Scan entries) h v d = cc
+wait_read texts found reads (Scanctl order) h v d = cc
+wait_read texts found reads (Svc name letters) h v d = cc
+wait_read texts found reads (Started sid generation pid) h v d = cc
+wait_read texts found reads (StartFailed sid generation) h v d = cc
+wait_read texts found reads (Notify sid generation bytes) h v d = cc
+wait_read texts found reads (FinishEnded sid generation exit) h v d = cc
+wait_read texts found reads (Death sid generation exit) h v d = cc
+wait_read texts found reads (Status name) h v d = cc
+wait_read texts found reads (Tally name) h v d = cc
+wait_read texts found reads (Permafailon name seconds count items) h v d = cc
+wait_read texts found reads (Wait condition mode timeout names) h v d = reads condition mode timeout names h d
+wait_read texts found reads (Cancel id) h v d = cc
+wait_read texts found reads Tick h v d = cc
+
+-- its parts are read, each from its word
+pub wait_found : {A : Type 0} (texts : List (List ℕ)) (condition : Condition) (mode : Mode) (timeout : ℕ) (names : List (List ℕ)) (w0 w1 w2 : List ℕ) (rest : List (List ℕ))
+    → w0 ≡ slice_index_or texts 0 [] → w1 ≡ slice_index_or texts 1 [] → w2 ≡ slice_index_or texts 2 [] → rest ≡ drop 3 texts
+    → ((c : Condition) → w0 ≡ condition_word c → condition ≡ c)
+    → ((m : Mode) → w1 ≡ mode_word m → mode ≡ m)
+    → ((n : ℕ) → n ≤ 4294967295 → w2 ≡ decimal n → timeout ≡ n)
+    → ((ns : List (List ℕ)) → All (λ name. IsTrue (is_name name)) ns → rest ≡ ns → names ≡ ns)
+    → (act : Act A) → IsAct act → WaitVerb ≡ verb_of_act act → texts ≡ details act → Wait condition mode timeout names ≡ act
+wait_found {A} texts condition mode timeout names w0 w1 w2 rest e0 e1 e2 er reads_condition reads_mode reads_timeout reads_names =
+    wait_read texts (Wait condition mode timeout names) (λ c m t ns fits spelled.
+    let same_condition : condition ≡ c = reads_condition c (e0 ∙ ap (λ ws. slice_index_or ws 0 []) spelled) in
+    let same_mode : mode ≡ m = reads_mode m (e1 ∙ ap (λ ws. slice_index_or ws 1 []) spelled) in
+    let same_timeout : timeout ≡ t = reads_timeout t fits.0 (e2 ∙ ap (λ ws. slice_index_or ws 2 []) spelled) in
+    let same_names : names ≡ ns = reads_names ns fits.1 (er ∙ ap (drop 3) spelled) in
+    λ i. Wait (same_condition i) (same_mode i) (same_timeout i) (same_names i))
+
+-- none of its words has a space
+condition_plain : (c : Condition) → has_no_space (condition_word c) ≡ true
+condition_plain c = search rules
+
+mode_plain : (m : Mode) → has_no_space (mode_word m) ≡ true
+mode_plain m = search rules
+
+names_no_space : (names : List (List ℕ)) → All (λ name. IsTrue (is_name name)) names → list_all has_no_space names ≡ true
+names_no_space [] h = refl
+names_no_space (name ∷ names) h =
+    rw (no_space_in name (name_plain name (All-head (λ n. IsTrue (is_name n)) name names h))) (names_no_space names (All-tail (λ n. IsTrue (is_name n)) name names h))
+
+pub wait_no_space : (condition : Condition) (mode : Mode) (timeout : ℕ) (names : List (List ℕ)) → has_no_space (decimal timeout) ≡ true → All (λ name. IsTrue (is_name name)) names
+    → list_all has_no_space (codes "wait" ∷ condition_word condition ∷ mode_word mode ∷ decimal timeout ∷ names) ≡ true
+wait_no_space condition mode timeout names digits h = rw (condition_plain condition, mode_plain mode, digits) (names_no_space names h)

@@ -1,0 +1,50 @@
+//! Names of services, as a wait has them.
+ghost use Rattle.std.specs.Prelude.{◌≡◌, IfOk};
+ghost use Rattle.svscan_core.specs.Names.{repeats as name_repeats};
+
+use s6_events::{Name, NoMemory};
+use std::alloc::Allocator;
+use std::collections::BTreeSet;
+use std::marker::Model;
+
+/// Names of services, in any number and any order, as a wait has them.
+#[derive(Drop)]
+pub struct Names<A: Allocator> {
+    names: Vec<Name, A>,
+}
+
+impl<A: Allocator> Model for Names<A> {
+    ghost use Rattle.std.specs.Prelude.{List, ℕ};
+
+    ghost Value = { List (List ℕ) };
+
+    ghost view = { λ n. n.names.items };
+}
+
+impl<A: Allocator> Names<A> {
+    /// These names.
+    pub fn new(names: Vec<Name, A>) -> Names<A>
+        ensures { result ≡ names.items }
+    {
+        Names { names }
+    }
+
+    /// The names, in the order in which they came.
+    pub fn names(&self) -> &[Name]
+        ensures { result.now ≡ self.now }
+    {
+        self.names.as_slice()
+    }
+}
+
+/// Whether a name stands twice among these. `NoMemory` where a growth was refused.
+pub fn has_repeated_name<A: Allocator + Copy>(alloc: A, names: &[Name]) -> Result<bool, NoMemory>
+    ensures { IfOk result (λ repeats. repeats ≡ name_repeats names.now) }
+{
+    let mut set = BTreeSet::new(alloc);
+    let mut repeats = false;
+    for name in names {
+        repeats |= !set.insert(*name)?;
+    }
+    Ok(repeats)
+}
