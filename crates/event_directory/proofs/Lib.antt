@@ -4,3 +4,14 @@ pub mod Walk
 pub mod Looks
 pub mod Searches
 pub mod Views
+pub mod Sources
+pub mod Places
+pub mod Hears
+pub mod Changed
+pub mod Steps
+pub mod Texts
+pub mod Firsts
+pub mod Letters
+pub mod Joins
+pub mod Leaves
+pub mod Written

@@ -24,7 +24,7 @@ ids-grown : (letters : List ℕ) (ss : List Subscribed) → made_ids (map (grown
 ids-grown letters [] = refl
 ids-grown letters (s ∷ ss) = ap (λ l. s.id ∷ l) (ids-grown letters ss)
 
-grown-nothing : (ss : List Subscribed) → map (grown []) ss ≡ ss
+pub grown-nothing : (ss : List Subscribed) → map (grown []) ss ≡ ss
 grown-nothing [] = refl
 grown-nothing (s ∷ ss) = rw (append-nil s.text, grown-nothing ss) refl
 

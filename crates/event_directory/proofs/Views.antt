@@ -4,7 +4,7 @@ use Rattle.event_directory.specs.Sending.{Subscribed, Standing, standing_of, Hea
 use Rattle.event_directory.specs.Views.{list_of}
 use Rattle.event_directory.specs.declared.sub_view.State.{State}
 
-list_stored : (test : List ℕ → List ℕ → Bool) (id : ℕ) (ss : List Subscribed) → view_of id (map (standing_of test) ss) ≡ list_of test id ss
+pub list_stored : (test : List ℕ → List ℕ → Bool) (id : ℕ) (ss : List Subscribed) → view_of id (map (standing_of test) ss) ≡ list_of test id ss
 list_stored test id [] = refl
 list_stored test id (s ∷ ss) = rw (list_stored test id ss) refl
 

@@ -1,6 +1,10 @@
 -- Laws of the list of a subscription.
 use Rattle.std.specs.Prelude.{◌≡◌, ℕ, ◌≤◌, ◌<◌, List, [], ◌∷◌, ◌++◌, Bool, true, false, length, take, Some, None}
+use Rattle.event_directory.specs.Directories.{Directories, hearing}
+use Rattle.event_directory.specs.Remembered.{AreHeard, Shown}
+use Rattle.event_directory.specs.Sending.{AreRising, hit_ids, hits_of_letter}
 use Rattle.event_directory.specs.SubscriberList.{least_match, heard_by, heard, listening, next}
+use Rattle.event_directory.specs.declared.source.Source.{Source}
 
 -- a list is that of the least match of its text, and then the list of what follows that match
 abbrev pub BeginsAgain : Type 0
@@ -35,3 +39,9 @@ abbrev pub GrowsByLetters : Type 0
 GrowsByLetters =
     (find : List ℕ → Bool) (repeats : Bool) (x : ℕ) (text : List ℕ) →
     heard find repeats (text ++ x ∷ []) ≡ next find repeats x (heard find repeats text)
+
+-- in all directories that are remembered, the matches of a letter come in rising serial, whatever its source
+abbrev pub MatchesRise : Type 0
+MatchesRise =
+    (test : List ℕ → List ℕ → Bool) (s : Shown) (d : Directories) → AreHeard test s d →
+    (source : Source) (x : ℕ) → AreRising (hit_ids (hits_of_letter test x (hearing source d)))

@@ -5,3 +5,10 @@ pub mod Laws
 pub mod Stored
 pub mod Pattern
 pub mod PatternFields
+pub mod Message
+pub mod Directories
+pub mod Changes
+pub mod Remembered
+pub mod Parts
+pub mod Hearing
+pub mod Register

@@ -6,9 +6,9 @@ use Rattle.event_directory.specs.Pattern.{is_pattern_text}
 use Rattle.event_directory.specs.declared.pattern.Pattern.TheInside.{Inside}
 
 abbrev pub source_text : Inside → List ℕ
-source_text p = regex_source p.regex
+source_text p = regex_source p.regex.value
 
 pub record IsBuilt (p : Inside) : Type 0 where
-  pub is_text : IsTrue (is_pattern_text (regex_source p.regex))
-  pub config : regex_config p.regex ≡ default_config
-  pub read : IsReadFromSource p.regex
+  pub is_text : IsTrue (is_pattern_text (regex_source p.regex.value))
+  pub config : regex_config p.regex.value ≡ default_config
+  pub read : IsReadFromSource p.regex.value

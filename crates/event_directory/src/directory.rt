@@ -1,5 +1,5 @@
 //! One event directory: the subscriptions of a service's events, or of letters that are sent to it.
-ghost use Rattle.std.specs.Prelude.{◌≡◌, ◌<◌, ◌++◌, ◌∷◌, [], List, IfOk, OnOk, OnErr, IfErr, All, map, ◌+◌, take, drop, IfSome, IfNone, option_map, length};
+ghost use Rattle.std.specs.Prelude.{◌≡◌, ◌<◌, ◌++◌, ◌∷◌, [], List, IfOk, OnOk, OnErr, IfErr, All, map, ◌+◌, take, drop, IfSome, IfNone, option_map, length, ◌==◌};
 ghost use Rattle.event_directory.specs.Sending.{Subscribed, Hears, after_letter, hits_from, after_letters, hits_from_letters, Sends, Prepares, left_without, made_now, subscribed_now, view_of, without};
 ghost use Rattle.event_directory.specs.Views.{list_of};
 ghost use Rattle.event_directory.specs.Stored.{stored_of, stored_without};
@@ -71,9 +71,44 @@ impl<F: Finds, A: Allocator + Copy> Directory<F, A> {
         ensures hears { (subscribed : List Subscribed) → Hears F.test self.old.standing subscribed →
             Hears F.test self.new.standing (subscribed ++ subscribed_now id (F.source pattern) repeats ∷ []) }
     {
+        self.take_in(id, pattern, repeats);
+    }
+
+    // `join`, by what is stored alone.
+    pub(crate) fn take_in(&mut self, id: SubId, pattern: F, repeats: bool)
+        requires { 0 < self.old.room }
+        ensures { self.new.standing ≡ self.old.standing ++ made_now id (F.source pattern) repeats ∷ [] }
+    {
         let alloc = *self.subscriptions.allocator();
         self.subscriptions
             .push_reserved(Subscription::new(alloc, id, pattern, repeats));
+    }
+
+    // A directory with no subscription, and a place for one.
+    pub(crate) fn with_place(alloc: A) -> Result<Directory<F, A>, NoMemory>
+        ensures none { IfOk result (λ d. d.standing ≡ []) }
+        ensures room { IfOk result (λ d. 0 < d.room) }
+    {
+        let mut subscriptions = Vec::new(alloc);
+        subscriptions.reserve(1)?;
+        Ok(Directory { subscriptions })
+    }
+
+    // A place for one more subscription.
+    pub(crate) fn reserve(&mut self) -> Result<(), NoMemory>
+        ensures room { OnOk result (0 < self.new.room) }
+        ensures same { self.new.standing ≡ self.old.standing }
+        ensures prepared { self.new.prepared ≡ self.old.prepared }
+    {
+        self.subscriptions.reserve(1)?;
+        Ok(())
+    }
+
+    // Whether nobody subscribes.
+    pub(crate) fn is_empty(&self) -> bool
+        ensures { result ≡ (length self.now.standing == 0) }
+    {
+        self.subscriptions.is_empty()
     }
 
     /// Ends the subscription of this serial, if there is one. Takes no memory.
@@ -125,7 +160,7 @@ impl<F: Finds, A: Allocator + Copy> Directory<F, A> {
         ensures err { OnErr result (self.new.standing ≡ self.old.standing) }
     {
         let hits = self.prepare_one(letter)?;
-        commit_all(&mut self.subscriptions);
+        self.hear_prepared();
         Ok(hits)
     }
 
@@ -135,8 +170,29 @@ impl<F: Finds, A: Allocator + Copy> Directory<F, A> {
         ensures prepared { OnOk result (self.new.prepared ≡ after_letter F.test letter self.old.standing) }
         ensures same { self.new.standing ≡ self.old.standing }
     {
-        let alloc = *self.subscriptions.allocator();
+        self.begin()?;
+        let hits = self.prepare_more(letter)?;
+        Ok(hits)
+    }
+
+    // Begins to prepare: no letter is prepared.
+    pub(crate) fn begin(&mut self) -> Result<(), NoMemory>
+        ensures prepared { OnOk result (self.new.prepared ≡ self.old.standing) }
+        ensures same { self.new.standing ≡ self.old.standing }
+        ensures room { self.new.room ≡ self.old.room }
+    {
         begin_all(&mut self.subscriptions)?;
+        Ok(())
+    }
+
+    // Prepares one letter more, and says what it will give.
+    pub(crate) fn prepare_more(&mut self, letter: Letter) -> Result<Vec<(SubId, Hit), A>, NoMemory>
+        ensures hits { IfOk result (λ hits. hits.items ≡ hits_from F.test letter self.old.prepared) }
+        ensures prepared { OnOk result (self.new.prepared ≡ after_letter F.test letter self.old.prepared) }
+        ensures same { self.new.standing ≡ self.old.standing }
+        ensures room { self.new.room ≡ self.old.room }
+    {
+        let alloc = *self.subscriptions.allocator();
         let hits = prepare_all(alloc, &mut self.subscriptions, letter)?;
         Ok(hits)
     }
@@ -175,8 +231,16 @@ impl<F: Finds, A: Allocator + Copy> Directory<F, A> {
         ensures hits { map (λ v. v.items) result.items ≡ plan }
         ensures room { self.new.room ≡ self.old.room }
     {
-        commit_all(&mut self.subscriptions);
+        self.hear_prepared();
         plan.hits
+    }
+
+    // `commit`, without a plan.
+    pub(crate) fn hear_prepared(&mut self)
+        ensures after { self.new.standing ≡ self.old.prepared }
+        ensures room { self.new.room ≡ self.old.room }
+    {
+        commit_all(&mut self.subscriptions);
     }
 }
 

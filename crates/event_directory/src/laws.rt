@@ -1,5 +1,5 @@
 //! Laws of a subscription's list. Each is the contract of a function that does nothing, so that its statement is proved.
-ghost use Rattle.event_directory.specs.Laws.{BeginsAgain, LeastIsLeast, NoneIsNone, StartsLive, GrowsByLetters};
+ghost use Rattle.event_directory.specs.Laws.{BeginsAgain, LeastIsLeast, NoneIsNone, StartsLive, GrowsByLetters, MatchesRise};
 
 /// A list is the letter of the least match of its text, and then the list of what follows it, which counts from 1 again; without
 /// a match it is Overlong from 1,025 letters on, and else Live. This project's own.
@@ -18,4 +18,9 @@ pub fn least_match_is_least()
 pub fn one_letter_more()
     ensures start { StartsLive }
     ensures next { GrowsByLetters }
+{}
+
+/// The matches of one letter come in rising serial, whether a supervisor told it or it was sent. This project's own.
+pub fn matches_rise()
+    ensures { MatchesRise }
 {}

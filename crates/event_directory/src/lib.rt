@@ -1,23 +1,40 @@
 //! Event directories: which subscription hears which letter of a text, and what it has heard.
 #![tactic(auto)]
 
+mod directories;
 mod directory;
+mod directory_change;
+mod directory_plan;
 mod finds;
+mod hearing;
 mod hit;
 pub mod laws;
+mod listened;
+mod message;
 mod pattern;
 mod pattern_fault;
+mod pending;
 mod plan;
+mod refusing;
+mod register;
+mod source;
+mod source_directory;
+mod step;
 mod sub_view;
 mod subscription;
 mod subscriptions;
 #[cfg(test)]
 mod tests;
 
+pub use directories::Directories;
 pub use directory::Directory;
+pub use directory_change::{DirectoryAnswer, DirectoryChange, DirectoryFault};
+pub use directory_plan::DirectoryPlan;
 pub use finds::Finds;
 pub use hit::Hit;
+pub use message::Message;
 pub use pattern::Pattern;
 pub use pattern_fault::PatternFault;
 pub use plan::Plan;
+pub use source::Source;
 pub use sub_view::{State, SubView};

@@ -14,7 +14,8 @@ use std::marker::Model;
 /// Page `s6-ftrig-listen1`; s6 takes POSIX expressions.
 #[derive(Drop)]
 pub struct Pattern {
-    regex: Regex,
+    // Behind a pointer, since acts that may hold a pattern are moved about.
+    regex: Box<Regex, Global>,
     alloc: Global,
 }
 
@@ -41,7 +42,10 @@ impl Pattern {
             return Err(PatternFault::Length);
         }
         match Regex::new(alloc, text) {
-            Ok(regex) => Ok(Pattern { regex, alloc }),
+            Ok(regex) => match Box::new(alloc, regex) {
+                Ok(regex) => Ok(Pattern { regex, alloc }),
+                Err(_) => Err(PatternFault::NoMemory),
+            },
             Err(RegexError::OutOfMemory) => Err(PatternFault::NoMemory),
             Err(_) => Err(PatternFault::Refused),
         }

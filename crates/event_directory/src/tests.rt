@@ -1,8 +1,8 @@
-ghost use Rattle.std.specs.Prelude.{nat_le, length, sum};
+ghost use Rattle.std.specs.Prelude.{◌≤◌, ◌<◌, ◌+◌, ◌^◌, nat_le, length, sum};
 
 use super::*;
 use linked_list_allocator::LocalHeap;
-use s6_events::{Letter, NoMemory, SubId};
+use s6_events::{Letter, Mark, Moment, Name, NoMemory, Sid, SubId};
 use std::alloc::{Allocator, Global};
 use std::test::Fail;
 
@@ -170,5 +170,180 @@ fn a_refused_growth_is_told(rt: HostRuntime) -> Result<(), Fail> {
         }
     }
     assert!(rt; refused > 4 && done > 4, "{refused} {done}");
+    Ok(())
+}
+
+// A step, prepared and made.
+fn step<A: Allocator + Copy>(
+    directories: &mut Directories<AtLeast, A>,
+    moments: &[Moment],
+    change: &DirectoryChange<'_>,
+    offered: Option<(AtLeast, bool)>,
+) -> Result<DirectoryPlan<A>, NoMemory>
+    requires { directories.old.shown.next < 2 ^ 63 }
+    ensures { directories.new.shown.next ≤ directories.old.shown.next + 1 }
+{
+    let plan = directories.prepare(moments, change)?;
+    directories.commit(offered);
+    Ok(plan)
+}
+
+// Whether a step was answered so, and gave these matches.
+fn gave<A: Allocator + Copy>(
+    plan: &DirectoryPlan<A>,
+    answer: DirectoryAnswer,
+    matches: &[(SubId, Hit)],
+) -> bool {
+    plan.answer == answer && plan.matches.as_slice() == matches
+}
+
+// Whether a subscription stands so.
+fn stands<A: Allocator + Copy>(
+    directories: &Directories<AtLeast, A>,
+    id: SubId,
+    letters: &[Letter],
+    state: State,
+) -> bool {
+    match directories.list(id) {
+        Some(view) => view.letters == letters && view.state == state,
+        None => false,
+    }
+}
+
+// One free directory is made, and two subscriptions; what is there already, or is not there, is refused.
+fn makes_and_subscribes<A: Allocator + Copy>(
+    directories: &mut Directories<AtLeast, A>,
+    name: Name,
+    other: Name,
+) -> Result<bool, NoMemory>
+    requires { directories.old.shown.next < 100 }
+    ensures { directories.new.shown.next < 200 }
+{
+    let twice = Some((AtLeast { count: 2 }, true));
+    let once = Some((AtLeast { count: 1 }, false));
+    let free = DirectoryChange::Subscribe(Source::Directory(name));
+    let service = DirectoryChange::Subscribe(Source::Service(Sid(7)));
+    let unknown = DirectoryChange::Subscribe(Source::Directory(other));
+    let make = DirectoryChange::Make(name);
+    let made = step(directories, &[], &make, None)?;
+    let again = step(directories, &[], &make, None)?;
+    let first = step(directories, &[], &free, twice)?;
+    let second = step(directories, &[], &service, once)?;
+    let third = step(directories, &[], &unknown, twice)?;
+    Ok(
+        gave(&made, DirectoryAnswer::Done, &[])
+            && gave(
+                &again,
+                DirectoryAnswer::Refused(DirectoryFault::Exists),
+                &[],
+            )
+            && gave(&first, DirectoryAnswer::Subscribed(SubId(1)), &[])
+            && gave(&second, DirectoryAnswer::Subscribed(SubId(2)), &[])
+            && gave(
+                &third,
+                DirectoryAnswer::Refused(DirectoryFault::NoSuch),
+                &[],
+            ),
+    )
+}
+
+// A message of three letters, after two moments; then one of one letter.
+fn hears<A: Allocator + Copy>(
+    directories: &mut Directories<AtLeast, A>,
+    name: Name,
+    letters: &[Letter],
+    messages: (&Message, &Message),
+) -> Result<bool, NoMemory>
+    requires { directories.old.shown.next < 200 }
+    ensures { directories.new.shown.next < 300 }
+{
+    if letters.len() != 2 {
+        return Ok(false);
+    }
+    let ready = Mark::Ready.letter();
+    let moments = [
+        Moment::Event(Sid(7), Mark::Ready),
+        Moment::Event(Sid(8), Mark::Spawned),
+    ];
+    let three = DirectoryChange::Send(name, messages.0);
+    let one = DirectoryChange::Send(name, messages.1);
+    let sent = step(directories, &moments, &three, None)?;
+    let hits = [
+        (SubId(2), Hit::Matched(ready)),
+        (SubId(1), Hit::Matched(letters[0])),
+    ];
+    let more = step(directories, &moments, &one, None)?;
+    let last = [(SubId(1), Hit::Matched(letters[1]))];
+    Ok(
+        gave(&sent, DirectoryAnswer::Done, &hits)
+            && gave(&more, DirectoryAnswer::Done, &last)
+            && stands(directories, SubId(1), letters, State::Live)
+            && stands(directories, SubId(2), &[ready], State::Done),
+    )
+}
+
+// The first subscription ends, and can't end again.
+fn leaves<A: Allocator + Copy>(directories: &mut Directories<AtLeast, A>) -> Result<bool, NoMemory>
+    requires { directories.old.shown.next < 300 }
+{
+    let first = DirectoryChange::Unsubscribe(SubId(1));
+    let left = step(directories, &[], &first, None)?;
+    let again = step(directories, &[], &first, None)?;
+    let nothing = step(directories, &[], &DirectoryChange::Nothing, None)?;
+    Ok(
+        gave(&left, DirectoryAnswer::Done, &[])
+            && gave(
+                &again,
+                DirectoryAnswer::Refused(DirectoryFault::NoSuch),
+                &[],
+            )
+            && gave(&nothing, DirectoryAnswer::Done, &[])
+            && directories.list(SubId(1)).is_none()
+            && directories.list(SubId(2)).is_some(),
+    )
+}
+
+// A run of all of them, and whether each step was answered as it is to be: of `xyz` and then `w` a subscription to each two letters
+// hears `y` and `w`; one to the first letter of service 7 hears its `U`.
+fn runs_through<A: Allocator + Copy>(alloc: A) -> Result<bool, NoMemory> {
+    let named = (Name::new(b"events"), Name::new(b"others"));
+    let messages = (Message::new(b"xyz"), Message::new(b"w"));
+    let letters = (Letter::new(b'y'), Letter::new(b'w'));
+    let (Some(name), Some(other)) = named else {
+        return Ok(false);
+    };
+    let (Some(three), Some(one)) = (&messages.0, &messages.1) else {
+        return Ok(false);
+    };
+    let (Some(y), Some(w)) = letters else {
+        return Ok(false);
+    };
+    let mut directories = Directories::new(alloc);
+    let subscribed = makes_and_subscribes(&mut directories, name, other)?;
+    let heard = hears(&mut directories, name, &[y, w], (three, one))?;
+    let left = leaves(&mut directories)?;
+    Ok(subscribed && heard && left)
+}
+
+#[test]
+fn subscriptions_hear_their_sources(rt: HostRuntime) -> Result<(), Fail> {
+    assert!(rt; runs_through(rt.alloc())?);
+    Ok(())
+}
+
+// On heaps of a growing size each growth is the first one refused.
+#[test]
+fn a_refused_step_is_told(rt: HostRuntime) -> Result<(), Fail> {
+    let mut refused = 0u32;
+    let mut done = 0u32;
+    for step in 0..240usize {
+        let heap = LocalHeap::new(rt.alloc(), 32 * step)?;
+        match runs_through(&heap) {
+            Ok(true) => done = done.saturating_add(1),
+            Ok(false) => return Err("another answer".into()),
+            Err(NoMemory) => refused = refused.saturating_add(1),
+        }
+    }
+    assert!(rt; refused > 8 && done > 8, "{refused} {done}");
     Ok(())
 }

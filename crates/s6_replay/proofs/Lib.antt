@@ -1,3 +1,4 @@
+pub mod Buffered
 pub mod HeadRead
 pub mod Hexadecimal
 pub mod Joined
@@ -5,7 +6,9 @@ pub mod LineRead
 pub mod Entries
 pub mod DeathLists
 pub mod Plain
+pub mod Subscribes
 pub mod Waits
 pub mod Reading
+pub mod Building
 pub mod Runs
 pub mod Letters

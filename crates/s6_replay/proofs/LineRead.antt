@@ -9,8 +9,8 @@ use Rattle.tree_core.specs.Machine.{Machine, Outcome}
 use Rattle.tree_core.specs.Run.{after, outcome}
 use Rattle.tree_core.specs.StandsFor.{Stored, StandsFor}
 use Rattle.s6_replay.specs.Lines.{HasNoNewline, AppendsFront}
-use Rattle.s6_replay.specs.Spelling.{Spells, spelling}
-use Rattle.s6_replay.specs.Replay.{HasLine, IsNoInputLine, input_line, input_limit}
+use Rattle.s6_replay.specs.Spelling.{Spells, SpellsButForPattern, spelling}
+use Rattle.s6_replay.specs.Replay.{HasLine, IsNoInputLine, IsLineButForPattern, input_line, input_limit}
 use Rattle.s6_replay.specs.Replay.IsNoInputLine.{spells_nothing, too_long}
 use Rattle.s6_replay.specs.Transcript.{block}
 use Rattle.s6_replay.specs.Turn.{Answers}
@@ -25,6 +25,9 @@ is_too_long A line b plain long before room =
 pub is_no_spelling : (A : Type 0) (line : List ℕ) → HasNoNewline line → length line ≤ 65535 → ((i : Input A) → Spells line i → ⊥)
     → (before : ℕ) → before < input_limit → IsNoInputLine A before (line ++ 10 ∷ [])
 is_no_spelling A line plain within none before room = spells_nothing room line (record { plain = plain; within = within; none = none }) refl
+
+pub is_but_for_pattern : (A : Type 0) (line : List ℕ) → HasNoNewline line → length line ≤ 65535 → SpellsButForPattern A line → IsLineButForPattern A line
+is_but_for_pattern A line plain within but = record { plain = plain; within = within; but_for_pattern = but }
 
 pub has_line : {A : Type 0} (line : List ℕ) (i : Input A) → Spells line i → length line ≤ 65535 → HasLine i
 has_line line i s within = record { spelt = s.spelt; within = omega (arith, length-append (spelling i) (10 ∷ []), ap length s.text_is) }

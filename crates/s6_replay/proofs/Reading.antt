@@ -1,6 +1,6 @@
 -- What is spelled is read.
 use Rattle.std.proofs.Common.{◌≡◌, ℕ, ◌^◌, ◌<◌, ◌≤◌, List, [], ◌∷◌, refl, ap, ◌∙◌, arith, drop, map, rules}
-use Rattle.std.specs.Prelude.{All, Some, None, true, codes, ◌==◌, decimal, slice_index_or}
+use Rattle.std.specs.Prelude.{Some, None, true, codes, ◌==◌, decimal, slice_index_or}
 use Rattle.std.specs.List.{slice_split, list_all}
 use Rattle.std.proofs.lemmas.Option.{same_Some, none-some}
 use Rattle.death_tally.specs.declared.death_list.DeathItem.{DeathItem}
@@ -9,13 +9,11 @@ use Rattle.s6_events.specs.Name.{is_name}
 use Rattle.s6_events.specs.declared.exit.Exit.{Exit}
 use Rattle.s6_events.specs.declared.exit.Exit.TheVariants.{Code, Killed}
 use Rattle.tree_core.specs.declared.input.Act.{Act}
-use Rattle.tree_core.specs.declared.input.Act.TheVariants.{Scan, Scanctl, Svc, Started, StartFailed, Notify, Death, FinishEnded, Status, Tally, Permafailon, Wait, Cancel, Tick}
+use Rattle.tree_core.specs.declared.input.Act.TheVariants.{Scan, Scanctl, Svc, Started, StartFailed, Notify, Death, FinishEnded, Status, Tally, Permafailon, Wait, Cancel, Subscribe, Unsubscribe, Send, MakeDir, Tick}
 use Rattle.tree_core.specs.declared.input.Input.{Input}
 use Rattle.s6_replay.specs.declared.parse.Verb.{Verb}
-use Rattle.s6_replay.specs.declared.parse.Verb.TheVariants.{Scan as ScanVerb, Permafailon as PermafailonVerb}
-use Rattle.svscan_core.specs.declared.entry.Entry.{Entry}
+use Rattle.s6_replay.specs.declared.parse.Verb.TheVariants.{Permafailon as PermafailonVerb}
 use Rattle.svscan_core.specs.declared.entry.ScanOrder.{ScanOrder}
-use Rattle.s6_replay.specs.Options.{entry_text, IsEntry}
 use Rattle.s6_replay.specs.Spelling.{IsSpelt, IsExit, IsAct, act_words, input_words, spelling}
 use Rattle.s6_replay.specs.Verb.{exit_words, order_word, verb_word, verb_of_act, details}
 use Rattle.svc_commands.specs.ControlLetter.{byte_of}
@@ -25,24 +23,8 @@ use Rattle.s6_replay.proofs.Joined.{is_no_space, has_no_space, split_joined}
 use Rattle.s6_replay.proofs.Plain.{digits_plain, name_plain, no_space_in}
 use Rattle.s6_replay.proofs.DeathLists.{list_back, list_no_space}
 use Rattle.s6_replay.proofs.Entries.{entries_no_space}
+use Rattle.s6_replay.proofs.Subscribes.{subscribe_no_space, send_no_space}
 use Rattle.s6_replay.proofs.Waits.{wait_no_space}
-
-pub scan_read : {A : Type 0} (texts : List (List ℕ)) (listing : List Entry) → ((entries : List Entry) → All IsEntry entries → texts ≡ map entry_text entries → listing ≡ entries)
-    → (act : Act A) → IsAct act → ScanVerb ≡ verb_of_act act → texts ≡ details act → Scan listing ≡ act
-scan_read texts listing reads (Scan entries) h v d = ap Scan (reads entries h d)
-scan_read texts listing reads (Scanctl order) h v d = cc
-scan_read texts listing reads (Svc name letters) h v d = cc
-scan_read texts listing reads (Started sid generation pid) h v d = cc
-scan_read texts listing reads (StartFailed sid generation) h v d = cc
-scan_read texts listing reads (Notify sid generation bytes) h v d = cc
-scan_read texts listing reads (FinishEnded sid generation exit) h v d = cc
-scan_read texts listing reads (Death sid generation exit) h v d = cc
-scan_read texts listing reads (Status name) h v d = cc
-scan_read texts listing reads (Tally name) h v d = cc
-scan_read texts listing reads (Permafailon name seconds count items) h v d = cc
-scan_read texts listing reads (Wait condition mode timeout names) h v d = cc
-scan_read texts listing reads (Cancel id) h v d = cc
-scan_read texts listing reads Tick h v d = cc
 
 -- a permafailon, where what is found is the one of these words
 pub permafailon_read : {A : Type 0} (texts : List (List ℕ)) (found : Act A)
@@ -62,6 +44,10 @@ permafailon_read texts found reads (Tally name) h v d = cc
 permafailon_read texts found reads (Permafailon name seconds count items) h v d = reads name seconds count items h d
 permafailon_read texts found reads (Wait condition mode timeout names) h v d = cc
 permafailon_read texts found reads (Cancel id) h v d = cc
+permafailon_read texts found reads (Subscribe target pattern repeats) h v d = cc
+permafailon_read texts found reads (Unsubscribe id) h v d = cc
+permafailon_read texts found reads (Send target message) h v d = cc
+permafailon_read texts found reads (MakeDir name) h v d = cc
 permafailon_read texts found reads Tick h v d = cc
 
 -- the parts of a permafailon are read, each from its word
@@ -122,6 +108,10 @@ act_plain (Permafailon name seconds count items) h =
     rw (no_space_in name (name_plain name h.0), digits_no_space seconds (omega arith), digits_no_space count (omega arith), list_no_space items h.3.fit) refl
 act_plain (Wait condition mode timeout names) h = wait_no_space condition mode timeout names (digits_no_space timeout (omega (arith, h.0))) h.1
 act_plain (Cancel id) h = rw (digits_no_space id h) refl
+act_plain (Subscribe target pattern repeats) h = subscribe_no_space target pattern repeats h.0
+act_plain (Unsubscribe id) h = rw (digits_no_space id h) refl
+act_plain (Send target message) h = send_no_space target message h.0 h.1
+act_plain (MakeDir name) h = rw (no_space_in name (name_plain name h)) refl
 act_plain Tick h = refl
 
 -- a spelling has the words of its input

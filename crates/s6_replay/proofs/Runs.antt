@@ -124,7 +124,13 @@ unread A (Line n) a b c x y z tree number counts inputs done few t same = (
   omega (arith, t.0, done.many),
   (t.1.0, t.1.1 (length inputs) (omega (arith, done.many)), Consumes-trans a b c _ _ done.read t.1.2),
 )
-unread A (Pattern n) a b c x y z tree number counts inputs done few t same = absurd t
+unread A (Pattern n) a b c x y z tree number counts inputs done few t same = (
+  inputs,
+  kept a b x y z tree number counts inputs done (omega arith) same,
+  omega (arith, done.many),
+  omega (arith, t.0, done.many),
+  (t.1.0, t.1.1, reads_on inputs a b c (t.1.0 ++ 10 ∷ []) done.read t.1.2),
+)
 unread A Truncated a b c x y z tree number counts inputs done few t same = (
   inputs,
   kept a b x y z tree number counts inputs done (omega arith) same,

@@ -1,5 +1,5 @@
 -- A wait is read back from its spelling.
-use Rattle.std.proofs.Common.{◌≡◌, ◌∙◌, ℕ, ◌<◌, ◌≤◌, ◌+◌, List, [], ◌∷◌, ◌++◌, ap, sym, refl, subst, arith, drop, map, take, length, get_or, rules}
+use Rattle.std.proofs.Common.{◌≡◌, ◌∙◌, ℕ, ◌<◌, ◌≤◌, ◌+◌, List, [], ◌∷◌, ◌++◌, ap, sym, refl, arith, drop, map, take, length, get_or, rules}
 use Rattle.std.specs.Prelude.{All, IsTrue, true, decimal, slice_index_or, codes}
 use Rattle.std.specs.List.{list_all}
 use Rattle.std.proofs.lemmas.List.{length-map, get_or-map, take_more}
@@ -8,7 +8,7 @@ use Rattle.s6_events.specs.Name.{is_name}
 use Rattle.s6_events.specs.declared.condition.Condition.{Condition}
 use Rattle.s6_events.specs.declared.condition.Mode.{Mode}
 use Rattle.tree_core.specs.declared.input.Act.{Act}
-use Rattle.tree_core.specs.declared.input.Act.TheVariants.{Scan, Scanctl, Svc, Started, StartFailed, Notify, Death, FinishEnded, Status, Tally, Permafailon, Wait, Cancel, Tick}
+use Rattle.tree_core.specs.declared.input.Act.TheVariants.{Scan, Scanctl, Svc, Started, StartFailed, Notify, Death, FinishEnded, Status, Tally, Permafailon, Wait, Cancel, Subscribe, Unsubscribe, Send, MakeDir, Tick}
 use Rattle.s6_replay.specs.declared.parse.Verb.TheVariants.{Wait as WaitVerb}
 use Rattle.s6_replay.specs.Spelling.{IsAct}
 use Rattle.s6_replay.specs.Verb.{condition_word, mode_word, verb_of_act, details}
@@ -44,6 +44,10 @@ wait_read texts found reads (Tally name) h v d = cc
 wait_read texts found reads (Permafailon name seconds count items) h v d = cc
 wait_read texts found reads (Wait condition mode timeout names) h v d = reads condition mode timeout names h d
 wait_read texts found reads (Cancel id) h v d = cc
+wait_read texts found reads (Subscribe target pattern repeats) h v d = cc
+wait_read texts found reads (Unsubscribe id) h v d = cc
+wait_read texts found reads (Send target message) h v d = cc
+wait_read texts found reads (MakeDir name) h v d = cc
 wait_read texts found reads Tick h v d = cc
 
 -- its parts are read, each from its word

@@ -2,6 +2,7 @@ pub mod Options
 pub mod DeathList
 pub mod Verb
 pub mod Spelling
+pub mod Unbuilt
 pub mod Transcript
 pub mod Lines
 pub mod Replay

@@ -6,7 +6,7 @@ use Rattle.tree_core.specs.declared.input.Input.{Input}
 use Rattle.tree_core.specs.Machine.{new_machine}
 use Rattle.tree_core.specs.Run.{outcome, outcomes, after_all}
 use Rattle.s6_replay.specs.Lines.{HasNoNewline, IsPart, IsWithinLine, AppendsFront}
-use Rattle.s6_replay.specs.Spelling.{IsSpelt, Spells, spelling}
+use Rattle.s6_replay.specs.Spelling.{IsSpelt, Spells, SpellsButForPattern, spelling}
 use Rattle.s6_replay.specs.Transcript.{block, blocks}
 use Rattle.s6_replay.specs.declared.counts.Counts.{Counts}
 use Rattle.s6_replay.specs.declared.fault.ReplayFault.{ReplayFault}
@@ -62,6 +62,12 @@ pub record SpellsNothing (A : Type 0) (line : List ℕ) : Type 0 where
   pub within : length line ≤ 65535
   pub none : (i : Input A) → Spells line i → ⊥
 
+-- a line, within the limit, that spells an input but for its pattern, which is refused
+pub record IsLineButForPattern (A : Type 0) (line : List ℕ) : Type 0 where
+  pub plain : HasNoNewline line
+  pub within : length line ≤ 65535
+  pub but_for_pattern : SpellsButForPattern A line
+
 -- what is no input line after so many inputs: a line that spells no input, or is too long, where a line may follow; else any byte
 pub data IsNoInputLine (A : Type 0) (before : ℕ) (bytes : List ℕ) : Type 0 where
   spells_nothing : before < input_limit → (line : List ℕ) → SpellsNothing A line → bytes ≡ line ++ 10 ∷ [] → IsNoInputLine A before bytes
@@ -88,13 +94,15 @@ abbrev pub NoneAfterLast : ℕ → List ℕ → Type 0
 NoneAfterLast before bytes = before ≡ input_limit → bytes ≡ []
 
 -- where a script stopped, and the transcript of the inputs before it: no more than some of one line was read behind these, at
--- NoMemory perhaps all of it; at a failed write there is one input more, and some of its block was written, and not all
+-- NoMemory perhaps all of it, at Pattern all of it; at a failed write there is one input more, and some of its block was written, and not all
 abbrev pub Stops : (A : Type 0) → ReplayFault → (left left' held held' : Option (List ℕ)) → Type 0
 Stops A Head left left' held held' = ((rest : List ℕ) → left ≢ Some (head_line ++ rest)) × (held' ≡ held)
 Stops A (Line n) left left' held held' =
     (inputs : List (Input A)) × Written inputs held held' × (n ≡ length inputs + 2)
     × ((bytes : List ℕ) × IsNoInputLine A (length inputs) bytes × Consumes left left' (script inputs ++ bytes))
-Stops A (Pattern n) left left' held held' = ⊥
+Stops A (Pattern n) left left' held held' =
+    (inputs : List (Input A)) × Written inputs held held' × (length inputs < input_limit) × (n ≡ length inputs + 2)
+    × ((line : List ℕ) × IsLineButForPattern A line × ReadsOn inputs (line ++ 10 ∷ []) left left')
 Stops A Truncated left left' held held' =
     (inputs : List (Input A)) × Written inputs held held' × (length inputs < input_limit) × IsAtEnd left'
     × ((line : List ℕ) × IsPart line × (line ≢ []) × Consumes left left' (script inputs ++ line))

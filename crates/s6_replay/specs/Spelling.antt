@@ -2,16 +2,18 @@
 use Rattle.std.specs.Prelude.{◌≡◌, ℕ, ◌^◌, ◌<◌, ◌≤◌, List, ◌∷◌, decimal, IsTrue, All, length}
 use Rattle.std.specs.List.{join_with_byte}
 use Rattle.hex.specs.Hex.{IsBytes}
+use Rattle.event_directory.specs.Message.{is_message}
+use Rattle.event_directory.specs.Pattern.{is_pattern_text, IsRefusedText}
 use Rattle.s6_events.specs.declared.exit.Exit.{Exit}
 use Rattle.s6_events.specs.declared.exit.Exit.TheVariants.{Code, Killed}
 use Rattle.s6_events.specs.At.{last_moment}
 use Rattle.s6_events.specs.Name.{is_name}
 use Rattle.tree_core.specs.declared.input.Act.{Act}
-use Rattle.tree_core.specs.declared.input.Act.TheVariants.{Scan, Scanctl, Svc, Started, StartFailed, Notify, Death, FinishEnded, Status, Tally, Permafailon, Wait, Cancel, Tick}
+use Rattle.tree_core.specs.declared.input.Act.TheVariants.{Scan, Scanctl, Svc, Started, StartFailed, Notify, Death, FinishEnded, Status, Tally, Permafailon, Wait, Cancel, Subscribe, Unsubscribe, Send, MakeDir, Tick}
 use Rattle.tree_core.specs.declared.input.Input.{Input}
 use Rattle.s6_replay.specs.DeathList.{IsDeathList}
 use Rattle.s6_replay.specs.Options.{IsEntry}
-use Rattle.s6_replay.specs.Verb.{verb_word, verb_of_act, details}
+use Rattle.s6_replay.specs.Verb.{verb_word, verb_of_act, details, target_name}
 
 -- the words of an act: its verb, and the words behind it
 abbrev pub act_words : {A : Type 0} → Act A → List (List ℕ)
@@ -31,7 +33,8 @@ IsExit (Code n) = n ≤ 255
 IsExit (Killed n) = n ≤ 64
 
 -- entries are entries, a name is a name, letters are 1 to 63, bytes are 1 to 64, serials and generations have 64 bits, a process number is positive
--- and has 31 bits, seconds, counts and timeouts have 32 bits, and a list is a list
+-- and has 31 bits, seconds, counts and timeouts have 32 bits, a list is a list, a pattern has the text of one, which may be refused, and
+-- a message is a message
 abbrev pub IsAct : {A : Type 0} → Act A → Type 0
 IsAct (Scan listing) = All IsEntry listing
 IsAct (Scanctl order) = Unit {0}
@@ -47,6 +50,10 @@ IsAct (Tally name) = IsTrue (is_name name)
 IsAct (Permafailon name seconds count items) = IsTrue (is_name name) × (seconds ≤ 4294967295) × (count ≤ 4294967295) × IsDeathList items
 IsAct (Wait condition mode timeout names) = (timeout ≤ 4294967295) × All (λ name. IsTrue (is_name name)) names
 IsAct (Cancel id) = id < 2 ^ 64
+IsAct (Subscribe target pattern repeats) = IsTrue (is_name (target_name target)) × IsTrue (is_pattern_text pattern)
+IsAct (Unsubscribe id) = id < 2 ^ 64
+IsAct (Send target message) = IsTrue (is_name (target_name target)) × IsTrue (is_message message)
+IsAct (MakeDir name) = IsTrue (is_name name)
 IsAct Tick = Unit {0}
 
 -- the input has a spelling
@@ -59,3 +66,12 @@ pub record IsSpelt {A : Type 0} (i : Input A) : Type 0 where
 pub record Spells {A : Type 0} (text : List ℕ) (i : Input A) : Type 0 where
   pub spelt : IsSpelt i
   pub text_is : text ≡ spelling i
+
+-- the act is a subscription whose pattern `regex` refuses, and not for want of memory
+abbrev pub HasRefusedPattern : {A : Type 0} → Act A → Type 0
+HasRefusedPattern (Subscribe target pattern repeats) = IsRefusedText pattern
+HasRefusedPattern act = ⊥
+
+-- the text spells an input but for its pattern, which is refused
+abbrev pub SpellsButForPattern : (A : Type 0) → List ℕ → Type 0
+SpellsButForPattern A text = (i : Input A) × Spells text i × HasRefusedPattern i.act

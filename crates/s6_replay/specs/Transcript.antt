@@ -1,6 +1,8 @@
 -- What is printed for a step.
 use Rattle.std.specs.Prelude.{ℕ, ◌+◌, List, [], ◌∷◌, ◌++◌, codes, decimal, Bool, true, false, Option, None, Some}
 use Rattle.std.specs.List.{flat_map}
+use Rattle.event_directory.specs.declared.hit.Hit.{Hit}
+use Rattle.event_directory.specs.declared.hit.Hit.TheVariants.{Matched, Overlong}
 use Rattle.s6_events.specs.Mark.{letter_of}
 use Rattle.s6_events.specs.declared.order.Order.{Order}
 use Rattle.s6_events.specs.declared.order.Order.TheVariants.{Run, Finish, Signal, KillFinish}
@@ -10,14 +12,12 @@ use Rattle.supervise_core.specs.declared.row.Row.{Row}
 use Rattle.svscan_core.specs.declared.event.Event.{Event}
 use Rattle.tree_core.specs.declared.effect.Match.{Match}
 use Rattle.tree_core.specs.declared.effect.Release.{Release}
-use Rattle.tree_core.specs.declared.hit.Hit.{Hit}
-use Rattle.tree_core.specs.declared.hit.Hit.TheVariants.{Matched, Overlong}
 use Rattle.svscan_core.specs.declared.entry.Listed.{Listed}
 use Rattle.svscan_core.specs.declared.entry.Listed.TheVariants.{Added, Full, Unread}
 use Rattle.tree_core.specs.declared.reply.Refusal.{Refusal}
 use Rattle.tree_core.specs.declared.reply.Refusal.TheVariants.{NoService, Stale, Reserved, TooMany, NoSuch, Closing, Repeated, Empty, Exists, Ended, Spent}
 use Rattle.tree_core.specs.declared.reply.Reply.{Reply}
-use Rattle.tree_core.specs.declared.reply.Reply.TheVariants.{Done, Refused, Scanned, Row as RowReply, Tally, PermanentFailure, Waiter}
+use Rattle.tree_core.specs.declared.reply.Reply.TheVariants.{Done, Refused, Scanned, Row as RowReply, Tally, PermanentFailure, Waiter, Subscription}
 use Rattle.wait_conditions.specs.declared.verdict.Verdict.{Verdict}
 use Rattle.wait_conditions.specs.declared.verdict.Verdict.TheVariants.{Held, Failed, Gone, TimedOut}
 use Rattle.tree_core.specs.Machine.{Outcome}
@@ -102,6 +102,7 @@ reply_text (Scanned s) = codes "scanned" ++ flat_map dropped_text s.dropped ++ f
 reply_text (Tally deaths) = codes "tally" ++ flat_map death_text deaths
 reply_text (PermanentFailure fails) = failure_text fails
 reply_text (Waiter id) = codes "wait " ++ decimal id
+reply_text (Subscription id) = codes "sub " ++ decimal id
 
 -- the line of an event
 abbrev pub event_line : Event → List ℕ

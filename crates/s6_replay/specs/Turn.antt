@@ -1,18 +1,18 @@
 -- One turn of a replay: a line is read, its input is done, and its block is written.
-use Rattle.std.specs.Prelude.{◌≡◌, ◌≢◌, ℕ, ◌+◌, ◌<◌, ◌^◌, List, [], ◌++◌, length, Option, Some, None, ◌⊎◌}
+use Rattle.std.specs.Prelude.{◌≡◌, ◌≢◌, ℕ, ◌+◌, ◌<◌, ◌^◌, List, [], ◌∷◌, ◌++◌, length, Option, Some, None, ◌⊎◌}
 use Rattle.std.specs.Io.KnownBytes.{Consumes, Appends, IsAtEnd}
 use Rattle.tree_core.specs.declared.input.Input.{Input}
 use Rattle.tree_core.specs.Machine.{Machine, Outcome}
 use Rattle.tree_core.specs.Run.{after, outcome}
 use Rattle.tree_core.specs.StandsFor.{Stored, StandsFor}
 use Rattle.s6_replay.specs.Lines.{HasNoNewline, IsPart, IsWithinLine, AppendsFront}
-use Rattle.s6_replay.specs.Replay.{HasLine, IsNoInputLine, ReadsHead, input_line, input_limit, head_line}
+use Rattle.s6_replay.specs.Replay.{HasLine, IsNoInputLine, IsLineButForPattern, ReadsHead, input_line, input_limit, head_line}
 use Rattle.s6_replay.specs.Spelling.{spelling}
 use Rattle.s6_replay.specs.Transcript.{block}
 use Rattle.s6_replay.specs.declared.turn.Turn.{Turn}
 use Rattle.s6_replay.specs.declared.turn.Turn.TheVariants.{Done, End}
 use Rattle.s6_replay.specs.declared.fault.ReplayFault.{ReplayFault}
-use Rattle.s6_replay.specs.declared.fault.ReplayFault.TheVariants.{Head, Line, Truncated, Read, Write, NoMemory}
+use Rattle.s6_replay.specs.declared.fault.ReplayFault.TheVariants.{Head, Line, Pattern, Truncated, Read, Write, NoMemory}
 
 -- what an input gave was written under the number and counted, and the tree goes on as the machine does
 pub record Answers {A : Type 0} (events orders number : ℕ) (tree : Stored) (held held' : Option (List ℕ)) (given : Outcome A) (m : Machine) : Type 0 where
@@ -42,6 +42,8 @@ WasRead None left left' = Consumes left left' [] × IsAtEnd left'
 abbrev pub ReadingStops : (A : Type 0) → ReplayFault → ℕ → Option (List ℕ) → Option (List ℕ) → Type 0
 ReadingStops A (Line n) number left left' =
     (n ≡ number + 1) × ((bytes : List ℕ) × ((before : ℕ) → before < input_limit → IsNoInputLine A before bytes) × Consumes left left' bytes)
+ReadingStops A (Pattern n) number left left' =
+    (n ≡ number + 1) × ((line : List ℕ) × IsLineButForPattern A line × Consumes left left' (line ++ 10 ∷ []))
 ReadingStops A Truncated number left left' = IsAtEnd left' × ((line : List ℕ) × IsPart line × (line ≢ []) × Consumes left left' line)
 ReadingStops A Read number left left' = (part : List ℕ) × IsPart part × Consumes left left' part
 ReadingStops A NoMemory number left left' = (bytes : List ℕ) × IsWithinLine bytes × Consumes left left' bytes

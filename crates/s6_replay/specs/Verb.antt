@@ -1,5 +1,6 @@
 -- The words of an act: its verb, and the words behind it.
-use Rattle.std.specs.Prelude.{ℕ, List, [], ◌∷◌, codes, decimal, map}
+use Rattle.std.specs.Prelude.{ℕ, Bool, true, false, List, [], ◌∷◌, ◌==◌, codes, decimal, map}
+use Rattle.std.specs.List.{slice_split}
 use Rattle.hex.specs.Hex.{encode_lower}
 use Rattle.s6_events.specs.declared.condition.Condition.{Condition}
 use Rattle.s6_events.specs.declared.condition.Condition.TheVariants as condition
@@ -11,9 +12,11 @@ use Rattle.svc_commands.specs.ControlLetter.{byte_of}
 use Rattle.tree_core.specs.declared.input.Act.{Act}
 use Rattle.svscan_core.specs.declared.entry.ScanOrder.{ScanOrder}
 use Rattle.svscan_core.specs.declared.entry.ScanOrder.TheVariants.{Nuke, Terminate}
-use Rattle.tree_core.specs.declared.input.Act.TheVariants.{Scan, Scanctl, Svc, Started, StartFailed, Notify, Death, FinishEnded, Status, Tally, Permafailon, Wait, Cancel, Tick}
+use Rattle.tree_core.specs.declared.input.Act.TheVariants.{Scan, Scanctl, Svc, Started, StartFailed, Notify, Death, FinishEnded, Status, Tally, Permafailon, Wait, Cancel, Subscribe, Unsubscribe, Send, MakeDir, Tick}
+use Rattle.tree_core.specs.declared.input.Target.{Target}
+use Rattle.tree_core.specs.declared.input.Target.TheVariants as target
 use Rattle.s6_replay.specs.declared.parse.Verb.{Verb}
-use Rattle.s6_replay.specs.declared.parse.Verb.TheVariants.{Scan as ScanVerb, Scanctl as ScanctlVerb, Svc as SvcVerb, Started as StartedVerb, StartFailed as StartFailedVerb, Notify as NotifyVerb, Death as DeathVerb, Finished as FinishedVerb, Status as StatusVerb, Tally as TallyVerb, Permafailon as PermafailonVerb, Wait as WaitVerb, Cancel as CancelVerb, Tick as TickVerb}
+use Rattle.s6_replay.specs.declared.parse.Verb.TheVariants.{Scan as ScanVerb, Scanctl as ScanctlVerb, Svc as SvcVerb, Started as StartedVerb, StartFailed as StartFailedVerb, Notify as NotifyVerb, Death as DeathVerb, Finished as FinishedVerb, Status as StatusVerb, Tally as TallyVerb, Permafailon as PermafailonVerb, Wait as WaitVerb, Cancel as CancelVerb, Subscribe as SubscribeVerb, Unsubscribe as UnsubscribeVerb, Send as SendVerb, Mkdir as MkdirVerb, Tick as TickVerb}
 use Rattle.s6_replay.specs.DeathList.{list_text}
 use Rattle.s6_replay.specs.Options.{entry_text}
 
@@ -32,6 +35,10 @@ verb_word TallyVerb = codes "tally"
 verb_word PermafailonVerb = codes "permafailon"
 verb_word WaitVerb = codes "wait"
 verb_word CancelVerb = codes "cancel"
+verb_word SubscribeVerb = codes "subscribe"
+verb_word UnsubscribeVerb = codes "unsubscribe"
+verb_word SendVerb = codes "send"
+verb_word MkdirVerb = codes "mkdir"
 verb_word TickVerb = codes "tick"
 
 -- the verb of an act
@@ -49,6 +56,10 @@ verb_of_act (Tally name) = TallyVerb
 verb_of_act (Permafailon name seconds count items) = PermafailonVerb
 verb_of_act (Wait condition mode timeout names) = WaitVerb
 verb_of_act (Cancel id) = CancelVerb
+verb_of_act (Subscribe target pattern repeats) = SubscribeVerb
+verb_of_act (Unsubscribe id) = UnsubscribeVerb
+verb_of_act (Send target message) = SendVerb
+verb_of_act (MakeDir name) = MkdirVerb
 verb_of_act Tick = TickVerb
 
 -- the words of an exit
@@ -74,7 +85,25 @@ abbrev pub mode_word : Mode → List ℕ
 mode_word mode.All = codes "a"
 mode_word mode.One = codes "o"
 
--- the words of an act behind its verb
+-- whose event directory is meant: a service's or a free one, and its name
+abbrev pub target_word : Target → List ℕ
+target_word (target.Service name) = codes "svc"
+target_word (target.Directory name) = codes "dir"
+
+abbrev pub target_name : Target → List ℕ
+target_name (target.Service name) = name
+target_name (target.Directory name) = name
+
+-- whether a subscription goes on after a match
+abbrev pub how_word : Bool → List ℕ
+how_word false = codes "once"
+how_word true = codes "repeat"
+
+-- the words of a text, between its spaces
+abbrev pub text_words : List ℕ → List (List ℕ)
+text_words text = slice_split (λ b. b == 32) text
+
+-- the words of an act behind its verb; a pattern is the rest of the line, spaces and all
 abbrev pub details : {A : Type 0} → Act A → List (List ℕ)
 details (Scan listing) = map entry_text listing
 details (Scanctl order) = order_word order ∷ []
@@ -89,4 +118,8 @@ details (Tally name) = name ∷ []
 details (Permafailon name seconds count items) = name ∷ decimal seconds ∷ decimal count ∷ list_text items ∷ []
 details (Wait condition mode timeout names) = condition_word condition ∷ mode_word mode ∷ decimal timeout ∷ names
 details (Cancel id) = decimal id ∷ []
+details (Subscribe target pattern repeats) = target_word target ∷ target_name target ∷ how_word repeats ∷ text_words pattern
+details (Unsubscribe id) = decimal id ∷ []
+details (Send target message) = target_word target ∷ target_name target ∷ message ∷ []
+details (MakeDir name) = name ∷ []
 details Tick = []

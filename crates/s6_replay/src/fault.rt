@@ -15,7 +15,8 @@ pub enum ReplayFault {
     /// 1,000,000 of them. The transcript of the inputs before was written.
     #[error("line {0} is no input")]
     Line(u64),
-    /// This line is an input but for a pattern that does not build. No input of today has a pattern, so this is not answered.
+    /// This line is an input but for its pattern, which `regex` refuses, and not for want of memory. The transcript of the inputs before
+    /// was written.
     #[error("the pattern in line {0} does not build")]
     Pattern(u64),
     /// The last line has no newline. The transcript of the inputs before was written.

@@ -13,9 +13,11 @@ mod parse;
 mod replay;
 mod reply_text;
 mod spelling;
+mod subscribing;
 #[cfg(test)]
 mod tests;
 mod turn;
+mod unbuilt;
 mod waiting;
 mod words;
 

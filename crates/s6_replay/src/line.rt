@@ -1,13 +1,14 @@
 //! Reading one line.
-ghost use Rattle.std.specs.Prelude.{IfOk, OnErr};
-ghost use Rattle.std.specs.Io.KnownBytes.{Consumes};
-ghost use Rattle.s6_replay.specs.Lines.{EndsAs, IsPart};
+ghost use Rattle.std.specs.Prelude.{◌≡◌, ◌<◌, ◌≤◌, List, ℕ, length, Option, None, Ok, IfOk, OnErr};
+ghost use Rattle.std.specs.Io.KnownBytes.{Consumes, Keeps};
+ghost use Rattle.s6_replay.specs.Lines.{EndsAs, GoesOnOrEnds, IsPart};
 
+use memchr::memchr;
 use std::alloc::Allocator;
 use std::io::{BufRead, Read};
 
 /// The most bytes of an input line, with its newline.
-const LINE_LIMIT: u32 = 65_536;
+const LINE_LIMIT: usize = 65_536;
 
 // How a line ended.
 #[derive(Clone, Copy, Debug, PartialEq, Eq)]
@@ -37,24 +38,74 @@ pub fn read_line<A: Allocator + Copy, R: BufRead>(
     ensures part { OnErr result (IsPart line.new.items) }
 {
     line.clear();
-    let mut byte = [0; 1];
-    for _ in 0..LINE_LIMIT {
-        if line.reserve(1).is_err() {
-            return Err(ReadFault::NoMemory);
+    while line.len() < LINE_LIMIT {
+        if let Some(ended) = read_byte(reader, line)? {
+            return Ok(ended);
         }
-        match reader.read(&mut byte) {
-            Err(_) => return Err(ReadFault::Read),
-            Ok(0) => return Ok(Ended::End),
-            Ok(_) => {}
+        if let Some(ended) = read_buffered(reader, line)? {
+            return Ok(ended);
         }
-        if byte[0] == b'\n' {
-            return Ok(Ended::Newline);
-        }
-        line.push_reserved(byte[0]);
     }
+    let mut byte = [0; 1];
     match reader.read(&mut byte) {
         Err(_) => Err(ReadFault::Read),
         Ok(0) => Ok(Ended::End),
         Ok(_) => Ok(Ended::TooLong),
     }
+}
+
+// Reads one byte more of a line, and tells how the line ended if it did. Only `read` says for sure that the input has
+// ended: an empty buffer says so of a reader whose bytes are known, and of no other.
+fn read_byte<A: Allocator + Copy, R: BufRead>(
+    reader: &mut R,
+    line: &mut Vec<u8, A>,
+) -> Result<Option<Ended>, ReadFault>
+    requires part { IsPart line.old.items }
+    requires room { length line.old.items < 65536 }
+    ensures ok { IfOk result (λ ended. (start : Option (List ℕ)) → Consumes start (R.remaining reader.old) line.old.items → GoesOnOrEnds ended start (R.remaining reader.new) line.new.items) }
+    ensures more { result ≡ Ok None → length line.old.items < length line.new.items }
+    ensures err { OnErr result ((line.new.items ≡ line.old.items) × Keeps (R.remaining reader.old) (R.remaining reader.new)) }
+{
+    if line.reserve(1).is_err() {
+        return Err(ReadFault::NoMemory);
+    }
+    let mut byte = [0; 1];
+    match reader.read(&mut byte) {
+        Err(_) => return Err(ReadFault::Read),
+        Ok(0) => return Ok(Some(Ended::End)),
+        Ok(_) => {}
+    }
+    if byte[0] == b'\n' {
+        return Ok(Some(Ended::Newline));
+    }
+    line.push_reserved(byte[0]);
+    Ok(None)
+}
+
+// Reads what the reader's buffer has of a line, and tells whether its newline came.
+fn read_buffered<A: Allocator + Copy, R: BufRead>(
+    reader: &mut R,
+    line: &mut Vec<u8, A>,
+) -> Result<Option<Ended>, ReadFault>
+    requires part { IsPart line.old.items }
+    ensures ok { IfOk result (λ ended. (start : Option (List ℕ)) → Consumes start (R.remaining reader.old) line.old.items → GoesOnOrEnds ended start (R.remaining reader.new) line.new.items) }
+    ensures more { result ≡ Ok None → length line.old.items ≤ length line.new.items }
+    ensures err { OnErr result ((line.new.items ≡ line.old.items) × Keeps (R.remaining reader.old) (R.remaining reader.new)) }
+{
+    let Ok(buffered) = reader.fill_buf() else {
+        return Err(ReadFault::Read);
+    };
+    let room = LINE_LIMIT - line.len();
+    let within = &buffered[..buffered.len().min(room)];
+    let newline = memchr(b'\n', within);
+    let end = newline.unwrap_or(within.len());
+    if line.extend_from_slice(&within[..end]).is_err() {
+        return Err(ReadFault::NoMemory);
+    }
+    if newline.is_none() {
+        reader.consume(end);
+        return Ok(None);
+    }
+    reader.consume(end + 1);
+    Ok(Some(Ended::Newline))
 }

@@ -1,9 +1,12 @@
 //! Reading an input line. Each function here, and in `words.rt` and `entry_options.rt`, reads what its words spell, and from other words
 //! any value of its type. The input that comes of this is spelled again, and answered only where this gives the line. So each line
-//! that spells no input is refused with no case of its own.
-ghost use Rattle.std.specs.Prelude.{◌≡◌, ◌≢◌, ℕ, ◌≤◌, ◌<◌, ◌∷◌, ◌++◌, [], List, Bool, Err, IfOk, decimal, map, ◌==◌, length};
+//! that spells no input is refused with no case of its own. A pattern is built last, so that a line is refused for it only where it
+//! spells an input otherwise.
+ghost use Rattle.std.specs.Prelude.{◌≡◌, ℕ, ◌≤◌, ◌<◌, ◌∷◌, ◌++◌, [], List, Bool, Err, IfOk, decimal, map, ◌==◌, length};
 ghost use Rattle.hex.specs.Hex.{IsBytes, encode_lower};
-ghost use Rattle.s6_replay.specs.Spelling.{IsSpelt, IsExit, IsAct, Spells, input_words};
+ghost use Rattle.s6_replay.specs.Spelling.{IsSpelt, IsExit, IsAct, Spells, SpellsButForPattern, input_words};
+ghost use Rattle.s6_replay.specs.Unbuilt.{act_read, input_read, FitsButText};
+ghost use Rattle.s6_events.specs.At.{last_moment};
 ghost use Rattle.svc_commands.specs.ControlLetter.{byte_of};
 ghost use Rattle.svc_commands.specs.declared.control_letter.ControlLetter.{ControlLetter};
 ghost use Rattle.s6_replay.specs.Verb.{exit_words, order_word, verb_word, verb_of_act, details};
@@ -12,11 +15,13 @@ ghost use Rattle.svscan_core.specs.declared.entry.ScanOrder.{ScanOrder};
 use super::death_list::permafailon_of;
 use super::entry_options::entries_of;
 use super::spelling::spell;
+use super::subscribing::{send_of, subscribe_of};
+use super::unbuilt::{UnbuiltAct, UnbuiltInput, build};
 use super::waiting::wait_of;
 use super::words::{is_word, name_of, number, word_at, words_from, words_of};
 use arrayvec::ArrayVec;
-use s6_events::{Actor, At, Exit, NoMemory, Sid, WaitId};
-use std::alloc::{AllocError, Allocator};
+use s6_events::{Actor, At, Exit, NoMemory, Sid, SubId, WaitId};
+use std::alloc::{AllocError, Allocator, Global};
 use svc_commands::{ControlLetter, Letters};
 use thiserror::Error;
 use tree_core::{Act, Input, Listing, ScanOrder};
@@ -27,7 +32,8 @@ pub enum LineFault {
     /// It spells no input.
     #[error("the line spells no input")]
     Line = 1,
-    /// It spells an input but for its pattern, which does not build. No input of today has a pattern, so this is not answered.
+    /// It spells a subscription, but its pattern is refused by `regex`, and not for want of memory. A pattern of none or more than 256 bytes, or
+    /// with a byte that is none from a space to a tilde, is not spelled: this is `Line`.
     #[error("the pattern of the line does not build")]
     Pattern = 2,
     /// A growth was refused.
@@ -71,6 +77,10 @@ pub enum Verb {
     Permafailon,
     Wait,
     Cancel,
+    Subscribe,
+    Unsubscribe,
+    Send,
+    Mkdir,
     Tick,
 }
 
@@ -116,6 +126,14 @@ fn verb_of(word: &[u8]) -> Verb
         Verb::Wait
     } else if is_word(word, b"cancel") {
         Verb::Cancel
+    } else if is_word(word, b"subscribe") {
+        Verb::Subscribe
+    } else if is_word(word, b"unsubscribe") {
+        Verb::Unsubscribe
+    } else if is_word(word, b"send") {
+        Verb::Send
+    } else if is_word(word, b"mkdir") {
+        Verb::Mkdir
     } else {
         Verb::Tick
     }
@@ -195,32 +213,41 @@ fn bytes_of(word: &[u8]) -> ArrayVec<u8, 64>
 }
 
 // Reads an act from its verb and the words behind it.
-fn act_of<A: Allocator + Copy>(alloc: A, verb: Verb, words: &[&[u8]]) -> Result<Act<A>, NoMemory>
+fn act_of<A: Allocator + Copy>(
+    alloc: A,
+    verb: Verb,
+    words: &[&[u8]],
+) -> Result<UnbuiltAct<A>, NoMemory>
     ensures spelled { IfOk result (λ found. (act : Act A) → IsAct act → verb ≡ verb_of_act act
-        → map (λ w. w.now) words.now ≡ details act → found ≡ act) }
-    ensures fits { IfOk result IsAct }
+        → map (λ w. w.now) words.now ≡ details act → act_read found ≡ act) }
+    ensures fits { IfOk result FitsButText }
 {
     let name = name_of(word_at(words, 0));
-    let sid = Sid(number(word_at(words, 0), u64::MAX));
+    let serial = number(word_at(words, 0), u64::MAX);
     let generation = number(word_at(words, 1), u64::MAX);
     let third = word_at(words, 2);
     let exit = exit_of(third, word_at(words, 3));
-    match verb {
-        Verb::Scan => Ok(Act::Scan(Listing::new(entries_of(alloc, words)?))),
-        Verb::Scanctl => Ok(Act::Scanctl(order_of(word_at(words, 0)))),
-        Verb::Svc => Ok(Act::Svc(name, letters_of(word_at(words, 1)))),
-        Verb::Started => Ok(Act::Started(sid, generation, process_of(third))),
-        Verb::StartFailed => Ok(Act::StartFailed(sid, generation)),
-        Verb::Notify => Ok(Act::Notify(sid, generation, bytes_of(third))),
-        Verb::Death => Ok(Act::Death(sid, generation, exit)),
-        Verb::Finished => Ok(Act::FinishEnded(sid, generation, exit)),
-        Verb::Status => Ok(Act::Status(name)),
-        Verb::Tally => Ok(Act::Tally(name)),
-        Verb::Permafailon => permafailon_of(alloc, words),
-        Verb::Wait => wait_of(alloc, words),
-        Verb::Cancel => Ok(Act::Cancel(WaitId(number(word_at(words, 0), u64::MAX)))),
-        Verb::Tick => Ok(Act::Tick),
-    }
+    let act = match verb {
+        Verb::Scan => Act::Scan(Listing::new(entries_of(alloc, words)?)),
+        Verb::Scanctl => Act::Scanctl(order_of(word_at(words, 0))),
+        Verb::Svc => Act::Svc(name, letters_of(word_at(words, 1))),
+        Verb::Started => Act::Started(Sid(serial), generation, process_of(third)),
+        Verb::StartFailed => Act::StartFailed(Sid(serial), generation),
+        Verb::Notify => Act::Notify(Sid(serial), generation, bytes_of(third)),
+        Verb::Death => Act::Death(Sid(serial), generation, exit),
+        Verb::Finished => Act::FinishEnded(Sid(serial), generation, exit),
+        Verb::Status => Act::Status(name),
+        Verb::Tally => Act::Tally(name),
+        Verb::Permafailon => permafailon_of(alloc, words)?,
+        Verb::Wait => wait_of(alloc, words)?,
+        Verb::Cancel => Act::Cancel(WaitId(serial)),
+        Verb::Subscribe => return subscribe_of(alloc, words),
+        Verb::Unsubscribe => Act::Unsubscribe(SubId(serial)),
+        Verb::Send => send_of(words),
+        Verb::Mkdir => Act::MakeDir(name),
+        Verb::Tick => Act::Tick,
+    };
+    Ok(UnbuiltAct::Whole(act))
 }
 
 // Reads a moment.
@@ -240,30 +267,38 @@ fn actor_of(word: &[u8]) -> Actor
 }
 
 // Reads an input.
-fn input_of<A: Allocator + Copy>(alloc: A, words: &[&[u8]]) -> Result<Input<A>, NoMemory>
-    ensures spelled { IfOk result (λ found. (i : Input A) → IsSpelt i → map (λ w. w.now) words.now ≡ input_words i → found ≡ i) }
-    ensures fits { IfOk result IsSpelt }
+fn input_of<A: Allocator + Copy>(alloc: A, words: &[&[u8]]) -> Result<UnbuiltInput<A>, NoMemory>
+    ensures spelled { IfOk result (λ found. (i : Input A) → IsSpelt i → map (λ w. w.now) words.now ≡ input_words i → input_read found ≡ i) }
+    ensures at { IfOk result (λ found. found.at ≤ last_moment) }
+    ensures actor { IfOk result (λ found. found.actor ≤ 15) }
+    ensures act { IfOk result (λ found. FitsButText found.act) }
 {
     let at = moment_of(word_at(words, 0));
     let actor = actor_of(word_at(words, 1));
     let verb = verb_of(word_at(words, 2));
     let act = act_of(alloc, verb, words_from(words, 3))?;
-    Ok(Input { actor, at, act })
+    Ok(UnbuiltInput { actor, at, act })
 }
 
-/// The input that a line spells; the line is given without its newline, and of any length. `Line` comes where the line spells no
-/// input, `NoMemory` where a growth was refused; on error nothing is kept. `Pattern` is not answered today.
-pub fn parse_line<A: Allocator + Copy>(alloc: A, line: &[u8]) -> Result<Input<A>, LineFault>
+/// The input that a line spells; the line is given without its newline, and of any length. A pattern takes its memory from `patterns`,
+/// and all else from `alloc`. `Line` comes where the line spells no input, `Pattern` where it spells a subscription whose pattern is
+/// refused by `regex`, and not for want of memory, and `NoMemory` where a growth was refused; on error nothing is kept. A pattern is
+/// built only where the line spells an input but for it.
+pub fn parse_line<A: Allocator + Copy>(
+    alloc: A,
+    patterns: Global,
+    line: &[u8],
+) -> Result<Input<A>, LineFault>
     ensures found { IfOk result (Spells line.now) }
     ensures only { IfOk result (λ found. (i : Input A) → Spells line.now i → found ≡ i) }
     ensures line { result ≡ Err LineFault.Line → (i : Input A) → Spells line.now i → ⊥ }
-    ensures pattern { result ≢ Err LineFault.Pattern }
+    ensures pattern { result ≡ Err LineFault.Pattern → SpellsButForPattern A line.now }
 {
     let words = words_of(alloc, line)?;
     let input = input_of(alloc, words.as_slice())?;
     let text = spell(alloc, &input)?;
     if text.as_slice() == line {
-        Ok(input)
+        build(patterns, input)
     } else {
         Err(LineFault::Line)
     }

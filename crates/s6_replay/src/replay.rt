@@ -10,7 +10,7 @@ ghost use Rattle.s6_replay.specs.Turn.{HeadStops, EndStops};
 use super::counts::Counts;
 use super::fault::ReplayFault;
 use super::turn::{Turn, take_turn};
-use std::alloc::Allocator;
+use std::alloc::{Allocator, Global};
 use std::io::{BufRead, Read, Write};
 use tree_core::{Effect, Tree};
 
@@ -52,6 +52,7 @@ fn read_end<R: BufRead>(reader: &mut R) -> Result<(), ReplayFault>
 // Replays a script on a tree that has taken no step, with a line and an effect whose memory is used again and again.
 fn replay_all<A: Allocator + Copy, R: BufRead, W: Write>(
     alloc: A,
+    patterns: Global,
     reader: &mut R,
     writer: &mut W,
     tree: &mut Tree<A>,
@@ -69,7 +70,16 @@ fn replay_all<A: Allocator + Copy, R: BufRead, W: Write>(
     }
     let mut counts = Counts::none();
     for done in 0..INPUT_LIMIT {
-        match take_turn(alloc, reader, writer, tree, line, effect, done + 1) {
+        match take_turn(
+            alloc,
+            patterns,
+            reader,
+            writer,
+            tree,
+            line,
+            effect,
+            done + 1,
+        ) {
             Err(fault) => return Err(fault),
             Ok(Turn::End) => return Ok(counts),
             Ok(Turn::Done { events, orders }) => counts = counts.with_input(events, orders),
@@ -82,18 +92,21 @@ fn replay_all<A: Allocator + Copy, R: BufRead, W: Write>(
 }
 
 /// Replays a script: reads its inputs one after the other, hands each to a new tree, and writes what the tree answers. The script is
-/// read through the reader's own buffer and written a block at a time, so hand in a buffered writer; it is not flushed here.
+/// read through the reader's own buffer and written a block at a time, so hand in a buffered writer; it is not flushed here. Patterns
+/// take their memory from `patterns`, and all else from `alloc`.
 ///
 /// An input line has at most 65,536 bytes with its newline, and a script at most 1,000,000 of them. These limits are looked at before
 /// what a line holds, and before its end.
 ///
-/// `Head` comes where the input does not begin with the head line, however long that is; nothing was written. `Line`, `Truncated`,
-/// `Read` and `NoMemory` come after the transcript of all inputs before, and nothing more was written. Behind these inputs no more
-/// than some of one line was read, at `Line` perhaps one byte beyond the limit, and at `NoMemory` perhaps all of the line; behind the
-/// last input that a script may have, one byte at `Line`, and none at `Read`. `Write` comes after that transcript and some of the block
-/// of one input more, which was read, and never with all of that block. `Pattern` is not answered today.
+/// `Head` comes where the input does not begin with the head line, however long that is; nothing was written. `Line`, `Pattern`,
+/// `Truncated`, `Read` and `NoMemory` come after the transcript of all inputs before, and nothing more was written. Behind these inputs
+/// no more than some of one line was read, at `Line` perhaps one byte beyond the limit, at `NoMemory` perhaps all of the line, and at
+/// `Pattern` all of it: it spells an input but for its pattern, which `regex` refuses, and not for want of memory. Behind the last input
+/// that a script may have, one byte was read at `Line`, and none at `Read`. `Write` comes after that transcript and some of the block of
+/// one input more, which was read, and never with all of that block.
 pub fn run<A: Allocator + Copy, R: BufRead, W: Write>(
     alloc: A,
+    patterns: Global,
     reader: &mut R,
     writer: &mut W,
 ) -> Result<Counts, ReplayFault>
@@ -105,5 +118,13 @@ pub fn run<A: Allocator + Copy, R: BufRead, W: Write>(
     let mut tree = Tree::new(alloc);
     let mut line = Vec::new(alloc);
     let mut effect = Effect::new(alloc);
-    replay_all(alloc, reader, writer, &mut tree, &mut line, &mut effect)
+    replay_all(
+        alloc,
+        patterns,
+        reader,
+        writer,
+        &mut tree,
+        &mut line,
+        &mut effect,
+    )
 }

@@ -268,6 +268,11 @@ pub fn push_reply<A: Allocator + Copy>(
             let part = format!(in alloc; "wait {waiter}")?;
             text.extend_from_slice(part.as_bytes())?;
         }
+        Reply::Subscription(subscription) => {
+            let subscription = subscription.0;
+            let part = format!(in alloc; "sub {subscription}")?;
+            text.extend_from_slice(part.as_bytes())?;
+        }
         Reply::Scanned(report) => {
             text.extend_from_slice(b"scanned")?;
             push_all_dropped(alloc, text, report.dropped())?;

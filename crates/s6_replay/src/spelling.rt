@@ -5,15 +5,18 @@ ghost use Rattle.hex.specs.Hex.{encode_lower};
 ghost use Rattle.svc_commands.specs.ControlLetter.{byte_of};
 ghost use Rattle.s6_replay.specs.Options.{entry_text};
 ghost use Rattle.s6_replay.specs.Spelling.{act_words, spelling};
+ghost use Rattle.s6_replay.specs.Unbuilt.{act_read, input_read};
 ghost use Rattle.s6_replay.specs.Verb.{exit_words};
 
 use super::death_list::permafailon_text;
 use super::entry_options::push_entries;
+use super::subscribing::{send_text, subscribe_text};
+use super::unbuilt::{UnbuiltAct, UnbuiltInput};
 use super::waiting::wait_text;
 use s6_events::{Exit, Name, Sid};
 use std::alloc::{AllocError, Allocator};
 use svc_commands::ControlLetter;
-use tree_core::{Act, Entry, Input, ScanOrder};
+use tree_core::{Act, Entry, ScanOrder};
 
 // Adds the byte of each letter.
 fn push_letters<A: Allocator + Copy>(
@@ -78,6 +81,76 @@ fn notify_text<A: Allocator + Copy>(
     Ok(text.into_bytes())
 }
 
+// The words of a verb and a name.
+fn named_text<A: Allocator + Copy>(
+    alloc: A,
+    verb: &str,
+    name: &Name,
+) -> Result<Vec<u8, A>, AllocError>
+    ensures { IfOk result (λ text. text.items ≡ join_with_byte 32 (verb.now ∷ name.now ∷ [])) }
+{
+    let head = format!(in alloc; "{verb} ")?;
+    let mut text = head.into_bytes();
+    text.extend_from_slice(name.as_bytes())?;
+    Ok(text)
+}
+
+// The words of a verb and a serial.
+fn serial_text<A: Allocator + Copy>(
+    alloc: A,
+    verb: &str,
+    serial: u64,
+) -> Result<Vec<u8, A>, AllocError>
+    ensures { IfOk result (λ text. text.items ≡ join_with_byte 32 (verb.now ∷ decimal serial ∷ [])) }
+{
+    let text = format!(in alloc; "{verb} {serial}")?;
+    Ok(text.into_bytes())
+}
+
+// The words of a report of a run.
+fn report_text<A: Allocator + Copy>(
+    alloc: A,
+    verb: &str,
+    sid: Sid,
+    generation: u64,
+) -> Result<String<A>, AllocError>
+    ensures { IfOk result (λ text. string_bytes text ≡ join_with_byte 32 (verb.now ∷ decimal sid ∷ decimal generation ∷ [])) }
+{
+    let sid = sid.0;
+    format!(in alloc; "{verb} {sid} {generation}")
+}
+
+// The words of a run that was spawned.
+fn started_text<A: Allocator + Copy>(
+    alloc: A,
+    sid: Sid,
+    generation: u64,
+    pid: u32,
+) -> Result<Vec<u8, A>, AllocError>
+    ensures { IfOk result (λ text. text.items ≡ join_with_byte 32
+        (codes "started" ∷ decimal sid ∷ decimal generation ∷ decimal pid ∷ [])) }
+{
+    let head = report_text(alloc, "started", sid, generation)?;
+    let text = format!(in alloc; "{head} {pid}")?;
+    Ok(text.into_bytes())
+}
+
+// The words of a run that ended so.
+fn ended_text<A: Allocator + Copy>(
+    alloc: A,
+    verb: &str,
+    sid: Sid,
+    generation: u64,
+    exit: Exit,
+) -> Result<Vec<u8, A>, AllocError>
+    ensures { IfOk result (λ text. text.items ≡ join_with_byte 32 (verb.now ∷ decimal sid ∷ decimal generation ∷ exit_words exit)) }
+{
+    let head = report_text(alloc, verb, sid, generation)?;
+    let exit = exit_text(alloc, exit)?;
+    let text = format!(in alloc; "{head} {exit}")?;
+    Ok(text.into_bytes())
+}
+
 // The words of an act.
 fn act_text<A: Allocator + Copy>(alloc: A, act: &Act<A>) -> Result<Vec<u8, A>, AllocError>
     ensures { IfOk result (λ text. text.items ≡ join_with_byte 32 (act_words act.now)) }
@@ -87,64 +160,59 @@ fn act_text<A: Allocator + Copy>(alloc: A, act: &Act<A>) -> Result<Vec<u8, A>, A
         Act::Scanctl(ScanOrder::Nuke) => b"scanctl n".to_vec(alloc),
         Act::Scanctl(ScanOrder::Terminate) => b"scanctl t".to_vec(alloc),
         Act::Svc(name, letters) => svc_text(alloc, name, letters.as_slice()),
-        Act::Started(sid, generation, pid) => {
-            let sid = sid.0;
-            let text = format!(in alloc; "started {sid} {generation} {pid}")?;
-            Ok(text.into_bytes())
-        }
+        Act::Started(sid, generation, pid) => started_text(alloc, *sid, *generation, *pid),
         Act::StartFailed(sid, generation) => {
-            let sid = sid.0;
-            let text = format!(in alloc; "startfailed {sid} {generation}")?;
-            Ok(text.into_bytes())
+            Ok(report_text(alloc, "startfailed", *sid, *generation)?.into_bytes())
         }
         Act::Notify(sid, generation, bytes) => {
             notify_text(alloc, *sid, *generation, bytes.as_slice())
         }
-        Act::Death(sid, generation, exit) => {
-            let sid = sid.0;
-            let exit = exit_text(alloc, *exit)?;
-            let text = format!(in alloc; "death {sid} {generation} {exit}")?;
-            Ok(text.into_bytes())
-        }
+        Act::Death(sid, generation, exit) => ended_text(alloc, "death", *sid, *generation, *exit),
         Act::FinishEnded(sid, generation, exit) => {
-            let sid = sid.0;
-            let exit = exit_text(alloc, *exit)?;
-            let text = format!(in alloc; "finished {sid} {generation} {exit}")?;
-            Ok(text.into_bytes())
+            ended_text(alloc, "finished", *sid, *generation, *exit)
         }
-        Act::Status(name) => {
-            let mut text = b"status ".to_vec(alloc)?;
-            text.extend_from_slice(name.as_bytes())?;
-            Ok(text)
-        }
-        Act::Tally(name) => {
-            let mut text = b"tally ".to_vec(alloc)?;
-            text.extend_from_slice(name.as_bytes())?;
-            Ok(text)
-        }
+        Act::Status(name) => named_text(alloc, "status", name),
+        Act::Tally(name) => named_text(alloc, "tally", name),
         Act::Permafailon(name, seconds, count, list) => {
             permafailon_text(alloc, name, *seconds, *count, list)
         }
         Act::Wait(condition, mode, timeout, names) => {
             wait_text(alloc, *condition, *mode, *timeout, names.names())
         }
-        Act::Cancel(waiter) => {
-            let waiter = waiter.0;
-            let text = format!(in alloc; "cancel {waiter}")?;
-            Ok(text.into_bytes())
+        Act::Cancel(waiter) => serial_text(alloc, "cancel", waiter.0),
+        Act::Subscribe(target, pattern, repeats) => {
+            subscribe_text(alloc, target, pattern.text(), *repeats)
         }
+        Act::Unsubscribe(subscription) => serial_text(alloc, "unsubscribe", subscription.0),
+        Act::Send(target, message) => send_text(alloc, target, message),
+        Act::MakeDir(name) => named_text(alloc, "mkdir", name),
         Act::Tick => b"tick".to_vec(alloc),
     }
 }
 
-// The spelling of an input.
+// The words of an act that was read.
+fn read_text<A: Allocator + Copy>(alloc: A, act: &UnbuiltAct<A>) -> Result<Vec<u8, A>, AllocError>
+    ensures { IfOk result (λ text. text.items ≡ join_with_byte 32 (act_words (act_read act.now))) }
+{
+    match act {
+        UnbuiltAct::Whole(act) => act_text(alloc, act),
+        UnbuiltAct::Subscribe(target, text, repeats) => {
+            subscribe_text(alloc, target, text, *repeats)
+        }
+    }
+}
+
+// The spelling of an input that was read.
 #[tactic(auto, using(crate::proofs::Joined::join_act))]
-pub fn spell<A: Allocator + Copy>(alloc: A, input: &Input<A>) -> Result<Vec<u8, A>, AllocError>
-    ensures { IfOk result (λ text. text.items ≡ spelling input.now) }
+pub fn spell<A: Allocator + Copy>(
+    alloc: A,
+    input: &UnbuiltInput<A>,
+) -> Result<Vec<u8, A>, AllocError>
+    ensures { IfOk result (λ text. text.items ≡ spelling (input_read input.now)) }
 {
     let at = input.at.millis();
     let actor = input.actor.number();
-    let act = act_text(alloc, &input.act)?;
+    let act = read_text(alloc, &input.act)?;
     let head = format!(in alloc; "{at} {actor} ")?;
     let mut text = head.into_bytes();
     text.extend_from_slice(act.as_slice())?;

@@ -1,5 +1,5 @@
 use super::*;
-use std::alloc::Allocator;
+use std::alloc::Global;
 use std::process::Abort;
 
 mod cut;
@@ -24,16 +24,16 @@ const BLOCKS: [&str; 5] = [
 
 // What a replay answers, and what it wrote.
 #[derive(Drop)]
-struct Replayed<A: Allocator> {
+struct Replayed {
     answer: Result<Counts, ReplayFault>,
-    written: Vec<u8, A>,
+    written: Vec<u8>,
 }
 
 // A replay of a script in memory.
-fn replay_in_memory<A: Allocator + Copy>(alloc: A, script: &[u8]) -> Replayed<A> {
+fn replay_in_memory(alloc: Global, script: &[u8]) -> Replayed {
     let mut reader = script;
     let mut written = Vec::new(alloc);
-    let answer = run(alloc, &mut reader, &mut written);
+    let answer = run(alloc, alloc, &mut reader, &mut written);
     Replayed { answer, written }
 }
 

@@ -6,7 +6,7 @@ use super::block::{WriteFault, write_effect};
 use super::fault::ReplayFault;
 use super::line::{Ended, ReadFault, read_line};
 use super::parse::{LineFault, parse_line};
-use std::alloc::Allocator;
+use std::alloc::{Allocator, Global};
 use std::io::{BufRead, Write};
 use tree_core::{Effect, Input, Tree};
 
@@ -22,6 +22,7 @@ pub enum Turn {
 // Reads the next input, if there is one. A fault reports its line, which is one more than the number of its input.
 fn read_input<A: Allocator + Copy, R: BufRead>(
     alloc: A,
+    patterns: Global,
     reader: &mut R,
     line: &mut Vec<u8, A>,
     input_number: u64,
@@ -42,7 +43,7 @@ fn read_input<A: Allocator + Copy, R: BufRead>(
         }
         Ok(Ended::Newline) => {}
     }
-    match parse_line(alloc, line.as_slice()) {
+    match parse_line(alloc, patterns, line.as_slice()) {
         Ok(input) => Ok(Some(input)),
         Err(LineFault::Line) => Err(ReplayFault::Line(input_number + 1)),
         Err(LineFault::Pattern) => Err(ReplayFault::Pattern(input_number + 1)),
@@ -80,6 +81,7 @@ fn answer_input<A: Allocator + Copy, W: Write>(
 // Reads the next line, applies its input, and writes its block.
 pub fn take_turn<A: Allocator + Copy, R: BufRead, W: Write>(
     alloc: A,
+    patterns: Global,
     reader: &mut R,
     writer: &mut W,
     tree: &mut Tree<A>,
@@ -93,7 +95,7 @@ pub fn take_turn<A: Allocator + Copy, R: BufRead, W: Write>(
     ensures ok { IfOk result (λ turn. Turns A turn input_number tree.old tree.new
         (R.remaining reader.old) (R.remaining reader.new) (W.contents writer.old) (W.contents writer.new)) }
 {
-    let Some(input) = read_input(alloc, reader, line, input_number)? else {
+    let Some(input) = read_input(alloc, patterns, reader, line, input_number)? else {
         return Ok(Turn::End);
     };
     let (events, orders) = answer_input(alloc, tree, effect, writer, input, input_number)?;

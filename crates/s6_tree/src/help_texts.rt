@@ -27,7 +27,8 @@ pub const VERSION: &[u8] = b"s6_tree (Reskjavin) 0.1.0\n";
 pub const REPLAY_HELP: &[u8] = b"usage: s6_tree replay < SCRIPT
 
 Reads a script on standard input and writes its transcript to standard
-output: for each input line a reply, and then its events and orders.
+output: for each input line a reply, and then its events, orders,
+matches and releases.
 
 limits:
   65,536 bytes an input line, with its newline

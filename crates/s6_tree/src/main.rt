@@ -12,6 +12,13 @@ use std::process::ExitCode;
 use tool::run_tool;
 
 fn main(rt: HostRuntime) -> ExitCode {
-    let status = run_tool(&rt, rt.alloc(), rt.stdin(), rt.stdout(), &mut rt.stderr());
+    let status = run_tool(
+        &rt,
+        rt.alloc(),
+        rt.alloc(),
+        rt.stdin(),
+        rt.stdout(),
+        &mut rt.stderr(),
+    );
     ExitCode::from(status)
 }

@@ -89,7 +89,7 @@ fn check_run(
 ) {
     let mut output = Vec::new(alloc);
     let mut errors = Vec::new(alloc);
-    let status = run_tool(&Words(words), alloc, input, &mut output, &mut errors);
+    let status = run_tool(&Words(words), alloc, alloc, input, &mut output, &mut errors);
     assert_eq!(rt; (status, output.as_slice(), errors.as_slice()), wanted);
 }
 
@@ -156,7 +156,8 @@ exit status:
 const REPLAY_HELP: &str = "usage: s6_tree replay < SCRIPT
 
 Reads a script on standard input and writes its transcript to standard
-output: for each input line a reply, and then its events and orders.
+output: for each input line a reply, and then its events, orders,
+matches and releases.
 
 limits:
   65,536 bytes an input line, with its newline
@@ -206,7 +207,14 @@ fn prints_help_and_version(rt: HostRuntime) {
 fn help_that_is_not_written_is_told(rt: HostRuntime) {
     let mut errors = Vec::new(rt.alloc());
     let words: [&[u8]; 1] = [b"--help"];
-    let status = run_tool(&Words(&words), rt.alloc(), SCRIPT, Unflushed, &mut errors);
+    let status = run_tool(
+        &Words(&words),
+        rt.alloc(),
+        rt.alloc(),
+        SCRIPT,
+        Unflushed,
+        &mut errors,
+    );
     assert_eq!(rt;
         (status, errors.as_slice()),
         (111, b"s6_tree: write\n".as_slice())
@@ -222,13 +230,29 @@ fn replays_a_script_with_ample_memory(rt: HostRuntime) {
     check_run(&rt, rt.alloc(), &words, cut, wanted);
 }
 
+// The worked row `pattern-that-does-not-build`.
+#[test]
+fn a_refused_pattern_is_told_with_its_line(rt: HostRuntime) {
+    let words: [&[u8]; 1] = [b"replay"];
+    let script = b"s6-script 1\n0 1 subscribe dir q once (\n";
+    let line = b"replay: pattern in line 2\n";
+    check_run(&rt, rt.alloc(), &words, script, (100, b"", line));
+}
+
 // The status of a replay on a heap of so many bytes, and whether its outputs are those of this status.
 fn replay_on_heap(alloc: Global, bytes: usize) -> Result<Option<u8>, Fail> {
     let heap = LocalHeap::new(alloc, bytes)?;
     let mut output = Vec::new(alloc);
     let mut errors = Vec::new(alloc);
     let words: [&[u8]; 1] = [b"replay"];
-    let status = run_tool(&Words(&words), &heap, SCRIPT, &mut output, &mut errors);
+    let status = run_tool(
+        &Words(&words),
+        &heap,
+        alloc,
+        SCRIPT,
+        &mut output,
+        &mut errors,
+    );
     let is_told = match status {
         0 => output.as_slice() == b"1 done\n".as_slice() && errors.is_empty(),
         111 => output.is_empty() && errors.as_slice() == b"replay: no memory\n".as_slice(),
@@ -271,7 +295,7 @@ impl Write for Unflushed {
 fn a_flush_that_fails_is_told(rt: HostRuntime) {
     for script in [SCRIPT, b"s6-script 1\n", b""] {
         assert_eq!(rt;
-            replay(rt.alloc(), script, Unflushed),
+            replay(rt.alloc(), rt.alloc(), script, Unflushed),
             Err(ReplayFault::Write)
         );
     }

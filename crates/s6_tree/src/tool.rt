@@ -2,7 +2,7 @@
 use super::fault_lines::{NO_TOOL, REPLAY_USAGE, SYSTEM_STATUS, USAGE_STATUS, replay_fault};
 use super::help_texts::{HELP, REPLAY_HELP, VERSION};
 use super::replay_tool::replay;
-use std::alloc::Allocator;
+use std::alloc::{Allocator, Global};
 use std::env::{Env, FillError};
 use std::io::{Read, Write};
 
@@ -85,6 +85,7 @@ fn refuse<E: Write>(errors: &mut E, line: &[u8]) -> u8 {
 pub fn run_tool<A: Allocator + Copy, R: Read + Drop, W: Write + Drop, E: Write>(
     env: &impl Env,
     alloc: A,
+    patterns: Global,
     input: R,
     output: W,
     errors: &mut E,
@@ -93,7 +94,7 @@ pub fn run_tool<A: Allocator + Copy, R: Read + Drop, W: Write + Drop, E: Write>(
         Asked::Help => print(output, errors, HELP),
         Asked::Version => print(output, errors, VERSION),
         Asked::ReplayHelp => print(output, errors, REPLAY_HELP),
-        Asked::Replay => match replay(alloc, input, output) {
+        Asked::Replay => match replay(alloc, patterns, input, output) {
             Ok(()) => 0,
             Err(fault) => replay_fault(&fault, errors),
         },

@@ -8,6 +8,7 @@ use Rattle.death_tally.specs.declared.death_list.DeathItem.{DeathItem}
 use Rattle.supervise_core.specs.declared.chart.ChartState.{ChartState}
 use Rattle.supervise_core.specs.Service.{Supervised}
 use Rattle.std.specs.Prelude.{option_map, bytes_eq}
+use Rattle.event_directory.specs.Changes.Change.{leave as leave_directories}
 use Rattle.s6_events.specs.declared.moment.Moment.{Moment}
 use Rattle.supervise_core.specs.declared.change.Change.{Change}
 use Rattle.supervise_core.specs.declared.change.Change.TheVariants.{Control}
@@ -27,16 +28,15 @@ use Rattle.tree_core.specs.declared.input.Act.{Act}
 use Rattle.tree_core.specs.declared.input.Act.TheVariants.{Svc, Status, Tally, Permafailon}
 use Rattle.tree_core.specs.declared.reply.Refusal.TheVariants.{NoService, Ended}
 use Rattle.tree_core.specs.declared.reply.Reply.TheVariants.{Done}
-use Rattle.wait_conditions.specs.declared.wait_change.WaitAnswer.{WaitAnswer}
 use Rattle.wait_conditions.specs.Steps.{Change as WaitChange}
 use Rattle.wait_conditions.specs.Steps.Change.{leave as leave_waiters}
-use Rattle.tree_core.specs.Acts.{refused, asked, ask_of, answered, work_unless, reply_unless, refused_serial, refused_letters, change_found, report_reply, row_reply, tally_reply, failure_reply, work_done, named}
+use Rattle.tree_core.specs.Acts.{refused, asked, ask_of, directory_ask_of, answered, work_unless, reply_unless, refused_serial, refused_letters, change_found, report_reply, row_reply, tally_reply, failure_reply, work_done, named}
 use Rattle.tree_core.specs.Listening.{Ask}
 use Rattle.tree_core.specs.Listening.Ask.{same}
 use Rattle.tree_core.specs.Machine.{Machine}
 use Rattle.tree_core.specs.Tallies.{tally_of, tally_named, failure_named}
 use Rattle.tree_core.specs.Plan.Chosen.{refuse, report, letters, tally}
-use Rattle.tree_core.specs.Plan.{Chosen, Chooses, Hears, HasFired, chosen_work, chosen_change, chosen_reply, report_choice, letters_choice, row_choice, failure_choice, tally_in}
+use Rattle.tree_core.specs.Plan.{Chosen, Chooses, Hears, HasFired, Told, chosen_work, chosen_change, chosen_ask, chosen_reply, report_choice, letters_choice, row_choice, failure_choice, tally_in}
 
 -- a serial is found where a service has it
 pub any_of : (sid : ℕ) (services : List Supervised) → is_some (find (λ s. s.chart.sid == sid) services) ≡ list_any (λ c. c.sid == sid) (charts_of services)
@@ -70,9 +70,9 @@ hears_nothing m ask change a c =
 
 -- a report
 pub chooses_report : {A : Type 0} (act : Act A) (m : Machine) (sid : ℕ) (change : Change) (closing : Bool) (now : ℕ) (services : List Supervised) (history : List Moment) (chosen : Chosen)
-    → refused act m ≡ refused_serial sid m.services → asked act m ≡ change_one sid change → ask_of act m ≡ same → ((w : Worked) → answered act m w ≡ report_reply w)
+    → refused act m ≡ refused_serial sid m.services → asked act m ≡ change_one sid change → ask_of act m ≡ same → directory_ask_of act m ≡ leave_directories → ((w : Worked) → answered act m w ≡ report_reply w)
     → chosen ≡ report_choice (list_any (λ c. c.sid == sid) (charts_of services)) sid change → HasFired closing now services history m → Chooses act m services chosen
-chooses_report {A} act m sid change closing now services history chosen r a q w is fired =
+chooses_report {A} act m sid change closing now services history chosen r a q d w is fired =
     by (list_any (λ c. c.sid == sid) (charts_of services)) known is
   where
     known : list_any (λ c. c.sid == sid) m.services ≡ list_any (λ c. c.sid == sid) (charts_of services)
@@ -84,6 +84,7 @@ chooses_report {A} act m sid change closing now services history chosen r a q w 
         chooses_this act m services chosen (report sid change) e (record {
           work = λ i. work_unless (none i) (a i);
           hears = hears_nothing m (ask_of act m) leave_waiters q refl;
+          asks = d;
           reply = λ h i. reply_unless (none i) (w (work_done act m) i);
         })
     by false k e =
@@ -91,6 +92,7 @@ chooses_report {A} act m sid change closing now services history chosen r a q w 
         chooses_this act m services chosen (refuse NoService) e (record {
           work = ap (λ o. work_unless o (asked act m)) some;
           hears = hears_nothing m (ask_of act m) leave_waiters q refl;
+          asks = d;
           reply = λ h. ap (λ o. reply_unless o (answered act m (work_done act m))) some;
         })
 
@@ -103,7 +105,7 @@ letters_work (Some c) change = by (is_gone c.phase)
     by true = refl
     by false = refl
 
-letters_reply : {A : Type 0} (o : Option ChartState) (change : Change) (services : List Supervised) (w : Worked) (told : WaitAnswer) → reply_unless {A = A} (refused_letters o) Done ≡ chosen_reply (letters_choice o change) services w told
+letters_reply : {A : Type 0} (o : Option ChartState) (change : Change) (services : List Supervised) (w : Worked) (told : Told) → reply_unless {A = A} (refused_letters o) Done ≡ chosen_reply (letters_choice o change) services w told
 letters_reply None change services w told = refl
 letters_reply {A} (Some c) change services w told = by (is_gone c.phase)
   where
@@ -119,6 +121,14 @@ letters_change now (Some c) change = by (is_gone c.phase)
     by true = refl
     by false = refl
 
+letters_asks : (o : Option ChartState) (change : Change) → leave_directories ≡ chosen_ask (letters_choice o change)
+letters_asks None change = refl
+letters_asks (Some c) change = by (is_gone c.phase)
+  where
+    by : (b : Bool) → leave_directories ≡ chosen_ask (cond b (refuse Ended) (letters c.sid change))
+    by true = refl
+    by false = refl
+
 pub chooses_letters : {A : Type 0} (name : List ℕ) (sent : _) (m : Machine) (closing : Bool) (now : ℕ) (services : List Supervised) (history : List Moment) (chosen : Chosen)
     → chosen ≡ letters_choice (find (λ c. bytes_eq name c.name) (services_after (fire now) (charts_of services))) (Control sent) → HasFired closing now services history m
     → Chooses {A = A} (Svc name sent) m services chosen
@@ -127,6 +137,7 @@ chooses_letters {A} name sent m closing now services history chosen is fired =
     chooses_this (Svc name sent) m services chosen (letters_choice (named name m.services) (Control sent)) seen (record {
       work = letters_work (named name m.services) (Control sent);
       hears = hears_nothing m same _ refl (letters_change m.clock (named name m.services) (Control sent));
+      asks = letters_asks (named name m.services) (Control sent);
       reply = λ h. letters_reply (named name m.services) (Control sent) services (work_done {A = A} (Svc name sent) m) _;
     })
 
@@ -139,7 +150,11 @@ row_change : (now : ℕ) (o : Option Row) → chosen_change now (row_choice o) �
 row_change now None = refl
 row_change now (Some row) = refl
 
-row_replied : {A : Type 0} (o : Option Row) (services : List Supervised) (w : Worked) (told : WaitAnswer) → row_reply {A = A} o ≡ chosen_reply (row_choice o) services w told
+pub row_asks : (o : Option Row) → chosen_ask (row_choice o) ≡ leave_directories
+row_asks None = refl
+row_asks (Some row) = refl
+
+row_replied : {A : Type 0} (o : Option Row) (services : List Supervised) (w : Worked) (told : Told) → row_reply {A = A} o ≡ chosen_reply (row_choice o) services w told
 row_replied None services w told = refl
 row_replied (Some row) services w told = refl
 
@@ -153,6 +168,7 @@ chooses_row {A} name m closing now services history chosen is fired =
     chooses_this (Status name) m services chosen (row_choice o) seen (record {
       work = sym (row_works o);
       hears = hears_nothing m same _ refl (row_change m.clock o);
+      asks = sym (row_asks o);
       reply = λ h. row_replied o services (work_done {A = A} (Status name) m) _;
     })
 
@@ -184,7 +200,7 @@ pub chooses_tally : {A : Type 0} (name : List ℕ) (m : Machine) (closing : Bool
     → chosen ≡ tally name → HasFired closing now services history m → Chooses {A = A} (Tally name) m services chosen
 chooses_tally name m closing now services history chosen is fired =
     chooses_this (Tally name) m services chosen (tally name) is
-    (record { work = refl; hears = hears_nothing m same leave_waiters refl refl; reply = λ h. ap tally_reply (tallies_seen name m closing now services history fired) })
+    (record { work = refl; hears = hears_nothing m same leave_waiters refl refl; asks = refl; reply = λ h. ap tally_reply (tallies_seen name m closing now services history fired) })
 
 failure_works : (o : Option Bool) → chosen_work (failure_choice o) ≡ leave
 failure_works None = refl
@@ -194,7 +210,11 @@ failure_change : (now : ℕ) (o : Option Bool) → chosen_change now (failure_ch
 failure_change now None = refl
 failure_change now (Some fails) = refl
 
-failure_replied : {A : Type 0} (o : Option Bool) (services : List Supervised) (w : Worked) (told : WaitAnswer) → failure_reply {A = A} o ≡ chosen_reply (failure_choice o) services w told
+failure_asks : (o : Option Bool) → chosen_ask (failure_choice o) ≡ leave_directories
+failure_asks None = refl
+failure_asks (Some fails) = refl
+
+failure_replied : {A : Type 0} (o : Option Bool) (services : List Supervised) (w : Worked) (told : Told) → failure_reply {A = A} o ≡ chosen_reply (failure_choice o) services w told
 failure_replied None services w told = refl
 failure_replied (Some fails) services w told = refl
 
@@ -208,6 +228,7 @@ chooses_failure {A} name seconds count items m closing now services history chos
     chooses_this (Permafailon name seconds count items) m services chosen (failure_choice o) seen (record {
       work = sym (failure_works o);
       hears = hears_nothing m same _ refl (failure_change m.clock o);
+      asks = sym (failure_asks o);
       reply = λ h. failure_replied o services (work_done {A = A} (Permafailon name seconds count items) m) _;
     })
 

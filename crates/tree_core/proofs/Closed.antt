@@ -2,6 +2,7 @@
 use Rattle.std.proofs.Common.{◌≡◌, ℕ, List, [], ◌∷◌, ◌==◌, if◌then◌else◌, Bool, true, false, Option, None, Some, refl, ap, sym, subst, ◌∙◌}
 use Rattle.std.specs.List.{list_any}
 use Rattle.std.proofs.lemmas.List.Folds.{list_any-append}
+use Rattle.event_directory.specs.Changes.Change.{make_directory, unsubscribe}
 use Rattle.supervise_core.specs.declared.change.Change.{Change}
 use Rattle.supervise_core.specs.declared.change.Change.TheVariants.{Started as StartedReport, StartFailed as StartFailedReport, Notify as NotifyReport, Death as DeathReport, FinishEnded as FinishEndedReport, Control as Letters}
 use Rattle.supervise_core.specs.declared.chart.ChartState.{ChartState}
@@ -12,11 +13,11 @@ use Rattle.svscan_core.specs.Work.{Work, Worked, worked, closing_after}
 use Rattle.svscan_core.specs.Work.Work.{leave, change_one, apply_listing, command}
 use Rattle.svscan_core.proofs.Truth.{neither_of}
 use Rattle.tree_core.specs.declared.input.Act.{Act}
-use Rattle.tree_core.specs.declared.input.Act.TheVariants.{Scan, Scanctl, Svc, Started, StartFailed, Notify, Death, FinishEnded, Status, Tally, Permafailon, Wait, Cancel, Tick}
+use Rattle.tree_core.specs.declared.input.Act.TheVariants.{Scan, Scanctl, Svc, Started, StartFailed, Notify, Death, FinishEnded, Status, Tally, Permafailon, Wait, Cancel, Subscribe, Unsubscribe, Send, MakeDir, Tick}
 use Rattle.tree_core.specs.declared.input.Input.{Input}
 use Rattle.tree_core.specs.declared.reply.Refusal.{Refusal}
 use Rattle.tree_core.specs.declared.reply.Reply.TheVariants.{Done}
-use Rattle.tree_core.specs.Acts.{acted, named, refused_serial, refused_letters, refused_wait, refused_cancel, change_found, work_unless, work_of}
+use Rattle.tree_core.specs.Acts.{acted, named, refused_serial, refused_letters, refused_wait, refused_cancel, refused_subscribe, refused_directories, refused_message, source_named, change_found, work_unless, work_of}
 use Rattle.tree_core.specs.Closing.{is_run, starts_run, IsTerminated}
 use Rattle.tree_core.specs.Machine.{Machine}
 use Rattle.tree_core.specs.Run.{after, outcomes}
@@ -51,10 +52,10 @@ letters_start_none None None change now services next leaves h = (h, refl)
 letters_start_none None (Some c) change now services next leaves h = change_starts_none c.sid change now services next leaves h
 letters_start_none (Some why) found change now services next leaves h = (h, refl)
 
--- what is asked of the waiters, whether it is refused or not
-waiters_start_none : (why : Option Refusal) (now : ℕ) (services : List ChartState) (next : ℕ) → AllLeave services → StartsNone (worked (work_unless why leave) now services next)
-waiters_start_none None now services next h = (h, refl)
-waiters_start_none (Some why) now services next h = (h, refl)
+-- what is asked of nobody that runs services, whether it is refused or not
+others_start_none : (why : Option Refusal) (now : ℕ) (services : List ChartState) (next : ℕ) → AllLeave services → StartsNone (worked (work_unless why leave) now services next)
+others_start_none None now services next h = (h, refl)
+others_start_none (Some why) now services next h = (h, refl)
 
 work_starts_none : {A : Type 0} (act : Act A) (m : Machine) → IsClosed m → StartsNone (worked (work_of act m) m.clock m.services m.next_sid)
 work_starts_none (Scan listing) m h = rw h.closing (h.services, refl)
@@ -75,8 +76,12 @@ work_starts_none (FinishEnded sid generation exit) m h =
 work_starts_none (Status name) m h = (h.services, refl)
 work_starts_none (Tally name) m h = (h.services, refl)
 work_starts_none (Permafailon name seconds count items) m h = (h.services, refl)
-work_starts_none (Wait condition mode timeout names) m h = waiters_start_none (refused_wait names m) m.clock m.services m.next_sid h.services
-work_starts_none (Cancel id) m h = waiters_start_none (refused_cancel id m) m.clock m.services m.next_sid h.services
+work_starts_none (Wait condition mode timeout names) m h = others_start_none (refused_wait names m) m.clock m.services m.next_sid h.services
+work_starts_none (Cancel id) m h = others_start_none (refused_cancel id m) m.clock m.services m.next_sid h.services
+work_starts_none (Subscribe target pattern repeats) m h = others_start_none (refused_subscribe (source_named target m.services) m) m.clock m.services m.next_sid h.services
+work_starts_none (Unsubscribe id) m h = others_start_none (refused_directories (unsubscribe id) m) m.clock m.services m.next_sid h.services
+work_starts_none (Send target message) m h = others_start_none (refused_message target message m) m.clock m.services m.next_sid h.services
+work_starts_none (MakeDir name) m h = others_start_none (refused_directories (make_directory name) m) m.clock m.services m.next_sid h.services
 work_starts_none Tick m h = (h.services, refl)
 
 stays_closing : (work : Work) → closing_after work true ≡ true

@@ -4,6 +4,7 @@ pub mod RowFound
 pub mod Choosing
 pub mod Naming
 pub mod WaitChosen
+pub mod DirectoryChosen
 pub mod Listened
 pub mod PlanMakes
 pub mod Stand

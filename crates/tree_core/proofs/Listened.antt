@@ -1,5 +1,10 @@
--- The waiters, once the moments of a step have joined.
-use Rattle.std.proofs.Common.{◌≡◌, ℕ, List, [], ◌∷◌, ◌++◌, refl, sym, ap, ◌∙◌, append-nil, append_assoc}
+-- The waiters and the event directories, once the moments of a step have joined.
+use Rattle.std.proofs.Common.{◌≡◌, ℕ, List, [], ◌∷◌, ◌++◌, refl, sym, ◌∙◌, append-nil, append_assoc}
+use Rattle.std.specs.Prelude.{Option, Some, None}
+use Rattle.event_directory.specs.Changes.{Change as DirectoryAsk, Offer, after_change, done, refusal, unless}
+use Rattle.event_directory.specs.Changes.Change.{leave, make_directory, send, subscribe, unsubscribe}
+use Rattle.event_directory.specs.Directories.{Directories, after_message, after_moment as directories_after, after_moments as directories_after_moments, after_sent}
+use Rattle.event_directory.specs.declared.directory_change.DirectoryFault.{DirectoryFault}
 use Rattle.s6_events.specs.declared.moment.Moment.{Moment}
 use Rattle.wait_conditions.specs.Steps.{after_moments}
 use Rattle.wait_conditions.specs.Watch.{Watch, after_moment}
@@ -16,3 +21,30 @@ pub history_stays : (ask : Ask) (w : Watch) → (listened ask w).history ≡ w.h
 history_stays same w = refl
 history_stays (add_waiter asked) w = refl
 history_stays (cancel_waiter id) w = refl
+
+pub directories_join : (d : Directories) (ms : List Moment) → directories_after_moments d ms ≡ record d { history = d.history ++ ms }
+unfolding directories_after_moments
+directories_join d [] = λ i. record d { history = sym (append-nil d.history) i }
+directories_join d (m ∷ ms) = directories_join (directories_after d m) ms ∙ λ i. record d { history = append_assoc d.history (m ∷ []) ms i }
+
+-- what is asked of the event directories is no moment either
+message_stays : (name : List ℕ) (d : Directories) (letters : List ℕ) → (after_message name d letters).history ≡ d.history
+unfolding after_message
+message_stays name d [] = refl
+message_stays name d (x ∷ xs) = message_stays name (after_sent name d x) xs
+
+done_stays : (ask : DirectoryAsk) (offer : Offer) (d : Directories) → (done ask offer d).history ≡ d.history
+done_stays leave offer d = refl
+done_stays (make_directory name) offer d = refl
+done_stays (send name letters) offer d = message_stays name d letters
+done_stays (subscribe source) None d = refl
+done_stays (subscribe source) (Some offer) d = refl
+done_stays (unsubscribe id) offer d = refl
+
+pub directories_stay : (ask : DirectoryAsk) (offer : Offer) (d : Directories)
+    → after_change ask offer d ≡ record { history = d.history; free = (after_change ask offer d).free; subscriptions = (after_change ask offer d).subscriptions; next = (after_change ask offer d).next }
+directories_stay ask offer d = λ i. record (after_change ask offer d) { history = by (refusal ask d) i }
+  where
+    by : (o : Option DirectoryFault) → (unless o (done ask offer d) d).history ≡ d.history
+    by None = done_stays ask offer d
+    by (Some fault) = refl

@@ -3,6 +3,12 @@ use Rattle.std.proofs.Common.{rules, ◌≡◌, ℕ, ◌<◌, List, [], ◌∷�
 use Rattle.std.specs.Prelude.{nat_lt, Result, Ok, Err, IfOk, IsOk, IsOkAnd}
 use Rattle.std.proofs.lemmas.Bool.Decides.{nat_tests}
 use Rattle.std.proofs.lemmas.List.{map-append}
+use Rattle.event_directory.specs.Changes.{Change as DirectoryAsk, Offer, after_change as directories_after, answer_to as directory_answer, matches_of}
+use Rattle.event_directory.specs.Directories.{Directories, after_moments as directories_after_moments, matches_by}
+use Rattle.event_directory.specs.Pattern.{finds}
+use Rattle.event_directory.specs.Remembered.{AreHeard, Prepared as PreparedDirectories, Shown as HeardBy, committed}
+use Rattle.event_directory.specs.declared.directory_change.DirectoryAnswer.{DirectoryAnswer}
+use Rattle.event_directory.specs.declared.hit.Hit.{Hit}
 use Rattle.s6_events.specs.Clock.{clock_of}
 use Rattle.s6_events.specs.declared.moment.Moment.{Moment}
 use Rattle.s6_events.specs.declared.moment.Moment.TheVariants.{Clock}
@@ -29,14 +35,14 @@ use Rattle.wait_conditions.specs.declared.verdict.Verdict.{Verdict}
 use Rattle.wait_conditions.specs.declared.wait_change.WaitAnswer.{WaitAnswer}
 use Rattle.wait_conditions.specs.Stands.{Shown, StandsFor as AreKept}
 use Rattle.wait_conditions.specs.Steps.{Change as WaitChange, after_moments, after_change, answer_to, releases_by}
-use Rattle.wait_conditions.specs.Watch.{Placed, Watch}
-use Rattle.tree_core.specs.Acts.{acted, ask_of, work_of}
-use Rattle.tree_core.specs.Listening.{Ask, as_release, listened, released_at_once}
-use Rattle.tree_core.specs.Machine.{Machine, watch_at, watch_of}
-use Rattle.tree_core.specs.Plan.{Present, IsNow, Plans, HasFired, Chooses, Chosen, chosen_work, chosen_change, chosen_reply, released_by_answer}
-use Rattle.tree_core.specs.Plan.Chosen.{refuse, nothing, report, letters, listing, order, show, tally, failure, wait, cancel}
+use Rattle.wait_conditions.specs.Watch.{Watch}
+use Rattle.tree_core.specs.Acts.{acted, ask_of, directory_ask_of, offer_of, work_of}
+use Rattle.tree_core.specs.Listening.{Ask, as_match, as_release, listened, released_at_once}
+use Rattle.tree_core.specs.Machine.{Machine, directories_at, directories_of, watch_at, watch_of}
+use Rattle.tree_core.specs.Plan.{Present, IsNow, Plans, HasFired, Chooses, Chosen, Told, chosen_work, chosen_change, chosen_ask, chosen_reply, released_by_answer, told_at}
+use Rattle.tree_core.specs.Plan.Chosen.{refuse, nothing, report, letters, listing, order, show, tally, failure, wait, cancel, ask_directories}
 use Rattle.tree_core.specs.Step.{Stepped, step, timed, noticed, clocked, with_act, with_moves, step_limit, clock_moments}
-use Rattle.tree_core.proofs.Listened.{history_stays, moments_join}
+use Rattle.tree_core.proofs.Listened.{directories_join, directories_stay, history_stays, moments_join}
 use Rattle.tree_core.proofs.Reading.{reading-clocked}
 
 -- a machine that is not spent takes the step
@@ -63,7 +69,7 @@ all_clocked : (services : List Supervised) (clock at : ℕ) (h : List Moment) �
 all_clocked services clock at h all = λ k d lt. clock_agrees (get_or services k d).chart.sid clock at (get_or services k d).status h (all k d lt)
 
 -- what was given before changes no reply
-reply_alone : {A : Type 0} (choice : Chosen) (services : List Supervised) (events : List Event) (orders : List Order) (w : Worked) (told : WaitAnswer)
+reply_alone : {A : Type 0} (choice : Chosen) (services : List Supervised) (events : List Event) (orders : List Order) (w : Worked) (told : Told)
     → chosen_reply {A = A} choice services (given_before events orders w) told ≡ chosen_reply choice services w told
 reply_alone (refuse why) services events orders w told = refl
 reply_alone nothing services events orders w told = refl
@@ -76,6 +82,7 @@ reply_alone (tally name) services events orders w told = refl
 reply_alone (failure fails) services events orders w told = refl
 reply_alone (wait condition mode timeout sids) services events orders w told = refl
 reply_alone (cancel id) services events orders w told = refl
+reply_alone (ask_directories ask) services events orders w told = refl
 
 -- what the waiters tell of a step, and what is kept of them then
 pub record Listens (old new : Shown) (ms : List Moment) (change : WaitChange) (given : List (ℕ × Verdict)) (told : WaitAnswer) : Type 0 where
@@ -83,75 +90,78 @@ pub record Listens (old new : Shown) (ms : List Moment) (change : WaitChange) (g
   pub released : (w : Watch) → AreKept old w → given ≡ releases_by w ms
   pub answer : (w : Watch) → AreKept old w → told ≡ answer_to (after_moments w ms) change
 
+-- what the event directories tell of a step, and what they have heard then
+pub record HearsLetters (old : HeardBy) (new : PreparedDirectories) (ms : List Moment) (ask : DirectoryAsk) (matches : List (ℕ × Hit)) (told : DirectoryAnswer) : Type 0 where
+  pub stands : (offer : Offer) (d : Directories) → AreHeard finds old d → AreHeard finds (committed new offer) (directories_after ask offer (directories_after_moments d ms))
+  pub matched : (d : Directories) → AreHeard finds old d → matches ≡ matches_by finds d ms ++ matches_of finds ask (directories_after_moments d ms)
+  pub answer : (d : Directories) → AreHeard finds old d → told ≡ directory_answer ask (directories_after_moments d ms)
+
 -- the parts of a step at this moment
-pub record Makes {A : Type 0} (now clock : ℕ) (closing : Bool) (services : List Supervised) (next : ℕ) (waits : Shown) (input : Input A) (plan : StepPlan A) (prepared : Prepared) (later : Shown) (effect : Effect A) (choice : Chosen) : Type 0 where
+pub record Makes {A : Type 0} (now : ℕ) (pr : Present) (input : Input A) (plan : StepPlan A) (prepared : Prepared) (later : Shown) (directories : PreparedDirectories) (effect : Effect A) (choice : Chosen) : Type 0 where
   pub given : List (ℕ × Verdict)
-  pub told : WaitAnswer
+  pub matches : List (ℕ × Hit)
+  pub told : Told
   pub now_is : plan.now ≡ now
-  pub closes : plan.closing ≡ closing_after (chosen_work choice) closing
-  pub works : worked_of prepared ≡ stepped (chosen_work choice) now (charts_of services) next
-  pub chooses : (m : Machine) (history : List Moment) → HasFired closing now services history m → Chooses input.act m services choice
-  pub reply : effect.reply ≡ chosen_reply choice services (worked_of prepared) told
+  pub closes : plan.closing ≡ closing_after (chosen_work choice) pr.closing
+  pub works : worked_of prepared ≡ stepped (chosen_work choice) now (charts_of pr.services) pr.next_sid
+  pub chooses : (m : Machine) (history : List Moment) → HasFired pr.closing now pr.services history m → Chooses input.act m pr.services choice
+  pub reply : effect.reply ≡ chosen_reply choice pr.services (worked_of prepared) told
   pub events : effect.events.items ≡ prepared.events
   pub orders : effect.orders.items ≡ prepared.orders
-  pub matched : effect.matched.items ≡ []
-  pub released : effect.released.items ≡ map as_release given ++ map as_release (released_by_answer told)
-  pub moments : plan.moments.items ≡ clock_moments clock input.at ++ map moment_of prepared.events
-  pub listens : Listens waits later plan.moments.items (chosen_change now choice) given told
-  pub agrees : (history : List Moment) → clock_of history ≡ now → AllAgree services history → AllAgree prepared.services (history ++ map moment_of prepared.events)
-  pub tallies : KeepTallied next services prepared.services (deaths_given (chosen_work choice) now (services_after (fire now) (charts_of services)))
-  pub sound : IsSound next (charts_of services)
+  pub matched : effect.matched.items ≡ map as_match matches
+  pub released : effect.released.items ≡ map as_release given ++ map as_release (released_by_answer told.waiters)
+  pub moments : plan.moments.items ≡ clock_moments pr.clock input.at ++ map moment_of prepared.events
+  pub listens : Listens pr.waits later plan.moments.items (chosen_change now choice) given told.waiters
+  pub hears_letters : HearsLetters pr.directories directories plan.moments.items (chosen_ask choice) matches told.directories
+  pub agrees : (history : List Moment) → clock_of history ≡ now → AllAgree pr.services history → AllAgree prepared.services (history ++ map moment_of prepared.events)
+  pub tallies : KeepTallied pr.next_sid pr.services prepared.services (deaths_given (chosen_work choice) now (services_after (fire now) (charts_of pr.services)))
+  pub sound : IsSound pr.next_sid (charts_of pr.services)
 
--- a machine, of what is there now and its past
-abbrev pub machine_with_past : ℕ → ℕ → Bool → List Supervised → ℕ → List Moment → List DeathOf → List Placed → ℕ → Machine
-machine_with_past clock steps closing services next_sid history deaths waiters next_waiter = record {
-  clock = clock;
-  steps = steps;
-  closing = closing;
-  services = charts_of services;
-  next_sid = next_sid;
-  history = history;
-  deaths = deaths;
-  waiters = waiters;
-  next_waiter = next_waiter;
-}
+-- a machine with what is there now
+abbrev pub now_in : Present → Machine → Machine
+now_in pr m = record m { clock = pr.clock; steps = pr.steps; closing = pr.closing; services = charts_of pr.services; next_sid = pr.next_sid }
 
-plan_makes : {A : Type 0} (clock steps : ℕ) (closing : Bool) (services : List Supervised) (next : ℕ) (waits : Shown) (input : Input A) (plan : StepPlan A) (prepared : Prepared) (later : Shown) (effect : Effect A) (choice : Chosen)
-    → steps < step_limit → Makes (max clock input.at) clock closing services next waits input plan prepared later effect choice
-    → (history : List Moment) (deaths : List DeathOf) (waiters : List Placed) (next_waiter : ℕ) → AllAgree services history → AllTallied services deaths → AllBefore next deaths → clock ≡ clock_of history
-    → AreKept waits (record { history = history; waiters = waiters; next = next_waiter })
-    → Plans (machine_with_past clock steps closing services next history deaths waiters next_waiter) input plan prepared later effect
-plan_makes {A} clock steps closing services next waits input plan prepared later effect choice left p history deaths waiters next_waiter agrees tallied numbered reading kept =
-    let m : Machine = machine_with_past clock steps closing services next history deaths waiters next_waiter in
-    let now : ℕ = max clock input.at in
+plan_makes : {A : Type 0} (pr : Present) (input : Input A) (plan : StepPlan A) (prepared : Prepared) (later : Shown) (directories : PreparedDirectories) (effect : Effect A) (choice : Chosen)
+    → pr.steps < step_limit → Makes (max pr.clock input.at) pr input plan prepared later directories effect choice
+    → (old : Machine) → AllAgree pr.services old.history → AllTallied pr.services old.deaths → AllBefore pr.next_sid old.deaths → pr.clock ≡ clock_of old.history
+    → AreKept pr.waits (watch_of old) → AreHeard finds pr.directories (directories_of old)
+    → Plans (now_in pr old) input plan prepared later directories effect
+plan_makes {A} pr input plan prepared later directories effect choice left p old agrees tallied numbered reading kept heard =
+    let m : Machine = now_in pr old in
+    let now : ℕ = max pr.clock input.at in
     let fired : Machine = with_moves (fire now) (clocked input.at m) in
     let done : Machine = with_act input.act fired in
-    let before : List Moment = history ++ clock_moments clock input.at in
+    let before : List Moment = old.history ++ clock_moments pr.clock input.at in
     let t = opened m input left in
-    let seen : clock_of before ≡ now = sym (reading-clocked history clock input.at reading) in
-    let all : AllAgree services before = all_clocked services clock input.at history agrees in
-    let chosen : Chooses input.act fired services choice =
+    let seen : clock_of before ≡ now = sym (reading-clocked old.history pr.clock input.at reading) in
+    let all : AllAgree pr.services before = all_clocked pr.services pr.clock input.at old.history agrees in
+    let chosen : Chooses input.act fired pr.services choice =
     p.chooses fired before (record { clock = refl; closing_is = refl; services_are = refl; past = refl; agrees = all; tallies = tallied; order = p.sound.order; reading = seen }) in
-    let cs = charts_of services in
+    let cs = charts_of pr.services in
     let given = given_before (events_after (fire now) cs) (orders_after (fire now) cs) in
     let work : worked_of prepared ≡ given (acted input.act fired).work =
-    p.works ∙ ap given (ap (λ w. worked w now (services_after (fire now) cs) next) (sym chosen.work)) in
-    let died : deaths ++ deaths_given (chosen_work choice) now (services_after (fire now) cs) ≡ deaths ++ deaths_given (work_of input.act fired) now (services_after (fire now) cs) =
-    ap (λ w. deaths ++ deaths_given w now (services_after (fire now) cs)) (sym chosen.work) in
+    p.works ∙ ap given (ap (λ w. worked w now (services_after (fire now) cs) pr.next_sid) (sym chosen.work)) in
+    let died : old.deaths ++ deaths_given (chosen_work choice) now (services_after (fire now) cs) ≡ old.deaths ++ deaths_given (work_of input.act fired) now (services_after (fire now) cs) =
+    ap (λ w. old.deaths ++ deaths_given w now (services_after (fire now) cs)) (sym chosen.work) in
     let marks : prepared.events ≡ events_after (fire now) cs ++ (acted input.act fired).work.events = ap (λ (w : Worked). w.events) work in
-    let joined : plan.moments.items ≡ clock_moments clock input.at ++ map moment_of (events_after (fire now) cs ++ (acted input.act fired).work.events) =
-    p.moments ∙ ap (λ e. clock_moments clock input.at ++ map moment_of e) marks in
-    let past : history ++ plan.moments.items ≡ done.history =
-    ap (λ ms. history ++ ms) joined ∙ regrouped history (clock_moments clock input.at) (events_after (fire now) cs) _ in
-    let at : watch_at (history ++ plan.moments.items) fired ≡ watch_of done = ap (λ h. watch_at h fired) past in
+    let joined : plan.moments.items ≡ clock_moments pr.clock input.at ++ map moment_of (events_after (fire now) cs ++ (acted input.act fired).work.events) =
+    p.moments ∙ ap (λ e. clock_moments pr.clock input.at ++ map moment_of e) marks in
+    let past : old.history ++ plan.moments.items ≡ done.history =
+    ap (λ ms. old.history ++ ms) joined ∙ regrouped old.history (clock_moments pr.clock input.at) (events_after (fire now) cs) _ in
+    let at : watch_at (old.history ++ plan.moments.items) fired ≡ watch_of done = ap (λ h. watch_at h fired) past in
+    let there : directories_after_moments (directories_of m) plan.moments.items ≡ directories_of done =
+    directories_join (directories_of m) plan.moments.items ∙ ap (λ h. directories_at h fired) past in
     let ask : Ask = ask_of input.act fired in
     let change : WaitChange = chosen_change now choice in
-    let told : p.told ≡ answer_to (watch_at (history ++ plan.moments.items) fired) change =
-    p.listens.answer (watch_of m) kept ∙ ap (λ w. answer_to w change) (moments_join (watch_of m) plan.moments.items) in
+    let told : p.told ≡ told_at (old.history ++ plan.moments.items) fired choice =
+    λ i. record {
+      waiters = (p.listens.answer (watch_of m) kept ∙ ap (λ w. answer_to w change) (moments_join (watch_of m) plan.moments.items)) i;
+      directories = (p.hears_letters.answer (directories_of m) heard ∙ ap (directory_answer (chosen_ask choice)) (directories_join (directories_of m) plan.moments.items)) i;
+    } in
     record {
       clock = p.now_is ∙ sym (ap (λ s. s.machine.clock) t);
       steps = sym (ap (λ s. s.machine.steps) t);
-      closing = p.closes ∙ (ap (λ w. closing_after w closing) (sym chosen.work) ∙ sym (ap (λ s. s.machine.closing) t));
+      closing = p.closes ∙ (ap (λ w. closing_after w pr.closing) (sym chosen.work) ∙ sym (ap (λ s. s.machine.closing) t));
       services = ap (λ (w : Worked). w.services) work ∙ sym (ap (λ s. s.machine.services) t);
       next_sid = ap (λ (w : Worked). w.next_sid) work ∙ sym (ap (λ s. s.machine.next_sid) t);
       history = past ∙ sym (ap (λ s. s.machine.history) t);
@@ -159,49 +169,59 @@ plan_makes {A} clock steps closing services next waits input plan prepared later
           (λ i. record {
             reply =
                 (p.reply
-                ∙ (ap (λ w. chosen_reply choice services w p.told) work
-                ∙ (reply_alone choice services (events_after (fire now) cs) (orders_after (fire now) cs) (acted input.act fired).work p.told
-                ∙ (ap (chosen_reply choice services (acted input.act fired).work) told ∙ sym (chosen.reply (history ++ plan.moments.items)))))) i;
+                ∙ (ap (λ w. chosen_reply choice pr.services w p.told) work
+                ∙ (reply_alone choice pr.services (events_after (fire now) cs) (orders_after (fire now) cs) (acted input.act fired).work p.told
+                ∙ (ap (chosen_reply choice pr.services (acted input.act fired).work) told ∙ sym (chosen.reply (old.history ++ plan.moments.items)))))) i;
             events = (p.events ∙ marks) i;
             orders = (p.orders ∙ ap (λ (w : Worked). w.orders) work) i;
-            matched = p.matched i;
+            matched =
+                (p.matched
+                ∙ (ap (map as_match) (p.hears_letters.matched (directories_of m) heard)
+                ∙ (map-append as_match (matches_by finds (directories_of m) plan.moments.items) (matches_of finds (chosen_ask choice) (directories_after_moments (directories_of m) plan.moments.items))
+                ∙ λ j. map as_match (matches_by finds (directories_of m) (joined j)) ++ map as_match (matches_of finds (sym chosen.asks j) (there j))))) i;
             released =
                 (p.released
                 ∙ λ j. map as_release ((p.listens.released (watch_of m) kept ∙ ap (releases_by (watch_of m)) joined) j)
-                ++ map as_release ((ap released_by_answer told ∙ (chosen.hears.at_once (history ++ plan.moments.items) ∙ ap (released_at_once ask) at)) j)) i;
+                ++ map as_release ((ap (λ (x : Told). released_by_answer x.waiters) told ∙ (chosen.hears.at_once (old.history ++ plan.moments.items) ∙ ap (released_at_once ask) at)) j)) i;
           })
           ∙ sym (ap (λ s. s.outcome) t);
       agrees =
           subst (λ (h : List Moment). AllAgree prepared.services h)
-          (append_assoc history (clock_moments clock input.at) (map moment_of prepared.events) ∙ ap (λ ms. history ++ ms) (sym p.moments))
+          (append_assoc old.history (clock_moments pr.clock input.at) (map moment_of prepared.events) ∙ ap (λ ms. old.history ++ ms) (sym p.moments))
           (p.agrees before seen all);
       tallies =
           subst (λ (ds : List DeathOf). AllTallied prepared.services ds) (died ∙ sym (ap (λ s. s.machine.deaths) t))
-          (p.tallies deaths numbered tallied);
+          (p.tallies old.deaths numbered tallied);
       numbered =
           subst (λ (s : Stepped A). AllBefore prepared.next_sid s.machine.deaths) (sym t)
-          (subst (λ (n : ℕ). AllBefore n (deaths ++ deaths_given (work_of input.act fired) now (services_after (fire now) cs))) (sym (ap (λ (w : Worked). w.next_sid) work))
-          (joined_before (work_of input.act fired) now next (services_after (fire now) cs) deaths (fired_few now cs p.sound.few) (fired_numbers now next cs p.sound.order) numbered));
+          (subst (λ (n : ℕ). AllBefore n (old.deaths ++ deaths_given (work_of input.act fired) now (services_after (fire now) cs))) (sym (ap (λ (w : Worked). w.next_sid) work))
+          (joined_before (work_of input.act fired) now pr.next_sid (services_after (fire now) cs) old.deaths (fired_few now cs p.sound.few) (fired_numbers now pr.next_sid cs p.sound.order) numbered));
       waiting =
           subst (AreKept later)
           (ap (λ w. after_change w change) (moments_join (watch_of m) plan.moments.items)
-          ∙ (chosen.hears.after (history ++ plan.moments.items)
+          ∙ (chosen.hears.after (old.history ++ plan.moments.items)
           ∙ (ap (listened ask) at
           ∙ ((λ i. record { history = history_stays ask (watch_of done) i; waiters = (listened ask (watch_of done)).waiters; next = (listened ask (watch_of done)).next })
           ∙ sym (ap (λ s. watch_of s.machine) t)))))
           (p.listens.stands (watch_of m) kept);
+      hearing =
+          subst (AreHeard finds (committed directories (offer_of input.act)))
+          ((λ i. directories_after (sym chosen.asks i) (offer_of input.act) (there i))
+          ∙ (directories_stay (directory_ask_of input.act fired) (offer_of input.act) (directories_of done)
+          ∙ sym (ap (λ s. directories_of s.machine) t)))
+          (p.hears_letters.stands (offer_of input.act) (directories_of m) heard);
     }
 
 -- and it is the step of each machine that has now what a tree has
-pub plans_all : {A : Type 0} (pr : Present) (now : ℕ) (input : Input A) (plan : StepPlan A) (prepared : Prepared) (later : Shown) (effect : Effect A) (choice : Chosen)
-    → pr.steps < step_limit → now ≡ max pr.clock input.at → Makes now pr.clock pr.closing pr.services pr.next_sid pr.waits input plan prepared later effect choice
-    → (m : Machine) → IsNow pr m → Plans m input plan prepared later effect
-plans_all {A} pr now input plan prepared later effect choice left latest p m is =
-    subst (λ (x : Machine). Plans x input plan prepared later effect)
-    (sym (λ i. record { clock = is.clock i; steps = is.steps i; closing = is.closing i; services = is.services i; next_sid = is.next_sid i; history = m.history; deaths = m.deaths; waiters = m.waiters; next_waiter = m.next_waiter }))
-    (plan_makes pr.clock pr.steps pr.closing pr.services pr.next_sid pr.waits input plan prepared later effect choice left
-    (subst (λ (n : ℕ). Makes n pr.clock pr.closing pr.services pr.next_sid pr.waits input plan prepared later effect choice) latest p)
-    m.history m.deaths m.waiters m.next_waiter is.agrees is.tallies is.numbered (sym is.clock ∙ is.reading) is.waiting)
+pub plans_all : {A : Type 0} (pr : Present) (now : ℕ) (input : Input A) (plan : StepPlan A) (prepared : Prepared) (later : Shown) (directories : PreparedDirectories) (effect : Effect A) (choice : Chosen)
+    → pr.steps < step_limit → now ≡ max pr.clock input.at → Makes now pr input plan prepared later directories effect choice
+    → (m : Machine) → IsNow pr m → Plans m input plan prepared later directories effect
+plans_all {A} pr now input plan prepared later directories effect choice left latest p m is =
+    subst (λ (x : Machine). Plans x input plan prepared later directories effect)
+    (sym (λ i. record m { clock = is.clock i; steps = is.steps i; closing = is.closing i; services = is.services i; next_sid = is.next_sid i }))
+    (plan_makes pr input plan prepared later directories effect choice left
+    (subst (λ (n : ℕ). Makes n pr input plan prepared later directories effect choice) latest p)
+    m is.agrees is.tallies is.numbered (sym is.clock ∙ is.reading) is.waiting is.hearing)
 
 -- what was refused was not done
 pub not_ok : {X E : Type 0} (r : Result X E) (e : E) (P : Type 0) → r ≡ Err e → IsOk r → P

@@ -1,6 +1,8 @@
 -- What makes the step of an input stands for the machine after it.
 use Rattle.std.proofs.Common.{◌≡◌, ◌+◌, ◌*◌, ◌<◌, ◌≤◌, ◌++◌, List, [], drop, max, ℕ, arith, length, sym, ap, ◌∙◌, subst}
 use Rattle.std.proofs.lemmas.List.{length-append, drop-append-le}
+use Rattle.event_directory.specs.Pattern.{finds}
+use Rattle.event_directory.specs.Remembered.{AreHeard, Prepared as PreparedDirectories, Shown as HeardBy, committed}
 use Rattle.s6_events.specs.At.{last_moment}
 use Rattle.s6_events.specs.declared.moment.Moment.{Moment}
 use Rattle.deadlines.specs.Timers.{due_by}
@@ -10,7 +12,8 @@ use Rattle.tree_core.specs.declared.input.Input.{Input}
 use Rattle.tree_core.specs.declared.plan.StepPlan.{StepPlan}
 use Rattle.tree_core.specs.Effect.{outcome_of}
 use Rattle.wait_conditions.specs.Stands.{Shown, StandsFor as AreKept}
-use Rattle.tree_core.specs.Machine.{Machine, watch_of}
+use Rattle.tree_core.specs.Acts.{offer_of}
+use Rattle.tree_core.specs.Machine.{Machine, directories_of, watch_of}
 use Rattle.tree_core.specs.Plan.{Present, present, IsNow, IsQuiet, Plans}
 use Rattle.tree_core.specs.Run.{after, outcome}
 use Rattle.std.specs.Prelude.{All, get_or}
@@ -28,7 +31,7 @@ use Rattle.tree_core.proofs.TimersDue.{none_for_quiet}
 
 -- what is there now in a tree, and in each machine for which it stands
 abbrev pub present_of : Stored → Present
-present_of t = present t.clock t.steps t.closing t.services t.next_sid t.waits
+present_of t = present t.clock t.steps t.closing t.services t.next_sid t.waits t.directories
 
 pub is_now : (t : Stored) (m : Machine) → StandsFor t m → IsNow (present_of t) m
 is_now t m s = record {
@@ -42,14 +45,15 @@ is_now t m s = record {
   numbered = subst (λ (k : ℕ). AllBefore k m.deaths) s.next_sid s.numbered;
   reading = s.reading;
   waiting = s.waiting;
+  hearing = s.hearing;
 }
 
 -- a plan for every machine that has now what a tree has
-abbrev PlansAll : {A : Type 0} → Stored → Input A → StepPlan A → Prepared → Shown → Effect A → Type 0
-PlansAll t input plan prepared later effect = (m : Machine) → IsNow (present_of t) m → Plans m input plan prepared later effect
+abbrev PlansAll : {A : Type 0} → Stored → Input A → StepPlan A → Prepared → Shown → PreparedDirectories → Effect A → Type 0
+PlansAll t input plan prepared later directories effect = (m : Machine) → IsNow (present_of t) m → Plans m input plan prepared later directories effect
 
 -- what a step leaves in a tree, by its plan
-pub record Installs {A : Type 0} (t new : Stored) (plan : StepPlan A) (prepared : Prepared) (later : Shown) : Type 0 where
+pub record Installs {A : Type 0} (t new : Stored) (plan : StepPlan A) (prepared : Prepared) (later : Shown) (heard : HeardBy) : Type 0 where
   pub clock : new.clock ≡ plan.now
   pub steps : new.steps ≡ t.steps + 1
   pub closing : new.closing ≡ plan.closing
@@ -58,11 +62,13 @@ pub record Installs {A : Type 0} (t new : Stored) (plan : StepPlan A) (prepared 
   pub forgotten : new.forgotten ≡ t.forgotten
   pub kept : new.kept ≡ t.kept ++ plan.moments.items
   pub waits : new.waits ≡ later
+  pub directories : new.directories ≡ heard
 
-pub stands_after : {A : Type 0} (t new : Stored) (input : Input A) (plan : StepPlan A) (prepared : Prepared) (later : Shown) (effect : Effect A) → PlansAll t input plan prepared later effect → Installs t new plan prepared later
+pub stands_after : {A : Type 0} (t new : Stored) (input : Input A) (plan : StepPlan A) (prepared : Prepared) (later : Shown) (directories : PreparedDirectories) (effect : Effect A) → PlansAll t input plan prepared later directories effect
+    → Installs t new plan prepared later (committed directories (offer_of input.act))
     → (m : Machine) → StandsFor t m → (outcome_of effect ≡ outcome m input) × StandsFor new (after m input)
-stands_after {A} t new input plan prepared later effect plans n m s =
-    let p : Plans m input plan prepared later effect = plans m (is_now t m s) in (
+stands_after {A} t new input plan prepared later directories effect plans n m s =
+    let p : Plans m input plan prepared later directories effect = plans m (is_now t m s) in (
       p.outcome,
       record {
         clock = sym (n.clock ∙ p.clock);
@@ -80,6 +86,7 @@ stands_after {A} t new input plan prepared later effect plans n m s =
         numbered = subst (λ (k : ℕ). AllBefore k (after m input).deaths) p.next_sid p.numbered;
         reading = step-reads m input s.reading;
         waiting = subst (λ (x : Shown). AreKept x (watch_of (after m input))) (sym n.waits) p.waiting;
+        hearing = subst (λ (x : HeardBy). AreHeard finds x (directories_of (after m input))) (sym n.directories) p.hearing;
       },
     )
 
@@ -101,11 +108,13 @@ recorded_after t plan forgotten kept r few same more = record {
 }
 
 -- its numbers after a step
-pub counted_after : (taken next new_next waiter new_waiter : ℕ) (old new : List ChartState) → IsCounted taken next waiter old → taken < 281474976710656 → new_next ≤ next + 64 → new_waiter ≤ waiter + 1
-    → ((n : ℕ) → All (λ c. c.generation ≤ n) old → All (λ c. c.generation ≤ n + 2) new) → IsCounted (taken + 1) new_next new_waiter new
-counted_after taken next new_next waiter new_waiter old new c left few one grows = record {
+pub counted_after : (taken next new_next waiter new_waiter subscription new_subscription : ℕ) (old new : List ChartState) → IsCounted taken next waiter subscription old → taken < 281474976710656
+    → new_next ≤ next + 64 → new_waiter ≤ waiter + 1 → new_subscription ≤ subscription + 1
+    → ((n : ℕ) → All (λ c. c.generation ≤ n) old → All (λ c. c.generation ≤ n + 2) new) → IsCounted (taken + 1) new_next new_waiter new_subscription new
+counted_after taken next new_next waiter new_waiter subscription new_subscription old new c left few one another grows = record {
   steps = omega (arith, left);
   serials = let was = c.serials in omega (arith, was, few);
   waiters = let was = c.waiters in omega (arith, was, one);
+  subscriptions = let was = c.subscriptions in omega (arith, was, another);
   generations = λ k d lt. let here : (get_or new k d).generation ≤ 2 * taken + 2 = grows (2 * taken) c.generations k d lt in omega arith;
 }

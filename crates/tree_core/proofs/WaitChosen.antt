@@ -1,8 +1,8 @@
 -- What a wait and a cancel do, found among the services and the waiters.
-use Rattle.std.proofs.Common.{◌≡◌, ◌∙◌, ℕ, suc, true≢false, List, [], ◌∷◌, Bool, true, false, ◌||◌, ◌&&◌, ◌==◌, not, cond, refl, sym, ap, find, filter, length, subst, arith}
+use Rattle.std.proofs.Common.{◌≡◌, ◌∙◌, ℕ, suc, true≢false, List, [], ◌∷◌, Bool, true, false, ◌&&◌, ◌==◌, not, cond, refl, sym, ap, find, filter, length, subst}
 use Rattle.std.specs.Prelude.{Option, Some, None, is_some, option_map, bytes_eq, nat_le, nat_lt}
 use Rattle.std.proofs.lemmas.Option.{same_Some}
-use Rattle.std.specs.List.{list_all, list_any, filter_map, cons_option}
+use Rattle.std.specs.List.{list_all, filter_map, cons_option}
 use Rattle.std.specs.Cmp.Lexicographic.{nat_list_eq_equiv, same_text}
 use Rattle.deadlines.specs.Timers.{is_rising}
 use Rattle.s6_events.specs.declared.condition.Condition.{Condition}
@@ -18,15 +18,14 @@ use Rattle.svscan_core.specs.Table.{charts_of, serials_of}
 use Rattle.svscan_core.proofs.Serials.{later_other, earlier_other}
 use Rattle.svscan_core.proofs.SerialsRise.{fired_serials, rising_before}
 use Rattle.svscan_core.proofs.Truth.{both_left, both_right, neither_left, neither_right, neither_of}
-use Rattle.wait_conditions.specs.declared.add_fault.AddFault.{AddFault}
 use Rattle.wait_conditions.specs.declared.add_fault.AddFault.TheVariants as fault
 use Rattle.wait_conditions.specs.Refusal.{refusal, is_named_in, repeats as names_serial_twice}
 use Rattle.wait_conditions.specs.Watch.{Placed, is_named}
 use Rattle.tree_core.specs.declared.input.Act.TheVariants.{Wait, Cancel}
 use Rattle.tree_core.specs.declared.reply.Refusal.{Refusal}
-use Rattle.tree_core.specs.declared.reply.Refusal.TheVariants.{NoService, NoSuch, TooMany, Repeated, Empty}
-use Rattle.tree_core.specs.Acts.{all_named, named, refused_wait, refused_cancel, serial_of, serials_named, wait_asked}
-use Rattle.tree_core.specs.Machine.{Machine, watch_at}
+use Rattle.tree_core.specs.declared.reply.Refusal.TheVariants.{NoService, TooMany, Repeated, Empty}
+use Rattle.tree_core.specs.Acts.{all_named, named, refused_wait, serial_of, serials_named}
+use Rattle.tree_core.specs.Machine.{Machine}
 use Rattle.tree_core.specs.Plan.{Chosen, Chooses, HasFired, wait_choice}
 use Rattle.tree_core.specs.Plan.Chosen.{refuse, wait, cancel}
 use Rattle.tree_core.proofs.Choosing.{chooses_this}
@@ -132,6 +131,7 @@ chooses_wait {A} condition mode timeout names m closing now services history cho
     refuses why e c = chooses_this (Wait condition mode timeout names) m services _ (refuse why) c (record {
       work = rw e refl;
       hears = rw e (record { after = λ h. refl; at_once = λ h. refl });
+      asks = refl;
       reply = λ h. rw e refl;
     })
 
@@ -147,6 +147,7 @@ chooses_wait {A} condition mode timeout names m closing now services history cho
         chooses_this (Wait condition mode timeout names) m services _ (wait condition mode timeout (serials_named names m.services)) (rw (ea, eb, ec, ed) refl) (record {
           work = rw why refl;
           hears = rw why (record { after = λ h. rw limit refl; at_once = λ h. rw limit refl });
+          asks = refl;
           reply = λ h. rw (why, limit) refl;
         })
     by false false false true false ea eb ec ed ee =
@@ -155,6 +156,7 @@ chooses_wait {A} condition mode timeout names m closing now services history cho
         chooses_this (Wait condition mode timeout names) m services _ (wait condition mode timeout (serials_named names m.services)) (rw (ea, eb, ec, ed) refl) (record {
           work = rw why refl;
           hears = rw why (record { after = λ h. rw limit refl; at_once = λ h. rw limit refl });
+          asks = refl;
           reply = λ h. rw (why, limit) refl;
         })
 
@@ -178,6 +180,7 @@ chooses_cancel {A} id m services = by (find (is_named id) m.waiters) refl
         record {
           work = rw e refl;
           hears = rw e (record { after = λ h i. record { history = h; waiters = none i; next = m.next_waiter }; at_once = λ h. refl });
+          asks = refl;
           reply = λ h. rw e refl;
         }
-    by (Some p) e = record { work = rw e refl; hears = rw e (record { after = λ h. refl; at_once = λ h. refl }); reply = λ h. rw e refl }
+    by (Some p) e = record { work = rw e refl; hears = rw e (record { after = λ h. refl; at_once = λ h. refl }); asks = refl; reply = λ h. rw e refl }

@@ -1,6 +1,10 @@
 -- What each act does, and why it is refused.
 use Rattle.std.specs.Prelude.{ℕ, List, length, Bool, not, ◌==◌, if◌then◌else◌, bytes_eq, find, Option, None, Some, is_some, option_map, nat_le, nat_lt}
 use Rattle.std.specs.List.{list_all, list_any, filter_map}
+use Rattle.event_directory.specs.Changes.{Change as DirectoryAsk, Offer, refusal}
+use Rattle.event_directory.specs.Changes.Change.{leave as leave_directories, make_directory, send, subscribe, unsubscribe}
+use Rattle.event_directory.specs.declared.source.Source.{Source}
+use Rattle.event_directory.specs.declared.source.Source.TheVariants as source
 use Rattle.s6_events.specs.declared.condition.Condition.{Condition}
 use Rattle.s6_events.specs.declared.condition.Mode.{Mode}
 use Rattle.s6_events.specs.declared.exit.Exit.{Exit}
@@ -18,14 +22,16 @@ use Rattle.wait_conditions.specs.Refusal.{deadline_of}
 use Rattle.wait_conditions.specs.Verdict.{Asked}
 use Rattle.wait_conditions.specs.Watch.{asking, is_named}
 use Rattle.tree_core.specs.declared.input.Act.{Act}
-use Rattle.tree_core.specs.declared.input.Act.TheVariants.{Scan, Scanctl, Svc, Started, StartFailed, Notify, Death, FinishEnded, Status, Tally, Permafailon, Wait, Cancel}
+use Rattle.tree_core.specs.declared.input.Act.TheVariants.{Scan, Scanctl, Svc, Started, StartFailed, Notify, Death, FinishEnded, Status, Tally, Permafailon, Wait, Cancel, Subscribe, Unsubscribe, Send, MakeDir}
+use Rattle.tree_core.specs.declared.input.Target.{Target}
+use Rattle.tree_core.specs.declared.input.Target.TheVariants as target
 use Rattle.tree_core.specs.declared.reply.Refusal.{Refusal}
-use Rattle.tree_core.specs.declared.reply.Refusal.TheVariants.{NoService, Stale, TooMany, NoSuch, Closing, Repeated, Empty, Ended}
+use Rattle.tree_core.specs.declared.reply.Refusal.TheVariants.{NoService, Stale, Reserved, TooMany, NoSuch, Closing, Repeated, Empty, Ended}
 use Rattle.tree_core.specs.declared.reply.Reply.{Reply}
-use Rattle.tree_core.specs.declared.reply.Reply.TheVariants.{Done, Refused, Scanned, Row as RowReply, Tally as TallyReply, PermanentFailure, Waiter as WaiterMade}
-use Rattle.tree_core.specs.Listening.{Ask, ask_unless}
+use Rattle.tree_core.specs.declared.reply.Reply.TheVariants.{Done, Refused, Scanned, Row as RowReply, Tally as TallyReply, PermanentFailure, Waiter as WaiterMade, Subscription as SubscriptionMade}
+use Rattle.tree_core.specs.Listening.{Ask, ask_unless, as_refusal, send_to, subscribe_found}
 use Rattle.tree_core.specs.Listening.Ask.{same, add_waiter, cancel_waiter}
-use Rattle.tree_core.specs.Machine.{Machine}
+use Rattle.tree_core.specs.Machine.{Machine, directories_of}
 use Rattle.tree_core.specs.Rows.{row_named}
 use Rattle.tree_core.specs.Tallies.{tally_named, failure_named}
 
@@ -76,6 +82,25 @@ refused_wait names m =
 abbrev pub refused_cancel : ℕ → Machine → Option Refusal
 refused_cancel id m = if is_some (find (is_named id) m.waiters) then None else Some NoSuch
 
+-- whose letters a subscription is to hear: those of the service that has the name now, or of the free directory of the name
+abbrev pub source_named : Target → List ChartState → Option Source
+source_named (target.Service name) services = option_map source.Service (serial_of name services)
+source_named (target.Directory name) services = Some (source.Directory name)
+
+-- why the event directories refuse what is asked of them
+abbrev pub refused_directories : DirectoryAsk → Machine → Option Refusal
+refused_directories ask m = option_map as_refusal (refusal ask (directories_of m))
+
+-- a subscription is refused where no service, or no free directory, has the name, and where 256 subscriptions stand
+abbrev pub refused_subscribe : Option Source → Machine → Option Refusal
+refused_subscribe None m = Some NoService
+refused_subscribe (Some source) m = refused_directories (subscribe source) m
+
+-- a message is refused for a service, and where no free directory has the name
+abbrev pub refused_message : Target → List ℕ → Machine → Option Refusal
+refused_message (target.Service name) letters m = Some Reserved
+refused_message (target.Directory name) letters m = refused_directories (send name letters) m
+
 -- why an act is refused before anything is done
 abbrev pub refused : {A : Type 0} → Act A → Machine → Option Refusal
 refused (Scan listing) m = refused_listing listing m
@@ -88,6 +113,10 @@ refused (Death sid generation exit) m = refused_serial sid m.services
 refused (FinishEnded sid generation exit) m = refused_serial sid m.services
 refused (Wait condition mode timeout names) m = refused_wait names m
 refused (Cancel id) m = refused_cancel id m
+refused (Subscribe target pattern repeats) m = refused_subscribe (source_named target m.services) m
+refused (Unsubscribe id) m = refused_directories (unsubscribe id) m
+refused (Send target message) m = refused_message target message m
+refused (MakeDir name) m = refused_directories (make_directory name) m
 refused act m = None
 
 -- the service that was found takes a change
@@ -125,6 +154,18 @@ ask_of (Wait condition mode timeout names) m = ask_unless (refused_wait names m)
 ask_of (Cancel id) m = ask_unless (refused_cancel id m) (cancel_waiter id)
 ask_of act m = same
 
+-- what each act asks of the event directories, which refuse it by themselves; a pattern is offered beside it
+abbrev pub directory_ask_of : {A : Type 0} → Act A → Machine → DirectoryAsk
+directory_ask_of (Subscribe target pattern repeats) m = subscribe_found (source_named target m.services)
+directory_ask_of (Unsubscribe id) m = unsubscribe id
+directory_ask_of (Send target message) m = send_to target message
+directory_ask_of (MakeDir name) m = make_directory name
+directory_ask_of act m = leave_directories
+
+abbrev pub offer_of : {A : Type 0} → Act A → Offer
+offer_of (Subscribe target pattern repeats) = Some (pattern, repeats)
+offer_of act = None
+
 -- the refusal, or else this reply
 abbrev pub reply_unless : {A : Type 0} → Option Refusal → Reply A → Reply A
 reply_unless None reply = reply
@@ -160,6 +201,7 @@ answered (Status name) m w = row_reply (row_named name m)
 answered (Tally name) m w = tally_reply (tally_named name m)
 answered (Permafailon name seconds count items) m w = failure_reply (failure_named name seconds count items m)
 answered (Wait condition mode timeout names) m w = WaiterMade m.next_waiter
+answered (Subscribe target pattern repeats) m w = SubscriptionMade m.next_subscription
 answered act m w = Done
 
 -- the work of an act, done

@@ -1,13 +1,23 @@
--- What an act asks of the waiters, and what a step tells of them.
+-- What an act asks of those who listen, the waiters and the event directories, and what a step tells of them.
 use Rattle.std.specs.Prelude.{ℕ, List, [], Option, None, Some, option_map, option_to_list}
+use Rattle.event_directory.specs.Changes.{Change as DirectoryAsk}
+use Rattle.event_directory.specs.Changes.Change.{leave, send, subscribe}
+use Rattle.event_directory.specs.declared.directory_change.DirectoryFault.{DirectoryFault}
+use Rattle.event_directory.specs.declared.directory_change.DirectoryFault.TheVariants as fault
+use Rattle.event_directory.specs.declared.hit.Hit.{Hit}
+use Rattle.event_directory.specs.declared.source.Source.{Source}
 use Rattle.wait_conditions.specs.declared.verdict.Standing.TheVariants.{Waiting}
 use Rattle.wait_conditions.specs.declared.verdict.Verdict.{Verdict}
 use Rattle.wait_conditions.specs.Verdict.{Asked}
 use Rattle.wait_conditions.specs.Watch.{Watch, after_add, after_cancel, made_now, newly, standing_of}
+use Rattle.tree_core.specs.declared.effect.Match.{Match}
 use Rattle.tree_core.specs.declared.effect.Release.{Release}
+use Rattle.tree_core.specs.declared.input.Target.{Target}
+use Rattle.tree_core.specs.declared.input.Target.TheVariants as target
 use Rattle.tree_core.specs.declared.reply.Refusal.{Refusal}
+use Rattle.tree_core.specs.declared.reply.Refusal.TheVariants.{TooMany, NoSuch, Exists}
 
--- what is asked of them
+-- what is asked of the waiters
 pub data Ask : Type 0 where
   same : Ask
   add_waiter : Asked → Ask
@@ -36,3 +46,23 @@ released_at_once ask w = []
 -- a release, as an effect has it
 abbrev pub as_release : ℕ × Verdict → Release
 as_release r = record { waiter = r.0; verdict = r.1 }
+
+-- a subscription to what was found
+abbrev pub subscribe_found : Option Source → DirectoryAsk
+subscribe_found None = leave
+subscribe_found (Some source) = subscribe source
+
+-- a message to a free directory; a service's directory takes none
+abbrev pub send_to : Target → List ℕ → DirectoryAsk
+send_to (target.Service name) letters = leave
+send_to (target.Directory name) letters = send name letters
+
+-- why the directories refuse, as a reply has it
+abbrev pub as_refusal : DirectoryFault → Refusal
+as_refusal fault.NoSuch = NoSuch
+as_refusal fault.TooMany = TooMany
+as_refusal fault.Exists = Exists
+
+-- a hit of a subscription, as an effect has it
+abbrev pub as_match : ℕ × Hit → Match
+as_match h = record { subscription = h.0; hit = h.1 }

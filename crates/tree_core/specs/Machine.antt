@@ -4,6 +4,7 @@ use Rattle.s6_events.specs.declared.moment.Moment.{Moment}
 use Rattle.s6_events.specs.declared.order.Order.{Order}
 use Rattle.supervise_core.specs.declared.chart.ChartState.{ChartState}
 use Rattle.svscan_core.specs.declared.event.Event.{Event}
+use Rattle.event_directory.specs.Directories.{Directories, FreeDirectory, Placed as Subscription}
 use Rattle.svscan_core.specs.Deaths.{DeathOf}
 use Rattle.wait_conditions.specs.Watch.{Placed, Watch}
 use Rattle.tree_core.specs.declared.effect.Match.{Match}
@@ -11,7 +12,8 @@ use Rattle.tree_core.specs.declared.effect.Release.{Release}
 use Rattle.tree_core.specs.declared.reply.Reply.{Reply}
 
 -- the state: the clock, the steps taken, whether it is closing, the standing services in rising serial, the next serial, all
--- moments so far, all deaths so far, the standing waiters in rising serial, and the next serial of these
+-- moments so far, all deaths so far, the standing waiters in rising serial and the next serial of these, the free directories in the
+-- order in which they were made, and the standing subscriptions in rising serial with the next serial of these
 pub record Machine : Type 0 where
   pub clock : ℕ
   pub steps : ℕ
@@ -22,6 +24,9 @@ pub record Machine : Type 0 where
   pub deaths : List DeathOf
   pub waiters : List Placed
   pub next_waiter : ℕ
+  pub directories : List FreeDirectory
+  pub subscriptions : List Subscription
+  pub next_subscription : ℕ
 
 -- before any input
 abbrev pub new_machine : Machine
@@ -35,6 +40,9 @@ new_machine = record {
   deaths = [];
   waiters = [];
   next_waiter = 1;
+  directories = [];
+  subscriptions = [];
+  next_subscription = 1;
 }
 
 -- its waiters beside these moments, and beside its own
@@ -43,6 +51,13 @@ watch_at history m = record { history = history; waiters = m.waiters; next = m.n
 
 abbrev pub watch_of : Machine → Watch
 watch_of m = watch_at m.history m
+
+-- its event directories beside these moments, and beside its own
+abbrev pub directories_at : List Moment → Machine → Directories
+directories_at history m = record { history = history; free = m.directories; subscriptions = m.subscriptions; next = m.next_subscription }
+
+abbrev pub directories_of : Machine → Directories
+directories_of m = directories_at m.history m
 
 -- what a step gives
 pub record Outcome (A : Type 0) : Type 0 where

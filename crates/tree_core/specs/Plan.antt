@@ -1,6 +1,13 @@
 -- A step that is known before anything is changed.
 use Rattle.std.specs.Prelude.{◌≡◌, ◌==◌, ℕ, ◌+◌, ◌≤◌, ◌++◌, List, [], Bool, true, false, map, if◌then◌else◌, find, bytes_eq, option_map, Option, None, Some, length, nat_lt}
 use Rattle.std.specs.List.{list_any}
+use Rattle.event_directory.specs.Changes.{Change as DirectoryAsk, answer_to as directory_answer}
+use Rattle.event_directory.specs.Changes.Change.{leave as leave_directories, make_directory, send, subscribe, unsubscribe}
+use Rattle.event_directory.specs.Pattern.{finds}
+use Rattle.event_directory.specs.Remembered.{AreHeard, Prepared as PreparedDirectories, Shown as HeardBy, committed}
+use Rattle.event_directory.specs.declared.directory_change.DirectoryAnswer.{DirectoryAnswer}
+use Rattle.event_directory.specs.declared.directory_change.DirectoryAnswer.TheVariants as directories
+use Rattle.event_directory.specs.declared.source.Source.{Source}
 use Rattle.s6_events.specs.Clock.{clock_of}
 use Rattle.s6_events.specs.declared.condition.Condition.{Condition}
 use Rattle.s6_events.specs.declared.condition.Mode.{Mode}
@@ -17,20 +24,22 @@ use Rattle.svscan_core.specs.Table.{charts_of}
 use Rattle.svscan_core.specs.Work.{Work, Worked}
 use Rattle.svscan_core.specs.Work.Work.{leave, change_one, apply_listing, command}
 use Rattle.tree_core.specs.declared.choice.Choice.{Choice}
-use Rattle.tree_core.specs.declared.choice.Choice.TheVariants.{Refuse, Leave, Report, Letters, Listing, Command, Show, Tally, Failure, Wait, Cancel}
+use Rattle.tree_core.specs.declared.choice.Choice.TheVariants.{Refuse, Leave, Report, Letters, Listing, Command, Show, Tally, Failure, Wait, Cancel, MakeDirectory, Send, Subscribe, Unsubscribe}
 use Rattle.tree_core.specs.declared.effect.Effect.{Effect}
 use Rattle.tree_core.specs.declared.input.Act.{Act}
 use Rattle.tree_core.specs.declared.input.Act.TheVariants.{Status, Permafailon, Tick}
 use Rattle.tree_core.specs.declared.input.Input.{Input}
+use Rattle.tree_core.specs.declared.input.Target.{Target}
+use Rattle.tree_core.specs.declared.input.Target.TheVariants as target
 use Rattle.tree_core.specs.declared.plan.StepPlan.{StepPlan}
 use Rattle.tree_core.specs.declared.reply.Reply.{Reply}
-use Rattle.tree_core.specs.declared.reply.Reply.TheVariants.{Done, Refused, Scanned, Row as RowReply, PermanentFailure, Waiter as WaiterMade}
+use Rattle.tree_core.specs.declared.reply.Reply.TheVariants.{Done, Refused, Scanned, Row as RowReply, PermanentFailure, Waiter as WaiterMade, Subscription as SubscriptionMade}
 use Rattle.supervise_core.specs.ChartState.{is_gone}
 use Rattle.supervise_core.specs.declared.change.Change.{Change}
 use Rattle.supervise_core.specs.declared.row.Row.{Row}
 use Rattle.svscan_core.specs.declared.entry.Entry.{Entry}
 use Rattle.tree_core.specs.declared.reply.Refusal.{Refusal}
-use Rattle.tree_core.specs.declared.reply.Refusal.TheVariants.{NoService, TooMany, NoSuch, Ended, Closing, Repeated, Empty}
+use Rattle.tree_core.specs.declared.reply.Refusal.TheVariants.{NoService, Reserved, TooMany, NoSuch, Ended, Closing, Repeated, Empty}
 use Rattle.svscan_core.specs.declared.entry.ScanOrder.{ScanOrder}
 use Rattle.svscan_core.specs.Listing.{names_in}
 use Rattle.svscan_core.specs.Names.{repeats}
@@ -42,10 +51,10 @@ use Rattle.wait_conditions.specs.Stands.{Shown, StandsFor as AreKept}
 use Rattle.wait_conditions.specs.Steps.{Change as WaitChange, after_change, answer_to}
 use Rattle.wait_conditions.specs.Steps.Change.{leave as leave_waiters, add_one, cancel_one}
 use Rattle.wait_conditions.specs.Watch.{asking}
-use Rattle.tree_core.specs.Acts.{acted, all_named, ask_of, report_reply, serials_named, tally_reply, work_of}
-use Rattle.tree_core.specs.Listening.{Ask, listened, released_at_once, told_at_once}
+use Rattle.tree_core.specs.Acts.{acted, all_named, ask_of, directory_ask_of, offer_of, report_reply, serials_named, tally_reply, work_of}
+use Rattle.tree_core.specs.Listening.{Ask, as_refusal, listened, released_at_once, told_at_once}
 use Rattle.tree_core.specs.Effect.{outcome_of}
-use Rattle.tree_core.specs.Machine.{Machine, watch_at, watch_of}
+use Rattle.tree_core.specs.Machine.{Machine, directories_at, directories_of, watch_at, watch_of}
 use Rattle.tree_core.specs.Step.{step}
 
 -- what is done for an act
@@ -61,6 +70,7 @@ pub data Chosen : Type 0 where
   failure : Bool → Chosen
   wait : Condition → Mode → ℕ → List ℕ → Chosen
   cancel : ℕ → Chosen
+  ask_directories : DirectoryAsk → Chosen
 
 -- as the code has it
 abbrev pub plain : Choice → Chosen
@@ -75,6 +85,10 @@ plain (Tally name) = tally name
 plain (Failure fails) = failure fails
 plain (Wait condition mode timeout sids) = wait condition mode timeout sids.items
 plain (Cancel id) = cancel id
+plain (MakeDirectory name) = ask_directories (make_directory name)
+plain (Send name message) = ask_directories (send name message.now)
+plain (Subscribe source) = ask_directories (subscribe source)
+plain (Unsubscribe id) = ask_directories (unsubscribe id)
 
 -- whether the answer has a list, for which there must be memory
 abbrev pub lists_more : Chosen → Bool
@@ -96,6 +110,23 @@ chosen_change now (wait condition mode timeout sids) = add_one (asking condition
 chosen_change now (cancel id) = cancel_one id
 chosen_change now chosen = leave_waiters
 
+-- what that asks of the event directories
+abbrev pub chosen_ask : Chosen → DirectoryAsk
+chosen_ask (ask_directories ask) = ask
+chosen_ask chosen = leave_directories
+
+-- nothing is asked of anybody, and the answer has no list
+pub record AsksNothing (now : ℕ) (chosen : Chosen) : Type 0 where
+  pub work : chosen_work chosen ≡ leave
+  pub waiters : chosen_change now chosen ≡ leave_waiters
+  pub directories : chosen_ask chosen ≡ leave_directories
+  pub short : lists_more chosen ≡ false
+
+-- what the waiters and the event directories answered
+pub record Told : Type 0 where
+  pub waiters : WaitAnswer
+  pub directories : DirectoryAnswer
+
 -- the deaths that the service of a name has in its tally
 abbrev pub tally_in : List ℕ → List Supervised → Option (List (ℕ × Exit))
 tally_in name services = option_map (λ s. s.tally.kept) (find (λ s. bytes_eq name s.chart.name) services)
@@ -107,21 +138,28 @@ waiter_reply (waiter.Refused fault) = Refused TooMany
 waiter_reply (waiter.Cancelled stood) = if stood then Done else Refused NoSuch
 waiter_reply waiter.Nothing = Done
 
+-- what was asked of the event directories
+abbrev pub directory_reply : {A : Type 0} → DirectoryAnswer → Reply A
+directory_reply directories.Done = Done
+directory_reply (directories.Subscribed id) = SubscriptionMade id
+directory_reply (directories.Refused fault) = Refused (as_refusal fault)
+
 -- a waiter that is released as it is made
 abbrev pub released_by_answer : WaitAnswer → List (ℕ × Verdict)
 released_by_answer (waiter.Added id verdict) = told_at_once id verdict
 released_by_answer told = []
 
 -- and how it is answered, once that was done; the tallies are those of the services before the step
-abbrev pub chosen_reply : {A : Type 0} → Chosen → List Supervised → Worked → WaitAnswer → Reply A
+abbrev pub chosen_reply : {A : Type 0} → Chosen → List Supervised → Worked → Told → Reply A
 chosen_reply (refuse why) services w told = Refused why
 chosen_reply (report sid change) services w told = report_reply w
 chosen_reply (listing entries) services w told = Scanned (record { dropped = w.dropped; listed = w.listed })
 chosen_reply (show row) services w told = RowReply row
 chosen_reply (tally name) services w told = tally_reply (tally_in name services)
 chosen_reply (failure fails) services w told = PermanentFailure fails
-chosen_reply (wait condition mode timeout sids) services w told = waiter_reply told
-chosen_reply (cancel id) services w told = waiter_reply told
+chosen_reply (wait condition mode timeout sids) services w told = waiter_reply told.waiters
+chosen_reply (cancel id) services w told = waiter_reply told.waiters
+chosen_reply (ask_directories ask) services w told = directory_reply told.directories
 chosen_reply chosen services w told = Done
 
 -- a machine whose timers went off at this moment, of these services
@@ -140,13 +178,19 @@ pub record Hears (ask : Ask) (change : WaitChange) (m : Machine) : Type 0 where
   pub after : (h : List Moment) → after_change (watch_at h m) change ≡ listened ask (watch_at h m)
   pub at_once : (h : List Moment) → released_by_answer (answer_to (watch_at h m) change) ≡ released_at_once ask (watch_at h m)
 
+-- what both answer to it, whatever moments have joined by then
+abbrev pub told_at : List Moment → Machine → Chosen → Told
+told_at h m chosen = record {
+  waiters = answer_to (watch_at h m) (chosen_change m.clock chosen);
+  directories = directory_answer (chosen_ask chosen) (directories_at h m);
+}
+
 -- what was chosen is what the act does on the machine, whose timers went off on these services
 pub record Chooses {A : Type 0} (act : Act A) (m : Machine) (services : List Supervised) (chosen : Chosen) : Type 0 where
   pub work : work_of act m ≡ chosen_work chosen
   pub hears : Hears (ask_of act m) (chosen_change m.clock chosen) m
-  pub reply :
-      (h : List Moment)
-      → (acted act m).reply ≡ chosen_reply chosen services (acted act m).work (answer_to (watch_at h m) (chosen_change m.clock chosen))
+  pub asks : directory_ask_of act m ≡ chosen_ask chosen
+  pub reply : (h : List Moment) → (acted act m).reply ≡ chosen_reply chosen services (acted act m).work (told_at h m chosen)
 
 -- a report for a service that is there, or not
 abbrev pub report_choice : Bool → ℕ → Change → Chosen
@@ -181,6 +225,16 @@ wait_choice condition mode timeout names services =
     else if all_named names services then wait condition mode timeout (serials_named names services)
     else refuse NoService
 
+-- a subscription to what was found, or not
+abbrev pub subscribe_choice : Option Source → Chosen
+subscribe_choice None = refuse NoService
+subscribe_choice (Some source) = ask_directories (subscribe source)
+
+-- a message that is refused, or sent
+abbrev pub send_choice : Target → List ℕ → Chosen
+send_choice (target.Service name) message = refuse Reserved
+send_choice (target.Directory name) message = ask_directories (send name message)
+
 -- what is there now, as a tree stores it
 pub record Present : Type 0 where
   pub clock : ℕ
@@ -189,13 +243,14 @@ pub record Present : Type 0 where
   pub services : List Supervised
   pub next_sid : ℕ
   pub waits : Shown
+  pub directories : HeardBy
 
-abbrev pub present : ℕ → ℕ → Bool → List Supervised → ℕ → Shown → Present
-present clock steps closing services next_sid waits =
-    record { clock = clock; steps = steps; closing = closing; services = services; next_sid = next_sid; waits = waits }
+abbrev pub present : ℕ → ℕ → Bool → List Supervised → ℕ → Shown → HeardBy → Present
+present clock steps closing services next_sid waits directories =
+    record { clock = clock; steps = steps; closing = closing; services = services; next_sid = next_sid; waits = waits; directories = directories }
 
 -- the machine has this now, a history that agrees with what the services store of their marks, deaths of which their tallies
--- have the last, and waiters that are kept so
+-- have the last, waiters that are kept so, and subscriptions that have heard this
 pub record IsNow (p : Present) (m : Machine) : Type 0 where
   pub clock : m.clock ≡ p.clock
   pub steps : m.steps ≡ p.steps
@@ -207,6 +262,7 @@ pub record IsNow (p : Present) (m : Machine) : Type 0 where
   pub numbered : AllBefore p.next_sid m.deaths
   pub reading : m.clock ≡ clock_of m.history
   pub waiting : AreKept p.waits (watch_of m)
+  pub hearing : AreHeard finds p.directories (directories_of m)
 
 -- the act reads, and does nothing
 abbrev pub is_reading : {A : Type 0} → Act A → Bool
@@ -221,8 +277,8 @@ pub record IsQuiet {A : Type 0} (input : Input A) (clock : ℕ) (services : List
   pub early : input.at ≤ clock
   pub rest : list_any (λ c. is_due clock c.timer) services ≡ false
 
--- the plan, with what the table and the waiters have prepared and the effect, is the step of the input
-pub record Plans {A : Type 0} (m : Machine) (input : Input A) (plan : StepPlan A) (prepared : Prepared) (waits : Shown) (effect : Effect A) : Type 0 where
+-- the plan, with what the table, the waiters and the event directories have prepared and the effect, is the step of the input
+pub record Plans {A : Type 0} (m : Machine) (input : Input A) (plan : StepPlan A) (prepared : Prepared) (waits : Shown) (directories : PreparedDirectories) (effect : Effect A) : Type 0 where
   pub clock : plan.now ≡ (step m input).machine.clock
   pub steps : m.steps + 1 ≡ (step m input).machine.steps
   pub closing : plan.closing ≡ (step m input).machine.closing
@@ -234,3 +290,4 @@ pub record Plans {A : Type 0} (m : Machine) (input : Input A) (plan : StepPlan A
   pub tallies : AllTallied prepared.services (step m input).machine.deaths
   pub numbered : AllBefore prepared.next_sid (step m input).machine.deaths
   pub waiting : AreKept waits (watch_of (step m input).machine)
+  pub hearing : AreHeard finds (committed directories (offer_of input.act)) (directories_of (step m input).machine)

@@ -3,11 +3,12 @@ use Rattle.std.specs.Prelude.{ℕ, ◌+◌, ◌*◌, ◌≤◌, List, length, Al
 use Rattle.s6_events.specs.declared.moment.Moment.{Moment}
 use Rattle.supervise_core.specs.declared.chart.ChartState.{ChartState}
 
--- no serial, of a service or of a waiter, and no generation outruns the steps
-pub record IsCounted (taken next next_waiter : ℕ) (services : List ChartState) : Type 0 where
+-- no serial, of a service, a waiter or a subscription, and no generation outruns the steps
+pub record IsCounted (taken next next_waiter next_subscription : ℕ) (services : List ChartState) : Type 0 where
   pub steps : taken ≤ 281474976710656
   pub serials : next ≤ 64 * taken + 1
   pub waiters : next_waiter ≤ taken + 1
+  pub subscriptions : next_subscription ≤ taken + 1
   pub generations : All (λ c. c.generation ≤ 2 * taken) services
 
 -- a step adds at most 1024 moments

@@ -1,5 +1,8 @@
 -- One step of the machine.
 use Rattle.std.specs.Prelude.{ℕ, ◌+◌, List, [], ◌∷◌, ◌++◌, map, max, ◌==◌, nat_lt, if◌then◌else◌}
+use Rattle.event_directory.specs.Changes.{Change as DirectoryAsk, Offer, after_change, matches_of}
+use Rattle.event_directory.specs.Directories.{matches_by}
+use Rattle.event_directory.specs.Pattern.{finds}
 use Rattle.s6_events.specs.declared.moment.Moment.{Moment}
 use Rattle.s6_events.specs.declared.moment.Moment.TheVariants.{Clock}
 use Rattle.s6_events.specs.declared.order.Order.{Order}
@@ -11,9 +14,9 @@ use Rattle.tree_core.specs.declared.input.Act.{Act}
 use Rattle.tree_core.specs.declared.input.Input.{Input}
 use Rattle.tree_core.specs.declared.reply.Refusal.TheVariants.{Spent}
 use Rattle.tree_core.specs.declared.reply.Reply.TheVariants.{Refused}
-use Rattle.tree_core.specs.Acts.{acted, work_of, ask_of}
-use Rattle.tree_core.specs.Listening.{Ask, listened, released_at_once, as_release}
-use Rattle.tree_core.specs.Machine.{Machine, Outcome, watch_of}
+use Rattle.tree_core.specs.Acts.{acted, work_of, ask_of, directory_ask_of, offer_of}
+use Rattle.tree_core.specs.Listening.{Ask, listened, released_at_once, as_match, as_release}
+use Rattle.tree_core.specs.Machine.{Machine, Outcome, directories_of, watch_of}
 use Rattle.svscan_core.specs.Deaths.{deaths_given}
 use Rattle.svscan_core.specs.Moves.{services_after, events_after, orders_after, moment_of}
 use Rattle.svscan_core.specs.Work.{closing_after}
@@ -54,15 +57,23 @@ with_act act m = record m {
 abbrev pub with_ask : Ask → Machine → Machine
 with_ask ask m = record m { waiters = (listened ask (watch_of m)).waiters; next_waiter = (listened ask (watch_of m)).next }
 
+-- what it asks of the event directories is done then too, with the pattern that it offers
+abbrev pub with_directories : DirectoryAsk → Offer → Machine → Machine
+with_directories ask offer m = record m {
+  directories = (after_change ask offer (directories_of m)).free;
+  subscriptions = (after_change ask offer (directories_of m)).subscriptions;
+  next_subscription = (after_change ask offer (directories_of m)).next;
+}
+
 -- the act is done on the machine, after its timers gave these events and orders, and the step is counted
 abbrev pub finished : {A : Type 0} → Act A → List Event → List Order → Machine → Stepped A
 finished act events orders m = record {
-  machine = record (with_ask (ask_of act m) (with_act act m)) { steps = m.steps + 1 };
+  machine = record (with_directories (directory_ask_of act m) (offer_of act) (with_ask (ask_of act m) (with_act act m))) { steps = m.steps + 1 };
   outcome = record {
     reply = (acted act m).reply;
     events = events ++ (acted act m).work.events;
     orders = orders ++ (acted act m).work.orders;
-    matched = [];
+    matched = map as_match (matches_of finds (directory_ask_of act m) (directories_of (with_act act m)));
     released = map as_release (released_at_once (ask_of act m) (watch_of (with_act act m)));
   };
 }
@@ -75,11 +86,14 @@ timed act m = finished act (events_after (fire m.clock) m.services) (orders_afte
 abbrev pub joining : ℕ → ℕ → List Event → List Moment
 joining clock at events = clock_moments clock at ++ map moment_of events
 
--- the waiters that stood before the step look at each of its moments as it joins
+-- the subscriptions and the waiters that stood before the step look at each of its moments as it joins
 abbrev pub noticed : {A : Type 0} → Machine → ℕ → Stepped A → Stepped A
 noticed m at s = record {
   machine = s.machine;
-  outcome = record s.outcome { released = map as_release (releases_by (watch_of m) (joining m.clock at s.outcome.events)) ++ s.outcome.released };
+  outcome = record s.outcome {
+    matched = map as_match (matches_by finds (directories_of m) (joining m.clock at s.outcome.events)) ++ s.outcome.matched;
+    released = map as_release (releases_by (watch_of m) (joining m.clock at s.outcome.events)) ++ s.outcome.released;
+  };
 }
 
 -- nothing is done, and no step is counted
@@ -89,6 +103,6 @@ spent_outcome = record { reply = Refused Spent; events = []; orders = []; matche
 abbrev pub spent : {A : Type 0} → Machine → Stepped A
 spent m = record { machine = m; outcome = spent_outcome }
 
--- a step: the clock first, then the due timers, then the act, while the waiters look on
+-- a step: the clock first, then the due timers, then the act, while subscriptions and waiters look on
 abbrev pub step : {A : Type 0} → Machine → Input A → Stepped A
 step m input = if m.steps == step_limit then spent m else noticed m input.at (timed input.act (clocked input.at m))

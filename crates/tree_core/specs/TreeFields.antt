@@ -7,7 +7,7 @@ use Rattle.tree_core.specs.Sound.{IsCounted, IsRecorded}
 use Rattle.tree_core.specs.Machine.{Machine}
 use Rattle.tree_core.specs.StandsFor.{Stored, StandsFor}
 
--- its services, its numbers, its history and its waiters
+-- its services, its numbers, its history, its waiters and its event directories
 abbrev pub stored : {A : Type 0} → Inside A → Stored
 stored t = record {
   clock = t.clock;
@@ -18,12 +18,13 @@ stored t = record {
   forgotten = t.history.forgotten;
   kept = t.history.kept;
   waits = shown t.waits;
+  directories = t.directories.shown;
 }
 
 -- its numbers don't outrun its steps, its deadlines agree with its services, and there is a machine for which it stands
 abbrev pub TreeInvariant : {A : Type 0} → Inside A → Type 0
 TreeInvariant t =
-    IsCounted t.steps t.registry.shown.next_sid t.waits.next (charts_of t.registry.shown.services)
+    IsCounted t.steps t.registry.shown.next_sid t.waits.next t.directories.shown.next (charts_of t.registry.shown.services)
     × IsRecorded t.steps t.history.forgotten t.history.kept
     × TimersAgree t.deadlines.timers (charts_of t.registry.shown.services)
     × ((m : Machine) × StandsFor (stored t) m)

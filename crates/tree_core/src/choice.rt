@@ -1,6 +1,7 @@
 ghost use Rattle.std.specs.Prelude.{◌≡◌, ◌==◌, ◌+◌, ◌<◌, ◌≤◌, ◌^◌, ◌++◌, List, map, find, bytes_eq, length, option_map, All, IfOk, IsOk, None, Some, if◌then◌else◌, true, false};
 ghost use Rattle.std.specs.List.{list_any};
 ghost use Rattle.death_tally.specs.PermanentFailure.{is_permanent};
+ghost use Rattle.event_directory.specs.Changes.{asked_by as directories_asked};
 ghost use Rattle.s6_events.specs.Clock.{clock_of};
 ghost use Rattle.supervise_core.specs.Chart.{fire};
 ghost use Rattle.supervise_core.specs.StatusRow.{status_row};
@@ -10,19 +11,18 @@ ghost use Rattle.svscan_core.specs.Sound.{AllAgree};
 ghost use Rattle.s6_events.specs.declared.moment.Moment.{Moment};
 ghost use Rattle.svscan_core.specs.Asked.{asked_by, IsOrderly};
 ghost use Rattle.svscan_core.specs.Table.{charts_of};
-ghost use Rattle.svscan_core.specs.Work.Work.{leave};
 ghost use Rattle.wait_conditions.specs.Steps.{asked_by as waiters_asked};
-ghost use Rattle.wait_conditions.specs.Steps.Change.{leave as leave_waiters};
-ghost use Rattle.tree_core.specs.Acts.{all_named, serials_named};
+ghost use Rattle.tree_core.specs.Acts.{all_named, serials_named, source_named};
 ghost use Rattle.tree_core.specs.Machine.{Machine};
-ghost use Rattle.tree_core.specs.Plan.{plain, chosen_work, chosen_change, lists_more, report_choice, letters_choice, row_choice, failure_choice, scan_choice, wait_choice, tally_in, Chooses, HasFired, is_reading};
+ghost use Rattle.tree_core.specs.Plan.{plain, chosen_work, chosen_change, chosen_ask, report_choice, letters_choice, row_choice, failure_choice, scan_choice, wait_choice, subscribe_choice, send_choice, tally_in, AsksNothing, Chooses, HasFired, is_reading};
 
-use super::input::Act;
+use super::input::{Act, Target};
 use super::names::has_repeated_name;
 use super::reply::Refusal;
 use arrayvec::ArrayVec;
 use death_tally::{DeathList, permafails};
-use s6_events::{At, Condition, Mode, Name, NoMemory, Sid, WaitId};
+use event_directory::{DirectoryChange, Message, Source};
+use s6_events::{At, Condition, Mode, Name, NoMemory, Sid, SubId, WaitId};
 use std::alloc::Allocator;
 use supervise_core::{Change, Phase, Row};
 use svc_commands::Letters as ControlLetters;
@@ -32,7 +32,7 @@ use wait_conditions::WaitChange;
 /// The most names of one wait.
 const MOST_NAMES: usize = 16;
 
-/// What a step does for its act: why that is refused, or what it asks of the services.
+/// What a step does for its act: why that is refused, or what it asks of the services, the waiters or the event directories.
 #[derive(Drop)]
 pub enum Choice<'a> {
     Refuse(Refusal),
@@ -46,6 +46,10 @@ pub enum Choice<'a> {
     Failure(bool),
     Wait(Condition, Mode, u32, ArrayVec<Sid, 16>),
     Cancel(WaitId),
+    MakeDirectory(Name),
+    Send(Name, &'a Message),
+    Subscribe(Source),
+    Unsubscribe(SubId),
 }
 
 impl Choice<'_> {
@@ -72,6 +76,19 @@ impl Choice<'_> {
             }
             Choice::Cancel(id) => WaitChange::Cancel(*id),
             _ => WaitChange::Nothing,
+        }
+    }
+
+    /// What is asked of the event directories.
+    pub fn directory_change(&self) -> DirectoryChange<'_>
+        ensures { directories_asked result ≡ chosen_ask (plain self.now) }
+    {
+        match self {
+            Choice::MakeDirectory(name) => DirectoryChange::Make(*name),
+            Choice::Send(name, message) => DirectoryChange::Send(*name, message),
+            Choice::Subscribe(source) => DirectoryChange::Subscribe(*source),
+            Choice::Unsubscribe(id) => DirectoryChange::Unsubscribe(*id),
+            _ => DirectoryChange::Nothing,
         }
     }
 }
@@ -119,9 +136,7 @@ fn letters<'a, A: Allocator + Copy>(
 // The status row of the service of a name.
 fn show<'a, A: Allocator + Copy>(registry: &Registry<A>, name: Name, now: At) -> Choice<'a>
     requires { All (λ c. c.generation + 1 < 2 ^ 64) (charts_of registry.now.shown.services) }
-    ensures work { chosen_work (plain result) ≡ leave }
-    ensures calm { chosen_change now (plain result) ≡ leave_waiters }
-    ensures short { lists_more (plain result) ≡ false }
+    ensures idle { AsksNothing now (plain result) }
     ensures row { (history : List Moment) → clock_of history ≡ now → AllAgree registry.now.shown.services history
         → plain result ≡ row_choice (option_map (status_row (history ++ map moment_of (events_after (fire now) (charts_of registry.now.shown.services))) now)
         (find (λ c. bytes_eq name c.name) (services_after (fire now) (charts_of registry.now.shown.services)))) }
@@ -141,9 +156,7 @@ fn judge<'a, A: Allocator + Copy>(
     count: u32,
     list: &DeathList,
 ) -> Choice<'a>
-    ensures work { chosen_work (plain result) ≡ leave }
-    ensures calm { chosen_change now (plain result) ≡ leave_waiters }
-    ensures short { lists_more (plain result) ≡ false }
+    ensures idle { AsksNothing now (plain result) }
     ensures failure { plain result ≡ failure_choice (option_map (is_permanent now seconds count list.now) (tally_in name registry.now.shown.services)) }
 {
     match registry.named(name) {
@@ -214,6 +227,30 @@ fn wait<'a, A: Allocator + Copy>(
     })
 }
 
+// A subscription to the event directory of a service or to a free one.
+fn subscribe<'a, A: Allocator + Copy>(registry: &Registry<A>, target: Target) -> Choice<'a>
+    ensures { plain result ≡ subscribe_choice (source_named target (charts_of registry.now.shown.services)) }
+{
+    let source = match target {
+        Target::Directory(name) => Source::Directory(name),
+        Target::Service(name) => match registry.find(name) {
+            Some(sid) => Source::Service(sid),
+            None => return Choice::Refuse(Refusal::NoService),
+        },
+    };
+    Choice::Subscribe(source)
+}
+
+// A message; the event directory of a service takes none from outside.
+fn send<'a>(target: Target, message: &'a Message) -> Choice<'a>
+    ensures { plain result ≡ send_choice target message.now }
+{
+    match target {
+        Target::Service(_) => Choice::Refuse(Refusal::Reserved),
+        Target::Directory(name) => Choice::Send(name, message),
+    }
+}
+
 /// What the act does, on services whose timers are still to go off at this moment.
 pub fn choose<'a, A: Allocator + Copy>(
     alloc: A,
@@ -226,9 +263,7 @@ pub fn choose<'a, A: Allocator + Copy>(
     ensures chosen { IfOk result (λ choice. (m : Machine) → (history : List Moment) → HasFired closing now registry.now.shown.services history m → Chooses act.now m registry.now.shown.services (plain choice)) }
     ensures orderly { IfOk result (λ choice. registry.now.shown.next_sid + 65 < 2 ^ 64 → IsOrderly registry.now.shown.next_sid (chosen_work (plain choice))) }
     ensures quiet { is_reading act.now ≡ true → IsOk result }
-    ensures still { is_reading act.now ≡ true → IfOk result (λ choice. chosen_work (plain choice) ≡ leave) }
-    ensures calm { is_reading act.now ≡ true → IfOk result (λ choice. chosen_change now (plain choice) ≡ leave_waiters) }
-    ensures short { is_reading act.now ≡ true → IfOk result (λ choice. lists_more (plain choice) ≡ false) }
+    ensures idle { is_reading act.now ≡ true → IfOk result (λ choice. AsksNothing now (plain choice)) }
 {
     match act {
         Act::Scan(listing) => scan(alloc, listing.entries(), closing),
@@ -269,6 +304,10 @@ pub fn choose<'a, A: Allocator + Copy>(
             wait(alloc, registry, *condition, *mode, *timeout, names.names())
         }
         Act::Cancel(id) => Ok(Choice::Cancel(*id)),
+        Act::Subscribe(target, _, _) => Ok(subscribe(registry, *target)),
+        Act::Unsubscribe(id) => Ok(Choice::Unsubscribe(*id)),
+        Act::Send(target, message) => Ok(send(*target, message)),
+        Act::MakeDir(name) => Ok(Choice::MakeDirectory(*name)),
         Act::Tick => Ok(Choice::Leave),
     }
 }

@@ -1,11 +1,11 @@
 ghost use Rattle.std.specs.Prelude.{◌≡◌, ◌++◌, ◌∷◌, ◌+◌, ◌≤◌, [], length, map, OnOk, IsOk};
-ghost use Rattle.tree_core.specs.Listening.{as_release};
+ghost use Rattle.tree_core.specs.Listening.{as_match, as_release};
 ghost use Rattle.tree_core.specs.Plan.{released_by_answer};
 ghost use Rattle.tree_core.specs.declared.reply.Reply.TheVariants.{Done};
 
-use super::hit::Hit;
 use super::reply::Reply;
 use arrayvec::ArrayVec;
+use event_directory::{DirectoryPlan, Hit};
 use s6_events::{NoMemory, Order, SubId, WaitId};
 use std::alloc::Allocator;
 use svscan_core::Event;
@@ -26,8 +26,7 @@ pub struct Release {
 }
 
 /// All that one step gives: the reply to the input, the marks and orders in the order made, and who was told of what: the matches
-/// by event and then in rising serial, the releases by moment and then in rising serial. No act of today makes a subscription, so
-/// that the matches are empty.
+/// by event and then in rising serial, the releases by moment and then in rising serial.
 #[derive(Drop)]
 pub struct Effect<A: Allocator> {
     pub reply: Reply<A>,
@@ -86,6 +85,25 @@ impl<A: Allocator + Copy> Effect<A> {
         self.events.extend_from_slice(events)?;
         Ok(())
     }
+
+    // The matches of a step.
+    pub(crate) fn match_all(&mut self, plan: &DirectoryPlan<A>) -> Result<(), NoMemory>
+        ensures reply { self.new.reply ≡ self.old.reply }
+        ensures events { self.new.events.items ≡ self.old.events.items }
+        ensures orders { self.new.orders.items ≡ self.old.orders.items }
+        ensures matched { OnOk result (self.new.matched.items ≡ self.old.matched.items ++ map as_match plan.now.matches.items) }
+        ensures released { self.new.released.items ≡ self.old.released.items }
+        ensures quiet { plan.now.matches.items ≡ [] → IsOk result }
+    {
+        for (subscription, hit) in plan.matches.as_slice() {
+            self.matched.push(Match {
+                subscription: *subscription,
+                hit: *hit,
+            })?;
+        }
+        Ok(())
+    }
+
     // One more release.
     fn release(&mut self, waiter: WaitId, verdict: Verdict) -> Result<(), NoMemory>
         ensures reply { self.new.reply ≡ self.old.reply }

@@ -3,7 +3,8 @@ ghost use Rattle.std.specs.Prelude.{◌≡◌};
 use super::names::Names;
 use arrayvec::ArrayVec;
 use death_tally::DeathList;
-use s6_events::{Actor, At, Condition, Exit, Mode, Name, Sid, WaitId};
+use event_directory::{Message, Pattern};
+use s6_events::{Actor, At, Condition, Exit, Mode, Name, Sid, SubId, WaitId};
 use std::alloc::Allocator;
 use std::marker::Model;
 use svc_commands::Letters;
@@ -40,7 +41,18 @@ impl<A: Allocator> Listing<A> {
     }
 }
 
-/// What an input asks of the tree or tells it. Requests name a service, reports its serial.
+/// Whose event directory is meant, by its name. A free directory may have the name of a service. Pages `s6-supervise`, "Events", and
+/// `fifodir`.
+#[derive(Clone, Copy, PartialEq, Eq, Debug)]
+pub enum Target {
+    /// That of the service of this name.
+    Service(Name),
+    /// The free directory of this name.
+    Directory(Name),
+}
+
+/// What an input asks of the tree or tells it. Reports name a service by its serial; requests name a service or a
+/// free directory, or a waiter or a subscription by its serial.
 #[derive(Drop)]
 pub enum Act<A: Allocator> {
     /// The scan directory was listed. Page `s6-svscanctl`, `-a`.
@@ -72,6 +84,15 @@ pub enum Act<A: Allocator> {
     Wait(Condition, Mode, u32, Names<A>),
     /// The waiter of this serial ends, released or not.
     Cancel(WaitId),
+    /// A user subscribes to an event directory: from now on its letters are a text, in which the pattern is looked for once, or again
+    /// after each match. Page `s6-ftrig-listen1`.
+    Subscribe(Target, Pattern, bool),
+    /// The subscription of this serial ends, whatever it has heard.
+    Unsubscribe(SubId),
+    /// A user sends this message. Only a free directory takes one: a service's letters are its supervisor's. Page `s6-ftrig-notify`.
+    Send(Target, Message),
+    /// A user makes a free directory of this name. Page `s6-mkfifodir`.
+    MakeDir(Name),
     /// Nothing but the clock.
     Tick,
 }

@@ -3,7 +3,6 @@
 
 mod choice;
 mod effect;
-mod hit;
 mod input;
 pub mod laws;
 mod names;
@@ -15,8 +14,8 @@ mod tests;
 mod tree;
 
 pub use effect::{Effect, Match, Release};
-pub use hit::Hit;
-pub use input::{Act, Input, Listing};
+pub use event_directory::{Hit, Message, Pattern, State, SubView};
+pub use input::{Act, Input, Listing, Target};
 pub use names::Names;
 pub use reply::{Refusal, Reply, ScanReport, TallyReport};
 pub use svscan_core::{Entry, Event, Listed, ScanOrder};

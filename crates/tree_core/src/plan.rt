@@ -1,6 +1,8 @@
 ghost use Rattle.std.specs.Prelude.{ℕ, false, ◌≡◌, ◌+◌, ◌*◌, ◌<◌, ◌≤◌, ◌^◌, ◌++◌, List, [], map, max, length, All, IfOk, IsOk, IsOkAnd, OnOk};
 ghost use Rattle.deadlines.specs.declared.timer.Timer.{Timer};
 ghost use Rattle.deadlines.specs.Timers.{changed_all};
+ghost use Rattle.event_directory.specs.Changes.{Offer};
+ghost use Rattle.event_directory.specs.Remembered.{committed};
 ghost use Rattle.s6_events.specs.At.{last_moment};
 ghost use Rattle.svscan_core.specs.Moves.{moment_of};
 ghost use Rattle.svscan_core.specs.Table.{charts_of};
@@ -10,7 +12,7 @@ ghost use Rattle.svscan_core.specs.Work.{AreDue, closing_after};
 ghost use Rattle.tree_core.specs.Acts.{tally_reply};
 ghost use Rattle.tree_core.specs.Machine.{Machine};
 ghost use Rattle.wait_conditions.specs.Stands.{shown};
-ghost use Rattle.tree_core.specs.Plan.{present, plain, lists_more, tally_in, chosen_work, chosen_reply, waiter_reply, IsNow, Plans, IsQuiet};
+ghost use Rattle.tree_core.specs.Plan.{present, plain, lists_more, tally_in, chosen_work, chosen_reply, waiter_reply, directory_reply, IsNow, Plans, IsQuiet};
 ghost use Rattle.tree_core.specs.Step.{clock_moments, step_limit};
 
 use super::choice::{Choice, choose};
@@ -18,12 +20,14 @@ use super::effect::Effect;
 use super::input::Input;
 use super::reply::{Refusal, Reply, ScanReport, TallyReport};
 use deadlines::TimerChange;
+use event_directory::{Directories, DirectoryAnswer, DirectoryFault, Pattern};
 use s6_events::{At, Moment, Name, NoMemory, Sid};
 use std::alloc::Allocator;
 use svscan_core::{Event, Registry, ScanOrder};
 use wait_conditions::{WaitAnswer, Waits};
 
-/// A step that is known before anything is changed; what becomes of the services lies in their table, and of the waiters among them.
+/// A step that is known before anything is changed; what becomes of the services, the waiters and the event
+/// directories lies in these.
 #[derive(Drop)]
 pub struct StepPlan<A: Allocator> {
     pub now: At,
@@ -87,14 +91,29 @@ fn waiter_reply<A: Allocator>(told: &WaitAnswer) -> Reply<A>
     }
 }
 
-// What is answered, once the work of the choice was prepared, and what it asks of the waiters was answered so.
+// What is answered of what was asked of the event directories.
+fn directory_reply<A: Allocator>(told: &DirectoryAnswer) -> Reply<A>
+    ensures { result ≡ directory_reply told.now }
+{
+    match told {
+        DirectoryAnswer::Done => Reply::Done,
+        DirectoryAnswer::Subscribed(id) => Reply::Subscription(*id),
+        DirectoryAnswer::Refused(DirectoryFault::NoSuch) => Reply::Refused(Refusal::NoSuch),
+        DirectoryAnswer::Refused(DirectoryFault::TooMany) => Reply::Refused(Refusal::TooMany),
+        DirectoryAnswer::Refused(DirectoryFault::Exists) => Reply::Refused(Refusal::Exists),
+    }
+}
+
+// What is answered, once the work of the choice was prepared, and what it asks of the waiters and of the event directories was
+// answered so.
 fn reply_to<A: Allocator + Copy>(
     alloc: A,
     registry: &Registry<A>,
     choice: &Choice,
-    told: &WaitAnswer,
+    waiters: &WaitAnswer,
+    directories: &DirectoryAnswer,
 ) -> Result<Reply<A>, NoMemory>
-    ensures reply { IfOk result (λ reply. reply ≡ chosen_reply (plain choice.now) registry.now.shown.services (worked_of registry.now.prepared) told.now) }
+    ensures reply { IfOk result (λ reply. reply ≡ chosen_reply (plain choice.now) registry.now.shown.services (worked_of registry.now.prepared) (record { waiters = waiters.now; directories = directories.now })) }
     ensures quiet { lists_more (plain choice.now) ≡ false → IsOk result }
 {
     Ok(match choice {
@@ -107,7 +126,11 @@ fn reply_to<A: Allocator + Copy>(
         Choice::Show(row) => Reply::Row(*row),
         Choice::Tally(name) => tally_of(alloc, registry, *name)?,
         Choice::Failure(fails) => Reply::PermanentFailure(*fails),
-        Choice::Wait(_, _, _, _) | Choice::Cancel(_) => waiter_reply(told),
+        Choice::Wait(_, _, _, _) | Choice::Cancel(_) => waiter_reply(waiters),
+        Choice::MakeDirectory(_)
+        | Choice::Send(_, _)
+        | Choice::Subscribe(_)
+        | Choice::Unsubscribe(_) => directory_reply(directories),
         Choice::Report(_, _) | Choice::Leave | Choice::Letters(_, _) | Choice::Command(_) => {
             Reply::Done
         }
@@ -121,11 +144,12 @@ fn closes(choice: &Choice, closing: bool) -> bool
     closing || matches!(choice, Choice::Command(ScanOrder::Terminate))
 }
 
-/// The step of an input, from the serials of the services whose timers are due: the table and the waiters prepare it, and the effect
-/// is filled.
+/// The step of an input, from the serials of the services whose timers are due: the table, the waiters and the event directories
+/// prepare it, and the effect is filled.
 pub fn plan_step<A: Allocator + Copy>(
     registry: &mut Registry<A>,
     waits: &mut Waits<A>,
+    directories: &mut Directories<Pattern, A>,
     clock: At,
     closing: bool,
     due: &[Sid],
@@ -136,17 +160,20 @@ pub fn plan_step<A: Allocator + Copy>(
     requires generations { All (λ c. c.generation + 2 < 2 ^ 64) (charts_of registry.old.shown.services) }
     requires next { registry.old.shown.next_sid + 65 < 2 ^ 64 }
     requires waiters { waits.old.next < 2 ^ 63 }
+    requires subscriptions { directories.old.shown.next < 2 ^ 63 }
     requires events { effect.old.events.items ≡ [] }
     requires orders { effect.old.orders.items ≡ [] }
     requires matched { effect.old.matched.items ≡ [] }
     requires released { effect.old.released.items ≡ [] }
     ensures shown { registry.new.shown ≡ registry.old.shown }
     ensures waits { shown waits.new ≡ shown waits.old }
-    ensures step { IfOk result (λ plan. (steps : ℕ) → steps < step_limit → (m : Machine) → IsNow (present clock steps closing registry.old.shown.services registry.old.shown.next_sid (shown waits.old)) m
-        → Plans m input.now plan registry.new.prepared waits.new.prepared effect.new) }
+    ensures directories { directories.new.shown ≡ directories.old.shown }
+    ensures step { IfOk result (λ plan. (steps : ℕ) → steps < step_limit → (m : Machine) → IsNow (present clock steps closing registry.old.shown.services registry.old.shown.next_sid (shown waits.old) directories.old.shown) m
+        → Plans m input.now plan registry.new.prepared waits.new.prepared directories.new.prepared effect.new) }
     ensures grows { OnOk result ((n : ℕ) → All (λ c. c.generation ≤ n) (charts_of registry.old.shown.services) → All (λ c. c.generation ≤ n + 2) (charts_of registry.new.prepared.services)) }
     ensures next { OnOk result (registry.new.prepared.next_sid ≤ registry.old.shown.next_sid + 64) }
     ensures waiters { OnOk result (waits.new.prepared.next ≤ waits.old.next + 1) }
+    ensures subscriptions { OnOk result ((offer : Offer) → (committed directories.new.prepared offer).next ≤ directories.old.shown.next + 1) }
     ensures count { IfOk result (λ plan. length plan.moments.items ≤ 1024) }
     ensures timers { IfOk result (λ plan. (timers : List Timer) → TimersAgree timers (charts_of registry.old.shown.services) → TimersAgree (changed_all plan.timers.items timers) (charts_of registry.new.prepared.services)) }
     ensures quiet { IsQuiet input.now clock (charts_of registry.old.shown.services) → due.now ≡ [] → IsOkAnd result (λ plan. (plan.moments.items ≡ []) × (plan.timers.items ≡ [])) }
@@ -157,9 +184,12 @@ pub fn plan_step<A: Allocator + Copy>(
     let choice = choose(alloc, registry, &input.act, closing, now)?;
     registry.prepare(due, &choice.work(), now)?;
     let moments = moments_of(alloc, clock, input.at, registry.events())?;
-    let listened = waits.prepare(moments.as_slice(), &choice.wait_change(now))?;
-    effect.reply = reply_to(alloc, registry, &choice, &listened.answer)?;
+    let joining = moments.as_slice();
+    let listened = waits.prepare(joining, &choice.wait_change(now))?;
+    let heard = directories.prepare(joining, &choice.directory_change())?;
+    effect.reply = reply_to(alloc, registry, &choice, &listened.answer, &heard.answer)?;
     effect.tell(registry.events(), registry.orders())?;
+    effect.match_all(&heard)?;
     effect.release_all(&listened)?;
     let timers = registry.timers()?;
     Ok(StepPlan {

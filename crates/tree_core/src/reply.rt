@@ -1,6 +1,6 @@
 ghost use Rattle.std.specs.Prelude.{◌≡◌};
 
-use s6_events::{At, Exit, Name, Sid, WaitId};
+use s6_events::{At, Exit, Name, Sid, SubId, WaitId};
 use std::alloc::Allocator;
 use std::marker::Model;
 use supervise_core::Row;
@@ -122,4 +122,6 @@ pub enum Reply<A: Allocator> {
     PermanentFailure(bool),
     /// The waiter that was made.
     Waiter(WaitId),
+    /// The subscription that was made.
+    Subscription(SubId),
 }

@@ -5,7 +5,7 @@ use super::*;
 use arrayvec::ArrayVec;
 use death_tally::DeathList;
 use linked_list_allocator::LocalHeap;
-use s6_events::{Actor, At, Condition, Exit, Mode, Name, NoMemory, Sid, WaitId};
+use s6_events::{Actor, At, Condition, Exit, Letter, Mode, Name, NoMemory, Sid, SubId, WaitId};
 use servicedir::Config;
 use std::alloc::{Allocator, Global};
 use std::process::Abort;
@@ -35,6 +35,16 @@ enum Deed {
     Wait(Condition, u32, &'static [u8]),
     /// Of the waiter of this serial.
     Cancel,
+    /// To the service of this serial, for this pattern: again after each match.
+    Subscribe(&'static str),
+    /// To the free directory of this serial, for this pattern: once.
+    SubscribeThere(&'static str),
+    /// Of the subscription of this serial.
+    Unsubscribe,
+    /// This message to the free directory of this serial.
+    Send(&'static [u8]),
+    /// A free directory of this serial.
+    MakeDir,
     Tick,
 }
 
@@ -102,7 +112,18 @@ fn list_of<A: Allocator + Copy>(alloc: A) -> Result<DeathList, Fail> {
     Ok(list.ok_or("a list")?)
 }
 
-fn input<A: Allocator + Copy>(alloc: A, at: u64, deed: Deed, serial: u8) -> Result<Input<A>, Fail> {
+fn message_of(bytes: &[u8]) -> Result<Message, Fail> {
+    Ok(Message::new(bytes).ok_or("a message")?)
+}
+
+// The patterns' memory is ample.
+fn input<A: Allocator + Copy>(
+    alloc: A,
+    patterns: Global,
+    at: u64,
+    deed: Deed,
+    serial: u8,
+) -> Result<Input<A>, Fail> {
     let sid = Sid(u64::from(serial));
     let act = match deed {
         Deed::Scan(count) => Act::Scan(listing_of(alloc, count, with_finish())?),
@@ -121,6 +142,19 @@ fn input<A: Allocator + Copy>(alloc: A, at: u64, deed: Deed, serial: u8) -> Resu
             Act::Wait(condition, Mode::All, timeout, names_of(alloc, serials)?)
         }
         Deed::Cancel => Act::Cancel(WaitId(u64::from(serial))),
+        Deed::Subscribe(pattern) => Act::Subscribe(
+            Target::Service(name_of(serial)?),
+            Pattern::build(patterns, pattern)?,
+            true,
+        ),
+        Deed::SubscribeThere(pattern) => Act::Subscribe(
+            Target::Directory(name_of(serial)?),
+            Pattern::build(patterns, pattern)?,
+            false,
+        ),
+        Deed::Unsubscribe => Act::Unsubscribe(SubId(u64::from(serial))),
+        Deed::Send(bytes) => Act::Send(Target::Directory(name_of(serial)?), message_of(bytes)?),
+        Deed::MakeDir => Act::MakeDir(name_of(serial)?),
         Deed::Tick => Act::Tick,
     };
     Ok(Input {
@@ -130,53 +164,60 @@ fn input<A: Allocator + Copy>(alloc: A, at: u64, deed: Deed, serial: u8) -> Resu
     })
 }
 
-// The moment, what each of 64 services in turn is told, and how many events, orders and releases that gives in all.
-type Round = (u64, Deed, usize, usize, usize);
+// The moment, what each of 64 services in turn is told, and how many events, orders, matches and releases that gives in all.
+type Round = (u64, Deed, usize, usize, usize, usize);
 
 // Each waits for the first service and the last.
 const ROUNDS: &[Round] = &[
-    (0, Deed::Scan(66), 64, 64, 0),
-    (0, Deed::Started(1), 64, 0, 0),
-    (0, Deed::Notify(1, 63), 64, 0, 0),
-    (0, Deed::Svc(ControlLetter::Hangup, 63), 0, 4032, 0),
-    (5, Deed::Death(1, Exit::Killed(9)), 64, 64, 0),
-    (5, Deed::Wait(Condition::Finished, 0, &[1, 64]), 0, 0, 0),
-    (6, Deed::FinishEnded(1, Exit::Code(0)), 64, 0, 64),
-    (6, Deed::Cancel, 0, 0, 0),
-    (7, Deed::Status, 0, 0, 0),
-    (7, Deed::Tally, 0, 0, 0),
-    (7, Deed::Permafailon, 0, 0, 0),
-    (1005, Deed::Tick, 0, 64, 0),
-    (1006, Deed::StartFailed(2), 0, 0, 0),
-    (1008, Deed::Scan(0), 0, 0, 0),
-    (1009, Deed::Scanctl(ScanOrder::Nuke), 64, 0, 0),
-    (1010, Deed::Scan(0), 0, 0, 0),
-    (1011, Deed::Status, 0, 0, 0),
-    (1012, Deed::Scan(66), 64, 64, 0),
-    (1013, Deed::Scanctl(ScanOrder::Terminate), 0, 0, 0),
-    (1014, Deed::Scan(66), 0, 0, 0),
+    (0, Deed::Scan(66), 64, 64, 0, 0),
+    (0, Deed::Started(1), 64, 0, 0, 0),
+    (0, Deed::Notify(1, 63), 64, 0, 0, 0),
+    (0, Deed::Svc(ControlLetter::Hangup, 63), 0, 4032, 0, 0),
+    (4, Deed::Subscribe("d.*"), 0, 0, 0, 0),
+    (5, Deed::Death(1, Exit::Killed(9)), 64, 64, 64, 0),
+    (5, Deed::Wait(Condition::Finished, 0, &[1, 64]), 0, 0, 0, 0),
+    (6, Deed::FinishEnded(1, Exit::Code(0)), 64, 0, 0, 64),
+    (6, Deed::Cancel, 0, 0, 0, 0),
+    (6, Deed::Unsubscribe, 0, 0, 0, 0),
+    (6, Deed::MakeDir, 0, 0, 0, 0),
+    (6, Deed::SubscribeThere("b$"), 0, 0, 0, 0),
+    (6, Deed::Send(b"abc"), 0, 0, 64, 0),
+    (7, Deed::Status, 0, 0, 0, 0),
+    (7, Deed::Tally, 0, 0, 0, 0),
+    (7, Deed::Permafailon, 0, 0, 0, 0),
+    (1005, Deed::Tick, 0, 64, 0, 0),
+    (1006, Deed::StartFailed(2), 0, 0, 0, 0),
+    (1008, Deed::Scan(0), 0, 0, 0, 0),
+    (1009, Deed::Scanctl(ScanOrder::Nuke), 64, 0, 0, 0),
+    (1010, Deed::Scan(0), 0, 0, 0, 0),
+    (1011, Deed::Status, 0, 0, 0, 0),
+    (1012, Deed::Scan(66), 64, 64, 0, 0),
+    (1013, Deed::Scanctl(ScanOrder::Terminate), 0, 0, 0, 0),
+    (1014, Deed::Scan(66), 0, 0, 0, 0),
 ];
 
-// All 64 services are told this, with ample memory: how many events, orders and releases that gives.
-fn told_to_all<A: Allocator + Copy>(
-    alloc: A,
-    tree: &mut Tree<A>,
+// All 64 services are told this, with ample memory: how many events, orders, matches and releases that gives.
+fn told_to_all(
+    alloc: Global,
+    tree: &mut Tree<Global>,
     at: u64,
     deed: Deed,
-) -> Result<(usize, usize, usize), Fail> {
+) -> Result<(usize, usize, usize, usize), Fail> {
     let mut events = 0usize;
     let mut orders = 0usize;
+    let mut matched = 0usize;
     let mut released = 0usize;
     for serial in 1..65u8 {
         let effect = tree
-            .apply(input(alloc, at, deed, serial)?)
+            .apply(input(alloc, alloc, at, deed, serial)?)
             .ok()
             .ok_or("memory")?;
         events = events.saturating_add(effect.events.len());
         orders = orders.saturating_add(effect.orders.len());
+        matched = matched.saturating_add(effect.matched.len());
         released = released.saturating_add(effect.released.len());
     }
-    Ok((events, orders, released))
+    Ok((events, orders, matched, released))
 }
 
 // The clock, the steps, the number of rows, and whether the services of two names have one.
@@ -196,10 +237,10 @@ fn take_rounds(
     tree: &mut Tree<Global>,
     rounds: &[Round],
 ) -> Result<(), Fail> {
-    for (at, deed, events, orders, released) in rounds {
+    for (at, deed, events, orders, matched, released) in rounds {
         let given = told_to_all(alloc, tree, *at, *deed)?;
         assert!(rt;
-            given == (*events, *orders, *released),
+            given == (*events, *orders, *matched, *released),
             "{at} {deed:?}: {given:?}"
         );
     }
@@ -210,7 +251,13 @@ fn take_rounds(
 fn every_act_succeeds_with_ample_memory(rt: HostRuntime) -> Result<(), Fail> {
     let mut tree = Tree::new(rt.alloc());
     take_rounds(&rt, rt.alloc(), &mut tree, ROUNDS)?;
-    assert_eq!(rt; shown(&tree)?, (1014, 1280, 64, true, false));
+    assert_eq!(rt; shown(&tree)?, (1014, 1600, 64, true, false));
+    // The last free directory's subscription, made after 64 others.
+    let heard = tree.list(SubId(128)).ok_or("a subscription")?;
+    assert!(rt;
+        heard.letters == [Letter::new(b'b').ok_or("a letter")?].as_slice()
+            && heard.state == State::Done
+    );
     Ok(())
 }
 
@@ -228,6 +275,11 @@ const DEEDS: &[(u64, Deed)] = &[
     (6, Deed::Cancel),
     (6, Deed::Tally),
     (6, Deed::Permafailon),
+    (6, Deed::Subscribe("x")),
+    (6, Deed::MakeDir),
+    (6, Deed::SubscribeThere("b")),
+    (6, Deed::Send(b"aab")),
+    (6, Deed::Unsubscribe),
     (1005, Deed::Tick),
     (1006, Deed::StartFailed(2)),
     (1007, Deed::Svc(ControlLetter::Exit, 1)),
@@ -238,8 +290,8 @@ const DEEDS: &[(u64, Deed)] = &[
     (1008, Deed::Tick),
 ];
 
-// What a refused input may not change: the moment, the number of names that it waits for, the clock, the steps, the number of rows
-// and where the first two waiters stand.
+// What a refused input may not change: the moment, the number of names that it waits for or of bytes of its pattern, the clock, the
+// steps, the number of rows, where the first two waiters stand, and how many letters the second subscription has heard.
 type Before = (
     u64,
     usize,
@@ -248,21 +300,24 @@ type Before = (
     usize,
     Option<Standing>,
     Option<Standing>,
+    Option<usize>,
 );
 
 fn before<A: Allocator + Copy>(tree: &Tree<A>, input: &Input<A>) -> Before {
-    let names = match &input.act {
+    let size = match &input.act {
         Act::Wait(_, _, _, names) => names.names().len(),
+        Act::Subscribe(_, pattern, _) => pattern.text().len(),
         _ => 0,
     };
     (
         input.at.millis(),
-        names,
+        size,
         tree.now().millis(),
         tree.steps(),
         tree.rows().len(),
         tree.result(WaitId(1)),
         tree.result(WaitId(2)),
+        tree.list(SubId(2)).map(|view| view.letters.len()),
     )
 }
 
@@ -289,12 +344,13 @@ fn applies_at_last<A: Allocator + Copy>(
 // One deed on a heap that has so many bytes left until a refusal gives it ample ones: whether there was one.
 fn apply_one<'a>(
     heap: &'a LocalHeap,
+    patterns: Global,
     tree: &mut Tree<&'a LocalHeap>,
     left: usize,
     at: u64,
     deed: Deed,
 ) -> Result<bool, Fail> {
-    let input = input(heap, at, deed, 1)?;
+    let input = input(heap, patterns, at, deed, 1)?;
     let free = 65_536usize.saturating_sub(heap.used());
     let filler = Vec::<u8, _>::with_capacity(heap, free.saturating_sub(left)).ok();
     applies_at_last(tree, input, filler)
@@ -302,13 +358,14 @@ fn apply_one<'a>(
 
 fn apply_all<'a>(
     heap: &'a LocalHeap,
+    patterns: Global,
     tree: &mut Tree<&'a LocalHeap>,
     left: usize,
     deeds: &[(u64, Deed)],
 ) -> Result<u32, Fail> {
     let mut refused = 0u32;
     for (at, deed) in deeds {
-        if apply_one(heap, tree, left, *at, *deed)? {
+        if apply_one(heap, patterns, tree, left, *at, *deed)? {
             refused = refused.saturating_add(1);
         }
     }
@@ -323,7 +380,7 @@ fn apply_with_little(
 ) -> Result<(u32, u64), Fail> {
     let heap = LocalHeap::new(alloc, 65_536)?;
     let mut tree = Tree::new(&heap);
-    let refused = apply_all(&heap, &mut tree, left, deeds)?;
+    let refused = apply_all(&heap, alloc, &mut tree, left, deeds)?;
     Ok((refused, tree.steps()))
 }
 
@@ -350,6 +407,6 @@ fn a_refused_step_hands_its_input_back_and_can_be_taken_again(rt: HostRuntime) -
         refusals > 50 && without > 5,
         "{refusals} refusals, {without} runs with none"
     );
-    assert_eq!(rt; steps, 3000);
+    assert_eq!(rt; steps, 3750);
     Ok(())
 }

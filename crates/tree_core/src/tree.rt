@@ -1,7 +1,10 @@
-ghost use Rattle.std.specs.Prelude.{◌≡◌, IfOk, OnOk, IfErr, OnErr, IsOk};
+ghost use Rattle.std.specs.Prelude.{◌≡◌, IfOk, OnOk, IfErr, OnErr, IsOk, option_map};
+ghost use Rattle.tree_core.specs.Acts.{offer_of};
 ghost use Rattle.tree_core.specs.Effect.{outcome_of};
+ghost use Rattle.event_directory.specs.Directories.{list_named};
+ghost use Rattle.event_directory.specs.Pattern.{finds};
 ghost use Rattle.wait_conditions.specs.Watch.{standing_named};
-ghost use Rattle.tree_core.specs.Machine.{new_machine, watch_of, Machine};
+ghost use Rattle.tree_core.specs.Machine.{new_machine, directories_of, watch_of, Machine};
 ghost use Rattle.tree_core.specs.Plan.{IsQuiet};
 ghost use Rattle.tree_core.specs.Rows.{row_named, rows_of as all_rows};
 ghost use Rattle.svscan_core.specs.Table.{charts_of};
@@ -10,13 +13,14 @@ ghost use Rattle.tree_core.specs.Run.{after, outcome};
 ghost use Rattle.tree_core.specs.Step.{step_limit};
 
 use super::effect::Effect;
-use super::input::Input;
+use super::input::{Act, Input};
 use super::plan::{later, plan_step};
 use super::reply::{Refusal, Reply};
 use super::rows::{row_of, rows_of};
 use arrayvec::ArrayVec;
 use deadlines::Deadlines;
-use s6_events::{At, History, Name, NoMemory, WaitId};
+use event_directory::{Directories, Pattern, SubView};
+use s6_events::{At, History, Name, NoMemory, SubId, WaitId};
 use std::alloc::Allocator;
 use std::marker::Model;
 use supervise_core::Row;
@@ -26,7 +30,7 @@ use wait_conditions::{Standing, Waits};
 /// The most steps of a tree: 2^48.
 const STEP_LIMIT: u64 = 281_474_976_710_656;
 
-/// All services, their clock and their history: the written machine, as far as it is remembered. A tree keeps the allocator
+/// All services, waiters and event directories, their clock and their history: the written machine, as far as it is remembered. A tree keeps the allocator
 /// that it was made with. This project's own.
 #[derive(Drop)]
 pub struct Tree<A: Allocator> {
@@ -37,6 +41,7 @@ pub struct Tree<A: Allocator> {
     deadlines: Deadlines<A>,
     history: History<A>,
     waits: Waits<A>,
+    directories: Directories<Pattern, A>,
 }
 
 impl<A: Allocator> Model for Tree<A> {
@@ -64,16 +69,17 @@ impl<A: Allocator + Copy> Tree<A> {
             deadlines: Deadlines::new(alloc),
             history: History::new(alloc),
             waits: Waits::new(alloc),
+            directories: Directories::new(alloc),
         }
     }
 
-    // One step, as the definitions have it.
-    fn take_step(&mut self, input: &Input<A>, effect: &mut Effect<A>) -> Result<(), NoMemory>
+    // One step, as the definitions have it. The pattern that an act offers is taken out of it where the step is made.
+    fn take_step(&mut self, input: &mut Input<A>, effect: &mut Effect<A>) -> Result<(), NoMemory>
         ensures ok { OnOk result ((m : Machine) → StandsFor self.old m →
-            (outcome_of effect.new ≡ outcome m input.now) × StandsFor self.new (after m input.now)) }
-        ensures err { OnErr result (self.new ≡ self.old) }
+            (outcome_of effect.new ≡ outcome m input.old) × StandsFor self.new (after m input.old)) }
+        ensures err { OnErr result ((self.new ≡ self.old) × (input.new ≡ input.old)) }
         ensures spent { self.old.steps ≡ step_limit → IsOk result }
-        ensures quiet { IsQuiet input.now self.old.clock (charts_of self.old.services) → IsOk result }
+        ensures quiet { IsQuiet input.old self.old.clock (charts_of self.old.services) → IsOk result }
     {
         effect.clear();
         if self.steps == STEP_LIMIT {
@@ -85,9 +91,11 @@ impl<A: Allocator + Copy> Tree<A> {
         let due = self.deadlines.due(self.registry.allocator(), now)?;
         let registry = &mut self.registry;
         let waits = &mut self.waits;
+        let directories = &mut self.directories;
         let plan = plan_step(
             registry,
             waits,
+            directories,
             self.clock,
             self.closing,
             due.as_slice(),
@@ -103,6 +111,7 @@ impl<A: Allocator + Copy> Tree<A> {
         self.deadlines.commit(timers);
         self.history.commit(moments);
         self.waits.commit();
+        self.directories.commit(take_offer(&mut input.act));
         Ok(())
     }
 
@@ -120,7 +129,8 @@ impl<A: Allocator + Copy> Tree<A> {
         ensures spent { self.old.steps ≡ step_limit → IsOk result }
         ensures quiet { IsQuiet input self.old.clock (charts_of self.old.services) → IsOk result }
     {
-        match self.take_step(&input, effect) {
+        let mut input = input;
+        match self.take_step(&mut input, effect) {
             Ok(()) => Ok(()),
             Err(refused) => Err((input, refused)),
         }
@@ -170,10 +180,27 @@ impl<A: Allocator + Copy> Tree<A> {
         self.waits.result(id)
     }
 
+    /// What the subscription of this serial has heard, or None where there is none. Takes no memory. Page `s6-ftrig-listen1`.
+    pub fn list(&self, id: SubId) -> Option<SubView<'_>>
+        ensures { (m : Machine) → StandsFor self.now m → option_map (λ v. (v.letters.now, v.state)) result ≡ list_named finds id (directories_of m) }
+    {
+        self.directories.list(id)
+    }
+
     /// How many steps it has taken, at most 2^48.
     pub fn steps(&self) -> u64
         ensures { (m : Machine) → StandsFor self.now m → result ≡ m.steps }
     {
         self.steps
+    }
+}
+
+// The pattern that an act offers to the event directories, and whether it is to repeat.
+fn take_offer<A: Allocator>(act: &mut Act<A>) -> Option<(Pattern, bool)>
+    ensures { option_map (λ o. (o.0, o.1)) result ≡ offer_of act.old }
+{
+    match std::mem::replace(act, Act::Tick) {
+        Act::Subscribe(_, pattern, repeats) => Some((pattern, repeats)),
+        _ => None,
     }
 }

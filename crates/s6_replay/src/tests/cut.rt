@@ -50,7 +50,7 @@ fn replay_of_failing_reader(
     };
     let mut reader = BufReader::new(alloc, fake)?;
     let mut written = Vec::new(alloc);
-    let answer = run(alloc, &mut reader, &mut written);
+    let answer = run(alloc, alloc, &mut reader, &mut written);
     Ok((answer.err(), count_blocks(&BLOCKS, written.as_slice())))
 }
 
@@ -88,7 +88,7 @@ fn check_failing_writer(
         room,
         fails,
     };
-    let fault = run(alloc, &mut reader, &mut writer).err();
+    let fault = run(alloc, alloc, &mut reader, &mut writer).err();
     let taken = writer.taken.as_slice();
     assert!(rt;
         fault == wanted && taken.len() == room && whole.as_slice().starts_with(taken),

@@ -100,3 +100,31 @@ fn many_inputs_are_read(rt: HostRuntime) -> Result<(), Fail> {
     );
     Ok(())
 }
+
+const SUBSCRIBE: &[u8] = b"0 1 subscribe dir q once z\n";
+
+// The worked row `two-hundred-fifty-seventh-subscription`.
+#[test]
+fn one_subscription_more_than_may_stand(rt: HostRuntime) -> Result<(), Fail> {
+    let mut script = Vec::from_slice(rt.alloc(), HEAD)?;
+    let mut blocks = Vec::from_slice(rt.alloc(), b"1 done\n")?;
+    script.extend_from_slice(b"0 1 mkdir q\n")?;
+    for serial in 1..257u32 {
+        script.extend_from_slice(SUBSCRIBE)?;
+        let number = serial + 1;
+        let block = format!(in rt.alloc(); "{number} sub {serial}\n")?;
+        blocks.extend_from_slice(block.as_bytes())?;
+    }
+    script.extend_from_slice(SUBSCRIBE)?;
+    blocks.extend_from_slice(b"258 refused TooMany\n")?;
+    let counts = Ok((258, 0, 0));
+    check_replay(
+        &rt,
+        rt.alloc(),
+        script.as_slice(),
+        counts,
+        blocks.as_slice(),
+        "257 subscriptions",
+    );
+    Ok(())
+}

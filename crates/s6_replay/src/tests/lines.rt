@@ -1,14 +1,14 @@
 //! Which lines are inputs, and which input they are.
 use crate::{LineFault, ReplayFault, parse_line};
 use servicedir::Config;
-use std::alloc::{Allocator, Global};
+use std::alloc::Global;
 use std::process::Abort;
 use std::test::Fail;
 use tree_core::{Act, Entry};
 
 // A line is an input, or is none for this fault.
 fn check_line(rt: &impl Abort, alloc: Global, line: &[u8], wanted: Option<LineFault>) {
-    assert_eq!(rt; parse_line(alloc, line).err(), wanted, "{line:?}");
+    assert_eq!(rt; parse_line(alloc, alloc, line).err(), wanted, "{line:?}");
 }
 
 #[test]
@@ -118,6 +118,28 @@ fn lines_that_spell_no_input(rt: HostRuntime) {
         b"0 1 cancel 01",
         b"0 1 cancel 18446744073709551616",
         b"0 1 cancel 1 2",
+        b"0 1 subscribe svc web once",
+        b"0 1 subscribe svc web once ",
+        b"0 1 subscribe web once u",
+        b"0 1 subscribe svc web twice u",
+        b"0 1 subscribe dir q once a\tb",
+        b"0 1 subscribe dir q once \x7f",
+        b"0 1 subscribe dir q once \xc3\xa9",
+        b"0 1 subscribe dir q once \xff",
+        b"0 1 subscribe dir .q once (",
+        b"00 1 subscribe dir q once (",
+        b"0 1 subscribe dir q once aaaaaaaaaaaaaaaaaaaaaaaaaaaaaaaaaaaaaaaaaaaaaaaaaaaaaaaaaaaaaaaaaaaaaaaaaaaaaaaaaaaaaaaaaaaaaaaaaaaaaaaaaaaaaaaaaaaaaaaaaaaaaaaaaaaaaaaaaaaaaaaaaaaaaaaaaaaaaaaaaaaaaaaaaaaaaaaaaaaaaaaaaaaaaaaaaaaaaaaaaaaaaaaaaaaaaaaaaaaaaaaaaaaaaaaaaaaaaaaaaaaaaaaaaaaaaaaaa",
+        b"0 1 unsubscribe",
+        b"0 1 unsubscribe 01",
+        b"0 1 unsubscribe 18446744073709551616",
+        b"0 1 send dir q",
+        b"0 1 send dir q ",
+        b"0 1 send dir q a b",
+        b"0 1 send q a",
+        b"0 1 send svc web sssssssssssssssssssssssssssssssssssssssssssssssssssssssssssssssss",
+        b"0 1 mkdir",
+        b"0 1 mkdir .q",
+        b"0 1 mkdir q q",
         b"0 1 permafailon web 1 1",
         b"0 1 permafailon web 1 1 ",
         b"0 1 permafailon .web 1 1 1",
@@ -164,6 +186,13 @@ fn lines_that_spell_an_input(rt: HostRuntime) {
         b"0 1 wait r a 1 web",
         b"0 1 wait R o 4294967295 web web log",
         b"0 1 cancel 18446744073709551615",
+        b"0 1 subscribe svc web once u",
+        b"0 1 subscribe dir q repeat  a  b ",
+        b"0 1 subscribe dir q once aaaaaaaaaaaaaaaaaaaaaaaaaaaaaaaaaaaaaaaaaaaaaaaaaaaaaaaaaaaaaaaaaaaaaaaaaaaaaaaaaaaaaaaaaaaaaaaaaaaaaaaaaaaaaaaaaaaaaaaaaaaaaaaaaaaaaaaaaaaaaaaaaaaaaaaaaaaaaaaaaaaaaaaaaaaaaaaaaaaaaaaaaaaaaaaaaaaaaaaaaaaaaaaaaaaaaaaaaaaaaaaaaaaaaaaaaaaaaaaaaaaaaaaaaaaaaaaa",
+        b"0 1 unsubscribe 18446744073709551615",
+        b"0 1 send svc web u",
+        b"0 1 send dir q ssssssssssssssssssssssssssssssssssssssssssssssssssssssssssssssss",
+        b"0 1 mkdir q",
         b"0 1 permafailon web 0 0 0",
         b"0 1 permafailon web 4294967295 4294967295 255,0-255,7-7,SIGHUP,SIGSTKFLT,SIGSYS",
         b"0 1 permafailon web 1 1 0,1,2,3,4,5,6,7,8,9,10,11,12,13,14,15,16,17,18,19,20,21,22,23,24,25,26,27,28,29,30,31",
@@ -179,9 +208,19 @@ fn lines_that_spell_an_input(rt: HostRuntime) {
     }
 }
 
+#[test]
+fn a_line_whose_pattern_is_refused(rt: HostRuntime) {
+    for line in [
+        b"0 1 subscribe dir q once (".as_slice(),
+        b"0 1 subscribe svc web repeat a b[",
+    ] {
+        check_line(&rt, rt.alloc(), line, Some(LineFault::Pattern));
+    }
+}
+
 // The first entry of a scan that this line spells.
-fn first_entry<A: Allocator + Copy>(alloc: A, line: &[u8]) -> Result<Entry, Fail> {
-    let input = parse_line(alloc, line).ok().ok_or("an input")?;
+fn first_entry(alloc: Global, line: &[u8]) -> Result<Entry, Fail> {
+    let input = parse_line(alloc, alloc, line).ok().ok_or("an input")?;
     let Act::Scan(listing) = &input.act else {
         return Err("a scan".into());
     };

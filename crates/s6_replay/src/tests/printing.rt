@@ -161,3 +161,9 @@ fn refusals_have_their_names(rt: HostRuntime) {
         check_block(&rt, rt.alloc(), 1, &made, text);
     }
 }
+
+#[test]
+fn a_subscription_is_answered_by_its_serial(rt: HostRuntime) {
+    let made = reply_alone(rt.alloc(), Reply::Subscription(SubId(7)));
+    check_block(&rt, rt.alloc(), 3, &made, "3 sub 7\n");
+}

@@ -54,6 +54,30 @@ const WAIT_BLOCKS: [&str; 5] = [
     "5 done\n",
 ];
 
+// The worked row `free-directory-and-its-refusals`.
+const FREE: &str =
+    "s6-script 1\n0 1 mkdir q\n0 1 subscribe dir q once b$\n0 1 send dir q abc\n0 1 send svc q u\n0 1 mkdir q\n";
+
+const FREE_BLOCKS: [&str; 5] = [
+    "1 done\n",
+    "2 sub 1\n",
+    "3 done\nm 1 b\n",
+    "4 refused Reserved\n",
+    "5 refused Exists\n",
+];
+
+// Inputs before a pattern that is refused.
+const PATTERN: &str =
+    "s6-script 1\n0 1 scan web\n0 1 started 1 1 5\n0 1 wait D a 0 web\n5 1 cancel 1\n5 1 cancel 1\n5 1 subscribe svc web once a (\n";
+
+const PATTERN_BLOCKS: [&str; 5] = [
+    "1 scanned +1:web\ne 1 s\no run 1 1\n",
+    "2 done\ne 1 u\n",
+    "3 wait 1\n",
+    "4 done\n",
+    "5 refused NoSuch\n",
+];
+
 // What a replay on a heap of so many bytes answers, and how many whole blocks it writes.
 fn replay_on_heap(
     alloc: Global,
@@ -64,17 +88,18 @@ fn replay_on_heap(
     let heap = LocalHeap::new(alloc, bytes)?;
     let mut reader = script.as_bytes();
     let mut written = Vec::new(alloc);
-    let answer = run(&heap, &mut reader, &mut written);
+    let answer = run(&heap, alloc, &mut reader, &mut written);
     Ok((answer.err(), count_blocks(blocks, written.as_slice())))
 }
 
-// On heaps of a growing size each growth is the first one refused: some replays are done, some stop before their first block, and
-// each of the others stops between two blocks.
+// On heaps of a growing size each growth is the first one refused: some replays come to their end, which is this fault or none, some
+// stop before their first block, and each of the others stops between two blocks.
 fn refuse_in_turn(
     rt: &impl Abort,
     alloc: Global,
     script: &str,
     blocks: &[&str],
+    end: Option<ReplayFault>,
 ) -> Result<(), Fail> {
     let mut done = 0u32;
     let mut stopped = 0u32;
@@ -83,7 +108,7 @@ fn refuse_in_turn(
             break;
         }
         match replay_on_heap(alloc, script, blocks, 16 * step)? {
-            (None, Some(5)) => done = done.saturating_add(1),
+            (fault, Some(5)) if fault == end => done = done.saturating_add(1),
             (Some(ReplayFault::NoMemory), Some(0)) => stopped = stopped.saturating_add(1),
             (Some(ReplayFault::NoMemory), Some(_)) => {}
             _ => return Err("neither whole nor refused".into()),
@@ -96,14 +121,16 @@ fn refuse_in_turn(
 #[test]
 fn each_growth_is_refused_in_turn(rt: HostRuntime) -> Result<(), Fail> {
     let scripts = [
-        (SCRIPT, BLOCKS),
-        (LETTERS, LETTERS_BLOCKS),
-        (FINISH, FINISH_BLOCKS),
-        (TALLY, TALLY_BLOCKS),
-        (WAIT, WAIT_BLOCKS),
+        (SCRIPT, BLOCKS, None),
+        (LETTERS, LETTERS_BLOCKS, None),
+        (FINISH, FINISH_BLOCKS, None),
+        (TALLY, TALLY_BLOCKS, None),
+        (WAIT, WAIT_BLOCKS, None),
+        (FREE, FREE_BLOCKS, None),
+        (PATTERN, PATTERN_BLOCKS, Some(ReplayFault::Pattern(7))),
     ];
-    for (script, blocks) in scripts {
-        refuse_in_turn(&rt, rt.alloc(), script, &blocks)?;
+    for (script, blocks, end) in scripts {
+        refuse_in_turn(&rt, rt.alloc(), script, &blocks, end)?;
     }
     Ok(())
 }
@@ -117,7 +144,7 @@ fn refuse_line_in_turn(rt: &impl Abort, alloc: Global, line: &[u8]) -> Result<()
             break;
         }
         let heap = LocalHeap::new(alloc, 16 * step)?;
-        match parse_line(&heap, line).err() {
+        match parse_line(&heap, alloc, line).err() {
             None => done = done.saturating_add(1),
             Some(LineFault::NoMemory) => refused = refused.saturating_add(1),
             Some(_) => return Err("no fault of the line".into()),
@@ -132,5 +159,7 @@ fn a_line_without_memory(rt: HostRuntime) -> Result<(), Fail> {
     refuse_line_in_turn(&rt, rt.alloc(), b"0 1 scan web:finish,kill=7 other")?;
     refuse_line_in_turn(&rt, rt.alloc(), b"0 1 notify 1 1 0a0a")?;
     refuse_line_in_turn(&rt, rt.alloc(), b"0 1 permafailon web 1 1 1-2,SIGHUP")?;
-    refuse_line_in_turn(&rt, rt.alloc(), b"0 1 wait U o 9 web log")
+    refuse_line_in_turn(&rt, rt.alloc(), b"0 1 wait U o 9 web log")?;
+    refuse_line_in_turn(&rt, rt.alloc(), b"0 1 subscribe dir q repeat u.*u d")?;
+    refuse_line_in_turn(&rt, rt.alloc(), b"0 1 send dir q ud")
 }

@@ -30,6 +30,24 @@ const ROWS: &[Row] = &[
         answer: Ok((14, 14, 6)),
     },
     Row {
+        name: "free-directory-and-its-refusals",
+        script: "s6-script 1\n0 1 mkdir q\n0 1 subscribe dir q once b$\n0 1 send dir q abc\n0 1 send svc q u\n0 1 mkdir q\n",
+        transcript: "1 done\n2 sub 1\n3 done\nm 1 b\n4 refused Reserved\n5 refused Exists\n",
+        answer: Ok((5, 0, 0)),
+    },
+    Row {
+        name: "repeating-pattern-begins-a-new-text",
+        script: "s6-script 1\n0 1 scan web\n0 1 subscribe svc web repeat u.*u\n0 1 started 1 1 5\n10 1 death 1 1 code 0\n1010 1 started 1 2 5\n1020 1 death 1 2 code 0\n2020 1 started 1 3 5\n2030 1 death 1 3 code 0\n3030 1 started 1 4 5\n",
+        transcript: "1 scanned +1:web\ne 1 s\no run 1 1\n2 sub 1\n3 done\ne 1 u\n4 done\ne 1 d\ne 1 D\n5 done\ne 1 u\no run 1 2\nm 1 u\n6 done\ne 1 d\ne 1 D\n7 done\ne 1 u\no run 1 3\n8 done\ne 1 d\ne 1 D\n9 done\ne 1 u\no run 1 4\nm 1 u\n",
+        answer: Ok((9, 11, 4)),
+    },
+    Row {
+        name: "two-subscriptions-over-one-text-until-one-ends",
+        script: "s6-script 1\n0 1 mkdir q\n0 1 subscribe dir q repeat ab\n0 1 send dir q a\n0 1 subscribe dir q repeat b\n0 1 send dir q bab\n0 1 unsubscribe 1\n0 1 unsubscribe 1\n0 1 send dir q b\n",
+        transcript: "1 done\n2 sub 1\n3 done\n4 sub 2\n5 done\nm 1 b\nm 2 b\nm 1 b\nm 2 b\n6 done\n7 refused NoSuch\n8 done\nm 2 b\n",
+        answer: Ok((8, 0, 0)),
+    },
+    Row {
         name: "timer-past-the-greatest-moment",
         script: "s6-script 1\n0 1 scan web\n0 1 started 1 1 500\n999999999999500 1 death 1 1 code 0\n1000000000000000 1 tick\n1000000000000000 1 svc web u\n",
         transcript: "1 scanned +1:web\ne 1 s\no run 1 1\n2 done\ne 1 u\n3 done\ne 1 d\ne 1 D\n4 done\n5 done\no run 1 2\n",
@@ -227,6 +245,12 @@ const ROWS: &[Row] = &[
         answer: Ok((4, 2, 1)),
     },
     Row {
+        name: "pattern-that-does-not-build",
+        script: "s6-script 1\n0 1 subscribe dir q once (\n",
+        transcript: "",
+        answer: Err(ReplayFault::Pattern(2)),
+    },
+    Row {
         name: "line with a byte zero",
         script: "s6-script 1\n0 1 tick\n0 1 ti\0ck\n",
         transcript: "1 done\n",
@@ -236,6 +260,28 @@ const ROWS: &[Row] = &[
 
 // Scripts without fault, each with its name and what its transcript ends with, the newline before it included.
 const ENDS: &[(&str, &str, &str)] = &[
+    (
+        "overlong-text-ends-a-subscription",
+        "s6-script 1\n0 1 mkdir q\n0 1 subscribe dir q once z\n\
+        0 1 send dir q aaaaaaaaaaaaaaaaaaaaaaaaaaaaaaaaaaaaaaaaaaaaaaaaaaaaaaaaaaaaaaaa\n\
+        0 1 send dir q aaaaaaaaaaaaaaaaaaaaaaaaaaaaaaaaaaaaaaaaaaaaaaaaaaaaaaaaaaaaaaaa\n\
+        0 1 send dir q aaaaaaaaaaaaaaaaaaaaaaaaaaaaaaaaaaaaaaaaaaaaaaaaaaaaaaaaaaaaaaaa\n\
+        0 1 send dir q aaaaaaaaaaaaaaaaaaaaaaaaaaaaaaaaaaaaaaaaaaaaaaaaaaaaaaaaaaaaaaaa\n\
+        0 1 send dir q aaaaaaaaaaaaaaaaaaaaaaaaaaaaaaaaaaaaaaaaaaaaaaaaaaaaaaaaaaaaaaaa\n\
+        0 1 send dir q aaaaaaaaaaaaaaaaaaaaaaaaaaaaaaaaaaaaaaaaaaaaaaaaaaaaaaaaaaaaaaaa\n\
+        0 1 send dir q aaaaaaaaaaaaaaaaaaaaaaaaaaaaaaaaaaaaaaaaaaaaaaaaaaaaaaaaaaaaaaaa\n\
+        0 1 send dir q aaaaaaaaaaaaaaaaaaaaaaaaaaaaaaaaaaaaaaaaaaaaaaaaaaaaaaaaaaaaaaaa\n\
+        0 1 send dir q aaaaaaaaaaaaaaaaaaaaaaaaaaaaaaaaaaaaaaaaaaaaaaaaaaaaaaaaaaaaaaaa\n\
+        0 1 send dir q aaaaaaaaaaaaaaaaaaaaaaaaaaaaaaaaaaaaaaaaaaaaaaaaaaaaaaaaaaaaaaaa\n\
+        0 1 send dir q aaaaaaaaaaaaaaaaaaaaaaaaaaaaaaaaaaaaaaaaaaaaaaaaaaaaaaaaaaaaaaaa\n\
+        0 1 send dir q aaaaaaaaaaaaaaaaaaaaaaaaaaaaaaaaaaaaaaaaaaaaaaaaaaaaaaaaaaaaaaaa\n\
+        0 1 send dir q aaaaaaaaaaaaaaaaaaaaaaaaaaaaaaaaaaaaaaaaaaaaaaaaaaaaaaaaaaaaaaaa\n\
+        0 1 send dir q aaaaaaaaaaaaaaaaaaaaaaaaaaaaaaaaaaaaaaaaaaaaaaaaaaaaaaaaaaaaaaaa\n\
+        0 1 send dir q aaaaaaaaaaaaaaaaaaaaaaaaaaaaaaaaaaaaaaaaaaaaaaaaaaaaaaaaaaaaaaaa\n\
+        0 1 send dir q aaaaaaaaaaaaaaaaaaaaaaaaaaaaaaaaaaaaaaaaaaaaaaaaaaaaaaaaaaaaaaaa\n\
+        0 1 send dir q z\n",
+        "\n18 done\n19 done\nm 1 overlong\n",
+    ),
     (
         "ready-for-exactly-a-second-pauses",
         "s6-script 1\n0 1 scan web:notify=3\n0 1 started 1 1 500\n100 1 notify 1 1 610a0a\n1100 1 death 1 1 code 0\n2099 1 tick\n2100 1 tick\n",

@@ -3,12 +3,12 @@ use Rattle.std.proofs.KnownBytes.{Consumes-trans}
 use Rattle.s6_replay.proofs.HeadRead.{one_byte}
 use Rattle.s6_replay.proofs.line.read_line.Goals as goal
 
-pub returns-in-Ok-read-clause-ok : goal.returns-in-Ok-read-clause-ok
-returns-in-Ok-read-clause-ok g c = (
-  c.loop.invariant.plain,
-  omega arith,
+pub returns-in-Ok-clause-ok : goal.returns-in-Ok-clause-ok
+returns-in-Ok-clause-ok g c = (
+  c.loop-reader.invariant.part.plain,
+  omega (arith, c.loop-reader.invariant.part.within),
   (
-    get_or c.read-2.new.buf 0 0,
-    Consumes-trans _ _ _ _ _ c.loop.invariant.consumed (rw (one_byte c.read-2.new.buf c.in-Ok-read.field-0 (omega arith) (omega arith)) at c.in-Ok-read.ensures.bytes.0),
+    get_or c.read.new.buf 0 0,
+    Consumes-trans _ _ _ _ _ c.loop-reader.invariant.consumed (rw (one_byte c.read.new.buf c.in-Ok.field-0 (omega arith) (omega arith)) at c.in-Ok.ensures.bytes.0),
   ),
 )

@@ -1,4 +1,4 @@
-use Rattle.std.proofs.Common.{◌≡◌, ◌∙◌, ◌+◌, ap, sym}
+use Rattle.std.proofs.Common.{◌∙◌, ◌+◌, ap, sym}
 use Rattle.svscan_core.specs.Table.{charts_of}
 use Rattle.tree_core.proofs.Naming.{more_named, more_serials}
 use Rattle.tree_core.proofs.choice.serials_of.Goals as goal

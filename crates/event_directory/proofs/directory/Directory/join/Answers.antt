@@ -1,9 +1,6 @@
-use Rattle.std.proofs.Common.{refl}
-use Rattle.std.proofs.lemmas.List.{map-append}
 use Rattle.event_directory.proofs.Sends.{hears_joined}
 use Rattle.event_directory.proofs.directory.Directory.join.Goals as goal
 
 pub returns-clause-hears : goal.returns-clause-hears
 returns-clause-hears g c =
-    hears_joined g.F.Finds.test c.args.self.now.standing _ c.args.id (g.F.Finds.source c.args.pattern) c.args.repeats c.requires.greater
-    (rw (c.push_reserved.ensures.items, map-append, c.new.ensures, ← c.self.view_is) refl)
+    hears_joined g.F.Finds.test c.args.self.now.standing _ c.args.id (g.F.Finds.source c.args.pattern) c.args.repeats c.requires.greater c.take_in.ensures

@@ -1,9 +1,11 @@
 use Rattle.std.proofs.Common.{arith, ◌≡◌, ◌∙◌, ◌+◌, ◌<◌, refl, ap, sym, subst, ◌++◌, List}
 use Rattle.deadlines.specs.declared.timer.Timer.{Timer}
 use Rattle.deadlines.specs.Timers.{changed_all}
+use Rattle.event_directory.specs.Remembered.{Shown as HeardBy, committed}
 use Rattle.svscan_core.specs.Table.{Table, charts_of}
 use Rattle.svscan_core.specs.Timers.{TimersAgree}
 use Rattle.wait_conditions.specs.Stands.{Shown}
+use Rattle.tree_core.specs.Acts.{offer_of}
 use Rattle.tree_core.specs.Machine.{Machine}
 use Rattle.tree_core.specs.Sound.{IsCounted}
 use Rattle.tree_core.specs.Run.{after}
@@ -57,7 +59,7 @@ returns-clause-ok g c = λ m s.
     c.commit-3.ensures.kept
     ∙ (ap (λ k. k ++ c.in_ok-moments.moments) c.in_ok-moments.ensures.kept
     ∙ ap (λ ms. t.kept ++ ms) (c.in_ok-moments.ensures.ok ∙ c.as_slice-2.ensures.value)) in
-    stands_after t _ c.args.input.now c.in_ok-plan.plan prepared c.plan_step.new.waits.prepared c.plan_step.new.effect (c.in_ok-plan.ensures.step c.self.inside.steps left)
+    stands_after t _ c.args.input.now c.in_ok-plan.plan prepared c.plan_step.new.waits.prepared c.plan_step.new.directories.prepared c.plan_step.new.effect (c.in_ok-plan.ensures.step c.self.inside.steps left)
     (record {
       clock = refl;
       steps = refl;
@@ -67,6 +69,7 @@ returns-clause-ok g c = λ m s.
       forgotten = forgotten;
       kept = kept;
       waits = c.commit-4.ensures.shown;
+      directories = c.commit-5.ensures.after ∙ ap (committed c.plan_step.new.directories.prepared) c.take_offer.ensures;
     })
     m (subst (λ (x : Stored). StandsFor x m) (sym c.self.view_is) s)
 
@@ -83,21 +86,25 @@ invariant_of-self-2 g c =
     c.commit-3.ensures.kept
     ∙ (ap (λ k. k ++ c.in_ok-moments.moments) c.in_ok-moments.ensures.kept
     ∙ ap (λ ms. t.kept ++ ms) (c.in_ok-moments.ensures.ok ∙ c.as_slice-2.ensures.value)) in
+    let offer = offer_of c.args.input.now.act in
+    let heard : c.commit-5.new.self.shown ≡ committed c.plan_step.new.directories.prepared offer =
+    c.commit-5.ensures.after ∙ ap (committed c.plan_step.new.directories.prepared) c.take_offer.ensures in
     let m : Machine = c.self.invariant.3.0 in
     let s : StandsFor t m = c.self.invariant.3.1 in
     let timers : c.commit-2.new.self.timers ≡ changed_all c.in_ok-plan.plan.timers.items c.self.inside.deadlines.timers =
     c.commit-2.ensures ∙ (λ i. changed_all ((c.in_ok-timers.ensures.ok ∙ c.as_slice-3.ensures.value) i) (c.in_ok-timers.ensures.timers i)) in (
-      subst (λ (x : Shown). IsCounted (c.self.inside.steps + 1) c.commit.new.self.shown.next_sid x.next (charts_of c.commit.new.self.shown.services)) (sym c.commit-4.ensures.shown)
-          (subst (λ (x : Table). IsCounted (c.self.inside.steps + 1) x.next_sid c.plan_step.new.waits.prepared.next (charts_of x.services)) (sym shown)
-          (counted_after c.self.inside.steps c.self.inside.registry.shown.next_sid prepared.next_sid c.self.inside.waits.next c.plan_step.new.waits.prepared.next (charts_of c.self.inside.registry.shown.services) (charts_of prepared.services)
-          counted left c.in_ok-plan.ensures.next c.in_ok-plan.ensures.waiters c.in_ok-plan.ensures.grows)),
+      subst (λ (x : Shown). IsCounted (c.self.inside.steps + 1) c.commit.new.self.shown.next_sid x.next c.commit-5.new.self.shown.next (charts_of c.commit.new.self.shown.services)) (sym c.commit-4.ensures.shown)
+          (subst (λ (x : HeardBy). IsCounted (c.self.inside.steps + 1) c.commit.new.self.shown.next_sid c.plan_step.new.waits.prepared.next x.next (charts_of c.commit.new.self.shown.services)) (sym heard)
+          (subst (λ (x : Table). IsCounted (c.self.inside.steps + 1) x.next_sid c.plan_step.new.waits.prepared.next (committed c.plan_step.new.directories.prepared offer).next (charts_of x.services)) (sym shown)
+          (counted_after c.self.inside.steps c.self.inside.registry.shown.next_sid prepared.next_sid c.self.inside.waits.next c.plan_step.new.waits.prepared.next c.self.inside.directories.shown.next (committed c.plan_step.new.directories.prepared offer).next (charts_of c.self.inside.registry.shown.services) (charts_of prepared.services)
+          counted left c.in_ok-plan.ensures.next c.in_ok-plan.ensures.waiters (c.in_ok-plan.ensures.subscriptions offer) c.in_ok-plan.ensures.grows))),
       recorded_after t c.in_ok-plan.plan _ _ c.self.invariant.1 c.in_ok-plan.ensures.count forgotten kept,
       subst (λ (ts : List Timer). TimersAgree ts (charts_of c.commit.new.self.shown.services)) (sym timers)
           (subst (λ (x : Table). TimersAgree (changed_all c.in_ok-plan.plan.timers.items c.self.inside.deadlines.timers) (charts_of x.services)) (sym shown)
           (c.in_ok-plan.ensures.timers c.self.inside.deadlines.timers c.self.invariant.2)),
       (
         after m c.args.input.now,
-        (stands_after t _ c.args.input.now c.in_ok-plan.plan prepared c.plan_step.new.waits.prepared c.plan_step.new.effect (c.in_ok-plan.ensures.step c.self.inside.steps left)
-            (record { clock = refl; steps = refl; closing = refl; services = ap (λ (x : Table). x.services) shown; next_sid = ap (λ (x : Table). x.next_sid) shown; forgotten = forgotten; kept = kept; waits = c.commit-4.ensures.shown }) m s).1,
+        (stands_after t _ c.args.input.now c.in_ok-plan.plan prepared c.plan_step.new.waits.prepared c.plan_step.new.directories.prepared c.plan_step.new.effect (c.in_ok-plan.ensures.step c.self.inside.steps left)
+            (record { clock = refl; steps = refl; closing = refl; services = ap (λ (x : Table). x.services) shown; next_sid = ap (λ (x : Table). x.next_sid) shown; forgotten = forgotten; kept = kept; waits = c.commit-4.ensures.shown; directories = heard }) m s).1,
       ),
     )

@@ -1,0 +1,6 @@
+use Rattle.event_directory.proofs.Changed.{still_by_room}
+use Rattle.event_directory.proofs.register.Register.hear_moments.Goals as goal
+
+pub invariant_of-self : goal.invariant_of-self
+invariant_of-self g c =
+    still_by_room c.self.inside.listened c.hear_moments.new.listened (rw c.deref_mut.ensures.value at c.hear_moments.ensures.rooms) c.self.invariant

@@ -1,0 +1,161 @@
+//! All event directories of a tree.
+ghost use Rattle.std.specs.Prelude.{◌≡◌, ◌≤◌, ◌<◌, ◌+◌, ◌^◌, ◌++◌, [], IfOk, IsOkAnd, OnOk, OnErr, true, option_map};
+ghost use Rattle.event_directory.specs.Changes.{Offer, asked_by, matches_of, answer_to, after_change};
+ghost use Rattle.event_directory.specs.Changes.Change.{leave};
+ghost use Rattle.event_directory.specs.Directories.{Directories as WrittenDirectories, new_directories, list_named, matches_by, after_moments};
+ghost use Rattle.event_directory.specs.Hearing.{hits_of_moments};
+ghost use Rattle.event_directory.specs.Register.{prepared_change, given_change, told_change, after_step, view_in};
+ghost use Rattle.event_directory.specs.Remembered.{AreHeard, committed, unplanned};
+ghost use Rattle.event_directory.specs.declared.directory_change.DirectoryAnswer.TheVariants as answer;
+
+use crate::directory_change::{DirectoryAnswer, DirectoryChange};
+use crate::directory_plan::DirectoryPlan;
+use crate::finds::Finds;
+use crate::pending::Pending;
+use crate::register::Register;
+use crate::step::{finish_step, work_out};
+use crate::sub_view::SubView;
+use s6_events::{Moment, NoMemory, SubId};
+use std::alloc::Allocator;
+use std::marker::Model;
+
+/// All event directories of a tree: the free ones by name, at most 256, and at most 256 subscriptions to them and to services.
+/// Pages `fifodir`, `s6-mkfifodir`, `s6-ftrig-listen1` and `s6-ftrig-notify`; the limits, and that all is remembered in memory and
+/// not in folders of pipes, are this project's own.
+///
+/// A step is worked out first (`prepare`), which changes nothing that is shown, and then made (`commit`), which takes no memory.
+#[derive(Drop)]
+pub struct Directories<F: Finds, A: Allocator> {
+    register: Register<F, A>,
+    // Whether the letters of a step are prepared in it.
+    is_prepared: bool,
+    pending: Pending<F, A>,
+}
+
+impl<F: Finds, A: Allocator> Model for Directories<F, A> {
+    ghost use Rattle.std.specs.Prelude.{if◌then◌else◌};
+    ghost use Rattle.event_directory.specs.Register.{shown_in, prepared_in, pended, HasRoom};
+    ghost use Rattle.event_directory.specs.Remembered.{Remembered};
+
+    ghost Value = { Remembered };
+
+    ghost view = { λ d. record {
+      shown = shown_in d.register;
+      prepared = pended d.pending (if d.is_prepared then prepared_in d.register else shown_in d.register);
+    } };
+
+    ghost invariant = { λ d. HasRoom d.pending d.register };
+}
+
+impl<F: Finds, A: Allocator + Copy> Directories<F, A> {
+    /// No directory, and no subscription. Takes no memory, and keeps the allocator.
+    pub fn new(alloc: A) -> Directories<F, A>
+        ensures empty { AreHeard F.test result.shown new_directories }
+        ensures serials { result.shown.next ≡ 1 }
+        ensures idle { result.prepared ≡ unplanned result.shown }
+    {
+        Directories {
+            register: Register::new(alloc),
+            is_prepared: false,
+            pending: Pending::Nothing,
+        }
+    }
+
+    /// What the subscription of this serial has heard, or None where there is none. Takes no memory. Page `s6-ftrig-listen1`.
+    pub fn list(&self, id: SubId) -> Option<SubView<'_>>
+        ensures { (d : WrittenDirectories) → AreHeard F.test self.now.shown d →
+            option_map (λ v. (v.letters.now, v.state)) result ≡ list_named F.test id d }
+    {
+        self.stored_list(id)
+    }
+
+    // `list`, by what is stored alone.
+    fn stored_list(&self, id: SubId) -> Option<SubView<'_>>
+        ensures { option_map (λ v. (v.letters.now, v.state)) result ≡ view_in id self.now.shown }
+    {
+        self.register.list(id)
+    }
+
+    /// Works out a step: its moments in order, and then one change. Each subscription of a service sees the letters that its
+    /// supervisor told in these moments; each of a free directory the letters of a message to it. A new subscription sees what
+    /// comes after the step. Nothing that is shown changes, and what was prepared before is forgotten.
+    ///
+    /// A change may be refused, as the answer says: Exists where a free directory has the name that is to be made; TooMany where
+    /// 256 free directories, or 256 subscriptions, stand already; NoSuch where the free directory that is named, or the
+    /// subscription, does not stand. Then the moments alone are heard.
+    ///
+    /// The next serial is below 2^63. NoMemory where a growth was refused; then nothing is prepared. A step that does nothing takes no memory, and gives nothing.
+    /// Pages `s6-mkfifodir`, `s6-ftrig-notify` and `s6-ftrig-listen1`; the order of a step is this project's own.
+    pub fn prepare(
+        &mut self,
+        moments: &[Moment],
+        change: &DirectoryChange<'_>,
+    ) -> Result<DirectoryPlan<A>, NoMemory>
+        requires { self.old.shown.next < 2 ^ 63 }
+        ensures matches { IfOk result (λ plan. (d : WrittenDirectories) → AreHeard F.test self.old.shown d →
+            plan.matches.items ≡ matches_by F.test d moments.now ++ matches_of F.test (asked_by change.now) (after_moments d moments.now)) }
+        ensures answer { IfOk result (λ plan. (d : WrittenDirectories) → AreHeard F.test self.old.shown d →
+            plan.answer ≡ answer_to (asked_by change.now) (after_moments d moments.now)) }
+        ensures prepared { OnOk result ((offer : Offer) → (d : WrittenDirectories) → AreHeard F.test self.old.shown d →
+            AreHeard F.test (committed self.new.prepared offer) (after_change (asked_by change.now) offer (after_moments d moments.now))) }
+        ensures serials { OnOk result ((offer : Offer) → (committed self.new.prepared offer).next ≤ self.old.shown.next + 1) }
+        ensures shown { self.new.shown ≡ self.old.shown }
+        ensures idle { OnErr result (self.new.prepared ≡ unplanned self.old.shown) }
+        ensures quiet { moments.now ≡ [] → asked_by change.now ≡ leave → IsOkAnd result (λ plan. (plan.matches.items ≡ []) × (plan.answer ≡ answer.Done)) }
+    {
+        let plan = self.prepare_stored(moments, change)?;
+        Ok(plan)
+    }
+
+    // `prepare`, by what is stored alone.
+    fn prepare_stored(
+        &mut self,
+        moments: &[Moment],
+        change: &DirectoryChange<'_>,
+    ) -> Result<DirectoryPlan<A>, NoMemory>
+        requires { self.old.shown.next < 2 ^ 63 }
+        ensures matches { IfOk result (λ plan. plan.matches.items ≡ hits_of_moments F.test moments.now self.old.shown.followed
+            ++ given_change F.test (asked_by change.now) (after_step F.test moments.now self.old.shown)) }
+        ensures answer { IfOk result (λ plan. plan.answer ≡ told_change (asked_by change.now) (after_step F.test moments.now self.old.shown)) }
+        ensures prepared { OnOk result (self.new.prepared ≡ prepared_change F.test (asked_by change.now) (after_step F.test moments.now self.old.shown)) }
+        ensures shown { self.new.shown ≡ self.old.shown }
+        ensures idle { OnErr result (self.new.prepared ≡ unplanned self.old.shown) }
+        ensures quiet { moments.now ≡ [] → asked_by change.now ≡ leave → IsOkAnd result (λ plan. (plan.matches.items ≡ []) × (plan.answer ≡ answer.Done)) }
+    {
+        let mut matches = Vec::new(self.register.allocator());
+        self.pending = Pending::Nothing;
+        self.is_prepared = false;
+        if moments.is_empty() && asks_nothing(change) {
+            return Ok(DirectoryPlan {
+                matches,
+                answer: DirectoryAnswer::Done,
+            });
+        }
+        let (pending, answer) = work_out(&mut self.register, moments, change, &mut matches)?;
+        self.is_prepared = true;
+        self.pending = pending;
+        Ok(DirectoryPlan { matches, answer })
+    }
+
+    /// Makes the step that was prepared: what it gives is in its plan. A subscription that it makes takes the pattern that is
+    /// offered, and whether it repeats; where none is to be made, or none is offered, nobody subscribes. Where nothing is
+    /// prepared, nothing changes. Takes no memory. This project's own.
+    pub fn commit(&mut self, offered: Option<(F, bool)>)
+        ensures after { self.new.shown ≡ committed self.old.prepared (option_map (λ o. (F.source o.0, o.1)) offered) }
+        ensures idle { self.new.prepared ≡ unplanned self.new.shown }
+    {
+        let pending = std::mem::replace(&mut self.pending, Pending::Nothing);
+        if self.is_prepared {
+            self.register.hear_prepared();
+            self.is_prepared = false;
+        }
+        finish_step(&mut self.register, pending, offered);
+    }
+}
+
+fn asks_nothing(change: &DirectoryChange<'_>) -> bool
+    ensures nothing { result ≡ true → asked_by change.now ≡ leave }
+    ensures any { asked_by change.now ≡ leave → result ≡ true }
+{
+    matches!(change, DirectoryChange::Nothing)
+}

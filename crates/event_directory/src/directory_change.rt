@@ -1,0 +1,45 @@
+//! What a step asks of the event directories, and what it is answered.
+use crate::message::Message;
+use crate::source::Source;
+use s6_events::{Name, SubId};
+use thiserror::Error;
+
+/// What a step asks of the event directories, after its moments. This project's own.
+#[derive(Clone, Copy)]
+pub enum DirectoryChange<'a> {
+    /// Nothing.
+    Nothing,
+    /// A free directory of this name. Page `s6-mkfifodir`.
+    Make(Name),
+    /// This message to the free directory of this name. Page `s6-ftrig-notify`.
+    Send(Name, &'a Message),
+    /// A subscription to this source; its pattern is handed in when the step is made. Page `s6-ftrig-listen1`.
+    Subscribe(Source),
+    /// The subscription of this serial ends.
+    Unsubscribe(SubId),
+}
+
+/// Why a change was not made. This project's own.
+#[derive(Clone, Copy, Debug, PartialEq, Eq, Error)]
+pub enum DirectoryFault {
+    /// No free directory has this name, or no subscription this serial.
+    #[error("no such directory or subscription")]
+    NoSuch = 1,
+    /// 256 free directories, or 256 subscriptions, stand already.
+    #[error("256 stand")]
+    TooMany = 2,
+    /// A free directory has this name.
+    #[error("the directory exists")]
+    Exists = 3,
+}
+
+/// What a step answers to its change. This project's own.
+#[derive(Clone, Copy, Debug, PartialEq, Eq)]
+pub enum DirectoryAnswer {
+    /// It was done, or nothing was asked.
+    Done,
+    /// The serial of the new subscription.
+    Subscribed(SubId),
+    /// Why it was not done.
+    Refused(DirectoryFault),
+}

@@ -1,0 +1,247 @@
+//! What is stored of all event directories.
+ghost use Rattle.std.specs.Prelude.{◌≡◌, ◌<◌, ◌++◌, ◌+◌, ◌^◌, [], IfOk, OnOk, IfSome, IfNone, Some, drop, length, option_map, take};
+ghost use Rattle.event_directory.specs.Changes.{asked_by};
+ghost use Rattle.event_directory.specs.Hearing.{heard_moments, heard_message, hits_of_moments, hits_of_message};
+ghost use Rattle.event_directory.specs.Register.{shown_in, prepared_in, unprepared, unfollowed, source_of, subscribers_without, named, left_by, pended, HasRoom, CanJoin, CanStart, stored_refusal, view_in};
+ghost use Rattle.event_directory.specs.Remembered.{Shown, joined_to};
+
+use crate::directory_change::{DirectoryChange, DirectoryFault};
+use crate::finds::Finds;
+use crate::hearing::{hear_letters, hear_moments};
+use crate::hit::Hit;
+use crate::listened::{begin_each, commit_each, leave_at, list_at, reserve_at, take_in_at};
+use crate::message::Message;
+use crate::pending::Pending;
+use crate::refusing::refusal;
+use crate::source::Source;
+use crate::source_directory::SourceDirectory;
+use crate::sub_view::SubView;
+use s6_events::{Moment, Name, NoMemory, SubId};
+use std::alloc::Allocator;
+use std::marker::Model;
+
+/// The free directories and the subscriptions, beside what is being prepared of them.
+#[derive(Drop)]
+pub struct Register<F: Finds, A: Allocator> {
+    // Of the free directories, in the order in which they were made.
+    names: Vec<Name, A>,
+    // In rising serial.
+    subscribers: Vec<(SubId, Source), A>,
+    // One for each source that has a subscription.
+    listened: Vec<SourceDirectory<F, A>, A>,
+    // The serial of the next subscription.
+    next: u64,
+}
+
+impl<F: Finds, A: Allocator> Model for Register<F, A> {
+    ghost use Rattle.std.specs.Prelude.{map, ◌-◌, vec_len, vec_capacity};
+    ghost use Rattle.event_directory.specs.Parts.{followed_of, prepared_of, room_of, AreDistinct};
+    ghost use Rattle.event_directory.specs.Register.{Registered};
+
+    ghost Value = { Registered };
+
+    ghost view = { λ r. record {
+      names = r.names.items;
+      subscribers = r.subscribers.items;
+      followed = map followed_of r.listened.items;
+      prepared = map prepared_of r.listened.items;
+      next = r.next;
+      rooms = map room_of r.listened.items;
+      name_room = vec_capacity r.names - vec_len r.names;
+      subscriber_room = vec_capacity r.subscribers - vec_len r.subscribers;
+      source_room = vec_capacity r.listened - vec_len r.listened;
+    } };
+
+    ghost invariant = { λ r. AreDistinct (map (λ l. l.source) r.listened.items) };
+}
+
+impl<F: Finds, A: Allocator + Copy> Register<F, A> {
+    /// With nothing in it. Takes no memory.
+    pub fn new(alloc: A) -> Register<F, A>
+        ensures { shown_in result ≡ record { names = []; subscribers = []; followed = []; next = 1 } }
+    {
+        Register {
+            names: Vec::new(alloc),
+            subscribers: Vec::new(alloc),
+            listened: Vec::new(alloc),
+            next: 1,
+        }
+    }
+
+    /// Where its memory comes from.
+    pub fn allocator(&self) -> A {
+        *self.names.allocator()
+    }
+
+    /// The serial of the next subscription.
+    pub fn next(&self) -> SubId
+        ensures { result ≡ self.now.next }
+    {
+        SubId(self.next)
+    }
+
+    /// The source of the subscription of this serial.
+    pub fn source(&self, id: SubId) -> Option<Source>
+        ensures { result ≡ source_of id self.now.subscribers }
+    {
+        find_source(&self.subscribers, id)
+    }
+
+    /// What the subscription of this serial has heard.
+    pub fn list(&self, id: SubId) -> Option<SubView<'_>>
+        ensures { option_map (λ v. (v.letters.now, v.state)) result ≡ view_in id (shown_in self.now) }
+    {
+        let source = find_source(&self.subscribers, id)?;
+        list_at(&self.listened, source, id)
+    }
+
+    /// Why a change is refused.
+    pub fn refusal(&self, change: &DirectoryChange<'_>) -> Option<DirectoryFault>
+        ensures { result ≡ stored_refusal (asked_by change.now) self.now.names self.now.subscribers }
+    {
+        refusal(&self.names, &self.subscribers, change)
+    }
+
+    /// Begins to prepare: no letter is prepared.
+    pub fn begin(&mut self) -> Result<(), NoMemory>
+        ensures same { unprepared self.new ≡ unprepared self.old }
+        ensures ok { OnOk result (self.new.prepared ≡ self.old.followed) }
+    {
+        begin_each(&mut self.listened)
+    }
+
+    /// Prepares these moments; what they give is added to `matches`.
+    pub fn hear_moments(
+        &mut self,
+        moments: &[Moment],
+        matches: &mut Vec<(SubId, Hit), A>,
+    ) -> Result<(), NoMemory>
+        ensures same { unprepared self.new ≡ unprepared self.old }
+        ensures prepared { OnOk result (self.new.prepared ≡ heard_moments F.test moments.now self.old.prepared) }
+        ensures matches { OnOk result (matches.new.items ≡ matches.old.items ++ hits_of_moments F.test moments.now self.old.prepared) }
+    {
+        hear_moments(&mut self.listened, moments, matches)
+    }
+
+    /// Prepares the letters of a message to the free directory of this name; what they give is added to `matches`.
+    pub fn hear_message(
+        &mut self,
+        name: Name,
+        message: &Message,
+        matches: &mut Vec<(SubId, Hit), A>,
+    ) -> Result<(), NoMemory>
+        ensures same { unprepared self.new ≡ unprepared self.old }
+        ensures prepared { OnOk result (self.new.prepared ≡ heard_message F.test name message.now self.old.prepared) }
+        ensures matches { OnOk result (matches.new.items ≡ matches.old.items ++ hits_of_message F.test name message.now self.old.prepared) }
+    {
+        hear_letters(&mut self.listened, name, message.as_bytes(), matches)
+    }
+
+    /// Hears what was prepared. Takes no memory.
+    pub fn hear_prepared(&mut self)
+        ensures after { self.new.followed ≡ self.old.prepared }
+        ensures same { unfollowed self.new ≡ unfollowed self.old }
+    {
+        commit_each(&mut self.listened);
+    }
+
+    /// Makes a place for one more name.
+    pub fn reserve_name(&mut self) -> Result<(), NoMemory>
+        ensures shown { shown_in self.new ≡ shown_in self.old }
+        ensures prepared { prepared_in self.new ≡ prepared_in self.old }
+        ensures room { OnOk result (0 < self.new.name_room) }
+    {
+        self.names.reserve(1)?;
+        Ok(())
+    }
+
+    /// Makes all places that one more subscription to this source takes.
+    pub fn reserve_subscription(&mut self, source: &Source) -> Result<Pending<F, A>, NoMemory>
+        requires { self.old.next < 2 ^ 63 }
+        ensures shown { shown_in self.new ≡ shown_in self.old }
+        ensures prepared { prepared_in self.new ≡ prepared_in self.old }
+        ensures pending { IfOk result (λ p. (s : Shown) → pended p s ≡ record { shown = s; joins = Some source.now }) }
+        ensures room { IfOk result (λ p. HasRoom p self.new) }
+    {
+        self.subscribers.reserve(1)?;
+        if reserve_at(&mut self.listened, *source)? {
+            return Ok(Pending::Join(*source));
+        }
+        self.listened.reserve(1)?;
+        let directory = SourceDirectory::with_place(*self.names.allocator(), *source)?;
+        Ok(Pending::Start(directory))
+    }
+
+    /// One more name, in a place that was made. Takes no memory.
+    pub fn add_name(&mut self, name: Name)
+        requires { 0 < self.old.name_room }
+        ensures { shown_in self.new ≡ named name (shown_in self.old) }
+    {
+        self.names.push_reserved(name);
+    }
+
+    /// Subscribes to a source that is listened to, in places that were made. Takes no memory.
+    pub fn join(&mut self, source: &Source, pattern: F, repeats: bool)
+        requires { CanJoin source.now self.old }
+        ensures { shown_in self.new ≡ joined_to source.now (F.source pattern, repeats) (shown_in self.old) }
+    {
+        let id = SubId(self.next);
+        self.subscribers.push_reserved((id, *source));
+        take_in_at(&mut self.listened, *source, id, pattern, repeats);
+        self.next += 1;
+    }
+
+    /// Subscribes to a source that is not listened to yet, in places that were made. Takes no memory.
+    pub fn start(&mut self, mut directory: SourceDirectory<F, A>, pattern: F, repeats: bool)
+        requires { CanStart directory.source directory.kept.standing directory.kept.room self.old }
+        ensures { shown_in self.new ≡ joined_to directory.source (F.source pattern, repeats) (shown_in self.old) }
+    {
+        let id = SubId(self.next);
+        self.subscribers.push_reserved((id, directory.source()));
+        directory.take_in(id, pattern, repeats);
+        self.listened.push_reserved(directory);
+        self.next += 1;
+    }
+
+    /// Ends the subscription of this serial and this source. Takes no memory.
+    pub fn leave(&mut self, id: SubId, source: Source)
+        ensures { shown_in self.new ≡ left_by id source (shown_in self.old) }
+    {
+        drop_subscriber(&mut self.subscribers, id);
+        leave_at(&mut self.listened, source, id);
+    }
+}
+
+// The source of the subscription of this serial.
+fn find_source(subscribers: &[(SubId, Source)], id: SubId) -> Option<Source>
+    ensures { result ≡ source_of id subscribers.now }
+{
+    for subscriber in subscribers {
+        if subscriber.0 == id {
+            return Some(subscriber.1);
+        }
+    }
+    None
+}
+
+// Takes the subscriber of this serial out, if there is one.
+fn drop_subscriber<A: Allocator + Copy>(subscribers: &mut Vec<(SubId, Source), A>, id: SubId)
+    ensures { subscribers.new.items ≡ subscribers_without id subscribers.old.items }
+{
+    if let Some(place) = place_of(subscribers, id) {
+        let _gone = subscribers.remove(place);
+    }
+}
+
+// The place of the subscriber of this serial.
+fn place_of(subscribers: &[(SubId, Source)], id: SubId) -> Option<usize>
+    ensures place { IfSome result (λ place. (place < length subscribers.now) × (subscribers_without id subscribers.now ≡ take place subscribers.now ++ drop (place + 1) subscribers.now)) }
+    ensures none { IfNone result (subscribers_without id subscribers.now ≡ subscribers.now) }
+{
+    for (place, subscriber) in subscribers.iter().enumerate() {
+        if subscriber.0 == id {
+            return Some(place);
+        }
+    }
+    None
+}

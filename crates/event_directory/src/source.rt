@@ -1,0 +1,43 @@
+ghost use Rattle.std.specs.Prelude.{◌≡◌};
+ghost use Rattle.event_directory.specs.Directories.{is_same};
+ghost use Rattle.event_directory.specs.declared.source.Source.TheVariants.{Service, Directory};
+
+use s6_events::{Name, Sid};
+
+/// Whose letters a subscription hears. Pages `s6-supervise`, "Events", and `fifodir`; a service and a free directory may have the
+/// same name.
+#[derive(Clone, Copy, PartialEq, Eq, Debug)]
+pub enum Source {
+    /// What the supervisors of the service of this serial tell.
+    Service(Sid),
+    /// What is sent to the free directory of this name.
+    Directory(Name),
+}
+
+/// Whether both are the same service, or the same free directory.
+pub fn same_source(one: Source, other: Source) -> bool
+    ensures { result ≡ is_same one other }
+{
+    match one {
+        Source::Service(sid) => is_service(sid, other),
+        Source::Directory(name) => is_directory(name, other),
+    }
+}
+
+fn is_service(sid: Sid, source: Source) -> bool
+    ensures { result ≡ is_same (Service sid) source }
+{
+    match source {
+        Source::Service(other) => sid == other,
+        Source::Directory(_) => false,
+    }
+}
+
+fn is_directory(name: Name, source: Source) -> bool
+    ensures { result ≡ is_same (Directory name) source }
+{
+    match source {
+        Source::Service(_) => false,
+        Source::Directory(other) => name == other,
+    }
+}

@@ -1,0 +1,124 @@
+//! A step of all event directories: its letters, and then one change.
+ghost use Rattle.std.specs.Prelude.{◌≡◌, ◌<◌, ◌++◌, ◌^◌, [], None, Some, IfOk, OnOk, option_map};
+ghost use Rattle.event_directory.specs.Changes.{asked_by};
+ghost use Rattle.event_directory.specs.Changes.Change.{unsubscribe};
+ghost use Rattle.event_directory.specs.Hearing.{hits_of_moments};
+ghost use Rattle.event_directory.specs.Register.{shown_in, prepared_in, pended, HasRoom, stored_change, stored_given, stored_told, refusal_in, prepared_change, given_change, told_change, after_step};
+ghost use Rattle.event_directory.specs.Remembered.{committed};
+
+use crate::directory_change::{DirectoryAnswer, DirectoryChange};
+use crate::finds::Finds;
+use crate::hit::Hit;
+use crate::pending::Pending;
+use crate::register::Register;
+use s6_events::{Moment, NoMemory, SubId};
+use std::alloc::Allocator;
+
+// Prepares a subscription that ends.
+fn prepare_leave<F: Finds, A: Allocator + Copy>(
+    register: &Register<F, A>,
+    id: SubId,
+) -> Pending<F, A>
+    ensures pending { pended result (prepared_in register.now) ≡ stored_change F.test (unsubscribe id) (prepared_in register.now) }
+    ensures room { HasRoom result register.now }
+{
+    match register.source(id) {
+        Some(source) => Pending::Leave(id, source),
+        None => Pending::Nothing,
+    }
+}
+
+// Prepares a change that is not refused, after the moments of its step; what it gives is added to `matches`.
+fn prepare_change<F: Finds, A: Allocator + Copy>(
+    register: &mut Register<F, A>,
+    change: &DirectoryChange<'_>,
+    matches: &mut Vec<(SubId, Hit), A>,
+) -> Result<(Pending<F, A>, DirectoryAnswer), NoMemory>
+    requires { register.old.next < 2 ^ 63 }
+    ensures shown { shown_in register.new ≡ shown_in register.old }
+    ensures pending { IfOk result (λ r. pended r.0 (prepared_in register.new) ≡ stored_change F.test (asked_by change.now) (prepared_in register.old)) }
+    ensures answer { IfOk result (λ r. r.1 ≡ stored_told (asked_by change.now) (prepared_in register.old)) }
+    ensures matches { OnOk result (matches.new.items ≡ matches.old.items ++ stored_given F.test (asked_by change.now) (prepared_in register.old)) }
+    ensures room { IfOk result (λ r. HasRoom r.0 register.new) }
+{
+    match *change {
+        DirectoryChange::Nothing => Ok((Pending::Nothing, DirectoryAnswer::Done)),
+        DirectoryChange::Make(name) => {
+            register.reserve_name()?;
+            Ok((Pending::Make(name), DirectoryAnswer::Done))
+        }
+        DirectoryChange::Send(name, message) => {
+            register.hear_message(name, message, matches)?;
+            Ok((Pending::Nothing, DirectoryAnswer::Done))
+        }
+        DirectoryChange::Subscribe(source) => {
+            let pending = register.reserve_subscription(&source)?;
+            Ok((pending, DirectoryAnswer::Subscribed(register.next())))
+        }
+        DirectoryChange::Unsubscribe(id) => {
+            let pending = prepare_leave(register, id);
+            Ok((pending, DirectoryAnswer::Done))
+        }
+    }
+}
+
+/// Prepares a step: its moments, and then its change, if it is not refused; what they give is added to `matches`. NoMemory: what
+/// is shown stays.
+pub fn work_out<F: Finds, A: Allocator + Copy>(
+    register: &mut Register<F, A>,
+    moments: &[Moment],
+    change: &DirectoryChange<'_>,
+    matches: &mut Vec<(SubId, Hit), A>,
+) -> Result<(Pending<F, A>, DirectoryAnswer), NoMemory>
+    requires { register.old.next < 2 ^ 63 }
+    ensures shown { shown_in register.new ≡ shown_in register.old }
+    ensures pending { IfOk result (λ r. pended r.0 (prepared_in register.new) ≡ prepared_change F.test (asked_by change.now) (after_step F.test moments.now (shown_in register.old))) }
+    ensures answer { IfOk result (λ r. r.1 ≡ told_change (asked_by change.now) (after_step F.test moments.now (shown_in register.old))) }
+    ensures matches { OnOk result (matches.new.items ≡ matches.old.items ++ hits_of_moments F.test moments.now register.old.followed
+        ++ given_change F.test (asked_by change.now) (after_step F.test moments.now (shown_in register.old))) }
+    ensures room { IfOk result (λ r. HasRoom r.0 register.new) }
+{
+    hear_step(register, moments, matches)?;
+    match register.refusal(change) {
+        Some(fault) => Ok((Pending::Nothing, DirectoryAnswer::Refused(fault))),
+        None => prepare_change(register, change, matches),
+    }
+}
+
+// Prepares the moments of a step.
+fn hear_step<F: Finds, A: Allocator + Copy>(
+    register: &mut Register<F, A>,
+    moments: &[Moment],
+    matches: &mut Vec<(SubId, Hit), A>,
+) -> Result<(), NoMemory>
+    ensures shown { shown_in register.new ≡ shown_in register.old }
+    ensures prepared { OnOk result (prepared_in register.new ≡ after_step F.test moments.now (shown_in register.old)) }
+    ensures matches { OnOk result (matches.new.items ≡ matches.old.items ++ hits_of_moments F.test moments.now register.old.followed) }
+{
+    register.begin()?;
+    register.hear_moments(moments, matches)
+}
+
+/// Does what was left to be done when the step is made. Takes no memory.
+pub fn finish_step<F: Finds, A: Allocator + Copy>(
+    register: &mut Register<F, A>,
+    pending: Pending<F, A>,
+    offered: Option<(F, bool)>,
+)
+    requires { HasRoom pending register.old }
+    ensures { shown_in register.new ≡ committed (pended pending (shown_in register.old)) (option_map (λ o. (F.source o.0, o.1)) offered) }
+{
+    match pending {
+        Pending::Nothing => {}
+        Pending::Make(name) => register.add_name(name),
+        Pending::Join(source) => match offered {
+            Some((pattern, repeats)) => register.join(&source, pattern, repeats),
+            None => {}
+        },
+        Pending::Start(directory) => match offered {
+            Some((pattern, repeats)) => register.start(directory, pattern, repeats),
+            None => {}
+        },
+        Pending::Leave(id, source) => register.leave(id, source),
+    }
+}
