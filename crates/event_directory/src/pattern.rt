@@ -1,7 +1,7 @@
 //! A pattern, built from its text.
-ghost use Rattle.std.specs.Prelude.{◌≡◌, IfOk, IsErrOf, ◌↔◌, false, IsTrue, nat_le, ◌<◌, ◌&&◌, string_bytes};
+ghost use Rattle.std.specs.Prelude.{◌≡◌, IfOk, IsErrOf, ◌↔◌, true, false, IsTrue, nat_le, ◌<◌, ◌&&◌, string_bytes};
 ghost use Rattle.std.specs.List.{list_all};
-ghost use Rattle.event_directory.specs.Pattern.{is_pattern_text, finds, IsRefusedText};
+ghost use Rattle.event_directory.specs.Pattern.{is_pattern_text, is_expression, finds, IsRefusedText};
 
 use crate::finds::Finds;
 use crate::pattern_fault::PatternFault;
@@ -35,6 +35,7 @@ impl Pattern {
     /// The pattern of this text. Length is looked for first; Refused: `regex` refused the text, and not for want of memory.
     pub fn build(alloc: Global, text: &str) -> Result<Pattern, PatternFault>
         ensures ok { IfOk result (λ p. p ≡ text.now) }
+        ensures expression { IfOk result (λ _. is_expression text.now ≡ true) }
         ensures length { IsErrOf result PatternFault.Length ↔ (is_pattern_text text.now ≡ false) }
         ensures refused { IsErrOf result PatternFault.Refused → IsRefusedText text.now }
     {

@@ -1,7 +1,7 @@
 -- Entries are read back from their spelling.
 use Rattle.std.proofs.Common.{◌≡◌, ◌∙◌, ap, sym, refl, ℕ, ◌+◌, ◌<◌, ◌≤◌, ◌^◌, List, [], ◌∷◌, ◌++◌, Bool, true, false, not, ◌==◌, Option, Some, None, length, map, take, drop, fold, get_or, append_assoc, append-nil, arith, rules}
-use Rattle.std.specs.Prelude.{All, codes, slice_index_or, ◌≢◌}
-use Rattle.std.proofs.lemmas.Bool.{eqb-true, and_parts, and_from}
+use Rattle.std.specs.Prelude.{All, codes, nat_lt, slice_index_or, ◌≢◌}
+use Rattle.std.proofs.lemmas.Bool.{eqb-true, and_parts, and_from, false≢true}
 use Rattle.std.proofs.lemmas.Bool.Decides.{nat_tests}
 use Rattle.std.proofs.lemmas.List.{append_cancel_right, get_or-map, length-map, map-append, take_all, take_more}
 use Rattle.std.proofs.lemmas.List.Elements.{All-nil, All-cons, All-head, All-tail, All-append, All-get_or}
@@ -152,17 +152,39 @@ one_option_written old text pushed new list d mark option i here so_far marked s
       sym (mark_more before last) ∙ ap mark_behind (sym more),
     )
 
+-- so many entries are read, and the words of these are left
+pub record EntriesSoFar (entries got : List Entry) (left : List (List ℕ)) : Type 0 where
+  pub rest : List Entry
+  pub whole : got ++ rest ≡ entries
+  pub words : left ≡ map entry_text rest
+  pub fits : All IsEntry rest
+
 -- one entry more is read
-pub one_entry_more : {X : Type 0} (now : X → List ℕ) (words : List X) (d : X) (entries got new : List Entry) (e read : Entry) (i : ℕ) → i < length words
-    → map now words ≡ map entry_text entries → All IsEntry entries → got ≡ take i entries
-    → ((other : Entry) → IsEntry other → now (get_or words i d) ≡ entry_text other → read ≡ other) → new ≡ got ++ read ∷ [] → new ≡ take (i + 1) entries
-one_entry_more now words d entries got new e read i here spelled fits so_far reads adds =
-    let long : length words ≡ length entries = sym (length-map words now) ∙ (ap length spelled ∙ length-map entries entry_text) in
-    let within : i < length entries = omega (arith, here, long) in
-    let same : read ≡ get_or entries i e =
-    reads (get_or entries i e) (All-get_or IsEntry entries i e within fits)
-    (sym (get_or-map now words i d [] here) ∙ (ap (λ ws. get_or ws i []) spelled ∙ get_or-map entry_text entries i e [] within)) in
-    adds ∙ ((λ k. so_far k ++ same k ∷ []) ∙ sym (take_more entries i e within))
+pub one_entry_more : (entries got new : List Entry) (left left' : List (List ℕ)) (word : List ℕ) (read : Entry) → EntriesSoFar entries got left
+    → nat_lt 0 (length left) ≡ true → word ≡ slice_index_or left 0 [] → left' ≡ drop 1 left
+    → ((other : Entry) → IsEntry other → word ≡ entry_text other → read ≡ other) → new ≡ got ++ read ∷ [] → EntriesSoFar entries new left'
+one_entry_more entries got new left left' word read so_far some first behind reads adds = by so_far.rest so_far.whole so_far.words so_far.fits
+  where
+    by : (rest : List Entry) → got ++ rest ≡ entries → left ≡ map entry_text rest → All IsEntry rest → EntriesSoFar entries new left'
+    by [] whole words fits = absurd (false≢true (ap (λ ws. nat_lt 0 (length ws)) (sym words) ∙ some))
+    by (entry ∷ rest) whole words fits =
+        let same : read ≡ entry = reads entry (All-head IsEntry entry rest fits) (first ∙ ap (λ ws. slice_index_or ws 0 []) words) in
+        record {
+          rest = rest;
+          whole = ap (λ l. l ++ rest) adds ∙ (append_assoc got (read ∷ []) rest ∙ ((λ k. got ++ same k ∷ rest) ∙ whole));
+          words = behind ∙ ap (drop 1) words;
+          fits = All-tail IsEntry entry rest fits;
+        }
+
+-- all entries are read
+pub all_entries_read : (entries got : List Entry) (left : List (List ℕ)) → EntriesSoFar entries got left → nat_lt 0 (length left) ≡ false → got ≡ entries
+all_entries_read entries got left so_far none = by so_far.rest so_far.whole so_far.words
+  where
+    by : (rest : List Entry) → got ++ rest ≡ entries → left ≡ map entry_text rest → got ≡ entries
+    by [] whole words = sym (append-nil got) ∙ whole
+    by (entry ∷ rest) whole words =
+        let long : length left ≡ length (map entry_text (entry ∷ rest)) = ap length words in
+        absurd (grind (arith, nat_tests))
 
 -- ---- an entry is cut into its name and its options
 

@@ -5,7 +5,6 @@ use Rattle.std.proofs.lemmas.List.Elements.{All-nil, All-cons}
 use Rattle.std.proofs.lemmas.List.Splits.{slice_split_none, slice_split_at, slice_split-cons_yes, slice_split-cons_no, length-slice_split, join_with_byte-slice_split}
 use Rattle.std.specs.List.{join_with_byte, flat_map, slice_split, onto_first, list_all}
 use Rattle.std.proofs.lemmas.Bool.{and_parts}
-use Rattle.std.proofs.lemmas.List.Folds.{flat_map-map}
 use Rattle.death_tally.specs.declared.death_list.DeathItem.{DeathItem}
 use Rattle.tree_core.specs.declared.input.Act.{Act}
 use Rattle.svscan_core.specs.declared.entry.Entry.{Entry}
@@ -13,6 +12,10 @@ use Rattle.s6_replay.specs.DeathList.{item_text, list_text}
 use Rattle.s6_replay.specs.Options.{entry_text}
 use Rattle.s6_replay.specs.Spelling.{act_words}
 use Rattle.s6_replay.specs.Verb.{text_words}
+
+-- a text that grew by two parts, one after the other
+pub grew : (old part rest text new : List ℕ) → text ≡ old ++ part → new ≡ text ++ rest → new ≡ old ++ (part ++ rest)
+grew old part rest text new first then = then ∙ (ap (λ t. t ++ rest) first ∙ append_assoc old part rest)
 
 pub join_words : (word : List ℕ) (words : List (List ℕ)) → join_with_byte 32 (word ∷ words) ≡ word ++ flat_map (λ w. 32 ∷ w) words
 join_words word [] = sym (append-nil word)
@@ -29,30 +32,15 @@ join_items item (next ∷ items) = ap (λ rest. item_text item ++ (44 ∷ rest))
 pub join_act : {A : Type 0} (word : List ℕ) (act : Act A) → join_with_byte 32 (word ∷ act_words act) ≡ word ++ (32 ∷ join_with_byte 32 (act_words act))
 join_act word act = refl
 
--- the first word, and each of the others behind a space
-pub join_each : {X : Type 0} (now : X → List ℕ) (words : List X) (first : X) (more : List X) → words ≡ first ∷ more
-    → now first ++ flat_map (λ w. 32 ∷ now w) more ≡ join_with_byte 32 (map now words)
-join_each now words first more e =
-    sym (ap (λ ws. join_with_byte 32 (map now ws)) e ∙ (join_words (now first) (map now more) ∙ ap (λ rest. now first ++ rest) (flat_map-map (λ w. 32 ∷ w) now more)))
-
 -- a word before the words of a text
 join_more : (word : List ℕ) (words : List (List ℕ)) → 0 < length words → join_with_byte 32 (word ∷ words) ≡ word ++ (32 ∷ join_with_byte 32 words)
 join_more word [] some = absurd (omega (arith, some))
 join_more word (next ∷ words) some = refl
 
-join_text : (word text : List ℕ) → join_with_byte 32 (word ∷ text_words text) ≡ word ++ (32 ∷ text)
+pub join_text : (word text : List ℕ) → join_with_byte 32 (word ∷ text_words text) ≡ word ++ (32 ∷ text)
 join_text word text =
     join_more word (text_words text) (omega (arith, length-slice_split (λ b. b == 32) text))
     ∙ ap (λ rest. word ++ (32 ∷ rest)) (join_with_byte-slice_split 32 text)
-
--- the words of a subscription: its verb, its target, how, and those of its pattern
-pub join_subscription : (verb kind name how text t1 t2 t3 : List ℕ) → t1 ≡ verb ++ (32 ∷ (kind ++ (32 ∷ name))) → t2 ≡ t1 ++ (32 ∷ how) → t3 ≡ t2 ++ (32 ∷ text)
-    → t3 ≡ join_with_byte 32 (verb ∷ kind ∷ name ∷ how ∷ text_words text)
-join_subscription verb kind name how text t1 t2 t3 e1 e2 e3 =
-    let rest : List ℕ = 32 ∷ (how ++ (32 ∷ text)) in
-    e3 ∙ (ap (λ t. t ++ (32 ∷ text)) e2 ∙ (append_assoc t1 (32 ∷ how) (32 ∷ text) ∙ (ap (λ t. t ++ rest) e1
-    ∙ (append_assoc verb (32 ∷ (kind ++ (32 ∷ name))) rest ∙ (ap (λ t. verb ++ (32 ∷ t)) (append_assoc kind (32 ∷ name) rest)
-    ∙ ap (λ t. verb ++ (32 ∷ (kind ++ (32 ∷ (name ++ (32 ∷ t)))))) (sym (join_text how text)))))))
 
 -- the byte is no space
 abbrev pub is_no_space : ℕ → Bool

@@ -11,4 +11,5 @@ pub mod Waits
 pub mod Reading
 pub mod Building
 pub mod Runs
+pub mod WordsTaken
 pub mod Letters

@@ -9,7 +9,7 @@ use Rattle.tree_core.specs.Machine.{Machine, Outcome}
 use Rattle.tree_core.specs.Run.{after, outcome}
 use Rattle.tree_core.specs.StandsFor.{Stored, StandsFor}
 use Rattle.s6_replay.specs.Lines.{HasNoNewline, AppendsFront}
-use Rattle.s6_replay.specs.Spelling.{Spells, SpellsButForPattern, spelling}
+use Rattle.s6_replay.specs.Spelling.{HasExpression, Spells, SpellsButForPattern, spelling}
 use Rattle.s6_replay.specs.Replay.{HasLine, IsNoInputLine, IsLineButForPattern, input_line, input_limit}
 use Rattle.s6_replay.specs.Replay.IsNoInputLine.{spells_nothing, too_long}
 use Rattle.s6_replay.specs.Transcript.{block}
@@ -29,8 +29,8 @@ is_no_spelling A line plain within none before room = spells_nothing room line (
 pub is_but_for_pattern : (A : Type 0) (line : List ℕ) → HasNoNewline line → length line ≤ 65535 → SpellsButForPattern A line → IsLineButForPattern A line
 is_but_for_pattern A line plain within but = record { plain = plain; within = within; but_for_pattern = but }
 
-pub has_line : {A : Type 0} (line : List ℕ) (i : Input A) → Spells line i → length line ≤ 65535 → HasLine i
-has_line line i s within = record { spelt = s.spelt; within = omega (arith, length-append (spelling i) (10 ∷ []), ap length s.text_is) }
+pub has_line : {A : Type 0} (line : List ℕ) (i : Input A) → Spells line i → HasExpression i.act → length line ≤ 65535 → HasLine i
+has_line line i s expression within = record { spelt = s.spelt; expression = expression; within = omega (arith, length-append (spelling i) (10 ∷ []), ap length s.text_is) }
 
 pub plain_spelling : {A : Type 0} (line : List ℕ) (i : Input A) → Spells line i → HasNoNewline line → HasNoNewline (spelling i)
 plain_spelling line i s plain = subst HasNoNewline s.text_is plain

@@ -45,18 +45,24 @@ subscribe_read texts found reads (Send target message) h v d = cc
 subscribe_read texts found reads (MakeDir name) h v d = cc
 subscribe_read texts found reads Tick h v d = cc
 
--- its parts are read, each from its words
-pub subscribe_found : {A : Type 0} (texts : List (List ℕ)) (target : Target) (pattern : List ℕ) (repeats : Bool) (w0 w1 w2 : List ℕ) (rest : List (List ℕ))
-    → w0 ≡ slice_index_or texts 0 [] → w1 ≡ slice_index_or texts 1 [] → w2 ≡ slice_index_or texts 2 [] → rest ≡ drop 3 texts
-    → ((t : Target) → IsTrue (is_name (target_name t)) → w0 ≡ target_word t → w1 ≡ target_name t → target ≡ t)
-    → ((r : Bool) → w2 ≡ how_word r → repeats ≡ r)
-    → ((p : List ℕ) → IsTrue (is_pattern_text p) → rest ≡ text_words p → pattern ≡ p)
+-- the words of a text, joined, are the text
+text_back : (text pattern : List ℕ) (words : List (List ℕ)) → text ≡ join_with_byte 32 words → words ≡ text_words pattern → text ≡ pattern
+text_back text pattern words joined spelled = joined ∙ (ap (join_with_byte 32) spelled ∙ join_with_byte-slice_split 32 pattern)
+
+-- its parts are read, each from its words; the pattern is the rest of the line
+pub subscribe_found : {A : Type 0} (texts left : List (List ℕ)) (target : Target) (pattern : List ℕ) (repeats : Bool) (how : List ℕ) (rest : List (List ℕ)) (text : List ℕ)
+    → ((t : Target) → IsTrue (is_name (target_name t)) → slice_index_or texts 0 [] ≡ target_word t → slice_index_or texts 1 [] ≡ target_name t → target ≡ t)
+    → left ≡ drop 2 texts → how ≡ slice_index_or left 0 [] → rest ≡ drop 1 left → text ≡ join_with_byte 32 rest
+    → ((r : Bool) → how ≡ how_word r → repeats ≡ r)
+    → (IsTrue (is_pattern_text text) → pattern ≡ text)
     → (act : Act A) → IsAct act → SubscribeVerb ≡ verb_of_act act → texts ≡ details act → Subscribe target pattern repeats ≡ act
-subscribe_found {A} texts target pattern repeats w0 w1 w2 rest e0 e1 e2 er reads_target reads_how reads_pattern =
+subscribe_found {A} texts left target pattern repeats how rest text reads_target taken third behind joined reads_how reads_pattern =
     subscribe_read texts (Subscribe target pattern repeats) (λ t p r fits spelled.
-    let same_target : target ≡ t = reads_target t fits.0 (e0 ∙ ap (λ ws. slice_index_or ws 0 []) spelled) (e1 ∙ ap (λ ws. slice_index_or ws 1 []) spelled) in
-    let same_repeats : repeats ≡ r = reads_how r (e2 ∙ ap (λ ws. slice_index_or ws 2 []) spelled) in
-    let same_pattern : pattern ≡ p = reads_pattern p fits.1 (er ∙ ap (drop 3) spelled) in
+    let same_target : target ≡ t = reads_target t fits.0 (ap (λ ws. slice_index_or ws 0 []) spelled) (ap (λ ws. slice_index_or ws 1 []) spelled) in
+    let left_is = taken ∙ ap (drop 2) spelled in
+    let same_repeats : repeats ≡ r = reads_how r (third ∙ ap (λ ws. slice_index_or ws 0 []) left_is) in
+    let same_text : text ≡ p = text_back text p rest joined (behind ∙ ap (drop 1) left_is) in
+    let same_pattern : pattern ≡ p = reads_pattern (ap is_pattern_text same_text ∙ fits.1) ∙ same_text in
     λ i. Subscribe (same_target i) (same_pattern i) (same_repeats i))
 
 -- a message, where what is found is the one of these words
@@ -82,16 +88,15 @@ send_read texts found reads (Send target message) h v d = reads target message h
 send_read texts found reads (MakeDir name) h v d = cc
 send_read texts found reads Tick h v d = cc
 
-pub send_found : {A : Type 0} (texts : List (List ℕ)) (target : Target) (message : List ℕ) (w0 w1 w2 : List ℕ)
-    → w0 ≡ slice_index_or texts 0 [] → w1 ≡ slice_index_or texts 1 [] → w2 ≡ slice_index_or texts 2 []
-    → ((t : Target) → IsTrue (is_name (target_name t)) → w0 ≡ target_word t → w1 ≡ target_name t → target ≡ t)
-    → (is_message w2 ≡ true → message ≡ w2)
+pub send_found : {A : Type 0} (texts left : List (List ℕ)) (target : Target) (message word : List ℕ)
+    → ((t : Target) → IsTrue (is_name (target_name t)) → slice_index_or texts 0 [] ≡ target_word t → slice_index_or texts 1 [] ≡ target_name t → target ≡ t)
+    → left ≡ drop 2 texts → word ≡ slice_index_or left 0 [] → (is_message word ≡ true → message ≡ word)
     → (act : Act A) → IsAct act → SendVerb ≡ verb_of_act act → texts ≡ details act → Send target message ≡ act
-send_found {A} texts target message w0 w1 w2 e0 e1 e2 reads_target reads_message =
+send_found {A} texts left target message word reads_target taken third reads_message =
     send_read texts (Send target message) (λ t m fits spelled.
-    let same_target : target ≡ t = reads_target t fits.0 (e0 ∙ ap (λ ws. slice_index_or ws 0 []) spelled) (e1 ∙ ap (λ ws. slice_index_or ws 1 []) spelled) in
-    let third : w2 ≡ m = e2 ∙ ap (λ ws. slice_index_or ws 2 []) spelled in
-    let same_message : message ≡ m = reads_message (ap is_message third ∙ fits.1) ∙ third in
+    let same_target : target ≡ t = reads_target t fits.0 (ap (λ ws. slice_index_or ws 0 []) spelled) (ap (λ ws. slice_index_or ws 1 []) spelled) in
+    let same_word : word ≡ m = third ∙ ap (λ ws. slice_index_or ws 0 []) (taken ∙ ap (drop 2) spelled) in
+    let same_message : message ≡ m = reads_message (ap is_message same_word ∙ fits.1) ∙ same_word in
     λ i. Send (same_target i) (same_message i))
 
 -- none of their words has a space
@@ -139,7 +144,3 @@ unfolding is_pattern_text
 pattern_is_text text h =
     let bytes = (and_parts (nat_le 1 (length text) && nat_le (length text) 256) (list_all (λ b. nat_le 0x20 b && nat_le b 0x7E) text) h).1 in
     IsUtf8-from_ascii text (IsAscii-from_all text (all_ascii text bytes))
-
--- the words of a text, joined, are the text
-pub text_back : (text pattern : List ℕ) (words : List (List ℕ)) → text ≡ join_with_byte 32 words → words ≡ text_words pattern → text ≡ pattern
-text_back text pattern words joined spelled = joined ∙ (ap (join_with_byte 32) spelled ∙ join_with_byte-slice_split 32 pattern)

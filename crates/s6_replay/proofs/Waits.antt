@@ -1,9 +1,10 @@
 -- A wait is read back from its spelling.
-use Rattle.std.proofs.Common.{◌≡◌, ◌∙◌, ℕ, ◌<◌, ◌≤◌, ◌+◌, List, [], ◌∷◌, ◌++◌, ap, sym, refl, arith, drop, map, take, length, get_or, rules}
-use Rattle.std.specs.Prelude.{All, IsTrue, true, decimal, slice_index_or, codes}
+use Rattle.std.proofs.Common.{◌≡◌, ◌∙◌, ℕ, ◌≤◌, List, [], ◌∷◌, ◌++◌, ap, sym, subst, refl, arith, append_assoc, append-nil, drop, length, rules}
+use Rattle.std.specs.Prelude.{All, IsTrue, true, false, nat_lt, decimal, slice_index_or, codes}
 use Rattle.std.specs.List.{list_all}
-use Rattle.std.proofs.lemmas.List.{length-map, get_or-map, take_more}
-use Rattle.std.proofs.lemmas.List.Elements.{All-get_or, All-head, All-tail}
+use Rattle.std.proofs.lemmas.Bool.{false≢true}
+use Rattle.std.proofs.lemmas.Bool.Decides.{nat_tests}
+use Rattle.std.proofs.lemmas.List.Elements.{All-head, All-tail}
 use Rattle.s6_events.specs.Name.{is_name}
 use Rattle.s6_events.specs.declared.condition.Condition.{Condition}
 use Rattle.s6_events.specs.declared.condition.Mode.{Mode}
@@ -15,16 +16,26 @@ use Rattle.s6_replay.specs.Verb.{condition_word, mode_word, verb_of_act, details
 use Rattle.s6_replay.proofs.Joined.{has_no_space}
 use Rattle.s6_replay.proofs.Plain.{name_plain, no_space_in}
 
+-- so many names are read, and these are left
+pub record NamesSoFar (names got left : List (List ℕ)) : Type 0 where
+  pub whole : got ++ left ≡ names
+  pub fits : All (λ name. IsTrue (is_name name)) left
+
 -- one name more
-pub one_name_more : {X : Type 0} (now : X → List ℕ) (words : List X) (d : X) (names got new : List (List ℕ)) (read : List ℕ) (i : ℕ) → i < length words
-    → map now words ≡ names → All (λ name. IsTrue (is_name name)) names → got ≡ take i names
-    → (is_name (now (get_or words i d)) ≡ true → read ≡ now (get_or words i d)) → new ≡ got ++ read ∷ [] → new ≡ take (i + 1) names
-one_name_more now words d names got new read i here spelled fits so_far reads adds =
-    let long : length words ≡ length names = sym (length-map words now) ∙ ap length spelled in
-    let within : i < length names = omega (arith, here, long) in
-    let same : now (get_or words i d) ≡ get_or names i [] = sym (get_or-map now words i d [] here) ∙ ap (λ ws. get_or ws i []) spelled in
-    let named : is_name (now (get_or words i d)) ≡ true = ap is_name same ∙ All-get_or (λ name. IsTrue (is_name name)) names i [] within fits in
-    adds ∙ ((λ k. so_far k ++ (reads named ∙ same) k ∷ []) ∙ sym (take_more names i [] within))
+pub one_name_more : (names got new left left' : List (List ℕ)) (word read : List ℕ) → NamesSoFar names got left → nat_lt 0 (length left) ≡ true
+    → word ≡ slice_index_or left 0 [] → left' ≡ drop 1 left → (is_name word ≡ true → read ≡ word) → new ≡ got ++ read ∷ [] → NamesSoFar names new left'
+one_name_more names got new [] left' word read so_far some first rest reads adds = absurd (false≢true some)
+one_name_more names got new (name ∷ left) left' word read so_far some first rest reads adds =
+    let same : read ≡ name = reads (ap is_name first ∙ All-head (λ n. IsTrue (is_name n)) name left so_far.fits) ∙ first in
+    record {
+      whole = ap (λ l. l ++ left') adds ∙ (append_assoc got (read ∷ []) left' ∙ ((λ k. got ++ same k ∷ rest k) ∙ so_far.whole));
+      fits = subst (All (λ n. IsTrue (is_name n))) (sym rest) (All-tail (λ n. IsTrue (is_name n)) name left so_far.fits);
+    }
+
+-- all names are read
+pub all_names_read : (names got left : List (List ℕ)) → NamesSoFar names got left → nat_lt 0 (length left) ≡ false → got ≡ names
+all_names_read names got [] so_far none = sym (append-nil got) ∙ so_far.whole
+all_names_read names got (name ∷ left) so_far none = absurd (grind (arith, nat_tests))
 
 -- a wait, where what is found is the one of these words
 wait_read : {A : Type 0} (texts : List (List ℕ)) (found : Act A)

@@ -1,6 +1,7 @@
 pub mod Options
 pub mod DeathList
 pub mod Verb
+pub mod Words
 pub mod Spelling
 pub mod Unbuilt
 pub mod Transcript

@@ -6,7 +6,7 @@ use Rattle.tree_core.specs.declared.input.Input.{Input}
 use Rattle.tree_core.specs.Machine.{new_machine}
 use Rattle.tree_core.specs.Run.{outcome, outcomes, after_all}
 use Rattle.s6_replay.specs.Lines.{HasNoNewline, IsPart, IsWithinLine, AppendsFront}
-use Rattle.s6_replay.specs.Spelling.{IsSpelt, Spells, SpellsButForPattern, spelling}
+use Rattle.s6_replay.specs.Spelling.{IsSpelt, HasExpression, Spells, SpellsButForPattern, spelling}
 use Rattle.s6_replay.specs.Transcript.{block, blocks}
 use Rattle.s6_replay.specs.declared.counts.Counts.{Counts}
 use Rattle.s6_replay.specs.declared.fault.ReplayFault.{ReplayFault}
@@ -24,10 +24,11 @@ input_limit = 1000000
 abbrev pub input_line : {A : Type 0} → Input A → List ℕ
 input_line i = spelling i ++ 10 ∷ []
 
--- the input has a spelling, and its line is within the limit
+-- the input has a spelling, its line is within the limit, and its pattern, if it has one, is an expression
 pub record HasLine {A : Type 0} (i : Input A) : Type 0 where
   pub spelt : IsSpelt i
   pub within : length (input_line i) ≤ 65536
+  pub expression : HasExpression i.act
 
 -- the script of some inputs: the head line, and a line for each of them
 abbrev pub script : {A : Type 0} → List (Input A) → List ℕ

@@ -3,7 +3,7 @@ use Rattle.std.specs.Prelude.{◌≡◌, ℕ, ◌^◌, ◌<◌, ◌≤◌, List,
 use Rattle.std.specs.List.{join_with_byte}
 use Rattle.hex.specs.Hex.{IsBytes}
 use Rattle.event_directory.specs.Message.{is_message}
-use Rattle.event_directory.specs.Pattern.{is_pattern_text, IsRefusedText}
+use Rattle.event_directory.specs.Pattern.{is_expression, is_pattern_text, IsRefusedText}
 use Rattle.s6_events.specs.declared.exit.Exit.{Exit}
 use Rattle.s6_events.specs.declared.exit.Exit.TheVariants.{Code, Killed}
 use Rattle.s6_events.specs.At.{last_moment}
@@ -66,6 +66,11 @@ pub record IsSpelt {A : Type 0} (i : Input A) : Type 0 where
 pub record Spells {A : Type 0} (text : List ℕ) (i : Input A) : Type 0 where
   pub spelt : IsSpelt i
   pub text_is : text ≡ spelling i
+
+-- the pattern of a subscription is one that the grammar of `regex` reads
+abbrev pub HasExpression : {A : Type 0} → Act A → Type 0
+HasExpression (Subscribe target pattern repeats) = IsTrue (is_expression pattern)
+HasExpression act = Unit {0}
 
 -- the act is a subscription whose pattern `regex` refuses, and not for want of memory
 abbrev pub HasRefusedPattern : {A : Type 0} → Act A → Type 0

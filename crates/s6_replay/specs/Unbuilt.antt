@@ -7,7 +7,7 @@ use Rattle.tree_core.specs.declared.input.Input.{Input}
 use Rattle.s6_replay.specs.declared.unbuilt.UnbuiltAct.{UnbuiltAct}
 use Rattle.s6_replay.specs.declared.unbuilt.UnbuiltAct.TheVariants as unbuilt
 use Rattle.s6_replay.specs.declared.unbuilt.UnbuiltInput.{UnbuiltInput}
-use Rattle.s6_replay.specs.Spelling.{IsAct}
+use Rattle.s6_replay.specs.Spelling.{HasExpression, IsAct}
 use Rattle.s6_replay.specs.Verb.{target_name}
 
 -- the act that was read, and the input; a pattern has this text
@@ -18,7 +18,7 @@ act_read (unbuilt.Subscribe target text repeats) = Subscribe target (string_byte
 abbrev pub input_read : {A : Type 0} → UnbuiltInput A → Input A
 input_read u = record { actor = u.actor; at = u.at; act = act_read u.act }
 
--- the act has a spelling, or would have one with the text of a pattern
+-- the act has a spelling and no pattern that is no expression, or would have a spelling with the text of a pattern
 abbrev pub FitsButText : {A : Type 0} → UnbuiltAct A → Type 0
-FitsButText (unbuilt.Whole act) = IsAct act
+FitsButText (unbuilt.Whole act) = IsAct act × HasExpression act
 FitsButText (unbuilt.Subscribe target text repeats) = IsTrue (is_name (target_name target))

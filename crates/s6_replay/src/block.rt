@@ -1,10 +1,11 @@
 //! The block of a step: its text, and writing all of it.
-ghost use Rattle.std.specs.Prelude.{◌≡◌, Err, IfOk, IfErr, OnOk};
+ghost use Rattle.std.specs.Prelude.{◌≡◌, Err, IfErr, OnOk};
 ghost use Rattle.std.specs.Io.KnownBytes.{Appends};
 ghost use Rattle.s6_replay.specs.Lines.{AppendsFront};
 ghost use Rattle.s6_replay.specs.Transcript.{block};
 ghost use Rattle.tree_core.specs.Effect.{outcome_of};
 
+use super::digits::push_number;
 use super::effect_lines::{push_events, push_matches, push_orders, push_releases};
 use super::reply_text::push_reply;
 use std::alloc::{AllocError, Allocator};
@@ -34,23 +35,23 @@ impl From<AllocError> for WriteFault {
     }
 }
 
-// The text of the block.
-fn block_text<A: Allocator + Copy>(
-    alloc: A,
+// Makes the text that of the block.
+fn make_block<A: Allocator>(
     number: u64,
     effect: &Effect<A>,
-) -> Result<Vec<u8, A>, AllocError>
-    ensures { IfOk result (λ text. text.items ≡ block number (outcome_of effect.now)) }
+    text: &mut Vec<u8, A>,
+) -> Result<(), AllocError>
+    ensures { OnOk result (text.new.items ≡ block number (outcome_of effect.now)) }
 {
-    let head = format!(in alloc; "{number} ")?;
-    let mut text = head.into_bytes();
-    push_reply(alloc, &mut text, &effect.reply)?;
+    text.clear();
+    push_number(text, number)?;
+    text.push(b' ')?;
+    push_reply(text, &effect.reply)?;
     text.push(b'\n')?;
-    push_events(alloc, &mut text, effect.events.as_slice())?;
-    push_orders(alloc, &mut text, effect.orders.as_slice())?;
-    push_matches(alloc, &mut text, effect.matched.as_slice())?;
-    push_releases(alloc, &mut text, effect.released.as_slice())?;
-    Ok(text)
+    push_events(text, effect.events.as_slice())?;
+    push_orders(text, effect.orders.as_slice())?;
+    push_matches(text, effect.matched.as_slice())?;
+    push_releases(text, effect.released.as_slice())
 }
 
 /// Writes all of the bytes. The only fault is `Write`: then some of them were written, from the front on, and not all. The writer is
@@ -84,6 +85,22 @@ pub fn write_effect<A: Allocator + Copy, W: Write>(
         (block number (outcome_of effect.now)) }
     ensures no_memory { result ≡ Err WriteFault.NoMemory → W.contents writer.new ≡ W.contents writer.old }
 {
-    let text = block_text(alloc, number, effect)?;
+    let mut text = Vec::new(alloc);
+    write_block(number, effect, &mut text, writer)
+}
+
+// Writes the block of a step, made whole in a text first, whose memory is used again.
+pub fn write_block<A: Allocator, W: Write>(
+    number: u64,
+    effect: &Effect<A>,
+    text: &mut Vec<u8, A>,
+    writer: &mut W,
+) -> Result<(), WriteFault>
+    ensures ok { OnOk result (Appends (W.contents writer.old) (W.contents writer.new) (block number (outcome_of effect.now))) }
+    ensures write { result ≡ Err WriteFault.Write → AppendsFront (W.contents writer.old) (W.contents writer.new)
+        (block number (outcome_of effect.now)) }
+    ensures no_memory { result ≡ Err WriteFault.NoMemory → W.contents writer.new ≡ W.contents writer.old }
+{
+    make_block(number, effect, text)?;
     write_whole(writer, text.as_slice())
 }

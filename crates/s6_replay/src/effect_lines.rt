@@ -1,84 +1,85 @@
 //! The lines of events, orders, matches and releases.
-ghost use Rattle.std.specs.Prelude.{◌≡◌, ◌++◌, string_bytes, IfOk, OnOk};
+ghost use Rattle.std.specs.Prelude.{◌≡◌, ◌++◌, ◌∷◌, [], codes, decimal, OnOk};
 ghost use Rattle.std.specs.List.{flat_map};
 ghost use Rattle.s6_replay.specs.Transcript.{event_line, order_line, match_line, release_line, hit_text, verdict_text};
 
-use s6_events::Order;
+use super::digits::{push_number, push_spaced};
+use s6_events::{Order, Sid};
 use std::alloc::{AllocError, Allocator};
 use tree_core::{Event, Hit, Match, Release, Verdict};
 
-fn push_event<A: Allocator + Copy>(
-    alloc: A,
-    text: &mut Vec<u8, A>,
-    event: &Event,
-) -> Result<(), AllocError>
+fn push_event<A: Allocator>(text: &mut Vec<u8, A>, event: &Event) -> Result<(), AllocError>
     ensures { OnOk result (text.new.items ≡ text.old.items ++ event_line event.now) }
 {
-    let sid = event.sid.0;
-    let part = format!(in alloc; "e {sid} ")?;
-    text.extend_from_slice(part.as_bytes())?;
-    text.push(event.mark.letter().byte())?;
-    text.push(b'\n')?;
-    Ok(())
+    text.extend_from_slice(b"e ")?;
+    push_number(text, event.sid.0)?;
+    text.extend_from_slice(&[b' ', event.mark.letter().byte(), b'\n'])
 }
 
 // Adds a line for each event.
-pub fn push_events<A: Allocator + Copy>(
-    alloc: A,
-    text: &mut Vec<u8, A>,
-    events: &[Event],
-) -> Result<(), AllocError>
+pub fn push_events<A: Allocator>(text: &mut Vec<u8, A>, events: &[Event]) -> Result<(), AllocError>
     ensures { OnOk result (text.new.items ≡ text.old.items ++ flat_map event_line events.now) }
 {
     for event in events {
-        push_event(alloc, text, event)?;
+        push_event(text, event)?;
     }
     Ok(())
 }
 
-fn order_text<A: Allocator + Copy>(alloc: A, order: &Order) -> Result<String<A>, AllocError>
-    ensures { IfOk result (λ text. string_bytes text ≡ order_line order.now) }
+// Adds an order's word, its service and its run.
+fn push_run<A: Allocator>(
+    text: &mut Vec<u8, A>,
+    word: &str,
+    sid: Sid,
+    generation: u64,
+) -> Result<(), AllocError>
+    ensures { OnOk result (text.new.items ≡ text.old.items ++ (codes "o " ++ (word.now ++ (32 ∷ (decimal sid ++ (32 ∷ decimal generation)))))) }
+{
+    text.extend_from_slice(b"o ")?;
+    text.extend_from_slice(word.as_bytes())?;
+    push_spaced(text, sid.0)?;
+    push_spaced(text, generation)
+}
+
+// Adds an order, but for its newline.
+fn push_order<A: Allocator>(text: &mut Vec<u8, A>, order: &Order) -> Result<(), AllocError>
+    ensures { OnOk result (text.new.items ++ 10 ∷ [] ≡ text.old.items ++ order_line order.now) }
 {
     match order {
-        Order::Run(sid, generation, _, None) => {
-            let sid = sid.0;
-            format!(in alloc; "o run {sid} {generation}\n")
-        }
+        Order::Run(sid, generation, _, None) => push_run(text, "run", *sid, *generation),
         Order::Run(sid, generation, _, Some(fd)) => {
-            let sid = sid.0;
-            format!(in alloc; "o run {sid} {generation} fd {fd}\n")
+            push_run(text, "run", *sid, *generation)?;
+            text.extend_from_slice(b" fd")?;
+            push_spaced(text, u64::from(*fd))
         }
         Order::Finish(sid, generation, _, code, signal) => {
-            let sid = sid.0;
-            format!(in alloc; "o finish {sid} {generation} {code} {signal}\n")
+            push_run(text, "finish", *sid, *generation)?;
+            push_spaced(text, u64::from(*code))?;
+            push_spaced(text, u64::from(*signal))
         }
         Order::Signal(sid, generation, signal) => {
-            let sid = sid.0;
-            format!(in alloc; "o signal {sid} {generation} {signal}\n")
+            push_run(text, "signal", *sid, *generation)?;
+            push_spaced(text, u64::from(*signal))
         }
         Order::KillFinish(sid, generation) => {
-            let sid = sid.0;
-            format!(in alloc; "o killfinish {sid} {generation}\n")
+            push_run(text, "killfinish", *sid, *generation)?;
+            Ok(())
         }
     }
 }
 
 // Adds a line for each order.
-pub fn push_orders<A: Allocator + Copy>(
-    alloc: A,
-    text: &mut Vec<u8, A>,
-    orders: &[Order],
-) -> Result<(), AllocError>
+pub fn push_orders<A: Allocator>(text: &mut Vec<u8, A>, orders: &[Order]) -> Result<(), AllocError>
     ensures { OnOk result (text.new.items ≡ text.old.items ++ flat_map order_line orders.now) }
 {
     for order in orders {
-        let part = order_text(alloc, order)?;
-        text.extend_from_slice(part.as_bytes())?;
+        push_order(text, order)?;
+        text.push(b'\n')?;
     }
     Ok(())
 }
 
-fn push_hit<A: Allocator + Copy>(text: &mut Vec<u8, A>, hit: Hit) -> Result<(), AllocError>
+fn push_hit<A: Allocator>(text: &mut Vec<u8, A>, hit: Hit) -> Result<(), AllocError>
     ensures { OnOk result (text.new.items ≡ text.old.items ++ hit_text hit) }
 {
     match hit {
@@ -91,29 +92,24 @@ fn push_hit<A: Allocator + Copy>(text: &mut Vec<u8, A>, hit: Hit) -> Result<(), 
     }
 }
 
-fn push_match<A: Allocator + Copy>(
-    alloc: A,
-    text: &mut Vec<u8, A>,
-    found: &Match,
-) -> Result<(), AllocError>
+fn push_match<A: Allocator>(text: &mut Vec<u8, A>, found: &Match) -> Result<(), AllocError>
     ensures { OnOk result (text.new.items ≡ text.old.items ++ match_line found.now) }
 {
-    let subscription = found.subscription.0;
-    let part = format!(in alloc; "m {subscription} ")?;
-    text.extend_from_slice(part.as_bytes())?;
+    text.extend_from_slice(b"m ")?;
+    push_number(text, found.subscription.0)?;
+    text.push(b' ')?;
     push_hit(text, found.hit)
 }
 
 // Adds a line for each match.
-pub fn push_matches<A: Allocator + Copy>(
-    alloc: A,
+pub fn push_matches<A: Allocator>(
     text: &mut Vec<u8, A>,
     matched: &[Match],
 ) -> Result<(), AllocError>
     ensures { OnOk result (text.new.items ≡ text.old.items ++ flat_map match_line matched.now) }
 {
     for found in matched {
-        push_match(alloc, text, found)?;
+        push_match(text, found)?;
     }
     Ok(())
 }
@@ -129,29 +125,24 @@ fn verdict_bytes(verdict: Verdict) -> &'static str
     }
 }
 
-fn push_release<A: Allocator + Copy>(
-    alloc: A,
-    text: &mut Vec<u8, A>,
-    release: &Release,
-) -> Result<(), AllocError>
+fn push_release<A: Allocator>(text: &mut Vec<u8, A>, release: &Release) -> Result<(), AllocError>
     ensures { OnOk result (text.new.items ≡ text.old.items ++ release_line release.now) }
 {
-    let waiter = release.waiter.0;
-    let part = format!(in alloc; "r {waiter} ")?;
-    text.extend_from_slice(part.as_bytes())?;
+    text.extend_from_slice(b"r ")?;
+    push_number(text, release.waiter.0)?;
+    text.push(b' ')?;
     text.extend_from_slice(verdict_bytes(release.verdict).as_bytes())
 }
 
 // Adds a line for each release.
-pub fn push_releases<A: Allocator + Copy>(
-    alloc: A,
+pub fn push_releases<A: Allocator>(
     text: &mut Vec<u8, A>,
     released: &[Release],
 ) -> Result<(), AllocError>
     ensures { OnOk result (text.new.items ≡ text.old.items ++ flat_map release_line released.now) }
 {
     for release in released {
-        push_release(alloc, text, release)?;
+        push_release(text, release)?;
     }
     Ok(())
 }

@@ -1,5 +1,5 @@
 //! The entries of a scan: what a configuration sets that isn't at its default, how an entry is spelled, and how it is read.
-ghost use Rattle.std.specs.Prelude.{◌≡◌, ◌≢◌, ◌++◌, ◌∷◌, ℕ, ◌+◌, ◌≤◌, List, length, map, codes, decimal, string_bytes, IsTrue, IfOk, OnOk, MatchOption, All};
+ghost use Rattle.std.specs.Prelude.{◌≡◌, ◌≢◌, ◌++◌, ◌∷◌, ℕ, ◌+◌, ◌≤◌, List, length, map, codes, decimal, IsTrue, IfOk, OnOk, MatchOption, All};
 ghost use Rattle.std.specs.List.{slice_split, flat_map};
 ghost use Rattle.servicedir.specs.Config.{is_served};
 ghost use Rattle.servicedir.specs.declared.config.Config.{Config};
@@ -7,7 +7,8 @@ ghost use Rattle.svscan_core.specs.declared.entry.Entry.{Entry};
 ghost use Rattle.s6_replay.specs.declared.entry_options.Setting.{Setting};
 ghost use Rattle.s6_replay.specs.Options.{where_so, settings, with_setting, option_word, option_words, behind_name, entry_text, ends_part, config_text, IsSetting, IsConfig, IsEntry};
 
-use super::words::{is_word, name_of, number, word_at, words_from};
+use super::digits::push_number;
+use super::words::{Words, is_word, name_of, number, word_at, words_from};
 use arrayvec::ArrayVec;
 use servicedir::Config;
 use std::alloc::{AllocError, Allocator};
@@ -96,42 +97,44 @@ pub fn settings_of(config: &Config) -> Settings
     list
 }
 
-// The option that spells a setting.
-fn option_text<A: Allocator + Copy>(alloc: A, setting: Setting) -> Result<String<A>, AllocError>
-    ensures { IfOk result (λ text. string_bytes text ≡ option_word setting) }
+// Adds an option of this key and value.
+fn push_value<A: Allocator>(text: &mut Vec<u8, A>, key: &str, value: u64) -> Result<(), AllocError>
+    ensures { OnOk result (text.new.items ≡ text.old.items ++ (key.now ++ decimal value)) }
+{
+    text.extend_from_slice(key.as_bytes())?;
+    push_number(text, value)
+}
+
+// Adds the option that spells a setting.
+fn push_option<A: Allocator>(text: &mut Vec<u8, A>, setting: Setting) -> Result<(), AllocError>
+    ensures { OnOk result (text.new.items ≡ text.old.items ++ option_word setting) }
 {
     match setting {
-        Setting::Down => format!(in alloc; "down"),
-        Setting::Finish => format!(in alloc; "finish"),
-        Setting::Notify(descriptor) => format!(in alloc; "notify={descriptor}"),
-        Setting::Kill(millis) => format!(in alloc; "kill={millis}"),
-        Setting::FinishTime(millis) => format!(in alloc; "fintime={millis}"),
-        Setting::Tally(deaths) => format!(in alloc; "tally={deaths}"),
-        Setting::Signal(signal) => format!(in alloc; "signal={signal}"),
+        Setting::Down => text.extend_from_slice(b"down"),
+        Setting::Finish => text.extend_from_slice(b"finish"),
+        Setting::Notify(descriptor) => push_value(text, "notify=", u64::from(descriptor)),
+        Setting::Kill(millis) => push_value(text, "kill=", u64::from(millis)),
+        Setting::FinishTime(millis) => push_value(text, "fintime=", u64::from(millis)),
+        Setting::Tally(deaths) => push_value(text, "tally=", u64::from(deaths)),
+        Setting::Signal(signal) => push_value(text, "signal=", u64::from(signal)),
     }
 }
 
 // Adds the options, a colon before the first and a comma before each further one.
-fn push_options<A: Allocator + Copy>(
-    alloc: A,
-    text: &mut Vec<u8, A>,
-    settings: &[Setting],
-) -> Result<(), AllocError>
+fn push_options<A: Allocator>(text: &mut Vec<u8, A>, settings: &[Setting]) -> Result<(), AllocError>
     ensures { OnOk result (text.new.items ≡ text.old.items ++ behind_name (map option_word settings.now)) }
 {
     let mut mark = b':';
     for setting in settings {
-        let option = option_text(alloc, *setting)?;
         text.push(mark)?;
-        text.extend_from_slice(option.as_bytes())?;
+        push_option(text, *setting)?;
         mark = b',';
     }
     Ok(())
 }
 
 // Adds the options of the configuration, or `!` where none was read.
-fn push_config<A: Allocator + Copy>(
-    alloc: A,
+fn push_config<A: Allocator>(
     text: &mut Vec<u8, A>,
     config: &Option<Config>,
 ) -> Result<(), AllocError>
@@ -139,26 +142,21 @@ fn push_config<A: Allocator + Copy>(
 {
     match config {
         None => text.push(b'!')?,
-        Some(config) => push_options(alloc, text, settings_of(config).as_slice())?,
+        Some(config) => push_options(text, settings_of(config).as_slice())?,
     }
     Ok(())
 }
 
 // Adds the entry.
-fn push_entry<A: Allocator + Copy>(
-    alloc: A,
-    text: &mut Vec<u8, A>,
-    entry: &Entry,
-) -> Result<(), AllocError>
+fn push_entry<A: Allocator>(text: &mut Vec<u8, A>, entry: &Entry) -> Result<(), AllocError>
     ensures { OnOk result (text.new.items ≡ text.old.items ++ entry_text entry.now) }
 {
     text.extend_from_slice(entry.name.as_bytes())?;
-    push_config(alloc, text, &entry.config)
+    push_config(text, &entry.config)
 }
 
 // Adds each entry behind a space.
-pub fn push_entries<A: Allocator + Copy>(
-    alloc: A,
+pub fn push_entries<A: Allocator>(
     text: &mut Vec<u8, A>,
     entries: &[Entry],
 ) -> Result<(), AllocError>
@@ -166,7 +164,7 @@ pub fn push_entries<A: Allocator + Copy>(
 {
     for entry in entries {
         text.push(b' ')?;
-        push_entry(alloc, text, entry)?;
+        push_entry(text, entry)?;
     }
     Ok(())
 }
@@ -276,15 +274,15 @@ fn entry_of<A: Allocator + Copy>(alloc: A, word: &[u8]) -> Result<Entry, AllocEr
 // Reads entries.
 pub fn entries_of<A: Allocator + Copy>(
     alloc: A,
-    words: &[&[u8]],
+    words: &mut Words<'_>,
 ) -> Result<Vec<Entry, A>, AllocError>
     ensures spelled { IfOk result (λ found. (entries : List Entry) → All IsEntry entries
-        → map (λ w. w.now) words.now ≡ map entry_text entries → found.items ≡ entries) }
+        → words.old ≡ map entry_text entries → found.items ≡ entries) }
     ensures fits { IfOk result (λ found. All IsEntry found.items) }
 {
     let mut entries = Vec::new(alloc);
-    for word in words {
-        entries.push(entry_of(alloc, *word)?)?;
+    while words.has_more() {
+        entries.push(entry_of(alloc, words.take_next())?)?;
     }
     Ok(entries)
 }

@@ -5,6 +5,7 @@
 mod block;
 mod counts;
 mod death_list;
+mod digits;
 mod effect_lines;
 mod entry_options;
 mod fault;
@@ -14,8 +15,6 @@ mod replay;
 mod reply_text;
 mod spelling;
 mod subscribing;
-#[cfg(test)]
-mod tests;
 mod turn;
 mod unbuilt;
 mod waiting;

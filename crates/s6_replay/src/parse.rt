@@ -2,9 +2,9 @@
 //! any value of its type. The input that comes of this is spelled again, and answered only where this gives the line. So each line
 //! that spells no input is refused with no case of its own. A pattern is built last, so that a line is refused for it only where it
 //! spells an input otherwise.
-ghost use Rattle.std.specs.Prelude.{◌≡◌, ℕ, ◌≤◌, ◌<◌, ◌∷◌, ◌++◌, [], List, Bool, Err, IfOk, decimal, map, ◌==◌, length};
+ghost use Rattle.std.specs.Prelude.{◌≡◌, ℕ, ◌≤◌, ◌<◌, ◌^◌, ◌∷◌, ◌++◌, [], List, Bool, Err, IfOk, decimal, drop, map, length, slice_index_or};
 ghost use Rattle.hex.specs.Hex.{IsBytes, encode_lower};
-ghost use Rattle.s6_replay.specs.Spelling.{IsSpelt, IsExit, IsAct, Spells, SpellsButForPattern, input_words};
+ghost use Rattle.s6_replay.specs.Spelling.{HasExpression, IsSpelt, IsExit, IsAct, Spells, SpellsButForPattern, input_words};
 ghost use Rattle.s6_replay.specs.Unbuilt.{act_read, input_read, FitsButText};
 ghost use Rattle.s6_events.specs.At.{last_moment};
 ghost use Rattle.svc_commands.specs.ControlLetter.{byte_of};
@@ -18,7 +18,7 @@ use super::spelling::spell;
 use super::subscribing::{send_of, subscribe_of};
 use super::unbuilt::{UnbuiltAct, UnbuiltInput, build};
 use super::waiting::wait_of;
-use super::words::{is_word, name_of, number, word_at, words_from, words_of};
+use super::words::{Words, is_word, name_of, number};
 use arrayvec::ArrayVec;
 use s6_events::{Actor, At, Exit, NoMemory, Sid, SubId, WaitId};
 use std::alloc::{AllocError, Allocator, Global};
@@ -84,15 +84,15 @@ pub enum Verb {
     Tick,
 }
 
-// Reads an exit from its two words.
-fn exit_of(kind: &[u8], word: &[u8]) -> Exit
-    ensures spelled { (e : Exit) → IsExit e → kind.now ∷ word.now ∷ [] ≡ exit_words e → result ≡ e }
+// Reads an exit.
+fn exit_of(words: &mut Words<'_>) -> Exit
+    ensures spelled { (e : Exit) → IsExit e → words.old ≡ exit_words e → result ≡ e }
     ensures fits { IsExit result }
 {
-    if is_word(kind, b"code") {
-        Exit::Code(number(word, 255) as u8)
+    if is_word(words.take_next(), b"code") {
+        Exit::Code(number(words.take_next(), 255) as u8)
     } else {
-        Exit::Killed(number(word, 64) as u8)
+        Exit::Killed(number(words.take_next(), 64) as u8)
     }
 }
 
@@ -159,6 +159,24 @@ fn process_of(word: &[u8]) -> u32
     number(word, 2_147_483_647).max(1) as u32
 }
 
+// Reads a serial or a generation.
+fn serial_of(word: &[u8]) -> u64
+    ensures { (n : ℕ) → n < 2 ^ 64 → word.now ≡ decimal n → result ≡ n }
+{
+    number(word, u64::MAX)
+}
+
+// Reads a service and its run.
+fn run_of(words: &mut Words<'_>) -> (Sid, u64)
+    ensures sid { (n : ℕ) → n < 2 ^ 64 → slice_index_or words.old 0 [] ≡ decimal n → result.0 ≡ n }
+    ensures generation { (n : ℕ) → n < 2 ^ 64 → slice_index_or words.old 1 [] ≡ decimal n → result.1 ≡ n }
+    ensures rest { words.new ≡ drop 2 words.old }
+{
+    let sid = Sid(serial_of(words.take_next()));
+    let generation = serial_of(words.take_next());
+    (sid, generation)
+}
+
 // Adds the letter of this byte, where there is one; after 63 letters nothing.
 fn add_letter(letters: &mut Letters, byte: u8)
     requires { length letters.old.items ≤ 63 }
@@ -216,35 +234,45 @@ fn bytes_of(word: &[u8]) -> ArrayVec<u8, 64>
 fn act_of<A: Allocator + Copy>(
     alloc: A,
     verb: Verb,
-    words: &[&[u8]],
+    words: &mut Words<'_>,
 ) -> Result<UnbuiltAct<A>, NoMemory>
     ensures spelled { IfOk result (λ found. (act : Act A) → IsAct act → verb ≡ verb_of_act act
-        → map (λ w. w.now) words.now ≡ details act → act_read found ≡ act) }
+        → words.old ≡ details act → act_read found ≡ act) }
     ensures fits { IfOk result FitsButText }
 {
-    let name = name_of(word_at(words, 0));
-    let serial = number(word_at(words, 0), u64::MAX);
-    let generation = number(word_at(words, 1), u64::MAX);
-    let third = word_at(words, 2);
-    let exit = exit_of(third, word_at(words, 3));
     let act = match verb {
         Verb::Scan => Act::Scan(Listing::new(entries_of(alloc, words)?)),
-        Verb::Scanctl => Act::Scanctl(order_of(word_at(words, 0))),
-        Verb::Svc => Act::Svc(name, letters_of(word_at(words, 1))),
-        Verb::Started => Act::Started(Sid(serial), generation, process_of(third)),
-        Verb::StartFailed => Act::StartFailed(Sid(serial), generation),
-        Verb::Notify => Act::Notify(Sid(serial), generation, bytes_of(third)),
-        Verb::Death => Act::Death(Sid(serial), generation, exit),
-        Verb::Finished => Act::FinishEnded(Sid(serial), generation, exit),
-        Verb::Status => Act::Status(name),
-        Verb::Tally => Act::Tally(name),
+        Verb::Scanctl => Act::Scanctl(order_of(words.take_next())),
+        Verb::Svc => Act::Svc(name_of(words.take_next()), letters_of(words.take_next())),
+        Verb::Started => {
+            let (sid, generation) = run_of(words);
+            Act::Started(sid, generation, process_of(words.take_next()))
+        }
+        Verb::StartFailed => {
+            let (sid, generation) = run_of(words);
+            Act::StartFailed(sid, generation)
+        }
+        Verb::Notify => {
+            let (sid, generation) = run_of(words);
+            Act::Notify(sid, generation, bytes_of(words.take_next()))
+        }
+        Verb::Death => {
+            let (sid, generation) = run_of(words);
+            Act::Death(sid, generation, exit_of(words))
+        }
+        Verb::Finished => {
+            let (sid, generation) = run_of(words);
+            Act::FinishEnded(sid, generation, exit_of(words))
+        }
+        Verb::Status => Act::Status(name_of(words.take_next())),
+        Verb::Tally => Act::Tally(name_of(words.take_next())),
         Verb::Permafailon => permafailon_of(alloc, words)?,
         Verb::Wait => wait_of(alloc, words)?,
-        Verb::Cancel => Act::Cancel(WaitId(serial)),
+        Verb::Cancel => Act::Cancel(WaitId(serial_of(words.take_next()))),
         Verb::Subscribe => return subscribe_of(alloc, words),
-        Verb::Unsubscribe => Act::Unsubscribe(SubId(serial)),
+        Verb::Unsubscribe => Act::Unsubscribe(SubId(serial_of(words.take_next()))),
         Verb::Send => send_of(words),
-        Verb::Mkdir => Act::MakeDir(name),
+        Verb::Mkdir => Act::MakeDir(name_of(words.take_next())),
         Verb::Tick => Act::Tick,
     };
     Ok(UnbuiltAct::Whole(act))
@@ -267,21 +295,24 @@ fn actor_of(word: &[u8]) -> Actor
 }
 
 // Reads an input.
-fn input_of<A: Allocator + Copy>(alloc: A, words: &[&[u8]]) -> Result<UnbuiltInput<A>, NoMemory>
-    ensures spelled { IfOk result (λ found. (i : Input A) → IsSpelt i → map (λ w. w.now) words.now ≡ input_words i → input_read found ≡ i) }
+fn input_of<A: Allocator + Copy>(
+    alloc: A,
+    words: &mut Words<'_>,
+) -> Result<UnbuiltInput<A>, NoMemory>
+    ensures spelled { IfOk result (λ found. (i : Input A) → IsSpelt i → words.old ≡ input_words i → input_read found ≡ i) }
     ensures at { IfOk result (λ found. found.at ≤ last_moment) }
     ensures actor { IfOk result (λ found. found.actor ≤ 15) }
     ensures act { IfOk result (λ found. FitsButText found.act) }
 {
-    let at = moment_of(word_at(words, 0));
-    let actor = actor_of(word_at(words, 1));
-    let verb = verb_of(word_at(words, 2));
-    let act = act_of(alloc, verb, words_from(words, 3))?;
+    let at = moment_of(words.take_next());
+    let actor = actor_of(words.take_next());
+    let verb = verb_of(words.take_next());
+    let act = act_of(alloc, verb, words)?;
     Ok(UnbuiltInput { actor, at, act })
 }
 
 /// The input that a line spells; the line is given without its newline, and of any length. A pattern takes its memory from `patterns`,
-/// and all else from `alloc`. `Line` comes where the line spells no input, `Pattern` where it spells a subscription whose pattern is
+/// and all else from `alloc`; the pattern of an input is one that the grammar of `regex` reads. `Line` comes where the line spells no input, `Pattern` where it spells a subscription whose pattern is
 /// refused by `regex`, and not for want of memory, and `NoMemory` where a growth was refused; on error nothing is kept. A pattern is
 /// built only where the line spells an input but for it.
 pub fn parse_line<A: Allocator + Copy>(
@@ -291,12 +322,29 @@ pub fn parse_line<A: Allocator + Copy>(
 ) -> Result<Input<A>, LineFault>
     ensures found { IfOk result (Spells line.now) }
     ensures only { IfOk result (λ found. (i : Input A) → Spells line.now i → found ≡ i) }
+    ensures expression { IfOk result (λ found. HasExpression found.act) }
     ensures line { result ≡ Err LineFault.Line → (i : Input A) → Spells line.now i → ⊥ }
     ensures pattern { result ≡ Err LineFault.Pattern → SpellsButForPattern A line.now }
 {
-    let words = words_of(alloc, line)?;
-    let input = input_of(alloc, words.as_slice())?;
-    let text = spell(alloc, &input)?;
+    let mut text = Vec::new(alloc);
+    parse_with(alloc, patterns, line, &mut text)
+}
+
+// The input that a line spells. What it spells is made in a text, whose memory is used again.
+pub fn parse_with<A: Allocator + Copy>(
+    alloc: A,
+    patterns: Global,
+    line: &[u8],
+    text: &mut Vec<u8, A>,
+) -> Result<Input<A>, LineFault>
+    ensures found { IfOk result (Spells line.now) }
+    ensures only { IfOk result (λ found. (i : Input A) → Spells line.now i → found ≡ i) }
+    ensures expression { IfOk result (λ found. HasExpression found.act) }
+    ensures line { result ≡ Err LineFault.Line → (i : Input A) → Spells line.now i → ⊥ }
+    ensures pattern { result ≡ Err LineFault.Pattern → SpellsButForPattern A line.now }
+{
+    let input = input_of(alloc, &mut Words::of(line))?;
+    spell(alloc, text, &input)?;
     if text.as_slice() == line {
         build(patterns, input)
     } else {

@@ -9,10 +9,10 @@ ghost use Rattle.s6_replay.specs.Turn.{HeadStops, EndStops};
 
 use super::counts::Counts;
 use super::fault::ReplayFault;
-use super::turn::{Turn, take_turn};
+use super::turn::{Scratch, Turn, take_turn};
 use std::alloc::{Allocator, Global};
 use std::io::{BufRead, Read, Write};
-use tree_core::{Effect, Tree};
+use tree_core::Tree;
 
 /// The most input lines of a script.
 const INPUT_LIMIT: u64 = 1_000_000;
@@ -49,15 +49,14 @@ fn read_end<R: BufRead>(reader: &mut R) -> Result<(), ReplayFault>
     }
 }
 
-// Replays a script on a tree that has taken no step, with a line and an effect whose memory is used again and again.
+// Replays a script on a tree that has taken no step.
 fn replay_all<A: Allocator + Copy, R: BufRead, W: Write>(
     alloc: A,
     patterns: Global,
     reader: &mut R,
     writer: &mut W,
     tree: &mut Tree<A>,
-    line: &mut Vec<u8, A>,
-    effect: &mut Effect<A>,
+    scratch: &mut Scratch<A>,
 ) -> Result<Counts, ReplayFault>
     requires { StandsFor tree.old new_machine }
     ensures ok { IfOk result (λ counts. (inputs : List (Input A)) × IsWhole inputs counts
@@ -70,16 +69,7 @@ fn replay_all<A: Allocator + Copy, R: BufRead, W: Write>(
     }
     let mut counts = Counts::none();
     for done in 0..INPUT_LIMIT {
-        match take_turn(
-            alloc,
-            patterns,
-            reader,
-            writer,
-            tree,
-            line,
-            effect,
-            done + 1,
-        ) {
+        match take_turn(alloc, patterns, reader, writer, tree, scratch, done + 1) {
             Err(fault) => return Err(fault),
             Ok(Turn::End) => return Ok(counts),
             Ok(Turn::Done { events, orders }) => counts = counts.with_input(events, orders),
@@ -116,15 +106,6 @@ pub fn run<A: Allocator + Copy, R: BufRead, W: Write>(
         (R.remaining reader.old) (R.remaining reader.new) (W.contents writer.old) (W.contents writer.new)) }
 {
     let mut tree = Tree::new(alloc);
-    let mut line = Vec::new(alloc);
-    let mut effect = Effect::new(alloc);
-    replay_all(
-        alloc,
-        patterns,
-        reader,
-        writer,
-        &mut tree,
-        &mut line,
-        &mut effect,
-    )
+    let mut scratch = Scratch::new(alloc);
+    replay_all(alloc, patterns, reader, writer, &mut tree, &mut scratch)
 }

@@ -1,8 +1,9 @@
 //! The text of a reply.
-ghost use Rattle.std.specs.Prelude.{◌≡◌, ◌++◌, string_bytes, IfOk, OnOk};
+ghost use Rattle.std.specs.Prelude.{◌≡◌, ◌++◌, OnOk};
 ghost use Rattle.std.specs.List.{flat_map};
 ghost use Rattle.s6_replay.specs.Transcript.{reason, dropped_text, listed_text, truth_text, truth_field, number_field, exit_code, signal_number, row_text, end_text, death_text, failure_text, reply_text};
 
+use super::digits::{push_number, push_spaced};
 use s6_events::{At, Exit, Sid};
 use std::alloc::{AllocError, Allocator};
 use supervise_core::Row;
@@ -26,43 +27,30 @@ fn reason_text(refusal: Refusal) -> &'static str
     }
 }
 
-fn push_dropped<A: Allocator + Copy>(
-    alloc: A,
-    text: &mut Vec<u8, A>,
-    sid: Sid,
-) -> Result<(), AllocError>
+fn push_dropped<A: Allocator>(text: &mut Vec<u8, A>, sid: Sid) -> Result<(), AllocError>
     ensures { OnOk result (text.new.items ≡ text.old.items ++ dropped_text sid) }
 {
-    let number = sid.0;
-    let part = format!(in alloc; " -{number}")?;
-    text.extend_from_slice(part.as_bytes())
+    text.extend_from_slice(b" -")?;
+    push_number(text, sid.0)
 }
 
-fn push_all_dropped<A: Allocator + Copy>(
-    alloc: A,
-    text: &mut Vec<u8, A>,
-    sids: &[Sid],
-) -> Result<(), AllocError>
+fn push_all_dropped<A: Allocator>(text: &mut Vec<u8, A>, sids: &[Sid]) -> Result<(), AllocError>
     ensures { OnOk result (text.new.items ≡ text.old.items ++ flat_map dropped_text sids.now) }
 {
     for sid in sids {
-        push_dropped(alloc, text, *sid)?;
+        push_dropped(text, *sid)?;
     }
     Ok(())
 }
 
-fn push_listed<A: Allocator + Copy>(
-    alloc: A,
-    text: &mut Vec<u8, A>,
-    listed: &Listed,
-) -> Result<(), AllocError>
+fn push_listed<A: Allocator>(text: &mut Vec<u8, A>, listed: &Listed) -> Result<(), AllocError>
     ensures { OnOk result (text.new.items ≡ text.old.items ++ listed_text listed.now) }
 {
     match listed {
         Listed::Added(sid, name) => {
-            let number = sid.0;
-            let part = format!(in alloc; " +{number}:")?;
-            text.extend_from_slice(part.as_bytes())?;
+            text.extend_from_slice(b" +")?;
+            push_number(text, sid.0)?;
+            text.push(b':')?;
             text.extend_from_slice(name.as_bytes())?;
         }
         Listed::Full(name) => {
@@ -77,15 +65,11 @@ fn push_listed<A: Allocator + Copy>(
     Ok(())
 }
 
-fn push_all_listed<A: Allocator + Copy>(
-    alloc: A,
-    text: &mut Vec<u8, A>,
-    all: &[Listed],
-) -> Result<(), AllocError>
+fn push_all_listed<A: Allocator>(text: &mut Vec<u8, A>, all: &[Listed]) -> Result<(), AllocError>
     ensures { OnOk result (text.new.items ≡ text.old.items ++ flat_map listed_text all.now) }
 {
     for listed in all {
-        push_listed(alloc, text, listed)?;
+        push_listed(text, listed)?;
     }
     Ok(())
 }
@@ -97,32 +81,21 @@ fn truth_bytes(truth: bool) -> &'static str
 }
 
 // Adds a truth value behind a space.
-fn push_truth<A: Allocator + Copy>(text: &mut Vec<u8, A>, truth: bool) -> Result<(), AllocError>
+fn push_truth<A: Allocator>(text: &mut Vec<u8, A>, truth: bool) -> Result<(), AllocError>
     ensures { OnOk result (text.new.items ≡ text.old.items ++ truth_field truth) }
 {
     text.push(b' ')?;
     text.extend_from_slice(truth_bytes(truth).as_bytes())
 }
 
-fn number_of<A: Allocator + Copy>(alloc: A, number: Option<u64>) -> Result<String<A>, AllocError>
-    ensures { IfOk result (λ text. string_bytes text ≡ number_field number) }
-{
-    match number {
-        None => format!(in alloc; " -1"),
-        Some(number) => format!(in alloc; " {number}"),
-    }
-}
-
 // Adds a number behind a space, -1 where it is absent.
-fn push_number<A: Allocator + Copy>(
-    alloc: A,
-    text: &mut Vec<u8, A>,
-    number: Option<u64>,
-) -> Result<(), AllocError>
+fn push_field<A: Allocator>(text: &mut Vec<u8, A>, number: Option<u64>) -> Result<(), AllocError>
     ensures { OnOk result (text.new.items ≡ text.old.items ++ number_field number) }
 {
-    let part = number_of(alloc, number)?;
-    text.extend_from_slice(part.as_bytes())
+    match number {
+        None => text.extend_from_slice(b" -1"),
+        Some(number) => push_spaced(text, number),
+    }
 }
 
 fn code_of(exit: Option<Exit>) -> Option<u64>
@@ -150,7 +123,7 @@ fn pid_of(pid: Option<u32>) -> Option<u64>
 }
 
 // Adds the fields of a row that are true or false.
-fn push_truths<A: Allocator + Copy>(text: &mut Vec<u8, A>, row: &Row) -> Result<(), AllocError>
+fn push_truths<A: Allocator>(text: &mut Vec<u8, A>, row: &Row) -> Result<(), AllocError>
     ensures { OnOk result (text.new.items ≡ text.old.items
         ++ (truth_field row.now.up ++ truth_field row.now.wanted_up ++ truth_field row.now.normally_up ++ truth_field row.now.ready ++ truth_field row.now.paused)) }
 {
@@ -162,70 +135,60 @@ fn push_truths<A: Allocator + Copy>(text: &mut Vec<u8, A>, row: &Row) -> Result<
 }
 
 // Adds the fields of a row that are numbers.
-fn push_numbers<A: Allocator + Copy>(
-    alloc: A,
-    text: &mut Vec<u8, A>,
-    row: &Row,
-) -> Result<(), AllocError>
+fn push_numbers<A: Allocator>(text: &mut Vec<u8, A>, row: &Row) -> Result<(), AllocError>
     ensures { OnOk result (text.new.items ≡ text.old.items
         ++ (number_field row.now.pid ++ number_field (exit_code row.now.exit) ++ number_field (signal_number row.now.exit) ++ number_field row.now.up_down_for ++ number_field row.now.ready_for)) }
 {
-    push_number(alloc, text, pid_of(row.pid))?;
-    push_number(alloc, text, code_of(row.exit))?;
-    push_number(alloc, text, signal_of(row.exit))?;
-    push_number(alloc, text, row.up_down_for)?;
-    push_number(alloc, text, row.ready_for)
+    push_field(text, pid_of(row.pid))?;
+    push_field(text, code_of(row.exit))?;
+    push_field(text, signal_of(row.exit))?;
+    push_field(text, row.up_down_for)?;
+    push_field(text, row.ready_for)
 }
 
 // Adds a row: its serial, its name, and its ten fields.
-fn push_row<A: Allocator + Copy>(
-    alloc: A,
-    text: &mut Vec<u8, A>,
-    row: &Row,
-) -> Result<(), AllocError>
+fn push_row<A: Allocator>(text: &mut Vec<u8, A>, row: &Row) -> Result<(), AllocError>
     ensures { OnOk result (text.new.items ≡ text.old.items ++ row_text row.now) }
 {
-    let sid = row.sid.0;
-    let head = format!(in alloc; "row {sid} ")?;
-    text.extend_from_slice(head.as_bytes())?;
+    text.extend_from_slice(b"row ")?;
+    push_number(text, row.sid.0)?;
+    text.push(b' ')?;
     text.extend_from_slice(row.name.as_bytes())?;
     push_truths(text, row)?;
-    push_numbers(alloc, text, row)
+    push_numbers(text, row)
 }
 
-fn end_of<A: Allocator + Copy>(alloc: A, exit: Exit) -> Result<String<A>, AllocError>
-    ensures { IfOk result (λ text. string_bytes text ≡ end_text exit) }
+// Adds how a run ended.
+fn push_end<A: Allocator>(text: &mut Vec<u8, A>, exit: Exit) -> Result<(), AllocError>
+    ensures { OnOk result (text.new.items ≡ text.old.items ++ end_text exit) }
 {
     match exit {
-        Exit::Code(code) => format!(in alloc; "c{code}"),
-        Exit::Killed(signal) => format!(in alloc; "s{signal}"),
+        Exit::Code(code) => {
+            text.push(b'c')?;
+            push_number(text, u64::from(code))
+        }
+        Exit::Killed(signal) => {
+            text.push(b's')?;
+            push_number(text, u64::from(signal))
+        }
     }
 }
 
 // Adds a death, behind a space.
-fn push_death<A: Allocator + Copy>(
-    alloc: A,
-    text: &mut Vec<u8, A>,
-    death: (At, Exit),
-) -> Result<(), AllocError>
+fn push_death<A: Allocator>(text: &mut Vec<u8, A>, death: (At, Exit)) -> Result<(), AllocError>
     ensures { OnOk result (text.new.items ≡ text.old.items ++ death_text death) }
 {
     let (at, exit) = death;
-    let millis = at.millis();
-    let end = end_of(alloc, exit)?;
-    let part = format!(in alloc; " {millis}:{end}")?;
-    text.extend_from_slice(part.as_bytes())
+    push_spaced(text, at.millis())?;
+    text.push(b':')?;
+    push_end(text, exit)
 }
 
-fn push_deaths<A: Allocator + Copy>(
-    alloc: A,
-    text: &mut Vec<u8, A>,
-    deaths: &[(At, Exit)],
-) -> Result<(), AllocError>
+fn push_deaths<A: Allocator>(text: &mut Vec<u8, A>, deaths: &[(At, Exit)]) -> Result<(), AllocError>
     ensures { OnOk result (text.new.items ≡ text.old.items ++ flat_map death_text deaths.now) }
 {
     for death in deaths {
-        push_death(alloc, text, *death)?;
+        push_death(text, *death)?;
     }
     Ok(())
 }
@@ -242,11 +205,7 @@ fn failure_bytes(fails: bool) -> &'static str
 }
 
 // Adds the text of the reply.
-pub fn push_reply<A: Allocator + Copy>(
-    alloc: A,
-    text: &mut Vec<u8, A>,
-    reply: &Reply<A>,
-) -> Result<(), AllocError>
+pub fn push_reply<A: Allocator>(text: &mut Vec<u8, A>, reply: &Reply<A>) -> Result<(), AllocError>
     ensures { OnOk result (text.new.items ≡ text.old.items ++ reply_text reply.now) }
 {
     match reply {
@@ -255,28 +214,26 @@ pub fn push_reply<A: Allocator + Copy>(
             text.extend_from_slice(b"refused ")?;
             text.extend_from_slice(reason_text(*refusal).as_bytes())?;
         }
-        Reply::Row(row) => push_row(alloc, text, row)?,
+        Reply::Row(row) => push_row(text, row)?,
         Reply::Tally(report) => {
             text.extend_from_slice(b"tally")?;
-            push_deaths(alloc, text, report.deaths())?;
+            push_deaths(text, report.deaths())?;
         }
         Reply::PermanentFailure(fails) => {
             text.extend_from_slice(failure_bytes(*fails).as_bytes())?;
         }
         Reply::Waiter(waiter) => {
-            let waiter = waiter.0;
-            let part = format!(in alloc; "wait {waiter}")?;
-            text.extend_from_slice(part.as_bytes())?;
+            text.extend_from_slice(b"wait")?;
+            push_spaced(text, waiter.0)?;
         }
         Reply::Subscription(subscription) => {
-            let subscription = subscription.0;
-            let part = format!(in alloc; "sub {subscription}")?;
-            text.extend_from_slice(part.as_bytes())?;
+            text.extend_from_slice(b"sub")?;
+            push_spaced(text, subscription.0)?;
         }
         Reply::Scanned(report) => {
             text.extend_from_slice(b"scanned")?;
-            push_all_dropped(alloc, text, report.dropped())?;
-            push_all_listed(alloc, text, report.listed())?;
+            push_all_dropped(text, report.dropped())?;
+            push_all_listed(text, report.listed())?;
         }
     }
     Ok(())

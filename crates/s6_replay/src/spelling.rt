@@ -1,5 +1,5 @@
 //! The spelling of an input.
-ghost use Rattle.std.specs.Prelude.{◌≡◌, ◌++◌, ◌∷◌, [], map, codes, decimal, string_bytes, IfOk, OnOk};
+ghost use Rattle.std.specs.Prelude.{◌≡◌, ◌++◌, ◌∷◌, [], map, codes, decimal, OnOk};
 ghost use Rattle.std.specs.List.{join_with_byte};
 ghost use Rattle.hex.specs.Hex.{encode_lower};
 ghost use Rattle.svc_commands.specs.ControlLetter.{byte_of};
@@ -8,18 +8,19 @@ ghost use Rattle.s6_replay.specs.Spelling.{act_words, spelling};
 ghost use Rattle.s6_replay.specs.Unbuilt.{act_read, input_read};
 ghost use Rattle.s6_replay.specs.Verb.{exit_words};
 
-use super::death_list::permafailon_text;
+use super::death_list::push_permafailon;
+use super::digits::{push_number, push_spaced, push_word};
 use super::entry_options::push_entries;
-use super::subscribing::{send_text, subscribe_text};
+use super::subscribing::{push_send, push_subscribe};
 use super::unbuilt::{UnbuiltAct, UnbuiltInput};
-use super::waiting::wait_text;
+use super::waiting::push_wait;
 use s6_events::{Exit, Name, Sid};
 use std::alloc::{AllocError, Allocator};
 use svc_commands::ControlLetter;
 use tree_core::{Act, Entry, ScanOrder};
 
 // Adds the byte of each letter.
-fn push_letters<A: Allocator + Copy>(
+fn push_letters<A: Allocator>(
     text: &mut Vec<u8, A>,
     letters: &[ControlLetter],
 ) -> Result<(), AllocError>
@@ -31,190 +32,195 @@ fn push_letters<A: Allocator + Copy>(
     Ok(())
 }
 
-fn exit_text<A: Allocator + Copy>(alloc: A, exit: Exit) -> Result<String<A>, AllocError>
-    ensures { IfOk result (λ text. string_bytes text ≡ join_with_byte 32 (exit_words exit)) }
+// Adds the words of an exit.
+fn push_exit<A: Allocator>(text: &mut Vec<u8, A>, exit: Exit) -> Result<(), AllocError>
+    ensures { OnOk result (text.new.items ≡ text.old.items ++ join_with_byte 32 (exit_words exit)) }
 {
     match exit {
-        Exit::Code(n) => format!(in alloc; "code {n}"),
-        Exit::Killed(n) => format!(in alloc; "signal {n}"),
+        Exit::Code(n) => {
+            text.extend_from_slice(b"code")?;
+            push_spaced(text, u64::from(n))
+        }
+        Exit::Killed(n) => {
+            text.extend_from_slice(b"signal")?;
+            push_spaced(text, u64::from(n))
+        }
     }
 }
 
-// The words of a scan.
-#[tactic(auto, using(crate::proofs::Joined::join_entries))]
-fn scan_text<A: Allocator + Copy>(alloc: A, entries: &[Entry]) -> Result<Vec<u8, A>, AllocError>
-    ensures { IfOk result (λ text. text.items ≡ join_with_byte 32 (codes "scan" ∷ map entry_text entries.now)) }
+// Adds the words of a scan.
+fn push_scan<A: Allocator>(text: &mut Vec<u8, A>, entries: &[Entry]) -> Result<(), AllocError>
+    ensures { OnOk result (text.new.items ≡ text.old.items ++ join_with_byte 32 (codes "scan" ∷ map entry_text entries.now)) }
 {
-    let mut text = b"scan".to_vec(alloc)?;
-    push_entries(alloc, &mut text, entries)?;
-    Ok(text)
+    text.extend_from_slice(b"scan")?;
+    push_entries(text, entries)?;
+    Ok(())
 }
 
-// The words of letters for a service.
-fn svc_text<A: Allocator + Copy>(
-    alloc: A,
+// Adds the words of letters for a service.
+fn push_svc<A: Allocator>(
+    text: &mut Vec<u8, A>,
     name: &Name,
     letters: &[ControlLetter],
-) -> Result<Vec<u8, A>, AllocError>
-    ensures { IfOk result (λ text. text.items ≡ join_with_byte 32 (codes "svc" ∷ name.now ∷ map byte_of letters.now ∷ [])) }
+) -> Result<(), AllocError>
+    ensures { OnOk result (text.new.items ≡ text.old.items ++ join_with_byte 32 (codes "svc" ∷ name.now ∷ map byte_of letters.now ∷ [])) }
 {
-    let mut text = b"svc ".to_vec(alloc)?;
-    text.extend_from_slice(name.as_bytes())?;
+    push_named(text, "svc", name)?;
     text.push(b' ')?;
-    push_letters(&mut text, letters)?;
-    Ok(text)
+    push_letters(text, letters)
 }
 
-// The words of a notification.
-fn notify_text<A: Allocator + Copy>(
+// Adds the words of a notification.
+fn push_notify<A: Allocator + Copy>(
     alloc: A,
+    text: &mut Vec<u8, A>,
     sid: Sid,
     generation: u64,
     bytes: &[u8],
-) -> Result<Vec<u8, A>, AllocError>
-    ensures { IfOk result (λ text. text.items ≡ join_with_byte 32
+) -> Result<(), AllocError>
+    ensures { OnOk result (text.new.items ≡ text.old.items ++ join_with_byte 32
         (codes "notify" ∷ decimal sid ∷ decimal generation ∷ encode_lower bytes.now ∷ [])) }
 {
-    let sid = sid.0;
     let digits = hex::encode(alloc, bytes)?;
-    let text = format!(in alloc; "notify {sid} {generation} {digits}")?;
-    Ok(text.into_bytes())
+    push_report(text, "notify", sid, generation)?;
+    push_word(text, digits.as_bytes())
 }
 
-// The words of a verb and a name.
-fn named_text<A: Allocator + Copy>(
-    alloc: A,
+// Adds the words of a verb and a name.
+fn push_named<A: Allocator>(
+    text: &mut Vec<u8, A>,
     verb: &str,
     name: &Name,
-) -> Result<Vec<u8, A>, AllocError>
-    ensures { IfOk result (λ text. text.items ≡ join_with_byte 32 (verb.now ∷ name.now ∷ [])) }
+) -> Result<(), AllocError>
+    ensures { OnOk result (text.new.items ≡ text.old.items ++ join_with_byte 32 (verb.now ∷ name.now ∷ [])) }
 {
-    let head = format!(in alloc; "{verb} ")?;
-    let mut text = head.into_bytes();
-    text.extend_from_slice(name.as_bytes())?;
-    Ok(text)
+    text.extend_from_slice(verb.as_bytes())?;
+    push_word(text, name.as_bytes())
 }
 
-// The words of a verb and a serial.
-fn serial_text<A: Allocator + Copy>(
-    alloc: A,
+// Adds the words of a verb and a serial.
+fn push_serial<A: Allocator>(
+    text: &mut Vec<u8, A>,
     verb: &str,
     serial: u64,
-) -> Result<Vec<u8, A>, AllocError>
-    ensures { IfOk result (λ text. text.items ≡ join_with_byte 32 (verb.now ∷ decimal serial ∷ [])) }
+) -> Result<(), AllocError>
+    ensures { OnOk result (text.new.items ≡ text.old.items ++ join_with_byte 32 (verb.now ∷ decimal serial ∷ [])) }
 {
-    let text = format!(in alloc; "{verb} {serial}")?;
-    Ok(text.into_bytes())
+    text.extend_from_slice(verb.as_bytes())?;
+    push_spaced(text, serial)
 }
 
-// The words of a report of a run.
-fn report_text<A: Allocator + Copy>(
-    alloc: A,
+// Adds the words of a report of a run.
+fn push_report<A: Allocator>(
+    text: &mut Vec<u8, A>,
     verb: &str,
     sid: Sid,
     generation: u64,
-) -> Result<String<A>, AllocError>
-    ensures { IfOk result (λ text. string_bytes text ≡ join_with_byte 32 (verb.now ∷ decimal sid ∷ decimal generation ∷ [])) }
+) -> Result<(), AllocError>
+    ensures { OnOk result (text.new.items ≡ text.old.items ++ join_with_byte 32 (verb.now ∷ decimal sid ∷ decimal generation ∷ [])) }
 {
-    let sid = sid.0;
-    format!(in alloc; "{verb} {sid} {generation}")
+    push_serial(text, verb, sid.0)?;
+    push_spaced(text, generation)
 }
 
-// The words of a run that was spawned.
-fn started_text<A: Allocator + Copy>(
-    alloc: A,
+// Adds the words of a run that was spawned.
+fn push_started<A: Allocator>(
+    text: &mut Vec<u8, A>,
     sid: Sid,
     generation: u64,
     pid: u32,
-) -> Result<Vec<u8, A>, AllocError>
-    ensures { IfOk result (λ text. text.items ≡ join_with_byte 32
+) -> Result<(), AllocError>
+    ensures { OnOk result (text.new.items ≡ text.old.items ++ join_with_byte 32
         (codes "started" ∷ decimal sid ∷ decimal generation ∷ decimal pid ∷ [])) }
 {
-    let head = report_text(alloc, "started", sid, generation)?;
-    let text = format!(in alloc; "{head} {pid}")?;
-    Ok(text.into_bytes())
+    push_report(text, "started", sid, generation)?;
+    push_spaced(text, u64::from(pid))
 }
 
-// The words of a run that ended so.
-fn ended_text<A: Allocator + Copy>(
-    alloc: A,
+// Adds the words of a run that ended so.
+fn push_ended<A: Allocator>(
+    text: &mut Vec<u8, A>,
     verb: &str,
     sid: Sid,
     generation: u64,
     exit: Exit,
-) -> Result<Vec<u8, A>, AllocError>
-    ensures { IfOk result (λ text. text.items ≡ join_with_byte 32 (verb.now ∷ decimal sid ∷ decimal generation ∷ exit_words exit)) }
+) -> Result<(), AllocError>
+    ensures { OnOk result (text.new.items ≡ text.old.items ++ join_with_byte 32 (verb.now ∷ decimal sid ∷ decimal generation ∷ exit_words exit)) }
 {
-    let head = report_text(alloc, verb, sid, generation)?;
-    let exit = exit_text(alloc, exit)?;
-    let text = format!(in alloc; "{head} {exit}")?;
-    Ok(text.into_bytes())
+    push_report(text, verb, sid, generation)?;
+    text.push(b' ')?;
+    push_exit(text, exit)
 }
 
-// The words of an act.
-fn act_text<A: Allocator + Copy>(alloc: A, act: &Act<A>) -> Result<Vec<u8, A>, AllocError>
-    ensures { IfOk result (λ text. text.items ≡ join_with_byte 32 (act_words act.now)) }
+// Adds the words of an act.
+fn push_act<A: Allocator + Copy>(
+    alloc: A,
+    text: &mut Vec<u8, A>,
+    act: &Act<A>,
+) -> Result<(), AllocError>
+    ensures { OnOk result (text.new.items ≡ text.old.items ++ join_with_byte 32 (act_words act.now)) }
 {
     match act {
-        Act::Scan(listing) => scan_text(alloc, listing.entries()),
-        Act::Scanctl(ScanOrder::Nuke) => b"scanctl n".to_vec(alloc),
-        Act::Scanctl(ScanOrder::Terminate) => b"scanctl t".to_vec(alloc),
-        Act::Svc(name, letters) => svc_text(alloc, name, letters.as_slice()),
-        Act::Started(sid, generation, pid) => started_text(alloc, *sid, *generation, *pid),
-        Act::StartFailed(sid, generation) => {
-            Ok(report_text(alloc, "startfailed", *sid, *generation)?.into_bytes())
-        }
+        Act::Scan(listing) => push_scan(text, listing.entries()),
+        Act::Scanctl(ScanOrder::Nuke) => text.extend_from_slice(b"scanctl n"),
+        Act::Scanctl(ScanOrder::Terminate) => text.extend_from_slice(b"scanctl t"),
+        Act::Svc(name, letters) => push_svc(text, name, letters.as_slice()),
+        Act::Started(sid, generation, pid) => push_started(text, *sid, *generation, *pid),
+        Act::StartFailed(sid, generation) => push_report(text, "startfailed", *sid, *generation),
         Act::Notify(sid, generation, bytes) => {
-            notify_text(alloc, *sid, *generation, bytes.as_slice())
+            push_notify(alloc, text, *sid, *generation, bytes.as_slice())
         }
-        Act::Death(sid, generation, exit) => ended_text(alloc, "death", *sid, *generation, *exit),
+        Act::Death(sid, generation, exit) => push_ended(text, "death", *sid, *generation, *exit),
         Act::FinishEnded(sid, generation, exit) => {
-            ended_text(alloc, "finished", *sid, *generation, *exit)
+            push_ended(text, "finished", *sid, *generation, *exit)
         }
-        Act::Status(name) => named_text(alloc, "status", name),
-        Act::Tally(name) => named_text(alloc, "tally", name),
+        Act::Status(name) => push_named(text, "status", name),
+        Act::Tally(name) => push_named(text, "tally", name),
         Act::Permafailon(name, seconds, count, list) => {
-            permafailon_text(alloc, name, *seconds, *count, list)
+            push_permafailon(text, name, *seconds, *count, list)
         }
         Act::Wait(condition, mode, timeout, names) => {
-            wait_text(alloc, *condition, *mode, *timeout, names.names())
+            push_wait(text, *condition, *mode, *timeout, names.names())
         }
-        Act::Cancel(waiter) => serial_text(alloc, "cancel", waiter.0),
+        Act::Cancel(waiter) => push_serial(text, "cancel", waiter.0),
         Act::Subscribe(target, pattern, repeats) => {
-            subscribe_text(alloc, target, pattern.text(), *repeats)
+            push_subscribe(text, target, pattern.text(), *repeats)
         }
-        Act::Unsubscribe(subscription) => serial_text(alloc, "unsubscribe", subscription.0),
-        Act::Send(target, message) => send_text(alloc, target, message),
-        Act::MakeDir(name) => named_text(alloc, "mkdir", name),
-        Act::Tick => b"tick".to_vec(alloc),
+        Act::Unsubscribe(subscription) => push_serial(text, "unsubscribe", subscription.0),
+        Act::Send(target, message) => push_send(text, target, message),
+        Act::MakeDir(name) => push_named(text, "mkdir", name),
+        Act::Tick => text.extend_from_slice(b"tick"),
     }
 }
 
-// The words of an act that was read.
-fn read_text<A: Allocator + Copy>(alloc: A, act: &UnbuiltAct<A>) -> Result<Vec<u8, A>, AllocError>
-    ensures { IfOk result (λ text. text.items ≡ join_with_byte 32 (act_words (act_read act.now))) }
+// Adds the words of an act that was read.
+fn push_read<A: Allocator + Copy>(
+    alloc: A,
+    text: &mut Vec<u8, A>,
+    act: &UnbuiltAct<A>,
+) -> Result<(), AllocError>
+    ensures { OnOk result (text.new.items ≡ text.old.items ++ join_with_byte 32 (act_words (act_read act.now))) }
 {
     match act {
-        UnbuiltAct::Whole(act) => act_text(alloc, act),
-        UnbuiltAct::Subscribe(target, text, repeats) => {
-            subscribe_text(alloc, target, text, *repeats)
+        UnbuiltAct::Whole(act) => push_act(alloc, text, act),
+        UnbuiltAct::Subscribe(target, pattern, repeats) => {
+            push_subscribe(text, target, pattern, *repeats)
         }
     }
 }
 
-// The spelling of an input that was read.
+// Makes the text the spelling of an input that was read.
 #[tactic(auto, using(crate::proofs::Joined::join_act))]
 pub fn spell<A: Allocator + Copy>(
     alloc: A,
+    text: &mut Vec<u8, A>,
     input: &UnbuiltInput<A>,
-) -> Result<Vec<u8, A>, AllocError>
-    ensures { IfOk result (λ text. text.items ≡ spelling (input_read input.now)) }
+) -> Result<(), AllocError>
+    ensures { OnOk result (text.new.items ≡ spelling (input_read input.now)) }
 {
-    let at = input.at.millis();
-    let actor = input.actor.number();
-    let act = read_text(alloc, &input.act)?;
-    let head = format!(in alloc; "{at} {actor} ")?;
-    let mut text = head.into_bytes();
-    text.extend_from_slice(act.as_slice())?;
-    Ok(text)
+    text.clear();
+    push_number(text, input.at.millis())?;
+    push_spaced(text, u64::from(input.actor.number()))?;
+    text.push(b' ')?;
+    push_read(alloc, text, &input.act)
 }

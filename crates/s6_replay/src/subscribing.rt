@@ -1,29 +1,32 @@
 //! Event directories, in a script: reading what is asked of them, and its spelling.
-ghost use Rattle.std.specs.Prelude.{◌≡◌, ◌++◌, ◌∷◌, [], List, ℕ, Bool, true, IsTrue, map, codes, string_bytes, IfOk, OnOk};
-ghost use Rattle.std.specs.List.{flat_map, join_with_byte};
+ghost use Rattle.std.specs.Prelude.{◌≡◌, ◌++◌, ◌∷◌, [], List, ℕ, Bool, true, IsTrue, codes, drop, slice_index_or, string_bytes, IfOk, OnOk};
+ghost use Rattle.std.specs.List.{join_with_byte};
 ghost use Rattle.event_directory.specs.Message.{is_message};
 ghost use Rattle.event_directory.specs.Pattern.{is_pattern_text};
 ghost use Rattle.s6_events.specs.Name.{is_name};
-ghost use Rattle.s6_replay.specs.Spelling.{IsAct};
+ghost use Rattle.s6_replay.specs.Spelling.{HasExpression, IsAct};
 ghost use Rattle.s6_replay.specs.Unbuilt.{act_read, FitsButText};
 ghost use Rattle.s6_replay.specs.Verb.{target_word, target_name, how_word, text_words, verb_of_act, details};
 ghost use Rattle.s6_replay.specs.declared.parse.Verb.TheVariants.{Subscribe, Send};
 ghost use Rattle.tree_core.specs.declared.input.Target.{Target};
 
+use super::digits::push_word;
 use super::unbuilt::UnbuiltAct;
-use super::words::{is_word, name_of, word_at, words_from};
+use super::words::{Words, is_word, name_of};
 use event_directory::Message;
 use s6_events::{Name, NoMemory};
 use std::alloc::{AllocError, Allocator};
 use tree_core::{Act, Target};
 
-// Reads from two words whose event directory is meant.
-fn target_of(kind: &[u8], word: &[u8]) -> Target
-    ensures spelled { (target : Target) → IsTrue (is_name (target_name target)) → kind.now ≡ target_word target
-        → word.now ≡ target_name target → result ≡ target }
+// Reads whose event directory is meant.
+fn target_of(words: &mut Words<'_>) -> Target
+    ensures spelled { (target : Target) → IsTrue (is_name (target_name target)) → slice_index_or words.old 0 [] ≡ target_word target
+        → slice_index_or words.old 1 [] ≡ target_name target → result ≡ target }
     ensures fits { is_name (target_name result) ≡ true }
+    ensures rest { words.new ≡ drop 2 words.old }
 {
-    let name = name_of(word);
+    let kind = words.take_next();
+    let name = name_of(words.take_next());
     if is_word(kind, b"svc") {
         Target::Service(name)
     } else {
@@ -38,52 +41,28 @@ fn repeats_of(word: &[u8]) -> bool
     is_word(word, b"repeat")
 }
 
-// Adds words, each behind a space.
-fn push_words<A: Allocator + Copy>(text: &mut Vec<u8, A>, words: &[&[u8]]) -> Result<(), AllocError>
-    ensures { OnOk result (text.new.items ≡ text.old.items ++ flat_map (λ w. 32 ∷ w.now) words.now) }
+// Reads the text of a pattern; none where the bytes are no text.
+fn pattern_text<A: Allocator + Copy>(alloc: A, bytes: &[u8]) -> Result<String<A>, AllocError>
+    ensures { IfOk result (λ found. IsTrue (is_pattern_text bytes.now) → string_bytes found ≡ bytes.now) }
 {
-    for word in words {
-        text.push(b' ')?;
-        text.extend_from_slice(*word)?;
-    }
-    Ok(())
-}
-
-// Joins words, with a space between each two.
-fn join<A: Allocator + Copy>(alloc: A, words: &[&[u8]]) -> Result<Vec<u8, A>, AllocError>
-    ensures { IfOk result (λ text. text.items ≡ join_with_byte 32 (map (λ w. w.now) words.now)) }
-{
-    let Some((first, more)) = words.split_first() else {
-        return Ok(Vec::new(alloc));
-    };
-    let mut text = first.to_vec(alloc)?;
-    push_words(&mut text, more)?;
-    Ok(text)
-}
-
-// Reads the text of a pattern from its words.
-fn pattern_text<A: Allocator + Copy>(alloc: A, words: &[&[u8]]) -> Result<String<A>, AllocError>
-    ensures { IfOk result (λ found. (pattern : List ℕ) → IsTrue (is_pattern_text pattern)
-        → map (λ w. w.now) words.now ≡ text_words pattern → string_bytes found ≡ pattern) }
-{
-    match String::from_utf8(join(alloc, words)?) {
+    match String::from_utf8(bytes.to_vec(alloc)?) {
         Ok(text) => Ok(text),
         Err(_) => Ok(String::new(alloc)),
     }
 }
 
-/// Reads a subscription from the words behind its verb.
+/// Reads a subscription from the words behind its verb. Its pattern is the rest of the line, spaces and all.
 pub fn subscribe_of<A: Allocator + Copy>(
     alloc: A,
-    words: &[&[u8]],
+    words: &mut Words<'_>,
 ) -> Result<UnbuiltAct<A>, NoMemory>
     ensures spelled { IfOk result (λ found. (act : Act A) → IsAct act → Subscribe ≡ verb_of_act act
-        → map (λ w. w.now) words.now ≡ details act → act_read found ≡ act) }
+        → words.old ≡ details act → act_read found ≡ act) }
     ensures fits { IfOk result FitsButText }
 {
-    let target = target_of(word_at(words, 0), word_at(words, 1));
-    let repeats = repeats_of(word_at(words, 2));
-    let text = pattern_text(alloc, words_from(words, 3))?;
+    let target = target_of(words);
+    let repeats = repeats_of(words.take_next());
+    let text = pattern_text(alloc, words.rest())?;
     Ok(UnbuiltAct::Subscribe(target, text, repeats))
 }
 
@@ -99,12 +78,12 @@ fn message_of(word: &[u8]) -> Message
 }
 
 /// Reads a message and whose event directory it is sent to from the words behind its verb.
-pub fn send_of<A: Allocator + Copy>(words: &[&[u8]]) -> Act<A>
-    ensures spelled { (act : Act A) → IsAct act → Send ≡ verb_of_act act → map (λ w. w.now) words.now ≡ details act → result ≡ act }
-    ensures fits { IsAct result }
+pub fn send_of<A: Allocator + Copy>(words: &mut Words<'_>) -> Act<A>
+    ensures spelled { (act : Act A) → IsAct act → Send ≡ verb_of_act act → words.old ≡ details act → result ≡ act }
+    ensures fits { IsAct result × HasExpression result }
 {
-    let target = target_of(word_at(words, 0), word_at(words, 1));
-    Act::Send(target, message_of(word_at(words, 2)))
+    let target = target_of(words);
+    Act::Send(target, message_of(words.take_next()))
 }
 
 fn target_bytes(target: &Target) -> &'static str
@@ -131,53 +110,41 @@ fn how_bytes(repeats: bool) -> &'static str
     if repeats { "repeat" } else { "once" }
 }
 
-// Adds a word behind a space.
-fn push_word<A: Allocator + Copy>(text: &mut Vec<u8, A>, word: &[u8]) -> Result<(), AllocError>
-    ensures { OnOk result (text.new.items ≡ text.old.items ++ 32 ∷ word.now) }
-{
-    text.push(b' ')?;
-    text.extend_from_slice(word)
-}
-
 // Adds the words of a target, each behind a space.
-fn push_target<A: Allocator + Copy>(
-    text: &mut Vec<u8, A>,
-    target: &Target,
-) -> Result<(), AllocError>
+fn push_target<A: Allocator>(text: &mut Vec<u8, A>, target: &Target) -> Result<(), AllocError>
     ensures { OnOk result (text.new.items ≡ text.old.items ++ 32 ∷ (target_word target.now ++ 32 ∷ target_name target.now)) }
 {
     push_word(text, target_bytes(target).as_bytes())?;
     push_word(text, name_in(target).as_bytes())
 }
 
-/// The words of a subscription to this pattern.
-pub fn subscribe_text<A: Allocator + Copy>(
-    alloc: A,
+/// Adds the words of a subscription to this pattern.
+pub fn push_subscribe<A: Allocator>(
+    text: &mut Vec<u8, A>,
     target: &Target,
     pattern: &str,
     repeats: bool,
-) -> Result<Vec<u8, A>, AllocError>
-    ensures { IfOk result (λ text. text.items ≡ join_with_byte 32
+) -> Result<(), AllocError>
+    ensures { OnOk result (text.new.items ≡ text.old.items ++ join_with_byte 32
         (codes "subscribe" ∷ target_word target.now ∷ target_name target.now ∷ how_word repeats ∷ text_words pattern.now)) }
 {
-    let mut text = b"subscribe".to_vec(alloc)?;
-    push_target(&mut text, target)?;
-    push_word(&mut text, how_bytes(repeats).as_bytes())?;
-    push_word(&mut text, pattern.as_bytes())?;
-    Ok(text)
+    text.extend_from_slice(b"subscribe")?;
+    push_target(text, target)?;
+    push_word(text, how_bytes(repeats).as_bytes())?;
+    push_word(text, pattern.as_bytes())?;
+    Ok(())
 }
 
-/// The words of a message to be sent.
-pub fn send_text<A: Allocator + Copy>(
-    alloc: A,
+/// Adds the words of a message to be sent.
+pub fn push_send<A: Allocator>(
+    text: &mut Vec<u8, A>,
     target: &Target,
     message: &Message,
-) -> Result<Vec<u8, A>, AllocError>
-    ensures { IfOk result (λ text. text.items ≡ join_with_byte 32
+) -> Result<(), AllocError>
+    ensures { OnOk result (text.new.items ≡ text.old.items ++ join_with_byte 32
         (codes "send" ∷ target_word target.now ∷ target_name target.now ∷ message.now ∷ [])) }
 {
-    let mut text = b"send".to_vec(alloc)?;
-    push_target(&mut text, target)?;
-    push_word(&mut text, message.as_bytes())?;
-    Ok(text)
+    text.extend_from_slice(b"send")?;
+    push_target(text, target)?;
+    push_word(text, message.as_bytes())
 }

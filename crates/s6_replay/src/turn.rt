@@ -2,10 +2,10 @@
 ghost use Rattle.std.specs.Prelude.{◌≡◌, ◌+◌, ◌<◌, ◌^◌, IfOk, IfErr};
 ghost use Rattle.s6_replay.specs.Turn.{WasRead, ReadingStops, IsAnswered, AnswerStops, Turns, TurnStops};
 
-use super::block::{WriteFault, write_effect};
+use super::block::{WriteFault, write_block};
 use super::fault::ReplayFault;
 use super::line::{Ended, ReadFault, read_line};
-use super::parse::{LineFault, parse_line};
+use super::parse::{LineFault, parse_with};
 use std::alloc::{Allocator, Global};
 use std::io::{BufRead, Write};
 use tree_core::{Effect, Input, Tree};
@@ -19,12 +19,33 @@ pub enum Turn {
     End,
 }
 
+// What a replay uses again for each line, so that a line that needs no more room than those before it takes no memory: the line, a text
+// of what was read or is written, and what the tree gave.
+#[derive(Drop)]
+pub struct Scratch<A: Allocator> {
+    pub line: Vec<u8, A>,
+    pub text: Vec<u8, A>,
+    pub effect: Effect<A>,
+}
+
+impl<A: Allocator + Copy> Scratch<A> {
+    // Takes no memory.
+    pub fn new(alloc: A) -> Scratch<A> {
+        Scratch {
+            line: Vec::new(alloc),
+            text: Vec::new(alloc),
+            effect: Effect::new(alloc),
+        }
+    }
+}
+
 // Reads the next input, if there is one. A fault reports its line, which is one more than the number of its input.
 fn read_input<A: Allocator + Copy, R: BufRead>(
     alloc: A,
     patterns: Global,
     reader: &mut R,
     line: &mut Vec<u8, A>,
+    text: &mut Vec<u8, A>,
     input_number: u64,
 ) -> Result<Option<Input<A>>, ReplayFault>
     requires { input_number + 1 < 2 ^ 64 }
@@ -43,7 +64,7 @@ fn read_input<A: Allocator + Copy, R: BufRead>(
         }
         Ok(Ended::Newline) => {}
     }
-    match parse_line(alloc, patterns, line.as_slice()) {
+    match parse_with(alloc, patterns, line.as_slice(), text) {
         Ok(input) => Ok(Some(input)),
         Err(LineFault::Line) => Err(ReplayFault::Line(input_number + 1)),
         Err(LineFault::Pattern) => Err(ReplayFault::Pattern(input_number + 1)),
@@ -53,9 +74,9 @@ fn read_input<A: Allocator + Copy, R: BufRead>(
 
 // Applies an input, and writes its block under its number. Answers how many events and orders it gave. What was in the effect is gone.
 fn answer_input<A: Allocator + Copy, W: Write>(
-    alloc: A,
     tree: &mut Tree<A>,
     effect: &mut Effect<A>,
+    text: &mut Vec<u8, A>,
     writer: &mut W,
     input: Input<A>,
     input_number: u64,
@@ -71,7 +92,7 @@ fn answer_input<A: Allocator + Copy, W: Write>(
         effect.events.as_slice().len(),
         effect.orders.as_slice().len(),
     );
-    match write_effect(alloc, input_number, effect, writer) {
+    match write_block(input_number, effect, text, writer) {
         Ok(()) => Ok(given),
         Err(WriteFault::Write) => Err(ReplayFault::Write),
         Err(WriteFault::NoMemory) => Err(ReplayFault::NoMemory),
@@ -85,8 +106,7 @@ pub fn take_turn<A: Allocator + Copy, R: BufRead, W: Write>(
     reader: &mut R,
     writer: &mut W,
     tree: &mut Tree<A>,
-    line: &mut Vec<u8, A>,
-    effect: &mut Effect<A>,
+    scratch: &mut Scratch<A>,
     input_number: u64,
 ) -> Result<Turn, ReplayFault>
     requires { input_number + 1 < 2 ^ 64 }
@@ -95,9 +115,10 @@ pub fn take_turn<A: Allocator + Copy, R: BufRead, W: Write>(
     ensures ok { IfOk result (λ turn. Turns A turn input_number tree.old tree.new
         (R.remaining reader.old) (R.remaining reader.new) (W.contents writer.old) (W.contents writer.new)) }
 {
-    let Some(input) = read_input(alloc, patterns, reader, line, input_number)? else {
+    let Scratch { line, text, effect } = scratch;
+    let Some(input) = read_input(alloc, patterns, reader, line, text, input_number)? else {
         return Ok(Turn::End);
     };
-    let (events, orders) = answer_input(alloc, tree, effect, writer, input, input_number)?;
+    let (events, orders) = answer_input(tree, effect, text, writer, input, input_number)?;
     Ok(Turn::Done { events, orders })
 }

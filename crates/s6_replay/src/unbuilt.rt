@@ -1,7 +1,7 @@
 //! What was read from the words of an input, and building its pattern.
-ghost use Rattle.std.specs.Prelude.{◌≡◌, ◌≢◌, ◌↔◌, Err, IfOk, IsErrOf, false};
-ghost use Rattle.event_directory.specs.Pattern.{is_pattern_text, IsRefusedText};
-ghost use Rattle.s6_replay.specs.Spelling.{IsAct, HasRefusedPattern};
+ghost use Rattle.std.specs.Prelude.{◌≡◌, ◌≢◌, ◌↔◌, Err, IfOk, IsErrOf, IsTrue, false};
+ghost use Rattle.event_directory.specs.Pattern.{is_expression, is_pattern_text, IsRefusedText};
+ghost use Rattle.s6_replay.specs.Spelling.{HasExpression, IsAct, HasRefusedPattern};
 ghost use Rattle.s6_replay.specs.Unbuilt.{act_read, input_read, FitsButText};
 
 use super::parse::LineFault;
@@ -28,6 +28,7 @@ pub struct UnbuiltInput<A: Allocator> {
 // Builds a pattern. `Line` comes where the text is that of no pattern.
 fn build_pattern(patterns: Global, text: &str) -> Result<Pattern, LineFault>
     ensures ok { IfOk result (λ pattern. pattern ≡ text.now) }
+    ensures expression { IfOk result (λ _. IsTrue (is_expression text.now)) }
     ensures line { IsErrOf result LineFault.Line ↔ (is_pattern_text text.now ≡ false) }
     ensures pattern { IsErrOf result LineFault.Pattern → IsRefusedText text.now }
 {
@@ -42,6 +43,7 @@ fn build_pattern(patterns: Global, text: &str) -> Result<Pattern, LineFault>
 // Builds the pattern of an act, where it has one. `Line` comes where its text is that of no pattern.
 fn build_act<A: Allocator>(patterns: Global, act: UnbuiltAct<A>) -> Result<Act<A>, LineFault>
     ensures ok { IfOk result (λ built. built ≡ act_read act) }
+    ensures expression { FitsButText act → IfOk result HasExpression }
     ensures fits { result ≢ Err LineFault.Line → FitsButText act → IsAct (act_read act) }
     ensures line { result ≡ Err LineFault.Line → IsAct (act_read act) → ⊥ }
     ensures pattern { result ≡ Err LineFault.Pattern → HasRefusedPattern (act_read act) }
@@ -58,6 +60,7 @@ fn build_act<A: Allocator>(patterns: Global, act: UnbuiltAct<A>) -> Result<Act<A
 // Builds the pattern of an input, where it has one. `Line` comes where its text is that of no pattern.
 pub fn build<A: Allocator>(patterns: Global, input: UnbuiltInput<A>) -> Result<Input<A>, LineFault>
     ensures ok { IfOk result (λ built. built ≡ input_read input) }
+    ensures expression { FitsButText input.act → IfOk result (λ built. HasExpression built.act) }
     ensures fits { result ≢ Err LineFault.Line → FitsButText input.act → IsAct (act_read input.act) }
     ensures line { result ≡ Err LineFault.Line → IsAct (act_read input.act) → ⊥ }
     ensures pattern { result ≡ Err LineFault.Pattern → HasRefusedPattern (act_read input.act) }

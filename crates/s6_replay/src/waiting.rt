@@ -1,14 +1,15 @@
 //! A wait, in a script: reading it, and its spelling.
-ghost use Rattle.std.specs.Prelude.{◌≡◌, ◌++◌, ◌∷◌, [], List, ℕ, All, IsTrue, decimal, map, codes, string_bytes, IfOk, OnOk};
+ghost use Rattle.std.specs.Prelude.{◌≡◌, ◌++◌, ◌∷◌, [], List, ℕ, All, IsTrue, decimal, codes, IfOk, OnOk};
 ghost use Rattle.std.specs.List.{flat_map, join_with_byte};
 ghost use Rattle.s6_events.specs.Name.{is_name};
 ghost use Rattle.s6_events.specs.declared.condition.Condition.{Condition};
 ghost use Rattle.s6_events.specs.declared.condition.Mode.{Mode};
-ghost use Rattle.s6_replay.specs.Spelling.{IsAct};
+ghost use Rattle.s6_replay.specs.Spelling.{HasExpression, IsAct};
 ghost use Rattle.s6_replay.specs.Verb.{condition_word, mode_word, verb_of_act, details};
 ghost use Rattle.s6_replay.specs.declared.parse.Verb.TheVariants.{Wait};
 
-use super::words::{count_of, is_word, name_of, word_at, words_from};
+use super::digits::{push_spaced, push_word};
+use super::words::{Words, count_of, is_word, name_of};
 use s6_events::{Condition, Mode, Name, NoMemory};
 use std::alloc::{AllocError, Allocator};
 use tree_core::{Act, Names};
@@ -44,28 +45,31 @@ fn mode_of(word: &[u8]) -> Mode
 }
 
 // Reads names.
-fn names_of<A: Allocator + Copy>(alloc: A, words: &[&[u8]]) -> Result<Vec<Name, A>, AllocError>
+fn names_of<A: Allocator + Copy>(
+    alloc: A,
+    words: &mut Words<'_>,
+) -> Result<Vec<Name, A>, AllocError>
     ensures spelled { IfOk result (λ found. (names : List (List ℕ)) → All (λ name. IsTrue (is_name name)) names
-        → map (λ w. w.now) words.now ≡ names → found.items ≡ names) }
+        → words.old ≡ names → found.items ≡ names) }
     ensures fits { IfOk result (λ found. All (λ name. IsTrue (is_name name)) found.items) }
 {
     let mut names = Vec::new(alloc);
-    for word in words {
-        names.push(name_of(*word))?;
+    while words.has_more() {
+        names.push(name_of(words.take_next()))?;
     }
     Ok(names)
 }
 
 /// Reads a wait from the words behind its verb.
-pub fn wait_of<A: Allocator + Copy>(alloc: A, words: &[&[u8]]) -> Result<Act<A>, NoMemory>
+pub fn wait_of<A: Allocator + Copy>(alloc: A, words: &mut Words<'_>) -> Result<Act<A>, NoMemory>
     ensures spelled { IfOk result (λ found. (act : Act A) → IsAct act → Wait ≡ verb_of_act act
-        → map (λ w. w.now) words.now ≡ details act → found ≡ act) }
-    ensures fits { IfOk result IsAct }
+        → words.old ≡ details act → found ≡ act) }
+    ensures fits { IfOk result (λ found. IsAct found × HasExpression found) }
 {
-    let condition = condition_of(word_at(words, 0));
-    let mode = mode_of(word_at(words, 1));
-    let timeout = count_of(word_at(words, 2));
-    let names = names_of(alloc, words_from(words, 3))?;
+    let condition = condition_of(words.take_next());
+    let mode = mode_of(words.take_next());
+    let timeout = count_of(words.take_next());
+    let names = names_of(alloc, words)?;
     Ok(Act::Wait(condition, mode, timeout, Names::new(names)))
 }
 
@@ -92,32 +96,30 @@ fn mode_bytes(mode: Mode) -> &'static str
 }
 
 // Adds names, each behind a space.
-fn push_names<A: Allocator + Copy>(text: &mut Vec<u8, A>, names: &[Name]) -> Result<(), AllocError>
+fn push_names<A: Allocator>(text: &mut Vec<u8, A>, names: &[Name]) -> Result<(), AllocError>
     ensures { OnOk result (text.new.items ≡ text.old.items ++ flat_map (λ name. 32 ∷ name) names.now) }
 {
     for name in names {
-        text.push(b' ')?;
-        text.extend_from_slice(name.as_bytes())?;
+        push_word(text, name.as_bytes())?;
     }
     Ok(())
 }
 
-/// The words of a wait.
-#[tactic(auto, using(crate::proofs::Joined::join_words))]
-pub fn wait_text<A: Allocator + Copy>(
-    alloc: A,
+/// Adds the words of a wait.
+pub fn push_wait<A: Allocator>(
+    text: &mut Vec<u8, A>,
     condition: Condition,
     mode: Mode,
     timeout: u32,
     names: &[Name],
-) -> Result<Vec<u8, A>, AllocError>
-    ensures { IfOk result (λ text. text.items ≡ join_with_byte 32
+) -> Result<(), AllocError>
+    ensures { OnOk result (text.new.items ≡ text.old.items ++ join_with_byte 32
         (codes "wait" ∷ condition_word condition ∷ mode_word mode ∷ decimal timeout ∷ names.now)) }
 {
-    let condition = condition_bytes(condition);
-    let mode = mode_bytes(mode);
-    let head = format!(in alloc; "wait {condition} {mode} {timeout}")?;
-    let mut text = head.into_bytes();
-    push_names(&mut text, names)?;
-    Ok(text)
+    text.extend_from_slice(b"wait")?;
+    push_word(text, condition_bytes(condition).as_bytes())?;
+    push_word(text, mode_bytes(mode).as_bytes())?;
+    push_spaced(text, u64::from(timeout))?;
+    push_names(text, names)?;
+    Ok(())
 }

@@ -1,17 +1,77 @@
 //! The words of a line, and reading single words.
-ghost use Rattle.std.specs.Prelude.{◌≡◌, ℕ, ◌≤◌, [], IfOk, decimal, map, bytes_eq, drop, slice_index_or, ◌==◌, true};
-ghost use Rattle.std.specs.List.{slice_split};
+ghost use Rattle.std.specs.Prelude.{◌≡◌, ℕ, ◌≤◌, nat_lt, [], decimal, length, map, bytes_eq, drop, slice_index_or, true};
+ghost use Rattle.std.specs.List.{join_with_byte};
 ghost use Rattle.s6_events.specs.Name.{is_name};
+ghost use Rattle.s6_replay.specs.Verb.{text_words};
 
+use memchr::memchr;
 use s6_events::Name;
-use std::alloc::{AllocError, Allocator};
+use std::marker::Model;
 use std::str;
 
-// The words of a line, between its spaces.
-pub fn words_of<A: Allocator + Copy>(alloc: A, line: &[u8]) -> Result<Vec<&[u8], A>, AllocError>
-    ensures { IfOk result (λ words. map (λ w. w.now) words.items ≡ slice_split (λ b. b == 32) line.now) }
-{
-    line.split(|b| *b == b' ').collect(alloc)
+// The words of a line that are left to read. They stand between its spaces, so two spaces have a word of no byte between them, and a
+// line of no byte is one such word.
+#[derive(Drop)]
+pub struct Words<'a> {
+    rest: &'a [u8],
+    more: bool,
+}
+
+impl<'a> Model for Words<'a> {
+    ghost use Rattle.std.specs.Prelude.{List, ℕ};
+
+    ghost Value = { List (List ℕ) };
+
+    ghost use Rattle.s6_replay.specs.Words.{words_left};
+
+    ghost view = { words_left };
+}
+
+impl<'a> Words<'a> {
+    // All words of a line.
+    pub fn of(line: &'a [u8]) -> Words<'a>
+        ensures { result ≡ text_words line.now }
+    {
+        Words {
+            rest: line,
+            more: true,
+        }
+    }
+
+    // Whether a word is left.
+    pub fn has_more(&self) -> bool
+        ensures { result ≡ nat_lt 0 (length self.now) }
+    {
+        self.more
+    }
+
+    // Takes the next word, or no byte where none is left.
+    pub fn take_next(&mut self) -> &'a [u8]
+        ensures word { result.now ≡ slice_index_or self.old 0 [] }
+        ensures rest { self.new ≡ drop 1 self.old }
+    {
+        if !self.more {
+            return &[];
+        }
+        let line = self.rest;
+        match memchr(b' ', line) {
+            None => {
+                self.more = false;
+                line
+            }
+            Some(place) => {
+                self.rest = &line[place + 1..];
+                &line[..place]
+            }
+        }
+    }
+
+    // What is left of the line.
+    pub fn rest(&self) -> &'a [u8]
+        ensures { result.now ≡ join_with_byte 32 self.now }
+    {
+        if self.more { self.rest } else { &[] }
+    }
 }
 
 // The word at this place, or no byte where there is none.

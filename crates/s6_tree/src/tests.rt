@@ -1,5 +1,8 @@
 ghost use Rattle.std.specs.Io.{WritesAtMost};
 
+mod replay;
+mod tree;
+
 use super::fault_lines::replay_fault;
 use super::replay_tool::replay;
 use super::tool::run_tool;

@@ -13,3 +13,9 @@ pub mod Sound
 pub mod TreeFields
 pub mod ByteOrder
 pub mod Closing
+pub mod Taken
+pub mod Letters
+pub mod OneLife
+pub mod Signals
+pub mod Permanent
+pub mod Pause

@@ -9,8 +9,6 @@ mod names;
 mod plan;
 mod reply;
 mod rows;
-#[cfg(test)]
-mod tests;
 mod tree;
 
 pub use effect::{Effect, Match, Release};

@@ -1,10 +1,10 @@
-use Rattle.std.proofs.Common.{◌∙◌}
+use Rattle.std.proofs.Common.{refl}
 use Rattle.s6_replay.proofs.Entries.{one_option_written}
 use Rattle.s6_replay.proofs.entry_options.push_options.Goals as goal
 
 pub loop-setting-preserved : goal.loop-setting-preserved
 loop-setting-preserved g c =
-    let both = one_option_written c.args.text.now.items c.loop-setting.text.items c.push.new.self.items c.extend_from_slice.new.self.items c.args.settings.now _
+    let both = one_option_written c.args.text.now.items c.loop-setting.text.items c.push.new.self.items c.push_option.new.text.items c.args.settings.now _
     c.loop-setting.mark _ c.loop-setting.setting-index c.loop-setting-test.true c.loop-setting.invariant.text c.loop-setting.invariant.mark
-    (c.as_bytes.ensures.value ∙ c.in_ok-option.ensures) c.in_ok-push.ensures.items c.in_ok-extend_from_slice.ensures.items in
+    refl c.in_ok-push.ensures.items c.in_ok-push_option.ensures in
     record { text = both.0; mark = both.1 }

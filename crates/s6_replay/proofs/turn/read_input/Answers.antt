@@ -11,7 +11,7 @@ pub returns-in-Ok-clause-ok : goal.returns-in-Ok-clause-ok
 returns-in-Ok-clause-ok g c =
     let ended = rw c.in-Ok-Newline.field-0-is at c.in-Ok-Newline.ensures.ok in
     let spells = rw c.as_slice.ensures.value at c.in-Ok.ensures.found in
-    (has_line _ _ spells ended.1, plain_spelling _ _ spells ended.0, line_read _ _ _ _ spells ended.2)
+    (has_line _ _ spells c.in-Ok.ensures.expression ended.1, plain_spelling _ _ spells ended.0, line_read _ _ _ _ spells ended.2)
 
 pub returns-in-Err-Line-clause-fault : goal.returns-in-Err-Line-clause-fault
 returns-in-Err-Line-clause-fault g c =

@@ -1,0 +1,2 @@
+pub mod RingName
+pub mod Unnamed

@@ -1,0 +1,25 @@
+use std::marker::Brand;
+
+/// Which rings and which history a run has. A value that comes out of a lock bears such a type, and so does what it is to meet
+/// outside of the lock: both then speak of the same ring or the same history. Each call of a program picks the names, once it has
+/// made what they name, so one run's values are never taken for another's. This project's own.
+pub trait Channels {
+    ghost use Rattle.std.specs.Prelude.{ℕ};
+    ghost use Rattle.logbook.specs.Pages.{Book};
+    ghost use Rattle.channel_names.specs.RingName.{RingName};
+
+    /// The ring that goes from each actor's seat to the tree.
+    ghost seat_ring: { ℕ → RingName };
+
+    /// The history of what was published on the status board.
+    ghost board: { Book };
+}
+
+// The names that a program starts from. Where it picks others, they take the place of these.
+impl Channels for Brand {
+    ghost use Rattle.channel_names.specs.Unnamed.{no_ring, no_history};
+
+    ghost seat_ring = { λ actor. no_ring };
+
+    ghost board = { no_history };
+}

@@ -1,0 +1,52 @@
+ghost use Rattle.std.specs.Prelude.{◌≡◌, option_map};
+ghost use Rattle.std.specs.Option.{ForSome};
+ghost use Rattle.rtrb.specs.Ring.{all_sent};
+ghost use Rattle.channel_names.specs.RingName.{finished_ring};
+
+use crate::submission::Submission;
+use channel_names::Channels;
+use s6_events::Actor;
+use std::marker::{Model, PhantomData};
+
+/// What is left of a seat that submits no more. This project's own.
+#[derive(Drop)]
+pub struct Finished<C: Channels> {
+    actor: Actor,
+    pub(crate) ring: Option<rtrb::Finished<Submission>>,
+    channels: PhantomData<C>,
+}
+
+impl<C: Channels> Model for Finished<C> {
+    ghost use Rattle.std.specs.Prelude.{◌≡◌, option_map};
+    ghost use Rattle.std.specs.Option.{ForSome};
+    ghost use Rattle.rtrb.specs.Ring.{all_sent};
+    ghost use Rattle.channel_names.specs.RingName.{finished_ring};
+    ghost use Rattle.inbox.specs.Ends.{FinishedView};
+
+    ghost Value = { FinishedView };
+
+    ghost view = { λ f. record { actor = f.actor; submitted = option_map (λ r. all_sent r) f.ring } };
+
+    ghost invariant = { λ f. ForSome f.ring (λ r. finished_ring r ≡ C.seat_ring f.actor) };
+}
+
+impl<C: Channels> Finished<C> {
+    // What a producer gave at its end.
+    pub(crate) fn over(actor: Actor, ring: Option<rtrb::Finished<Submission>>) -> Finished<C>
+        requires { ForSome ring (λ r. finished_ring r ≡ C.seat_ring actor) }
+        ensures { result ≡ record { actor = actor; submitted = option_map (λ r. all_sent r) ring } }
+    {
+        Finished {
+            actor,
+            ring,
+            channels: PhantomData,
+        }
+    }
+
+    /// Whose seat it was.
+    pub fn actor(&self) -> Actor
+        ensures { result ≡ self.now.actor }
+    {
+        self.actor
+    }
+}

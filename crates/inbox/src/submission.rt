@@ -1,0 +1,10 @@
+use s6_events::At;
+use std::alloc::Global;
+use tree_core::Act;
+
+/// What a ring holds: an input but for its actor, who is the same for all of a ring. This project's own.
+#[derive(Drop)]
+pub struct Submission {
+    pub at: At,
+    pub act: Act<Global>,
+}

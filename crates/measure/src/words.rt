@@ -1,0 +1,89 @@
+//! What the command line asks for.
+use servicedir::parse_digits;
+use std::env::{Env, FillError};
+
+/// What `measure --help` prints.
+pub const HELP: &[u8] = b"usage: measure submit THREADS COUNT
+       measure read THREADS COUNT
+       measure --help
+
+  submit      so many threads submit COUNT acts each, each at a seat of
+              its own, while one more takes them
+  read        so many threads read the board COUNT times each, each by
+              a reader of its own, while one more publishes
+  THREADS     1, 2 or 4
+  COUNT       1 to 1000000000
+
+Prints one line, and ends with 0. Ends with 100 after a wrong usage,
+and with 111 where the system refused something.
+";
+
+/// The line for words that ask for nothing.
+pub const USAGE: &[u8] = b"measure: usage: measure submit|read 1|2|4 COUNT\n";
+
+/// The greatest count.
+const GREATEST_COUNT: u32 = 1_000_000_000;
+
+// No word that is known is longer.
+const LONGEST_WORD: usize = 16;
+
+/// How many threads do it, and how often each does.
+#[derive(Clone, Copy)]
+pub struct Load {
+    pub threads: u8,
+    pub count: u32,
+}
+
+impl Load {
+    /// How often they do it all together.
+    pub fn all(self) -> u64 {
+        u64::from(self.threads) * u64::from(self.count)
+    }
+}
+
+/// What the command line asks for.
+#[derive(Clone, Copy)]
+pub enum Words {
+    Help,
+    Submit(Load),
+    Read(Load),
+}
+
+// Whether the command line has a word at this place; the program's name is at 0.
+fn has_word(env: &impl Env, place: usize) -> bool {
+    let mut room = [0; LONGEST_WORD];
+    !matches!(env.arg(place, &mut room), Err(FillError::NotPresent))
+}
+
+// The word at this place; None where there is none, and where it is too long for the room.
+fn word<'a>(env: &impl Env, place: usize, room: &'a mut [u8; LONGEST_WORD]) -> Option<&'a [u8]> {
+    let count = env.arg(place, room).ok()?;
+    Some(&room[..count])
+}
+
+// The words behind the first one, and nothing after them.
+fn read_load(env: &impl Env) -> Option<Load> {
+    let mut room = [0; LONGEST_WORD];
+    let threads = match word(env, 2, &mut room)? {
+        b"1" => 1,
+        b"2" => 2,
+        b"4" => 4,
+        _ => return None,
+    };
+    let count = parse_digits(word(env, 3, &mut room)?, GREATEST_COUNT)?;
+    if count == 0 || has_word(env, 4) {
+        return None;
+    }
+    Some(Load { threads, count })
+}
+
+/// What the command line asks for; None where it has other words than `--help` tells.
+pub fn read_words(env: &impl Env) -> Option<Words> {
+    let mut room = [0; LONGEST_WORD];
+    match word(env, 1, &mut room)? {
+        b"submit" => Some(Words::Submit(read_load(env)?)),
+        b"read" => Some(Words::Read(read_load(env)?)),
+        b"--help" if !has_word(env, 2) => Some(Words::Help),
+        _ => None,
+    }
+}

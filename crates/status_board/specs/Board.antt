@@ -1,0 +1,27 @@
+-- Lists of published shots, oldest first.
+use Rattle.std.specs.Prelude.{ℕ, ◌≤◌, List, [], ◌∷◌, Option, Some, None}
+use Rattle.status_board.specs.declared.shot.Shot.{Shot}
+
+abbrev pub last_or : Option Shot → List Shot → Option Shot
+last_or other [] = other
+last_or other (shot ∷ shots) = last_or (Some shot) shots
+
+-- the shot that was published last
+abbrev pub last_shot : List Shot → Option Shot
+last_shot shots = last_or None shots
+
+abbrev pub steps_or : ℕ → List Shot → ℕ
+steps_or other [] = other
+steps_or other (shot ∷ shots) = steps_or shot.at shots
+
+-- after how many steps the last one was taken; 0 where there is none
+abbrev pub last_steps : List Shot → ℕ
+last_steps shots = steps_or 0 shots
+
+abbrev pub RisesFrom : ℕ → List Shot → Type 0
+RisesFrom steps [] = Unit {0}
+RisesFrom steps (shot ∷ shots) = (steps ≤ shot.at) × RisesFrom shot.at shots
+
+-- no shot was taken after fewer steps than one before it
+abbrev pub NeverFalls : List Shot → Type 0
+NeverFalls shots = RisesFrom 0 shots

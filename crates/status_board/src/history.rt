@@ -1,0 +1,156 @@
+//! The history of what was published. It takes no bytes but for its length, and stands in proofs alone.
+ghost use Rattle.std.specs.Prelude.{◌≡◌, ◌+◌, ◌==◌, ◌<◌, ◌≤◌, ◌^◌, ◌++◌, ◌∷◌, [], length, MatchBool, IsTrue, IsFalse};
+ghost use mathlib.Core.List.{IsPrefix};
+ghost use Rattle.status_board.specs.History.{count_of};
+
+use crate::shot::Shot;
+use channel_names::Channels;
+use logbook::{Gain, Offer, Plain, Play, Rule, Seen, Word};
+use std::marker::{Model, PhantomData};
+
+/// The rule of the history: its first word counts its shots.
+pub struct CountedShots;
+
+impl Rule<Shot, u64> for CountedShots {
+    ghost use Rattle.std.specs.Prelude.{[]};
+    ghost use base.Fml.{ftrue};
+    ghost use Rattle.status_board.specs.History.{CountsShots};
+
+    ghost holds = { λ cells log. CountsShots cells log };
+
+    ghost first = { [] };
+
+    ghost hinted = { λ n log. Unit {0} };
+
+    ghost shows = { λ log. [] };
+
+    ghost keeps = { λ names log. ftrue };
+
+    ghost moves = { λ ask before after answer. Unit {0} };
+}
+
+/// Whoever publishes gets nothing in return.
+pub struct NothingGained;
+
+impl Gain<Shot, u64> for NothingGained {
+    ghost use base.Fml.{ftrue};
+
+    ghost after = { λ names about answer. ftrue };
+}
+
+/// The step that adds a shot.
+pub struct AddsShot;
+
+impl Play<Shot, u64> for AddsShot {
+    ghost use Rattle.status_board.specs.History.{Adds};
+
+    ghost then = { Adds };
+}
+
+impl Plain<Shot, Shot, u64> for AddsShot {
+    ghost use Rattle.std.specs.Prelude.{None};
+
+    ghost ask = { λ shot. shot };
+
+    ghost state = { λ shot. None };
+}
+
+/// The word that counts what was published.
+pub type Count = Word<Shot, u64, CountedShots>;
+
+/// What is known of the history.
+pub type Log = Seen<Shot, u64, CountedShots>;
+
+/// All that was published up to some moment, oldest first: a beginning of the board's one history. It takes the bytes of a number.
+/// This project's own.
+#[derive(Drop)]
+pub struct Published<C: Channels> {
+    count: u64,
+    log: Log,
+    channels: PhantomData<C>,
+}
+
+impl<C: Channels> Model for Published<C> {
+    ghost use Rattle.std.specs.Prelude.{◌≡◌, List, length};
+    ghost use Rattle.status_board.specs.declared.shot.Shot.{Shot};
+
+    ghost Value = { List Shot };
+
+    ghost view = { λ p. p.log.log };
+
+    ghost invariant = { λ p. (p.count ≡ length p.log.log) × (p.log.book ≡ C.board) };
+}
+
+impl<C: Channels> Published<C> {
+    // The beginning of a history in which nothing was published.
+    pub(crate) fn over(log: Log) -> Published<C>
+        requires { (log.book ≡ C.board) × (log.log ≡ []) }
+        ensures { result ≡ [] }
+    {
+        Published {
+            count: 0,
+            log,
+            channels: PhantomData,
+        }
+    }
+
+    /// The same shots once more. Takes no memory.
+    pub fn copied(&self) -> Published<C>
+        ensures { result ≡ self.now }
+    {
+        Published {
+            count: self.count,
+            log: self.log.again(),
+            channels: PhantomData,
+        }
+    }
+
+    /// Becomes the other, where that has no fewer shots: of two beginnings of one history the shorter begins the longer.
+    pub fn follow(&mut self, other: &Published<C>) -> bool
+        ensures yes { IsTrue result → (self.new ≡ other.now) × IsPrefix self.old self.new }
+        ensures no { IsFalse result → (self.new ≡ self.old) × IsPrefix other.now self.old }
+    {
+        let mut both = self.log.again();
+        both.learn(&other.log);
+        if other.count < self.count {
+            return false;
+        }
+        *self = other.copied();
+        true
+    }
+
+    // Adds a shot to the history, unless that has more shots than these.
+    pub(crate) fn add(&mut self, word: &Count, shot: &Shot) -> bool
+        requires word { word.now ≡ count_of C.board }
+        ensures yes { IsTrue result → self.new ≡ self.old ++ shot.now ∷ [] }
+        ensures no { IsFalse result → self.new ≡ self.old }
+    {
+        if self.count == u64::MAX {
+            return false;
+        }
+        let count = self.count;
+        let mut log = self.log.again();
+        let mut offer: Offer<Shot, u64, CountedShots, NothingGained> = log.plain::<
+            NothingGained,
+            Shot,
+            AddsShot,
+        >(shot);
+        let mut pen = log.no_pen();
+        let found = word.compare_exchange::<AddsShot, NothingGained>(
+            count,
+            count + 1,
+            &mut log,
+            &mut offer,
+            &mut pen,
+        );
+        if found != count {
+            return false;
+        }
+        *self = Published {
+            count: count + 1,
+            log,
+            channels: PhantomData,
+        };
+        true
+    }
+}

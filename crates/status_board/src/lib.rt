@@ -1,0 +1,18 @@
+//! The status board: one writer publishes the rows of all services, and readers see them without waiting for anybody.
+#![tactic(auto)]
+
+mod history;
+mod reader;
+mod shot;
+mod shown;
+#[cfg(test)]
+mod tests;
+mod told;
+mod writer;
+
+pub use history::Published;
+pub use reader::BoardReader;
+pub use shot::Shot;
+pub use shown::{Next, Shown};
+pub use told::Told;
+pub use writer::{BoardWriter, NewBoard, NoReader};

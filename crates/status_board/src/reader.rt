@@ -1,0 +1,65 @@
+ghost use Rattle.std.specs.Prelude.{◌≡◌, ◌≤◌, IfSome, IfNone, Some};
+ghost use mathlib.Core.List.{IsPrefix};
+ghost use Rattle.status_board.specs.Board.{last_shot, last_steps, NeverFalls};
+
+use crate::history::Published;
+use crate::shot::Shot;
+use crate::shown::Shown;
+use crate::told::Told;
+use channel_names::Channels;
+use left_right::ReadHandle;
+use std::alloc::{Allocator, Global};
+use std::marker::Model;
+
+/// The end of the board that reads. Contracts see it as the published shots that it has seen or was told of. It may move to a thread
+/// of its own. This project's own.
+#[derive(Drop)]
+pub struct BoardReader<C: Channels, A: Allocator = Global> {
+    handle: ReadHandle<Shown<C>, A>,
+    known: Published<C>,
+}
+
+impl<C: Channels, A: Allocator> Model for BoardReader<C, A> {
+    ghost use Rattle.std.specs.Prelude.{List};
+    ghost use Rattle.status_board.specs.declared.shot.Shot.{Shot};
+
+    ghost Value = { List Shot };
+
+    ghost view = { λ r. r.known };
+}
+
+impl<C: Channels, A: Allocator> BoardReader<C, A> {
+    // The reader of a handle, that knows of these.
+    pub(crate) fn over(handle: ReadHandle<Shown<C>, A>, known: Published<C>) -> BoardReader<C, A>
+        ensures { result ≡ known }
+    {
+        BoardReader { handle, known }
+    }
+
+    #[tactic(auto, using(crate::proofs::Lasts::never_falls))]
+    /// The shot that was published last; None where the board gives none, as once its writer is gone. What a reader saw or was told
+    /// of is never taken back. It takes no lock and no memory, and waits for nobody.
+    pub fn read(&mut self) -> Option<Shot>
+        ensures later { IsPrefix self.old self.new }
+        ensures last { IfSome result (λ shot. last_shot self.new ≡ Some shot) }
+        ensures at { IfSome result (λ shot. NeverFalls self.new → last_steps self.old ≤ shot.at) }
+        ensures none { IfNone result (self.new ≡ self.old) }
+    {
+        let guard = self.handle.enter()?;
+        let shown: &Shown<C> = &guard;
+        let shot = shown.shot()?;
+        if self.known.follow(shown.published()) {
+            Some(shot)
+        } else {
+            None
+        }
+    }
+
+    /// From now on it knows of all that was told too, so that no read gives an older shot than the last of these.
+    pub fn learn(&mut self, told: Told<C>)
+        ensures later { IsPrefix self.old self.new }
+        ensures told { IsPrefix told self.new }
+    {
+        self.known.follow(&told.published);
+    }
+}

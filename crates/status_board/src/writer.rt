@@ -1,0 +1,149 @@
+ghost use Rattle.std.specs.Prelude.{◌≡◌, ◌^◌, ◌<◌, [], ◌∷◌, ◌++◌, IfOk, OnErr, OnOk};
+ghost use Rattle.status_board.specs.History.{count_of};
+
+use crate::history::{Count, Log, Published};
+use crate::reader::BoardReader;
+use crate::shot::Shot;
+use crate::shown::{Next, Shown};
+use crate::told::Told;
+use channel_names::Channels;
+use left_right::{Absorb, WriteHandle};
+use logbook::{Seen, Start, Word};
+use s6_events::NoMemory;
+use std::alloc::{Allocator, Global};
+use std::marker::Model;
+use std::sync::{Arc, OnceLock, Wait};
+use thiserror::Error;
+
+/// The board gave no reader: each of its places for one is in use, or a growth was refused. Nothing has changed.
+#[derive(Clone, Copy, PartialEq, Eq, Debug, Error)]
+#[error("the board has no place for a reader")]
+pub struct NoReader;
+
+/// A history in which nothing was published, and which no run has named yet. Contracts see it as the name that it is to get.
+pub struct NewBoard {
+    word: Count,
+    log: Log,
+}
+
+impl Model for NewBoard {
+    ghost use Rattle.std.specs.Prelude.{◌≡◌, []};
+    ghost use Rattle.logbook.specs.Pages.{Book};
+    ghost use Rattle.status_board.specs.History.{count_of};
+
+    ghost Value = { Book };
+
+    ghost view = { λ b. b.log.book };
+
+    ghost invariant = { λ b. (b.log.log ≡ []) × (b.word ≡ count_of b.log.book) };
+}
+
+impl NewBoard {
+    /// A new history.
+    pub fn new() -> NewBoard {
+        let (log, mut first, _second) = Seen::open(Start::alone(), 0, 0);
+        NewBoard {
+            word: Word::tracked(0, &mut first),
+            log,
+        }
+    }
+
+    /// A board on which this shot was published, with places for so many readers at a time, in a run whose board it is.
+    /// `NoMemory` where a growth was refused.
+    pub fn open<C: Channels, R: Wait + Drop, A: Allocator + Copy>(
+        self,
+        alloc: A,
+        rt: R,
+        readers: usize,
+        shot: Shot,
+    ) -> Result<BoardWriter<C, R, A>, NoMemory>
+        requires board { self ≡ C.board }
+        requires readers { (0 < readers) × (readers < 2 ^ 32) }
+        ensures { IfOk result (λ writer. writer ≡ shot ∷ []) }
+    {
+        let NewBoard { word, log } = self;
+        let published: Published<C> = Published::over(log);
+        let first = Shown::new(None, published.copied());
+        let second = first.copied();
+        let handle = WriteHandle::new(alloc, rt, first, second, readers)?;
+        let mut writer = BoardWriter {
+            alloc,
+            handle,
+            word,
+            published,
+        };
+        writer.publish(shot)?;
+        Ok(writer)
+    }
+}
+
+/// The end of the board that publishes. Contracts see it as all that was published, oldest first. This project's own.
+#[derive(Drop)]
+pub struct BoardWriter<C: Channels, R: Wait + Drop, A: Allocator + Copy = Global>
+where
+    Shown<C>: Absorb<Next<C, A>, State = ()>,
+{
+    alloc: A,
+    handle: WriteHandle<Shown<C>, Next<C, A>, R, A>,
+    word: Count,
+    published: Published<C>,
+}
+
+impl<C: Channels, R: Wait + Drop, A: Allocator + Copy> Model for BoardWriter<C, R, A>
+where
+    Shown<C>: Absorb<Next<C, A>, State = ()>,
+{
+    ghost use Rattle.std.specs.Prelude.{◌≡◌, List};
+    ghost use Rattle.status_board.specs.declared.shot.Shot.{Shot};
+    ghost use Rattle.status_board.specs.History.{count_of};
+
+    ghost Value = { List Shot };
+
+    ghost view = { λ w. w.published };
+
+    ghost invariant = { λ w. w.word ≡ count_of C.board };
+}
+
+impl<C: Channels, R: Wait + Drop, A: Allocator + Copy> BoardWriter<C, R, A> {
+    /// Shows this shot from now on. `NoMemory` where a growth was refused: the board is then as it was. It may wait for readers
+    /// that are reading, and is the only call of the board that waits.
+    #[tactic(auto, using(crate::proofs::Lasts::last_or_snoc))]
+    pub fn publish(&mut self, shot: Shot) -> Result<(), NoMemory>
+        ensures added { OnOk result (self.new ≡ self.old ++ shot ∷ []) }
+        ensures same { OnErr result (self.new ≡ self.old) }
+    {
+        let next: Next<C, A> = Arc::new(self.alloc, OnceLock::new())?;
+        let theirs = Arc::try_clone(&next)?;
+        if self.handle.append(theirs).is_err() {
+            return Err(NoMemory);
+        }
+        // All memory is there. One writer publishes, so the history has no more than it knows.
+        let mut published = self.published.copied();
+        if !published.add(&self.word, &shot) {
+            return Err(NoMemory);
+        }
+        self.published = published.copied();
+        let _set = next.try_set(Shown::new(Some(shot), published));
+        let _shown = self.handle.publish();
+        Ok(())
+    }
+
+    /// Names all that was published so far, for a reader to learn.
+    pub fn tell(&self) -> Told<C>
+        ensures { result ≡ self.now }
+    {
+        Told {
+            published: self.published.copied(),
+        }
+    }
+
+    /// A reader that knows of all that was published so far; `NoReader` where the board has no place for one more.
+    pub fn reader(&self) -> Result<BoardReader<C, A>, NoReader>
+        ensures { IfOk result (λ reader. reader ≡ self.now) }
+    {
+        let Ok(handle) = self.handle.handle() else {
+            return Err(NoReader);
+        };
+        Ok(BoardReader::over(handle, self.published.copied()))
+    }
+}

@@ -1,0 +1,200 @@
+-- A service that failed for good rests: no move starts it but a letter u, and none begins its supervisor but an s.
+use Rattle.std.proofs.Common.{◌≡◌, refl, ◌∙◌, ℕ, List, [], ◌∷◌, Bool, true, false, cond, fold, rules}
+use Rattle.std.specs.Prelude.{Option, Some, None}
+use Rattle.std.specs.List.{list_any}
+use Rattle.std.proofs.lemmas.List.Folds.{list_any-append}
+use Rattle.finish_core.specs.declared.exit_verdict.Verdict125.{Verdict125}
+use Rattle.finish_core.specs.declared.exit_verdict.Verdict125.TheVariants.{Permanent, Ordinary}
+use Rattle.finish_core.specs.ExitVerdict.{verdict_of}
+use Rattle.s6_events.specs.declared.exit.Exit.{Exit}
+use Rattle.servicedir.specs.declared.config.Config.{Config}
+use Rattle.svc_commands.specs.declared.control_letter.ControlLetter.{ControlLetter}
+use Rattle.supervise_core.specs.declared.change.Change.{Change}
+use Rattle.supervise_core.specs.declared.change.Change.TheVariants.{Started, StartFailed, Notify, Death, FinishEnded, Control, Fire, SetConfig, SetActive}
+use Rattle.supervise_core.specs.declared.chart.ChartState.{ChartState}
+use Rattle.supervise_core.specs.declared.phase.Phase.{Phase}
+use Rattle.supervise_core.specs.declared.phase.Phase.TheVariants.{Down, Gone}
+use Rattle.supervise_core.specs.ChartState.{Moved, still, refused, is_finishing}
+use Rattle.supervise_core.specs.ControlLetters.{followed_by}
+use Rattle.supervise_core.specs.Moves.{settle}
+use Rattle.supervise_core.specs.Reports.{is_in_finish, finish_done}
+use Rattle.supervise_core.specs.Chart.{started, start_failed, notified, death, finish_ended, control, take_letter, fire, changed_by, set_active}
+use Rattle.svscan_core.specs.declared.entry.Entry.{Entry}
+use Rattle.svscan_core.specs.declared.entry.ScanOrder.{ScanOrder}
+use Rattle.svscan_core.specs.declared.entry.ScanOrder.TheVariants.{Nuke, Terminate}
+use Rattle.svscan_core.specs.Listing.{is_listed, config_in}
+use Rattle.svscan_core.specs.Scan.{configured, looked_at}
+use Rattle.svscan_core.specs.Work.{commanded, leaving}
+use Rattle.svscan_core.proofs.Truth.{both_left, neither_of, neither_left, neither_right}
+use Rattle.tree_core.specs.Closing.{is_run}
+use Rattle.tree_core.specs.Permanent.{tells_failure, tells_start, is_up_letter, wants_up}
+use Rattle.tree_core.proofs.OwnWork.{Did, move_of, told_of}
+use Rattle.tree_core.proofs.OwnWork.Did.{takes, obeys, looks}
+
+-- down with no timer, or its supervisor has ended
+abbrev pub IsResting : Phase → Option ℕ → Type 0
+IsResting Down timer = timer ≡ None
+IsResting Gone timer = Unit
+IsResting phase timer = ⊥
+
+-- after the move the service rests, and the move starts no run
+pub record Rests (m : Moved) : Type 0 where
+  pub chart : IsResting m.chart.phase m.chart.timer
+  pub orders : list_any is_run m.orders ≡ false
+
+abbrev TellsNoStart : Moved → Type 0
+TellsNoStart m = list_any tells_start m.marks ≡ false
+
+abbrev TellsNoFailure : Moved → Type 0
+TellsNoFailure m = list_any tells_failure m.marks ≡ false
+
+pub fire_rests : (now : ℕ) (c : ChartState) → IsResting c.phase c.timer → TellsNoStart (fire now c) → Rests (fire now c)
+fire_rests now c h k = search (h, k, rules)
+
+started_rests : (generation pid now : ℕ) (c : ChartState) → IsResting c.phase c.timer → Rests (started generation pid now c)
+started_rests generation pid now c h = search (h, rules)
+
+start_failed_rests : (generation now : ℕ) (c : ChartState) → IsResting c.phase c.timer → Rests (start_failed generation now c)
+start_failed_rests generation now c h = search (h, rules)
+
+notified_rests : (generation : ℕ) (bytes : List ℕ) (now : ℕ) (c : ChartState) → IsResting c.phase c.timer → Rests (notified generation bytes now c)
+notified_rests generation bytes now c h = search (h, rules)
+
+death_rests : (generation : ℕ) (exit : Exit) (now : ℕ) (c : ChartState) → IsResting c.phase c.timer → Rests (death generation exit now c)
+death_rests generation exit now c h = search (h, rules)
+
+finish_ended_rests : (generation : ℕ) (exit : Exit) (now : ℕ) (c : ChartState) → IsResting c.phase c.timer → Rests (finish_ended generation exit now c)
+finish_ended_rests generation exit now c h = search (h, rules)
+
+letter_rests : (now : ℕ) (letter : ControlLetter) (c : ChartState) → is_up_letter letter ≡ false → IsResting c.phase c.timer → Rests (take_letter now letter c)
+letter_rests now letter c k h = search (h, k, rules)
+
+active_rests : (active : Bool) (now : ℕ) (c : ChartState) → IsResting c.phase c.timer → Rests (still (set_active active now c))
+active_rests active now c h = search (h, rules)
+
+still_rests : (c : ChartState) → IsResting c.phase c.timer → Rests (still c)
+still_rests c h = record { chart = h; orders = refl }
+
+followed_rests : (now : ℕ) (letter : ControlLetter) (m : Moved) → is_up_letter letter ≡ false → Rests m → Rests (followed_by (take_letter now letter) m)
+followed_rests now letter m k h =
+    let one = letter_rests now letter m.chart k h.chart in
+    record { chart = one.chart; orders = list_any-append is_run m.orders (take_letter now letter m.chart).orders ∙ neither_of (list_any is_run m.orders) _ h.orders one.orders }
+
+letters_rest : (now : ℕ) (letters : List ControlLetter) (m : Moved) → list_any is_up_letter letters ≡ false → Rests m → Rests (fold (λ so_far letter. followed_by (take_letter now letter) so_far) m letters)
+letters_rest now [] m k h = h
+letters_rest now (letter ∷ letters) m k h =
+    letters_rest now letters (followed_by (take_letter now letter) m) (neither_right (is_up_letter letter) _ k) (followed_rests now letter m (neither_left (is_up_letter letter) _ k) h)
+
+control_rests : (letters : List ControlLetter) (now : ℕ) (c : ChartState) → list_any is_up_letter letters ≡ false → IsResting c.phase c.timer → Rests (control letters now c)
+control_rests letters now c k h = letters_rest now letters (still c) k (still_rests c h)
+
+changed_rests : (change : Change) (now : ℕ) (c : ChartState) → wants_up (Some change) ≡ false → TellsNoStart (changed_by change now c) → IsResting c.phase c.timer → Rests (changed_by change now c)
+changed_rests (Started generation pid) now c k s h = started_rests generation pid now c h
+changed_rests (StartFailed generation) now c k s h = start_failed_rests generation now c h
+changed_rests (Notify generation bytes) now c k s h = notified_rests generation bytes.items now c h
+changed_rests (Death generation exit) now c k s h = death_rests generation exit now c h
+changed_rests (FinishEnded generation exit) now c k s h = finish_ended_rests generation exit now c h
+changed_rests (Control letters) now c k s h = control_rests letters.items now c k h
+changed_rests Fire now c k s h = fire_rests now c h s
+changed_rests (SetConfig config) now c k s h = record { chart = h; orders = refl }
+changed_rests (SetActive active) now c k s h = active_rests active now c h
+
+commanded_rests : (order : ScanOrder) (now : ℕ) (c : ChartState) → IsResting c.phase c.timer → Rests (commanded order now c)
+commanded_rests Nuke now c h = by c.active
+  where
+    by : (b : Bool) → Rests (cond b (still c) (control leaving now c))
+    by true = still_rests c h
+    by false = control_rests leaving now c refl h
+commanded_rests Terminate now c h = control_rests leaving now (set_active false now c) refl (active_rests false now c h).chart
+
+looked_rests : (listing : List Entry) (now : ℕ) (c : ChartState) → IsResting c.phase c.timer → Rests (still (looked_at listing now c))
+looked_rests listing now c h = by (config_in listing c.name) (active_rests (is_listed listing c.name) now c h)
+  where
+    by : (found : Option Config) → Rests (still (set_active (is_listed listing c.name) now c)) → Rests (still (configured found (set_active (is_listed listing c.name) now c)))
+    by None away = away
+    by (Some config) away = record { chart = away.chart; orders = refl }
+
+pub did_rests : (did : Did) (now : ℕ) (c : ChartState) → wants_up (told_of did) ≡ false → TellsNoStart (move_of did now c) → IsResting c.phase c.timer → Rests (move_of did now c)
+did_rests (takes None) now c k s h = still_rests c h
+did_rests (takes (Some change)) now c k s h = changed_rests change now c k s h
+did_rests (obeys order) now c k s h = commanded_rests order now c h
+did_rests (looks listing) now c k s h = looked_rests listing now c h
+
+-- which moves tell a failure: the end of finish alone, and then the service rests
+pub record Fails (c : ChartState) (m : Moved) : Type 0 where
+  pub rests : Rests m
+  pub finishing : is_finishing c.phase ≡ true
+
+pub fire_tells_none : (now : ℕ) (c : ChartState) → TellsNoFailure (fire now c)
+fire_tells_none now c = search rules
+
+-- a timer that leaves a service in its finish started no run
+pub fire_finishing : (now : ℕ) (c : ChartState) → is_finishing (fire now c).chart.phase ≡ true → list_any is_run (fire now c).orders ≡ false
+fire_finishing now c h = search (h, rules)
+
+started_tells_none : (generation pid now : ℕ) (c : ChartState) → TellsNoFailure (started generation pid now c)
+started_tells_none generation pid now c = search rules
+
+start_failed_tells_none : (generation now : ℕ) (c : ChartState) → TellsNoFailure (start_failed generation now c)
+start_failed_tells_none generation now c = search rules
+
+notified_tells_none : (generation : ℕ) (bytes : List ℕ) (now : ℕ) (c : ChartState) → TellsNoFailure (notified generation bytes now c)
+notified_tells_none generation bytes now c = search rules
+
+death_tells_none : (generation : ℕ) (exit : Exit) (now : ℕ) (c : ChartState) → TellsNoFailure (death generation exit now c)
+death_tells_none generation exit now c = search rules
+
+letter_tells_none : (now : ℕ) (letter : ControlLetter) (c : ChartState) → TellsNoFailure (take_letter now letter c)
+letter_tells_none now letter c = search rules
+
+letters_tell_none : (now : ℕ) (letters : List ControlLetter) (m : Moved) → TellsNoFailure m → TellsNoFailure (fold (λ so_far letter. followed_by (take_letter now letter) so_far) m letters)
+letters_tell_none now [] m h = h
+letters_tell_none now (letter ∷ letters) m h =
+    letters_tell_none now letters (followed_by (take_letter now letter) m)
+    (list_any-append tells_failure m.marks (take_letter now letter m.chart).marks ∙ neither_of (list_any tells_failure m.marks) _ h (letter_tells_none now letter m.chart))
+
+settle_tells_none : (now : ℕ) (c : ChartState) → TellsNoFailure (settle now c)
+settle_tells_none now c = search rules
+
+settle_rests : (now : ℕ) (c : ChartState) → c.wanted_up ≡ false → Rests (settle now c)
+settle_rests now c h = search (h, rules)
+
+none_fails : (c : ChartState) (m : Moved) → TellsNoFailure m → list_any tells_failure m.marks ≡ true → Fails c m
+none_fails c m h k = cc
+
+finish_done_rests : (v : Verdict125) (now : ℕ) (c : ChartState) → list_any tells_failure (finish_done v now c).marks ≡ true → Rests (finish_done v now c)
+finish_done_rests Permanent now c k = let rest = settle_rests now (record c { wanted_up = false }) refl in record { chart = rest.chart; orders = rest.orders }
+finish_done_rests Ordinary now c k = let none = settle_tells_none now c in cc
+
+finish_ended_fails : (generation : ℕ) (exit : Exit) (now : ℕ) (c : ChartState) → list_any tells_failure (finish_ended generation exit now c).marks ≡ true → Fails c (finish_ended generation exit now c)
+finish_ended_fails generation exit now c k = by (is_in_finish generation c) refl k
+  where
+    by : (b : Bool) → is_in_finish generation c ≡ b → list_any tells_failure (cond b (finish_done (verdict_of exit) now c) (refused c)).marks ≡ true
+        → Fails c (cond b (finish_done (verdict_of exit) now c) (refused c))
+    by true e h = record { rests = finish_done_rests (verdict_of exit) now c h; finishing = both_left (is_finishing c.phase) _ e }
+    by false e h = cc
+
+changed_fails : (change : Change) (now : ℕ) (c : ChartState) → list_any tells_failure (changed_by change now c).marks ≡ true → Fails c (changed_by change now c)
+changed_fails (Started generation pid) now c k = none_fails c (started generation pid now c) (started_tells_none generation pid now c) k
+changed_fails (StartFailed generation) now c k = none_fails c (start_failed generation now c) (start_failed_tells_none generation now c) k
+changed_fails (Notify generation bytes) now c k = none_fails c (notified generation bytes.items now c) (notified_tells_none generation bytes.items now c) k
+changed_fails (Death generation exit) now c k = none_fails c (death generation exit now c) (death_tells_none generation exit now c) k
+changed_fails (FinishEnded generation exit) now c k = finish_ended_fails generation exit now c k
+changed_fails (Control letters) now c k = none_fails c (control letters.items now c) (letters_tell_none now letters.items (still c) refl) k
+changed_fails Fire now c k = none_fails c (fire now c) (fire_tells_none now c) k
+changed_fails (SetConfig config) now c k = cc
+changed_fails (SetActive active) now c k = cc
+
+commanded_tells_none : (order : ScanOrder) (now : ℕ) (c : ChartState) → TellsNoFailure (commanded order now c)
+commanded_tells_none Nuke now c = by c.active
+  where
+    by : (b : Bool) → TellsNoFailure (cond b (still c) (control leaving now c))
+    by true = refl
+    by false = letters_tell_none now leaving (still c) refl
+commanded_tells_none Terminate now c = letters_tell_none now leaving (still (set_active false now c)) refl
+
+pub did_fails : (did : Did) (now : ℕ) (c : ChartState) → list_any tells_failure (move_of did now c).marks ≡ true → Fails c (move_of did now c)
+did_fails (takes None) now c k = cc
+did_fails (takes (Some change)) now c k = changed_fails change now c k
+did_fails (obeys order) now c k = none_fails c (commanded order now c) (commanded_tells_none order now c) k
+did_fails (looks listing) now c k = cc

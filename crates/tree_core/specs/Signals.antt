@@ -1,0 +1,41 @@
+-- A signal goes to a run that is there.
+use Rattle.std.specs.Prelude.{◌≡◌, ℕ, List, [], ◌∷◌, ◌++◌, Bool, true, false, not, ◌&&◌, ◌==◌, Option, Some}
+use Rattle.std.specs.List.{flat_map, list_all, list_any}
+use Rattle.s6_events.specs.declared.order.Order.{Order}
+use Rattle.s6_events.specs.declared.order.Order.TheVariants.{Signal}
+use Rattle.supervise_core.specs.declared.change.Change.{Change}
+use Rattle.supervise_core.specs.declared.change.Change.TheVariants.{Started, Death}
+use Rattle.tree_core.specs.declared.input.Input.{Input}
+use Rattle.tree_core.specs.Taken.{Taken, taken, next_step, orders_in, told_in}
+
+-- the generations of the runs that orders signal
+abbrev pub signalled : Order → List ℕ
+signalled (Signal sid generation number) = generation ∷ []
+signalled order = []
+
+abbrev pub signalled_in : {A : Type 0} → ℕ → Taken A → List ℕ
+signalled_in sid t = flat_map signalled (orders_in sid t)
+
+-- what the service is told is the start, or the death, of the run of this generation
+abbrev pub is_start : ℕ → Option Change → Bool
+is_start generation (Some (Started of pid)) = of == generation
+is_start generation told = false
+
+abbrev pub is_death : ℕ → Option Change → Bool
+is_death generation (Some (Death of exit)) = of == generation
+is_death generation told = false
+
+-- in one of these steps its start, or its death, was reported
+abbrev pub has_started : {A : Type 0} → ℕ → List (Taken A) → ℕ → Bool
+has_started sid steps generation = list_any (λ t. is_start generation (told_in sid t)) steps
+
+abbrev pub has_died : {A : Type 0} → ℕ → List (Taken A) → ℕ → Bool
+has_died sid steps generation = list_any (λ t. is_death generation (told_in sid t)) steps
+
+-- its start was reported in this step or before, and its death not before it
+abbrev pub is_there : {A : Type 0} → ℕ → List (Taken A) → Taken A → ℕ → Bool
+is_there sid earlier t generation = has_started sid (earlier ++ t ∷ []) generation && not (has_died sid earlier generation)
+
+-- each signal of the next step goes to a run that is there
+abbrev pub SignalsWhatIsThere : {A : Type 0} → List (Input A) → Input A → ℕ → Type 0
+SignalsWhatIsThere inputs input sid = list_all (is_there sid (taken inputs) (next_step inputs input)) (signalled_in sid (next_step inputs input)) ≡ true
