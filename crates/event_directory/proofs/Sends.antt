@@ -1,11 +1,13 @@
 -- What is stored is what the subscriptions have heard, and is so again after a letter.
 use Rattle.event_directory.specs.declared.hit.Hit.{Hit}
 use Rattle.std.proofs.Common.{true, false, None, Some, cond, subst, ◌==◌, get_or, take, suc, ◌<◌, ◌≡◌, ℕ, ◌+◌, List, [], ◌∷◌, ◌++◌, Bool, length, map, All, Option, refl, sym, ap, ◌∙◌, arith, option_map}
-use Rattle.std.specs.List.{filter_map, cons_option}
+use Rattle.std.specs.List.{filter_map}
 use Rattle.std.proofs.lemmas.List.{append-nil, append_assoc, map-append, take_more}
-use Rattle.std.proofs.lemmas.List.Elements.{All-cons}
-use Rattle.event_directory.specs.SubscriberList.{next}
-use Rattle.event_directory.specs.Sending.{Subscribed, Standing, heard_of, standing_of, grown, Hears, AreAbove, AreRising, made_ids, hit_ids, left_without, without, Sends, Prepares, hit_of_letter, hits_of_letter, with_letter, hit_from, after_letter, hits_from, made_now, subscribed_now, after_letters, hits_from_letters}
+use Rattle.std.proofs.lemmas.List.Elements.{All-cons, All-head, All-tail}
+use Rattle.s6_events.specs.Rising.{AreAbove, AreRising}
+use Rattle.s6_events.proofs.Rising.{rising_push, rising_told}
+use Rattle.event_directory.specs.SubscriberList.{next, gained}
+use Rattle.event_directory.specs.Sending.{Subscribed, Standing, heard_of, standing_of, grown, Hears, made_ids, hit_ids, left_without, without, Sends, Prepares, hit_of_letter, hits_of_letter, with_letter, hit_from, after_letter, hits_from, made_now, subscribed_now, after_letters, hits_from_letters}
 use Rattle.event_directory.proofs.Heard.{heard-next, heard-nothing}
 
 heard_of-next : (test : List ℕ → List ℕ → Bool) (x : ℕ) (s : Subscribed) → heard_of test (grown (x ∷ []) s) ≡ next (test s.pattern) s.repeats x (heard_of test s)
@@ -45,23 +47,8 @@ pub hits_as_defined : (test : List ℕ → List ℕ → Bool) (old : List Standi
 hits_as_defined test old x hits e subscribed h = e ∙ ap (hits_from test x) h.stored_is ∙ same_hits test x subscribed
 
 -- the hits are in rising serial, as the subscriptions are
-above_one : (test : List ℕ → List ℕ → Bool) (x n : ℕ) (s : Subscribed) (ss : List Subscribed) (o : Option Hit) → n < s.id → AreAbove n (hit_ids (hits_of_letter test x ss)) →
-    AreAbove n (hit_ids (cons_option (option_map (λ h. (s.id, h)) o) (hits_of_letter test x ss)))
-above_one test x n s ss None lt above = above
-above_one test x n s ss (Some h) lt above = (lt, above)
-
-above_hits : (test : List ℕ → List ℕ → Bool) (x n : ℕ) (ss : List Subscribed) → AreAbove n (made_ids ss) → AreAbove n (hit_ids (hits_of_letter test x ss))
-above_hits test x n [] above = tt
-above_hits test x n (s ∷ ss) above = above_one test x n s ss _ above.0 (above_hits test x n ss above.1)
-
-rising_one : (test : List ℕ → List ℕ → Bool) (x : ℕ) (s : Subscribed) (ss : List Subscribed) (o : Option Hit) → AreAbove s.id (made_ids ss) →
-    AreRising (hit_ids (hits_of_letter test x ss)) → AreRising (hit_ids (cons_option (option_map (λ h. (s.id, h)) o) (hits_of_letter test x ss)))
-rising_one test x s ss None above rising = rising
-rising_one test x s ss (Some h) above rising = (above_hits test x s.id ss above, rising)
-
 pub rising_hits : (test : List ℕ → List ℕ → Bool) (x : ℕ) (ss : List Subscribed) → AreRising (made_ids ss) → AreRising (hit_ids (hits_of_letter test x ss))
-rising_hits test x [] rising = tt
-rising_hits test x (s ∷ ss) rising = rising_one test x s ss _ rising.0 (rising_hits test x ss rising.1)
+rising_hits test x ss rising = rising_told (λ s. s.id) (λ s. gained x (heard_of test s) (heard_of test (grown (x ∷ []) s))) ss rising
 
 -- all at once, as `send` says
 pub sends : (test : List ℕ → List ℕ → Bool) (old new : List Standing) (x : ℕ) (hits : List (ℕ × Hit)) → hits ≡ hits_from test x old → new ≡ after_letter test x old →
@@ -92,16 +79,11 @@ prepares test (x ∷ xs) old new plan ep en subscribed h =
       hears = subst (Hears test new) (grown-more x xs subscribed) more.hears;
     }
 
-above_push : (n m : ℕ) (ns : List ℕ) → AreAbove n ns → n < m → AreAbove n (ns ++ m ∷ [])
-above_push n m [] above lt = (lt, tt)
-above_push n m (k ∷ ks) above lt = (above.0, above_push n m ks above.1 lt)
-
-rising_push : (test : List ℕ → List ℕ → Bool) (x : Subscribed) (ss : List Subscribed) → AreRising (made_ids ss) → All (λ s. s.id < x.id) (map (standing_of test) ss) → AreRising (made_ids (ss ++ x ∷ []))
-rising_push test x [] rising below = (tt, tt)
-rising_push test x (s ∷ ss) rising below = (
-  subst (λ l. AreAbove s.id l) (sym (map-append (λ s. s.id) ss (x ∷ []))) (above_push s.id x.id (made_ids ss) rising.0 (below 0 (standing_of test s) (omega arith))),
-  rising_push test x ss rising.1 (λ k d lt. below (suc k) d (omega arith)),
-)
+-- serials that are below those of all that is stored
+ids_below : (test : List ℕ → List ℕ → Bool) (id : ℕ) (ss : List Subscribed) → All (λ s. s.id < id) (map (standing_of test) ss) → All (λ s. s.id < id) ss
+ids_below test id [] below = λ k d lt. absurd (omega arith)
+ids_below test id (s ∷ ss) below = All-cons (λ (s : Subscribed). s.id < id) s ss (All-head (λ (s : Standing). s.id < id) (standing_of test s) (map (standing_of test) ss) below)
+    (ids_below test id ss (All-tail (λ (s : Standing). s.id < id) (standing_of test s) (map (standing_of test) ss) below))
 
 -- one is unsubscribed
 left_above_by : (n id : ℕ) (s : Subscribed) (ss : List Subscribed) (b : Bool) → n < s.id → AreAbove n (made_ids ss) → AreAbove n (made_ids (left_without id ss)) → AreAbove n (made_ids (cond b ss (s ∷ left_without id ss)))
@@ -140,7 +122,8 @@ hears_left test old new id e subscribed h = record {
 pub hears_joined : (test : List ℕ → List ℕ → Bool) (old new : List Standing) (id : ℕ) (pattern : List ℕ) (repeats : Bool) → All (λ s. s.id < id) old → new ≡ old ++ made_now id pattern repeats ∷ [] →
     (subscribed : List Subscribed) → Hears test old subscribed → Hears test new (subscribed ++ subscribed_now id pattern repeats ∷ [])
 hears_joined test old new id pattern repeats below e subscribed h = record {
-  rising = rising_push test (subscribed_now id pattern repeats) subscribed h.rising (subst (λ l. All (λ s. s.id < id) l) h.stored_is below);
+  rising = subst AreRising (sym (map-append (λ s. s.id) subscribed (subscribed_now id pattern repeats ∷ [])))
+      (rising_push (λ s. s.id) id subscribed h.rising (ids_below test id subscribed (subst (λ l. All (λ s. s.id < id) l) h.stored_is below)));
   stored_is = e ∙ ap (λ l. l ++ made_now id pattern repeats ∷ []) h.stored_is
       ∙ ap (λ z. map (standing_of test) subscribed ++ record { id = id; pattern = pattern; repeats = repeats; heard = z } ∷ []) (sym (heard-nothing (test pattern) repeats))
       ∙ sym (map-append (standing_of test) subscribed (subscribed_now id pattern repeats ∷ []));

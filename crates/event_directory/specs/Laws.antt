@@ -1,8 +1,9 @@
 -- Laws of the list of a subscription.
 use Rattle.std.specs.Prelude.{◌≡◌, ℕ, ◌≤◌, ◌<◌, List, [], ◌∷◌, ◌++◌, Bool, true, false, length, take, Some, None}
+use Rattle.s6_events.specs.Rising.{AreRising}
 use Rattle.event_directory.specs.Directories.{Directories, hearing}
 use Rattle.event_directory.specs.Remembered.{AreHeard, Shown}
-use Rattle.event_directory.specs.Sending.{AreRising, hit_ids, hits_of_letter}
+use Rattle.event_directory.specs.Sending.{hit_ids, hits_of_letter}
 use Rattle.event_directory.specs.SubscriberList.{least_match, heard_by, heard, listening, next}
 use Rattle.event_directory.specs.declared.source.Source.{Source}
 

@@ -1,6 +1,7 @@
 -- A directory's subscriptions, and what letters give them.
-use Rattle.std.specs.Prelude.{◌≡◌, ℕ, ◌<◌, ◌==◌, List, [], ◌∷◌, ◌++◌, Bool, map, All, Option, None, Some, if◌then◌else◌, option_map}
+use Rattle.std.specs.Prelude.{◌≡◌, ℕ, ◌==◌, List, [], ◌∷◌, ◌++◌, Bool, map, All, Option, None, Some, if◌then◌else◌, option_map}
 use Rattle.std.specs.List.{filter_map}
+use Rattle.s6_events.specs.Rising.{AreRising}
 use Rattle.event_directory.specs.SubscriberList.{Heard, heard, next, gained, listening}
 use Rattle.event_directory.specs.declared.hit.Hit.{Hit}
 use Rattle.event_directory.specs.declared.sub_view.State.{State}
@@ -30,16 +31,6 @@ standing_of test s = record { id = s.id; pattern = s.pattern; repeats = s.repeat
 -- a subscription after these letters more
 abbrev pub grown : List ℕ → Subscribed → Subscribed
 grown letters s = record { id = s.id; pattern = s.pattern; repeats = s.repeats; text = s.text ++ letters }
-
--- all serials are above n, and rise
-abbrev pub AreAbove : ℕ → List ℕ → Type 0
-AreAbove n [] = Unit {0}
-AreAbove n (m ∷ ms) = (n < m) × AreAbove n ms
-
--- the serials rise
-abbrev pub AreRising : List ℕ → Type 0
-AreRising [] = Unit {0}
-AreRising (n ∷ ns) = AreAbove n ns × AreRising ns
 
 -- the serials of subscriptions
 abbrev pub made_ids : List Subscribed → List ℕ

@@ -1,7 +1,7 @@
 //! A pattern, built from its text.
 ghost use Rattle.std.specs.Prelude.{◌≡◌, IfOk, IsErrOf, ◌↔◌, true, false, IsTrue, nat_le, ◌<◌, ◌&&◌, string_bytes};
 ghost use Rattle.std.specs.List.{list_all};
-ghost use Rattle.event_directory.specs.Pattern.{is_pattern_text, is_expression, finds, IsRefusedText};
+ghost use Rattle.event_directory.specs.Pattern.{is_pattern_text, is_expression, finds};
 
 use crate::finds::Finds;
 use crate::pattern_fault::PatternFault;
@@ -37,7 +37,6 @@ impl Pattern {
         ensures ok { IfOk result (λ p. p ≡ text.now) }
         ensures expression { IfOk result (λ _. is_expression text.now ≡ true) }
         ensures length { IsErrOf result PatternFault.Length ↔ (is_pattern_text text.now ≡ false) }
-        ensures refused { IsErrOf result PatternFault.Refused → IsRefusedText text.now }
     {
         if !is_text(text) {
             return Err(PatternFault::Length);

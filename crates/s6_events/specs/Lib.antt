@@ -8,3 +8,4 @@ pub mod Newest
 pub mod CurrentLetter
 pub mod History
 pub mod HistoryFields
+pub mod Rising

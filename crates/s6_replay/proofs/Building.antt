@@ -7,7 +7,7 @@ use Rattle.tree_core.specs.declared.input.Input.{Input}
 use Rattle.s6_replay.specs.declared.parse.LineFault.{LineFault}
 use Rattle.s6_replay.specs.declared.parse.LineFault.TheVariants.{Line, Pattern}
 use Rattle.s6_replay.specs.declared.unbuilt.UnbuiltInput.{UnbuiltInput}
-use Rattle.s6_replay.specs.Spelling.{IsSpelt, IsAct, Spells, SpellsButForPattern, HasRefusedPattern, input_words, spelling}
+use Rattle.s6_replay.specs.Spelling.{IsSpelt, IsAct, Spells, SpellsButForPattern, IsSubscription, input_words, spelling}
 use Rattle.s6_replay.specs.Unbuilt.{act_read, input_read, FitsButText}
 use Rattle.s6_replay.proofs.Reading.{words_back}
 
@@ -44,7 +44,7 @@ pub unbuilt_line : {A : Type 0} (line : List ℕ) (u : UnbuiltInput A) (r : Resu
 unbuilt_line {A} line u r strange reads e i s = strange e (subst (λ (j : Input A). IsAct j.act) (sym (reads i s)) s.spelt.act)
 
 pub unbuilt_pattern : {A : Type 0} (line : List ℕ) (u : UnbuiltInput A) (r : Result (Input A) LineFault) → IsReadable u
-    → (r ≢ Err Line → FitsButText u.act → IsAct (act_read u.act)) → (r ≡ Err Pattern → HasRefusedPattern (act_read u.act)) → line ≡ spelling (input_read u)
+    → (r ≢ Err Line → FitsButText u.act → IsAct (act_read u.act)) → (r ≡ Err Pattern → IsSubscription (act_read u.act)) → line ≡ spelling (input_read u)
     → r ≡ Err Pattern → SpellsButForPattern A line
 unbuilt_pattern {A} line u r readable fits refused text_is e =
     let act : IsAct (act_read u.act) = fits (λ l. cc (e, l)) readable.act in

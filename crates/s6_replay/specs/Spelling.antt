@@ -3,7 +3,7 @@ use Rattle.std.specs.Prelude.{◌≡◌, ℕ, ◌^◌, ◌<◌, ◌≤◌, List,
 use Rattle.std.specs.List.{join_with_byte}
 use Rattle.hex.specs.Hex.{IsBytes}
 use Rattle.event_directory.specs.Message.{is_message}
-use Rattle.event_directory.specs.Pattern.{is_expression, is_pattern_text, IsRefusedText}
+use Rattle.event_directory.specs.Pattern.{is_expression, is_pattern_text}
 use Rattle.s6_events.specs.declared.exit.Exit.{Exit}
 use Rattle.s6_events.specs.declared.exit.Exit.TheVariants.{Code, Killed}
 use Rattle.s6_events.specs.At.{last_moment}
@@ -72,11 +72,11 @@ abbrev pub HasExpression : {A : Type 0} → Act A → Type 0
 HasExpression (Subscribe target pattern repeats) = IsTrue (is_expression pattern)
 HasExpression act = Unit {0}
 
--- the act is a subscription whose pattern `regex` refuses, and not for want of memory
-abbrev pub HasRefusedPattern : {A : Type 0} → Act A → Type 0
-HasRefusedPattern (Subscribe target pattern repeats) = IsRefusedText pattern
-HasRefusedPattern act = ⊥
+-- the act is a subscription
+abbrev pub IsSubscription : {A : Type 0} → Act A → Type 0
+IsSubscription (Subscribe target pattern repeats) = Unit {0}
+IsSubscription act = ⊥
 
--- the text spells an input but for its pattern, which is refused
+-- the text spells an input, a subscription, of whose pattern nothing is said but its text
 abbrev pub SpellsButForPattern : (A : Type 0) → List ℕ → Type 0
-SpellsButForPattern A text = (i : Input A) × Spells text i × HasRefusedPattern i.act
+SpellsButForPattern A text = (i : Input A) × Spells text i × IsSubscription i.act

@@ -1,7 +1,7 @@
 //! What was read from the words of an input, and building its pattern.
 ghost use Rattle.std.specs.Prelude.{◌≡◌, ◌≢◌, ◌↔◌, Err, IfOk, IsErrOf, IsTrue, false};
-ghost use Rattle.event_directory.specs.Pattern.{is_expression, is_pattern_text, IsRefusedText};
-ghost use Rattle.s6_replay.specs.Spelling.{HasExpression, IsAct, HasRefusedPattern};
+ghost use Rattle.event_directory.specs.Pattern.{is_expression, is_pattern_text};
+ghost use Rattle.s6_replay.specs.Spelling.{HasExpression, IsAct, IsSubscription};
 ghost use Rattle.s6_replay.specs.Unbuilt.{act_read, input_read, FitsButText};
 
 use super::parse::LineFault;
@@ -30,7 +30,6 @@ fn build_pattern(patterns: Global, text: &str) -> Result<Pattern, LineFault>
     ensures ok { IfOk result (λ pattern. pattern ≡ text.now) }
     ensures expression { IfOk result (λ _. IsTrue (is_expression text.now)) }
     ensures line { IsErrOf result LineFault.Line ↔ (is_pattern_text text.now ≡ false) }
-    ensures pattern { IsErrOf result LineFault.Pattern → IsRefusedText text.now }
 {
     match Pattern::build(patterns, text) {
         Ok(pattern) => Ok(pattern),
@@ -46,7 +45,7 @@ fn build_act<A: Allocator>(patterns: Global, act: UnbuiltAct<A>) -> Result<Act<A
     ensures expression { FitsButText act → IfOk result HasExpression }
     ensures fits { result ≢ Err LineFault.Line → FitsButText act → IsAct (act_read act) }
     ensures line { result ≡ Err LineFault.Line → IsAct (act_read act) → ⊥ }
-    ensures pattern { result ≡ Err LineFault.Pattern → HasRefusedPattern (act_read act) }
+    ensures pattern { result ≡ Err LineFault.Pattern → IsSubscription (act_read act) }
 {
     match act {
         UnbuiltAct::Whole(act) => Ok(act),
@@ -63,7 +62,7 @@ pub fn build<A: Allocator>(patterns: Global, input: UnbuiltInput<A>) -> Result<I
     ensures expression { FitsButText input.act → IfOk result (λ built. HasExpression built.act) }
     ensures fits { result ≢ Err LineFault.Line → FitsButText input.act → IsAct (act_read input.act) }
     ensures line { result ≡ Err LineFault.Line → IsAct (act_read input.act) → ⊥ }
-    ensures pattern { result ≡ Err LineFault.Pattern → HasRefusedPattern (act_read input.act) }
+    ensures pattern { result ≡ Err LineFault.Pattern → IsSubscription (act_read input.act) }
 {
     let UnbuiltInput { actor, at, act } = input;
     match build_act(patterns, act) {

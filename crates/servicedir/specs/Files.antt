@@ -25,11 +25,11 @@ file_name TimeoutFinish = codes "timeout-finish"
 file_name MaxDeathTally = codes "max-death-tally"
 file_name DownSignal = codes "down-signal"
 
--- a reading that failed is counted once, and its file is the last that failed; nothing else is counted
+-- a reading that failed is counted once, and nothing else is; of one that gave nothing, the file is the last that gave nothing
 abbrev pub Counts : {V : Type 0} → Result V ReadFault → ServiceFile → ℕ → ℕ → Option ServiceFile → Type 0
 Counts (Ok v) file old new last = new ≡ old
 Counts (Err fault.Io) file old new last = (new ≡ old + 1) × (last ≡ Some file)
-Counts (Err fault.NoMemory) file old new last = new ≡ old
+Counts (Err fault.NoMemory) file old new last = (new ≡ old) × (last ≡ Some file)
 
 -- one refused growth more, modulo 2 ^ 64
 abbrev pub one_more : ℕ → ℕ

@@ -44,12 +44,12 @@ fault_before Run directory = None
 fault_before Kind directory = fault_of_run (directory Run)
 fault_before other directory = first_fault directory
 
--- a fault is answered where it is the directory's first, or where a reading before it failed and was counted
+-- a fault is answered where it is the directory's first, or where the reading of a file gave nothing before any fault was found
 abbrev pub Answers : Directory → ℕ → ℕ → Option ServiceFile → DirFault → Type 0
 Answers directory old new last NoRun = (first_fault directory ≡ Some NoRun) × (new ≡ old)
 Answers directory old new last NotLongrun = (first_fault directory ≡ Some NotLongrun) × (new ≡ old)
 Answers directory old new last Io = IsSomeAnd last (λ file. fault_before file directory ≡ None) × (new ≡ old + 1)
-Answers directory old new last NoMemory = new ≡ old
+Answers directory old new last NoMemory = IsSomeAnd last (λ file. fault_before file directory ≡ None) × (new ≡ old)
 Answers directory old new last other = ⊥
 
 -- how many growths were refused once this fault is answered, where so many were refused before

@@ -68,7 +68,7 @@ pub trait Files {
     /// How many readings failed so far.
     ghost failures: { Self → ℕ };
 
-    /// The file whose reading failed last.
+    /// The file whose reading gave nothing last: it failed, or a growth was refused in it.
     ghost failed: { Self → Option ServiceFile };
 
     /// How many growths were refused so far, modulo 2^64, so that a counter can keep it.

@@ -1,7 +1,8 @@
 -- A waiter that is looked for, or taken out, by its serial.
-use Rattle.std.proofs.Common.{◌≡◌, ◌==◌, ◌≤◌, not, ℕ, List, [], ◌∷◌, Bool, true, false, Option, Some, cond, length, map, filter, find, refl, sym, ap, ◌∙◌, option_map}
+use Rattle.std.proofs.Common.{◌≡◌, ◌==◌, ◌<◌, ◌≤◌, not, ℕ, List, [], ◌∷◌, Bool, true, false, Option, Some, cond, length, map, filter, find, refl, sym, ap, ◌∙◌, option_map}
 use Rattle.std.proofs.lemmas.List.{length-map}
 use Rattle.std.proofs.lemmas.List.Elements.{All-filter}
+use Rattle.s6_events.proofs.Rising.{rising_left}
 use Rattle.s6_events.specs.declared.moment.Moment.{Moment}
 use Rattle.wait_conditions.specs.declared.waiter.Waiter.{Waiter}
 use Rattle.wait_conditions.specs.Kept.{kept_of, is_other, standing_stored, standing_kept}
@@ -32,6 +33,8 @@ cancels_after s new id c w st = record {
   waiters = c.waiters ∙ (ap (filter (is_other id)) st.waiters ∙ written_left id w.history w.waiters);
   next = st.next ∙ sym c.next;
   placed = All-filter (λ p. not (is_named id p)) (λ p. p.place ≤ length w.history) w.waiters st.placed;
+  rising = rising_left (λ p. p.id) (λ p. not (is_named id p)) w.waiters st.rising;
+  below = All-filter (λ p. not (is_named id p)) (λ p. p.id < w.next) w.waiters st.below;
 }
 
 pub standing_seen : (id : ℕ) (ws : List Waiter) → standing_stored id ws ≡ standing_kept id (map kept_of ws)

@@ -1,11 +1,13 @@
 -- What takes a moment stands for what is written down after it.
-use Rattle.std.proofs.Common.{◌≡◌, ◌≤◌, ◌+◌, ℕ, List, [], ◌∷◌, ◌++◌, Option, All, arith, length, take, drop, map, refl, sym, ap, ◌∙◌, option_map, length-append}
+use Rattle.std.proofs.Common.{◌≡◌, ◌<◌, ◌≤◌, ◌+◌, ℕ, List, [], ◌∷◌, ◌++◌, Option, All, arith, length, take, drop, map, refl, sym, subst, ap, ◌∙◌, option_map, length-append}
 use Rattle.std.proofs.lemmas.List.{drop_all, map-append}
 use Rattle.wait_conditions.specs.declared.verdict.Standing.TheVariants.{Waiting, Released}
 use Rattle.wait_conditions.specs.Verdict.{Asked, verdict}
 use Rattle.wait_conditions.specs.Release.{standing, first_release}
 use Rattle.std.proofs.lemmas.List.Elements.{All-push, All-head, All-tail}
 use Rattle.std.specs.List.{filter_map, cons_option}
+use Rattle.s6_events.specs.Rising.{AreRising}
+use Rattle.s6_events.proofs.Rising.{rising_push}
 use Rattle.s6_events.specs.declared.moment.Moment.{Moment}
 use Rattle.wait_conditions.specs.declared.verdict.Verdict.{Verdict}
 use Rattle.wait_conditions.specs.declared.verdict.Standing.{Standing}
@@ -45,6 +47,8 @@ stands_after s new m given t w st =
         waiters = t.waiters ∙ seen;
         next = st.next ∙ sym t.next;
         placed = λ k d h. omega (arith, st.placed k d h, length-append w.history (m ∷ []));
+        rising = st.rising;
+        below = st.below;
       },
     )
 
@@ -74,5 +78,7 @@ adds_after s new asked id given t w st =
         waiters = t.waiters ∙ (ap (λ ks. ks ++ begun s asked ∷ []) st.waiters ∙ (ap (λ k. map (kept w.history) w.waiters ++ k ∷ []) one ∙ sym (map-append (kept w.history) w.waiters (made_now w asked ∷ []))));
         next = ap (λ n. n + 1) st.next ∙ sym t.next;
         placed = All-push (λ p. p.place ≤ length w.history) w.waiters (made_now w asked) st.placed (omega arith);
+        rising = subst AreRising (sym (map-append (λ p. p.id) w.waiters (made_now w asked ∷ []))) (rising_push (λ p. p.id) w.next w.waiters st.rising st.below);
+        below = All-push (λ p. p.id < w.next + 1) w.waiters (made_now w asked) (λ k d h. omega (arith, st.below k d h)) (omega arith);
       },
     )

@@ -1,10 +1,13 @@
 -- Laws of a waiter's release.
-use Rattle.std.specs.Prelude.{◌≡◌, ℕ, ◌+◌, ◌≤◌, List, [], ◌∷◌, ◌++◌, length, take}
+use Rattle.std.specs.Prelude.{◌≡◌, ℕ, ◌+◌, ◌≤◌, List, [], ◌∷◌, ◌++◌, length, map, take}
+use Rattle.s6_events.specs.Rising.{AreRising}
 use Rattle.s6_events.specs.declared.moment.Moment.{Moment}
 use Rattle.wait_conditions.specs.declared.verdict.Verdict.{Verdict}
 use Rattle.wait_conditions.specs.declared.verdict.Standing.TheVariants.{Waiting, Released}
 use Rattle.wait_conditions.specs.Verdict.{Asked, verdict}
 use Rattle.wait_conditions.specs.Release.{standing, settled, IsLeast}
+use Rattle.wait_conditions.specs.Stands.{Shown, StandsFor}
+use Rattle.wait_conditions.specs.Watch.{Watch, releases}
 
 -- a released waiter has the verdict that comes at the least number of moments since its place
 abbrev pub ReleasedAtTheLeast : Type 0
@@ -30,3 +33,7 @@ ReleasedByTheLastMoment =
     (a : Asked) (past since : List Moment) (m : Moment) (v : Verdict)
     → standing a past since ≡ Waiting → standing a past (since ++ m ∷ []) ≡ Released v
     → IsLeast (verdict a past) (since ++ m ∷ []) v (length since + 1)
+
+-- whatever stored waiters stand for, a moment's releases come in rising serial
+abbrev pub ReleasesRise : Type 0
+ReleasesRise = (s : Shown) (w : Watch) (m : Moment) → StandsFor s w → AreRising (map (λ (r : ℕ × Verdict). r.0) (releases w m))

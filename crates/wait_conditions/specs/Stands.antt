@@ -1,10 +1,11 @@
 -- Which waiters, as they are written down, the stored ones stand for.
-use Rattle.std.specs.Prelude.{◌≡◌, ℕ, ◌+◌, ◌≤◌, Option, List, [], ◌∷◌, ◌++◌, All, length, map, filter}
+use Rattle.std.specs.Prelude.{◌≡◌, ℕ, ◌+◌, ◌<◌, ◌≤◌, Option, List, [], ◌∷◌, ◌++◌, All, length, map, filter}
 use Rattle.std.specs.List.{filter_map}
+use Rattle.s6_events.specs.Rising.{AreRising}
 use Rattle.s6_events.specs.declared.moment.Moment.{Moment}
 use Rattle.wait_conditions.specs.declared.verdict.Standing.TheVariants.{Waiting}
 use Rattle.wait_conditions.specs.Verdict.{Asked}
-use Rattle.wait_conditions.specs.Watch.{Placed, Watch, standing_of, newly}
+use Rattle.wait_conditions.specs.Watch.{Placed, Watch, made_ids, standing_of, newly}
 use Rattle.wait_conditions.specs.declared.verdict.Verdict.{Verdict}
 use Rattle.wait_conditions.specs.Kept.{Kept, kept_of, looked, release_seen, is_other}
 use Rattle.wait_conditions.specs.declared.roll.Roll.{Roll}
@@ -44,12 +45,14 @@ AllPlaced s = All (λ k. k.place ≤ length s.moments) s.waiters
 abbrev pub kept : List Moment → Placed → Kept
 kept history p = record { id = p.id; asked = p.asked; place = p.place; standing = standing_of history p }
 
--- the moments are all moments, and each waiter stands where it is to stand
+-- the moments are all moments, each waiter stands where it is to stand, and the serials rise, up to the next one
 pub record StandsFor (s : Shown) (w : Watch) : Type 0 where
   pub moments : w.history ≡ s.moments
   pub waiters : s.waiters ≡ map (kept w.history) w.waiters
   pub next : w.next ≡ s.next
   pub placed : All (λ p. p.place ≤ length w.history) w.waiters
+  pub rising : AreRising (made_ids w.waiters)
+  pub below : All (λ p. p.id < w.next) w.waiters
 
 -- what is there now stands for these waiters
 abbrev pub WaitsFor : Stored → Watch → Type 0

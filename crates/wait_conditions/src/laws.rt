@@ -1,5 +1,5 @@
 //! Laws of a waiter's release. Each is the contract of a function that does nothing, so that its statement is proved.
-ghost use Rattle.wait_conditions.specs.Laws.{GrowsByMoments, ReleasedAtTheLeast, ReleasedByTheLastMoment, WaitsThroughout};
+ghost use Rattle.wait_conditions.specs.Laws.{GrowsByMoments, ReleasedAtTheLeast, ReleasedByTheLastMoment, ReleasesRise, WaitsThroughout};
 
 /// A waiter that is released has the verdict over the least number of moments since its place, from 0 on, at which its verdict
 /// isn't waiting. This project's own.
@@ -22,4 +22,9 @@ pub fn one_moment_more()
 /// moment. This project's own.
 pub fn released_by_the_last_moment()
     ensures { ReleasedByTheLastMoment }
+{}
+
+/// The releases of one moment come in rising serial. This project's own.
+pub fn releases_rise()
+    ensures { ReleasesRise }
 {}

@@ -1,4 +1,4 @@
-ghost use Rattle.std.specs.Prelude.{◌≡◌, ◌≤◌, IsTrue, None, length, IfOk, option_map, find, take};
+ghost use Rattle.std.specs.Prelude.{◌≡◌, ◌≤◌, IsTrue, false, length, IfOk, option_map, find, take};
 
 use crate::{Files, ReadFault, ServiceFile};
 use s6_events::Name;
@@ -7,12 +7,13 @@ use std::alloc::{AllocError, Allocator};
 /// The most bytes of a file that one reading gives.
 const READING_LIMIT: usize = 4097;
 
-/// Directories in memory: each service has these files. The first reading of the file `failing` fails, and refused growths are
-/// counted.
+/// Directories in memory: each service has these files. The first reading of the file `failing` fails, refused growths are
+/// counted, and `failed` is the file whose reading gave nothing last.
 #[derive(Drop)]
 pub struct FakeFiles<'a> {
     pub files: &'a [(ServiceFile, &'a [u8])],
     pub failing: Option<ServiceFile>,
+    pub has_failed: bool,
     pub failed: Option<ServiceFile>,
     pub refused: u64,
 }
@@ -22,6 +23,7 @@ impl<'a> FakeFiles<'a> {
         FakeFiles {
             files,
             failing: None,
+            has_failed: false,
             failed: None,
             refused: 0,
         }
@@ -38,18 +40,18 @@ impl<'a> FakeFiles<'a> {
 
     // Whether this reading fails.
     fn fails(&self, file: ServiceFile) -> bool
-        ensures { IsTrue result → self.now.failed ≡ None }
+        ensures { IsTrue result → self.now.has_failed ≡ false }
     {
-        self.failed.is_none() && self.failing == Some(file)
+        !self.has_failed && self.failing == Some(file)
     }
 }
 
 impl<'a> Files for FakeFiles<'a> {
-    ghost use Rattle.std.specs.Prelude.{option_map, find, is_some, take, if◌then◌else◌};
+    ghost use Rattle.std.specs.Prelude.{option_map, find, take, if◌then◌else◌};
 
     ghost gives = { λ f name file. option_map (λ e. take 4097 e.1.now) (find (λ e. ⟦<ServiceFile as PartialEq>⟧.eq e.0 file) f.files.now) };
 
-    ghost failures = { λ f. if is_some f.failed then 1 else 0 };
+    ghost failures = { λ f. if f.has_failed then 1 else 0 };
 
     ghost failed = { λ f. f.failed };
 
@@ -57,6 +59,7 @@ impl<'a> Files for FakeFiles<'a> {
 
     fn has(&mut self, _name: Name, file: ServiceFile) -> Result<bool, ReadFault> {
         if self.fails(file) {
+            self.has_failed = true;
             self.failed = Some(file);
             return Err(ReadFault::Io);
         }
@@ -70,6 +73,7 @@ impl<'a> Files for FakeFiles<'a> {
         file: ServiceFile,
     ) -> Result<Option<Vec<u8, A>>, ReadFault> {
         if self.fails(file) {
+            self.has_failed = true;
             self.failed = Some(file);
             return Err(ReadFault::Io);
         }
@@ -77,6 +81,7 @@ impl<'a> Files for FakeFiles<'a> {
             Some(text) => match copied(alloc, front(text, READING_LIMIT)) {
                 Ok(bytes) => Ok(Some(bytes)),
                 Err(_) => {
+                    self.failed = Some(file);
                     self.refused = self.refused.wrapping_add(1);
                     Err(ReadFault::NoMemory)
                 }
