@@ -2,8 +2,6 @@
 #![tactic(auto)]
 
 mod deadlines;
-#[cfg(test)]
-mod tests;
 mod timer;
 
 pub use deadlines::{Deadlines, Plan};

@@ -5,8 +5,6 @@
 mod death_list;
 mod permanent_failure;
 mod tally;
-#[cfg(test)]
-mod tests;
 
 pub use death_list::{DeathItem, DeathList};
 pub use permanent_failure::permafails;

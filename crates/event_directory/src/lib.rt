@@ -23,8 +23,6 @@ mod step;
 mod sub_view;
 mod subscription;
 mod subscriptions;
-#[cfg(test)]
-mod tests;
 
 pub use directories::Directories;
 pub use directory::Directory;

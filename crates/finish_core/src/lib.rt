@@ -4,8 +4,6 @@
 mod arguments;
 mod exit_verdict;
 mod restart;
-#[cfg(test)]
-mod tests;
 
 pub use arguments::finish_args;
 pub use exit_verdict::{Verdict125, verdict};

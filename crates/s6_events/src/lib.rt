@@ -12,8 +12,6 @@ mod moment;
 mod name;
 mod no_memory;
 mod order;
-#[cfg(test)]
-mod tests;
 
 pub use at::At;
 pub use condition::{Condition, Mode};

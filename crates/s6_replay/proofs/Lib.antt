@@ -1,15 +1,4 @@
 pub mod Buffered
 pub mod HeadRead
-pub mod Hexadecimal
-pub mod Joined
 pub mod LineRead
-pub mod Entries
-pub mod DeathLists
-pub mod Plain
-pub mod Subscribes
-pub mod Waits
-pub mod Reading
-pub mod Building
 pub mod Runs
-pub mod WordsTaken
-pub mod Letters

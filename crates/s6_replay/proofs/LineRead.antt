@@ -9,7 +9,7 @@ use Rattle.tree_core.specs.Machine.{Machine, Outcome}
 use Rattle.tree_core.specs.Run.{after, outcome}
 use Rattle.tree_core.specs.StandsFor.{Stored, StandsFor}
 use Rattle.s6_replay.specs.Lines.{HasNoNewline, AppendsFront}
-use Rattle.s6_replay.specs.Spelling.{HasExpression, Spells, SpellsButForPattern, spelling}
+use Rattle.s6_script.specs.Spelling.{HasExpression, Spells, SpellsButForPattern, spelling}
 use Rattle.s6_replay.specs.Replay.{HasLine, IsNoInputLine, IsLineButForPattern, input_line, input_limit}
 use Rattle.s6_replay.specs.Replay.IsNoInputLine.{spells_nothing, too_long}
 use Rattle.s6_replay.specs.Transcript.{block}

@@ -12,7 +12,7 @@ use Rattle.tree_core.specs.StandsFor.{Stored, StandsFor}
 use Rattle.s6_replay.specs.Lines.{HasNoNewline, AppendsFront}
 use Rattle.s6_replay.specs.Replay.{HasLine, Written, CountsOf, IsWhole, ReadsOn, Stops, head_line, input_line, script, transcript}
 use Rattle.s6_replay.specs.Replay.IsNoInputLine.{too_many}
-use Rattle.s6_replay.specs.Spelling.{spelling}
+use Rattle.s6_script.specs.Spelling.{spelling}
 use Rattle.s6_replay.specs.Transcript.{block, blocks}
 use Rattle.s6_replay.specs.Turn.{Answers, AnswerStops, ReadingStops, Turns, TurnStops, EndStops}
 use Rattle.s6_replay.specs.declared.counts.Counts.{Counts}

@@ -1,9 +1,3 @@
-pub mod Options
-pub mod DeathList
-pub mod Verb
-pub mod Words
-pub mod Spelling
-pub mod Unbuilt
 pub mod Transcript
 pub mod Lines
 pub mod Replay

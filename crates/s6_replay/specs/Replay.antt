@@ -6,7 +6,7 @@ use Rattle.tree_core.specs.declared.input.Input.{Input}
 use Rattle.tree_core.specs.Machine.{new_machine}
 use Rattle.tree_core.specs.Run.{outcome, outcomes, after_all}
 use Rattle.s6_replay.specs.Lines.{HasNoNewline, IsPart, IsWithinLine, AppendsFront}
-use Rattle.s6_replay.specs.Spelling.{IsSpelt, HasExpression, Spells, SpellsButForPattern, spelling}
+use Rattle.s6_script.specs.Spelling.{IsSpelt, HasExpression, Spells, SpellsButForPattern, spelling}
 use Rattle.s6_replay.specs.Transcript.{block, blocks}
 use Rattle.s6_replay.specs.declared.counts.Counts.{Counts}
 use Rattle.s6_replay.specs.declared.fault.ReplayFault.{ReplayFault}

@@ -7,7 +7,7 @@ use Rattle.tree_core.specs.Run.{after, outcome}
 use Rattle.tree_core.specs.StandsFor.{Stored, StandsFor}
 use Rattle.s6_replay.specs.Lines.{HasNoNewline, IsPart, IsWithinLine, AppendsFront}
 use Rattle.s6_replay.specs.Replay.{HasLine, IsNoInputLine, IsLineButForPattern, ReadsHead, input_line, input_limit, head_line}
-use Rattle.s6_replay.specs.Spelling.{spelling}
+use Rattle.s6_script.specs.Spelling.{spelling}
 use Rattle.s6_replay.specs.Transcript.{block}
 use Rattle.s6_replay.specs.declared.turn.Turn.{Turn}
 use Rattle.s6_replay.specs.declared.turn.Turn.TheVariants.{Done, End}

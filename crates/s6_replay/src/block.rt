@@ -5,9 +5,9 @@ ghost use Rattle.s6_replay.specs.Lines.{AppendsFront};
 ghost use Rattle.s6_replay.specs.Transcript.{block};
 ghost use Rattle.tree_core.specs.Effect.{outcome_of};
 
-use super::digits::push_number;
 use super::effect_lines::{push_events, push_matches, push_orders, push_releases};
 use super::reply_text::push_reply;
+use s6_script::push_number;
 use std::alloc::{AllocError, Allocator};
 use std::io::Write;
 use thiserror::Error;

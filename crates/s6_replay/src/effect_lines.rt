@@ -3,8 +3,8 @@ ghost use Rattle.std.specs.Prelude.{◌≡◌, ◌++◌, ◌∷◌, [], codes, d
 ghost use Rattle.std.specs.List.{flat_map};
 ghost use Rattle.s6_replay.specs.Transcript.{event_line, order_line, match_line, release_line, hit_text, verdict_text};
 
-use super::digits::{push_number, push_spaced};
 use s6_events::{Order, Sid};
+use s6_script::{push_number, push_spaced};
 use std::alloc::{AllocError, Allocator};
 use tree_core::{Event, Hit, Match, Release, Verdict};
 

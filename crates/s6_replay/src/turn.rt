@@ -5,7 +5,7 @@ ghost use Rattle.s6_replay.specs.Turn.{WasRead, ReadingStops, IsAnswered, Answer
 use super::block::{WriteFault, write_block};
 use super::fault::ReplayFault;
 use super::line::{Ended, ReadFault, read_line};
-use super::parse::{LineFault, parse_with};
+use s6_script::{LineFault, parse_with};
 use std::alloc::{Allocator, Global};
 use std::io::{BufRead, Write};
 use tree_core::{Effect, Input, Tree};

@@ -9,8 +9,6 @@ mod number;
 mod reading;
 mod service_name;
 mod signal;
-#[cfg(test)]
-mod tests;
 
 pub use config::Config;
 pub use dir_fault::DirFault;

@@ -12,8 +12,6 @@ mod row;
 mod service;
 mod standing;
 mod status;
-#[cfg(test)]
-mod tests;
 mod timer;
 
 pub use change::Change;

@@ -12,8 +12,6 @@ mod svlisten;
 mod svscanctl;
 mod svstat;
 mod svwait;
-#[cfg(test)]
-mod tests;
 mod usage_fault;
 
 pub use control_letter::{ControlLetter, Letters};

@@ -11,8 +11,6 @@ mod refusing;
 mod roll;
 mod service_state;
 mod step;
-#[cfg(test)]
-mod tests;
 mod verdict;
 mod wait_change;
 mod wait_plan;

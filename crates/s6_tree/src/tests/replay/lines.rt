@@ -1,5 +1,6 @@
 //! Which lines are inputs, and which input they are.
-use s6_replay::{LineFault, ReplayFault, parse_line};
+use s6_replay::ReplayFault;
+use s6_script::{LineFault, parse_line};
 use servicedir::Config;
 use std::alloc::Global;
 use std::process::Abort;

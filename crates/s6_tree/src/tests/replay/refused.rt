@@ -1,7 +1,8 @@
 //! Growths that are refused.
 use super::{BLOCKS, SCRIPT, count_blocks};
 use linked_list_allocator::LocalHeap;
-use s6_replay::{LineFault, ReplayFault, parse_line, run};
+use s6_replay::{ReplayFault, run};
+use s6_script::{LineFault, parse_line};
 use std::alloc::Global;
 use std::process::Abort;
 use std::test::Fail;

@@ -1,0 +1,11 @@
+pub mod Hexadecimal
+pub mod Joined
+pub mod Entries
+pub mod DeathLists
+pub mod Plain
+pub mod Subscribes
+pub mod Waits
+pub mod Reading
+pub mod Building
+pub mod WordsTaken
+pub mod Letters

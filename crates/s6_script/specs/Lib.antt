@@ -1,0 +1,6 @@
+pub mod Options
+pub mod DeathList
+pub mod Verb
+pub mod Words
+pub mod Spelling
+pub mod Unbuilt

@@ -1,0 +1,125 @@
+-- The words of an act: its verb, and the words behind it.
+use Rattle.std.specs.Prelude.{ℕ, Bool, true, false, List, [], ◌∷◌, ◌==◌, codes, decimal, map}
+use Rattle.std.specs.List.{slice_split}
+use Rattle.hex.specs.Hex.{encode_lower}
+use Rattle.s6_events.specs.declared.condition.Condition.{Condition}
+use Rattle.s6_events.specs.declared.condition.Condition.TheVariants as condition
+use Rattle.s6_events.specs.declared.condition.Mode.{Mode}
+use Rattle.s6_events.specs.declared.condition.Mode.TheVariants as mode
+use Rattle.s6_events.specs.declared.exit.Exit.{Exit}
+use Rattle.s6_events.specs.declared.exit.Exit.TheVariants.{Code, Killed}
+use Rattle.svc_commands.specs.ControlLetter.{byte_of}
+use Rattle.tree_core.specs.declared.input.Act.{Act}
+use Rattle.svscan_core.specs.declared.entry.ScanOrder.{ScanOrder}
+use Rattle.svscan_core.specs.declared.entry.ScanOrder.TheVariants.{Nuke, Terminate}
+use Rattle.tree_core.specs.declared.input.Act.TheVariants.{Scan, Scanctl, Svc, Started, StartFailed, Notify, Death, FinishEnded, Status, Tally, Permafailon, Wait, Cancel, Subscribe, Unsubscribe, Send, MakeDir, Tick}
+use Rattle.tree_core.specs.declared.input.Target.{Target}
+use Rattle.tree_core.specs.declared.input.Target.TheVariants as target
+use Rattle.s6_script.specs.declared.parse.Verb.{Verb}
+use Rattle.s6_script.specs.declared.parse.Verb.TheVariants.{Scan as ScanVerb, Scanctl as ScanctlVerb, Svc as SvcVerb, Started as StartedVerb, StartFailed as StartFailedVerb, Notify as NotifyVerb, Death as DeathVerb, Finished as FinishedVerb, Status as StatusVerb, Tally as TallyVerb, Permafailon as PermafailonVerb, Wait as WaitVerb, Cancel as CancelVerb, Subscribe as SubscribeVerb, Unsubscribe as UnsubscribeVerb, Send as SendVerb, Mkdir as MkdirVerb, Tick as TickVerb}
+use Rattle.s6_script.specs.DeathList.{list_text}
+use Rattle.s6_script.specs.Options.{entry_text}
+
+-- the word of a verb
+abbrev pub verb_word : Verb → List ℕ
+verb_word ScanVerb = codes "scan"
+verb_word ScanctlVerb = codes "scanctl"
+verb_word SvcVerb = codes "svc"
+verb_word StartedVerb = codes "started"
+verb_word StartFailedVerb = codes "startfailed"
+verb_word NotifyVerb = codes "notify"
+verb_word DeathVerb = codes "death"
+verb_word FinishedVerb = codes "finished"
+verb_word StatusVerb = codes "status"
+verb_word TallyVerb = codes "tally"
+verb_word PermafailonVerb = codes "permafailon"
+verb_word WaitVerb = codes "wait"
+verb_word CancelVerb = codes "cancel"
+verb_word SubscribeVerb = codes "subscribe"
+verb_word UnsubscribeVerb = codes "unsubscribe"
+verb_word SendVerb = codes "send"
+verb_word MkdirVerb = codes "mkdir"
+verb_word TickVerb = codes "tick"
+
+-- the verb of an act
+abbrev pub verb_of_act : {A : Type 0} → Act A → Verb
+verb_of_act (Scan listing) = ScanVerb
+verb_of_act (Scanctl order) = ScanctlVerb
+verb_of_act (Svc name letters) = SvcVerb
+verb_of_act (Started sid generation pid) = StartedVerb
+verb_of_act (StartFailed sid generation) = StartFailedVerb
+verb_of_act (Notify sid generation bytes) = NotifyVerb
+verb_of_act (Death sid generation exit) = DeathVerb
+verb_of_act (FinishEnded sid generation exit) = FinishedVerb
+verb_of_act (Status name) = StatusVerb
+verb_of_act (Tally name) = TallyVerb
+verb_of_act (Permafailon name seconds count items) = PermafailonVerb
+verb_of_act (Wait condition mode timeout names) = WaitVerb
+verb_of_act (Cancel id) = CancelVerb
+verb_of_act (Subscribe target pattern repeats) = SubscribeVerb
+verb_of_act (Unsubscribe id) = UnsubscribeVerb
+verb_of_act (Send target message) = SendVerb
+verb_of_act (MakeDir name) = MkdirVerb
+verb_of_act Tick = TickVerb
+
+-- the words of an exit
+abbrev pub exit_words : Exit → List (List ℕ)
+exit_words (Code n) = codes "code" ∷ decimal n ∷ []
+exit_words (Killed n) = codes "signal" ∷ decimal n ∷ []
+
+-- the letter of what is ordered of all services, as on the command line
+abbrev pub order_word : ScanOrder → List ℕ
+order_word Nuke = codes "n"
+order_word Terminate = codes "t"
+
+-- the letter of a condition, and that of a mode, as on the command line
+abbrev pub condition_word : Condition → List ℕ
+condition_word condition.Up = codes "u"
+condition_word condition.Ready = codes "U"
+condition_word condition.Down = codes "d"
+condition_word condition.Finished = codes "D"
+condition_word condition.Restarted = codes "r"
+condition_word condition.RestartedReady = codes "R"
+
+abbrev pub mode_word : Mode → List ℕ
+mode_word mode.All = codes "a"
+mode_word mode.One = codes "o"
+
+-- whose event directory is meant: a service's or a free one, and its name
+abbrev pub target_word : Target → List ℕ
+target_word (target.Service name) = codes "svc"
+target_word (target.Directory name) = codes "dir"
+
+abbrev pub target_name : Target → List ℕ
+target_name (target.Service name) = name
+target_name (target.Directory name) = name
+
+-- whether a subscription goes on after a match
+abbrev pub how_word : Bool → List ℕ
+how_word false = codes "once"
+how_word true = codes "repeat"
+
+-- the words of a text, between its spaces
+abbrev pub text_words : List ℕ → List (List ℕ)
+text_words text = slice_split (λ b. b == 32) text
+
+-- the words of an act behind its verb; a pattern is the rest of the line, spaces and all
+abbrev pub details : {A : Type 0} → Act A → List (List ℕ)
+details (Scan listing) = map entry_text listing
+details (Scanctl order) = order_word order ∷ []
+details (Svc name letters) = name ∷ map byte_of letters.items ∷ []
+details (Started sid generation pid) = decimal sid ∷ decimal generation ∷ decimal pid ∷ []
+details (StartFailed sid generation) = decimal sid ∷ decimal generation ∷ []
+details (Notify sid generation bytes) = decimal sid ∷ decimal generation ∷ encode_lower bytes.items ∷ []
+details (Death sid generation exit) = decimal sid ∷ decimal generation ∷ exit_words exit
+details (FinishEnded sid generation exit) = decimal sid ∷ decimal generation ∷ exit_words exit
+details (Status name) = name ∷ []
+details (Tally name) = name ∷ []
+details (Permafailon name seconds count items) = name ∷ decimal seconds ∷ decimal count ∷ list_text items ∷ []
+details (Wait condition mode timeout names) = condition_word condition ∷ mode_word mode ∷ decimal timeout ∷ names
+details (Cancel id) = decimal id ∷ []
+details (Subscribe target pattern repeats) = target_word target ∷ target_name target ∷ how_word repeats ∷ text_words pattern
+details (Unsubscribe id) = decimal id ∷ []
+details (Send target message) = target_word target ∷ target_name target ∷ message ∷ []
+details (MakeDir name) = name ∷ []
+details Tick = []

@@ -1,0 +1,15 @@
+//! Scripts, which are inputs of the machine as text. Their format is this project's own.
+#![tactic(auto)]
+
+mod death_list;
+mod digits;
+mod entry_options;
+mod parse;
+mod spelling;
+mod subscribing;
+mod unbuilt;
+mod waiting;
+mod words;
+
+pub use digits::{push_number, push_spaced};
+pub use parse::{LineFault, parse_line, parse_with};

@@ -1,0 +1,354 @@
+//! Reading an input line. Each function here, and in `words.rt` and `entry_options.rt`, reads what its words spell, and from other words
+//! any value of its type. The input that comes of this is spelled again, and answered only where this gives the line. So each line
+//! that spells no input is refused with no case of its own. A pattern is built last, so that a line is refused for it only where it
+//! spells an input otherwise.
+ghost use Rattle.std.specs.Prelude.{◌≡◌, ℕ, ◌≤◌, ◌<◌, ◌^◌, ◌∷◌, ◌++◌, [], List, Bool, Err, IfOk, decimal, drop, map, length, slice_index_or};
+ghost use Rattle.hex.specs.Hex.{IsBytes, encode_lower};
+ghost use Rattle.s6_script.specs.Spelling.{HasExpression, IsSpelt, IsExit, IsAct, Spells, SpellsButForPattern, input_words};
+ghost use Rattle.s6_script.specs.Unbuilt.{act_read, input_read, FitsButText};
+ghost use Rattle.s6_events.specs.At.{last_moment};
+ghost use Rattle.svc_commands.specs.ControlLetter.{byte_of};
+ghost use Rattle.svc_commands.specs.declared.control_letter.ControlLetter.{ControlLetter};
+ghost use Rattle.s6_script.specs.Verb.{exit_words, order_word, verb_word, verb_of_act, details};
+ghost use Rattle.svscan_core.specs.declared.entry.ScanOrder.{ScanOrder};
+
+use super::death_list::permafailon_of;
+use super::entry_options::entries_of;
+use super::spelling::spell;
+use super::subscribing::{send_of, subscribe_of};
+use super::unbuilt::{UnbuiltAct, UnbuiltInput, build};
+use super::waiting::wait_of;
+use super::words::{Words, is_word, name_of, number};
+use arrayvec::ArrayVec;
+use s6_events::{Actor, At, Exit, NoMemory, Sid, SubId, WaitId};
+use std::alloc::{AllocError, Allocator, Global};
+use svc_commands::{ControlLetter, Letters};
+use thiserror::Error;
+use tree_core::{Act, Input, Listing, ScanOrder};
+
+/// Why a line is no input.
+#[derive(Clone, Copy, Debug, PartialEq, Eq, Error)]
+pub enum LineFault {
+    /// It spells no input.
+    #[error("the line spells no input")]
+    Line = 1,
+    /// It spells a subscription, but its pattern is refused by `regex`, and not for want of memory. A pattern of none or more than 256 bytes, or
+    /// with a byte that is none from a space to a tilde, is not spelled: this is `Line`.
+    #[error("the pattern of the line does not build")]
+    Pattern = 2,
+    /// A growth was refused.
+    #[error("out of memory")]
+    NoMemory = 3,
+}
+
+impl From<AllocError> for LineFault {
+    ghost use Rattle.s6_script.specs.declared.parse.LineFault.TheVariants.{NoMemory};
+
+    ghost from_gives = { λ _ fault. fault ≡ NoMemory };
+
+    fn from(_refused: AllocError) -> LineFault {
+        LineFault::NoMemory
+    }
+}
+
+impl From<NoMemory> for LineFault {
+    ghost use Rattle.s6_script.specs.declared.parse.LineFault.TheVariants.{NoMemory};
+
+    ghost from_gives = { λ _ fault. fault ≡ NoMemory };
+
+    fn from(_refused: NoMemory) -> LineFault {
+        LineFault::NoMemory
+    }
+}
+
+// The first word of an act.
+#[derive(Clone, Copy, Debug, PartialEq, Eq)]
+pub enum Verb {
+    Scan,
+    Scanctl,
+    Svc,
+    Started,
+    StartFailed,
+    Notify,
+    Death,
+    Finished,
+    Status,
+    Tally,
+    Permafailon,
+    Wait,
+    Cancel,
+    Subscribe,
+    Unsubscribe,
+    Send,
+    Mkdir,
+    Tick,
+}
+
+// Reads an exit.
+fn exit_of(words: &mut Words<'_>) -> Exit
+    ensures spelled { (e : Exit) → IsExit e → words.old ≡ exit_words e → result ≡ e }
+    ensures fits { IsExit result }
+{
+    if is_word(words.take_next(), b"code") {
+        Exit::Code(number(words.take_next(), 255) as u8)
+    } else {
+        Exit::Killed(number(words.take_next(), 64) as u8)
+    }
+}
+
+// Reads a verb.
+fn verb_of(word: &[u8]) -> Verb
+    ensures { (v : Verb) → word.now ≡ verb_word v → result ≡ v }
+{
+    if is_word(word, b"scan") {
+        Verb::Scan
+    } else if is_word(word, b"scanctl") {
+        Verb::Scanctl
+    } else if is_word(word, b"svc") {
+        Verb::Svc
+    } else if is_word(word, b"started") {
+        Verb::Started
+    } else if is_word(word, b"startfailed") {
+        Verb::StartFailed
+    } else if is_word(word, b"notify") {
+        Verb::Notify
+    } else if is_word(word, b"death") {
+        Verb::Death
+    } else if is_word(word, b"finished") {
+        Verb::Finished
+    } else if is_word(word, b"status") {
+        Verb::Status
+    } else if is_word(word, b"tally") {
+        Verb::Tally
+    } else if is_word(word, b"permafailon") {
+        Verb::Permafailon
+    } else if is_word(word, b"wait") {
+        Verb::Wait
+    } else if is_word(word, b"cancel") {
+        Verb::Cancel
+    } else if is_word(word, b"subscribe") {
+        Verb::Subscribe
+    } else if is_word(word, b"unsubscribe") {
+        Verb::Unsubscribe
+    } else if is_word(word, b"send") {
+        Verb::Send
+    } else if is_word(word, b"mkdir") {
+        Verb::Mkdir
+    } else {
+        Verb::Tick
+    }
+}
+
+// Reads what is ordered of all services.
+fn order_of(word: &[u8]) -> ScanOrder
+    ensures { (order : ScanOrder) → word.now ≡ order_word order → result ≡ order }
+{
+    if is_word(word, b"n") {
+        ScanOrder::Nuke
+    } else {
+        ScanOrder::Terminate
+    }
+}
+
+// Reads a process number.
+fn process_of(word: &[u8]) -> u32
+    ensures spelled { (n : ℕ) → 1 ≤ n → n ≤ 2147483647 → word.now ≡ decimal n → result ≡ n }
+    ensures low { 1 ≤ result }
+    ensures high { result ≤ 2147483647 }
+{
+    number(word, 2_147_483_647).max(1) as u32
+}
+
+// Reads a serial or a generation.
+fn serial_of(word: &[u8]) -> u64
+    ensures { (n : ℕ) → n < 2 ^ 64 → word.now ≡ decimal n → result ≡ n }
+{
+    number(word, u64::MAX)
+}
+
+// Reads a service and its run.
+fn run_of(words: &mut Words<'_>) -> (Sid, u64)
+    ensures sid { (n : ℕ) → n < 2 ^ 64 → slice_index_or words.old 0 [] ≡ decimal n → result.0 ≡ n }
+    ensures generation { (n : ℕ) → n < 2 ^ 64 → slice_index_or words.old 1 [] ≡ decimal n → result.1 ≡ n }
+    ensures rest { words.new ≡ drop 2 words.old }
+{
+    let sid = Sid(serial_of(words.take_next()));
+    let generation = serial_of(words.take_next());
+    (sid, generation)
+}
+
+// Adds the letter of this byte, where there is one; after 63 letters nothing.
+fn add_letter(letters: &mut Letters, byte: u8)
+    requires { length letters.old.items ≤ 63 }
+    ensures spelled { (letter : ControlLetter) → length letters.old.items < 63 → byte ≡ byte_of letter → letters.new.items ≡ letters.old.items ++ letter ∷ [] }
+    ensures few { length letters.new.items ≤ 63 }
+{
+    if letters.len() == 63 {
+        return;
+    }
+    if let Some(letter) = ControlLetter::of_byte(byte) {
+        letters.push(letter);
+    }
+}
+
+// Reads letters; there is always one.
+fn letters_of(word: &[u8]) -> Letters
+    ensures spelled { (letters : List ControlLetter) → 1 ≤ length letters → length letters ≤ 63 → word.now ≡ map byte_of letters → result.items ≡ letters }
+    ensures some { 1 ≤ length result.items }
+    ensures few { length result.items ≤ 63 }
+{
+    let mut letters = Letters::new();
+    for byte in word {
+        add_letter(&mut letters, *byte);
+    }
+    if letters.is_empty() {
+        letters.push(ControlLetter::Up);
+    }
+    letters
+}
+
+// Reads bytes from their digits; there is always one.
+fn bytes_of(word: &[u8]) -> ArrayVec<u8, 64>
+    ensures spelled { (bytes : List ℕ) → 1 ≤ length bytes → length bytes ≤ 64 → IsBytes bytes → word.now ≡ encode_lower bytes → result.items ≡ bytes }
+    ensures some { 1 ≤ length result.items }
+    ensures few { length result.items ≤ 64 }
+    ensures fits { IsBytes result.items }
+{
+    let mut room = [0; 64];
+    let count = (word.len() / 2).min(64);
+    let part = &mut room[..count];
+    let places = part.len();
+    prove!(places == count);
+    let mut bytes = ArrayVec::new();
+    if count == 0 || hex::decode_to_slice(word, part).is_err() {
+        bytes.push(0);
+        return bytes;
+    }
+    if bytes.try_extend_from_slice(part).is_err() {
+        unreachable!()
+    }
+    bytes
+}
+
+// Reads an act from its verb and the words behind it.
+fn act_of<A: Allocator + Copy>(
+    alloc: A,
+    verb: Verb,
+    words: &mut Words<'_>,
+) -> Result<UnbuiltAct<A>, NoMemory>
+    ensures spelled { IfOk result (λ found. (act : Act A) → IsAct act → verb ≡ verb_of_act act
+        → words.old ≡ details act → act_read found ≡ act) }
+    ensures fits { IfOk result FitsButText }
+{
+    let act = match verb {
+        Verb::Scan => Act::Scan(Listing::new(entries_of(alloc, words)?)),
+        Verb::Scanctl => Act::Scanctl(order_of(words.take_next())),
+        Verb::Svc => Act::Svc(name_of(words.take_next()), letters_of(words.take_next())),
+        Verb::Started => {
+            let (sid, generation) = run_of(words);
+            Act::Started(sid, generation, process_of(words.take_next()))
+        }
+        Verb::StartFailed => {
+            let (sid, generation) = run_of(words);
+            Act::StartFailed(sid, generation)
+        }
+        Verb::Notify => {
+            let (sid, generation) = run_of(words);
+            Act::Notify(sid, generation, bytes_of(words.take_next()))
+        }
+        Verb::Death => {
+            let (sid, generation) = run_of(words);
+            Act::Death(sid, generation, exit_of(words))
+        }
+        Verb::Finished => {
+            let (sid, generation) = run_of(words);
+            Act::FinishEnded(sid, generation, exit_of(words))
+        }
+        Verb::Status => Act::Status(name_of(words.take_next())),
+        Verb::Tally => Act::Tally(name_of(words.take_next())),
+        Verb::Permafailon => permafailon_of(alloc, words)?,
+        Verb::Wait => wait_of(alloc, words)?,
+        Verb::Cancel => Act::Cancel(WaitId(serial_of(words.take_next()))),
+        Verb::Subscribe => return subscribe_of(alloc, words),
+        Verb::Unsubscribe => Act::Unsubscribe(SubId(serial_of(words.take_next()))),
+        Verb::Send => send_of(words),
+        Verb::Mkdir => Act::MakeDir(name_of(words.take_next())),
+        Verb::Tick => Act::Tick,
+    };
+    Ok(UnbuiltAct::Whole(act))
+}
+
+// Reads a moment.
+fn moment_of(word: &[u8]) -> At
+    ensures spelled { (n : ℕ) → n ≤ 1000000000000000 → word.now ≡ decimal n → result ≡ n }
+    ensures fits { result ≤ 1000000000000000 }
+{
+    At::new(number(word, 1_000_000_000_000_000)).unwrap_or(At::zero())
+}
+
+// Reads an actor.
+fn actor_of(word: &[u8]) -> Actor
+    ensures spelled { (n : ℕ) → n ≤ 15 → word.now ≡ decimal n → result ≡ n }
+    ensures fits { result ≤ 15 }
+{
+    Actor::new(number(word, 15) as u8).unwrap()
+}
+
+// Reads an input.
+fn input_of<A: Allocator + Copy>(
+    alloc: A,
+    words: &mut Words<'_>,
+) -> Result<UnbuiltInput<A>, NoMemory>
+    ensures spelled { IfOk result (λ found. (i : Input A) → IsSpelt i → words.old ≡ input_words i → input_read found ≡ i) }
+    ensures at { IfOk result (λ found. found.at ≤ last_moment) }
+    ensures actor { IfOk result (λ found. found.actor ≤ 15) }
+    ensures act { IfOk result (λ found. FitsButText found.act) }
+{
+    let at = moment_of(words.take_next());
+    let actor = actor_of(words.take_next());
+    let verb = verb_of(words.take_next());
+    let act = act_of(alloc, verb, words)?;
+    Ok(UnbuiltInput { actor, at, act })
+}
+
+/// The input that a line spells; the line is given without its newline, and of any length. A pattern takes its memory from `patterns`,
+/// and all else from `alloc`; the pattern of an input is one that the grammar of `regex` reads. `Line` comes where the line spells no
+/// input, `Pattern` where it spells a subscription whose pattern is refused by `regex`, and not for want of memory, and `NoMemory` where
+/// a growth was refused; on error nothing is kept. A pattern is built only where the line spells an input but for it.
+pub fn parse_line<A: Allocator + Copy>(
+    alloc: A,
+    patterns: Global,
+    line: &[u8],
+) -> Result<Input<A>, LineFault>
+    ensures found { IfOk result (Spells line.now) }
+    ensures only { IfOk result (λ found. (i : Input A) → Spells line.now i → found ≡ i) }
+    ensures expression { IfOk result (λ found. HasExpression found.act) }
+    ensures line { result ≡ Err LineFault.Line → (i : Input A) → Spells line.now i → ⊥ }
+    ensures pattern { result ≡ Err LineFault.Pattern → SpellsButForPattern A line.now }
+{
+    let mut text = Vec::new(alloc);
+    parse_with(alloc, patterns, line, &mut text)
+}
+
+/// `parse_line`, where what the line spells is made in a text of the caller's, so that its memory is used again. What is in that text before
+/// and after doesn't matter.
+pub fn parse_with<A: Allocator + Copy>(
+    alloc: A,
+    patterns: Global,
+    line: &[u8],
+    text: &mut Vec<u8, A>,
+) -> Result<Input<A>, LineFault>
+    ensures found { IfOk result (Spells line.now) }
+    ensures only { IfOk result (λ found. (i : Input A) → Spells line.now i → found ≡ i) }
+    ensures expression { IfOk result (λ found. HasExpression found.act) }
+    ensures line { result ≡ Err LineFault.Line → (i : Input A) → Spells line.now i → ⊥ }
+    ensures pattern { result ≡ Err LineFault.Pattern → SpellsButForPattern A line.now }
+{
+    let input = input_of(alloc, &mut Words::of(line))?;
+    spell(alloc, text, &input)?;
+    if text.as_slice() == line {
+        build(patterns, input)
+    } else {
+        Err(LineFault::Line)
+    }
+}

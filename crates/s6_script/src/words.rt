@@ -1,0 +1,133 @@
+//! The words of a line, and reading single words.
+ghost use Rattle.std.specs.Prelude.{◌≡◌, ℕ, ◌≤◌, nat_lt, [], decimal, length, map, bytes_eq, drop, slice_index_or, true};
+ghost use Rattle.std.specs.List.{join_with_byte};
+ghost use Rattle.s6_events.specs.Name.{is_name};
+ghost use Rattle.s6_script.specs.Verb.{text_words};
+
+use memchr::memchr;
+use s6_events::Name;
+use std::marker::Model;
+use std::str;
+
+// The words of a line that are left to read. They stand between its spaces, so two spaces have a word of no byte between them, and a
+// line of no byte is one such word.
+#[derive(Drop)]
+pub struct Words<'a> {
+    rest: &'a [u8],
+    more: bool,
+}
+
+impl<'a> Model for Words<'a> {
+    ghost use Rattle.std.specs.Prelude.{List, ℕ};
+
+    ghost Value = { List (List ℕ) };
+
+    ghost use Rattle.s6_script.specs.Words.{words_left};
+
+    ghost view = { words_left };
+}
+
+impl<'a> Words<'a> {
+    // All words of a line.
+    pub fn of(line: &'a [u8]) -> Words<'a>
+        ensures { result ≡ text_words line.now }
+    {
+        Words {
+            rest: line,
+            more: true,
+        }
+    }
+
+    // Whether a word is left.
+    pub fn has_more(&self) -> bool
+        ensures { result ≡ nat_lt 0 (length self.now) }
+    {
+        self.more
+    }
+
+    // Takes the next word, or no byte where none is left.
+    pub fn take_next(&mut self) -> &'a [u8]
+        ensures word { result.now ≡ slice_index_or self.old 0 [] }
+        ensures rest { self.new ≡ drop 1 self.old }
+    {
+        if !self.more {
+            return &[];
+        }
+        let line = self.rest;
+        match memchr(b' ', line) {
+            None => {
+                self.more = false;
+                line
+            }
+            Some(place) => {
+                self.rest = &line[place + 1..];
+                &line[..place]
+            }
+        }
+    }
+
+    // What is left of the line.
+    pub fn rest(&self) -> &'a [u8]
+        ensures { result.now ≡ join_with_byte 32 self.now }
+    {
+        if self.more { self.rest } else { &[] }
+    }
+}
+
+// The word at this place, or no byte where there is none.
+pub fn word_at<'a>(words: &[&'a [u8]], place: usize) -> &'a [u8]
+    ensures { result.now ≡ slice_index_or (map (λ w. w.now) words.now) place [] }
+{
+    match words.get(place) {
+        Some(word) => word,
+        None => &[],
+    }
+}
+
+// The words from this place on.
+pub fn words_from<'a, 'b>(words: &'b [&'a [u8]], place: usize) -> &'b [&'a [u8]]
+    ensures { map (λ w. w.now) result.now ≡ drop place (map (λ w. w.now) words.now) }
+{
+    if place <= words.len() {
+        &words[place..]
+    } else {
+        &[]
+    }
+}
+
+// Reads a number of at most so much.
+pub fn number(word: &[u8], most: u64) -> u64
+    ensures spelled { (n : ℕ) → n ≤ most → word.now ≡ decimal n → result ≡ n }
+    ensures fits { result ≤ most }
+{
+    let Ok(text) = str::from_utf8(word) else {
+        return 0;
+    };
+    match text.parse::<u64>() {
+        Ok(n) => n.min(most),
+        Err(_) => 0,
+    }
+}
+
+// Reads a number of 32 bits: of seconds, deaths or milliseconds.
+pub fn count_of(word: &[u8]) -> u32
+    ensures spelled { (n : ℕ) → n ≤ 4294967295 → word.now ≡ decimal n → result ≡ n }
+    ensures fits { result ≤ 4294967295 }
+{
+    number(word, u64::from(u32::MAX)) as u32
+}
+
+// Whether the word is this text.
+pub fn is_word(word: &[u8], text: &[u8]) -> bool
+    ensures { result ≡ bytes_eq word.now text.now }
+{
+    word == text
+}
+
+// Reads a name.
+pub fn name_of(word: &[u8]) -> Name
+    ensures spelled { is_name word.now ≡ true → result ≡ word.now }
+    ensures fits { is_name result ≡ true }
+{
+    Name::new(word).unwrap_or_default()
+}

@@ -1,3 +1,0 @@
-mod directories;
-mod fake_files;
-mod texts;
