@@ -80,6 +80,7 @@ impl<C: Channels> Drain<C> {
         ensures drained { result ≡ Some true → finished.old.submitted ≡ Some self.new.taken }
         ensures left { result ≡ Some false → finished.old.submitted ≢ Some self.new.taken }
         ensures none { IfNone result (finished.old.submitted ≡ None) }
+        ensures told { IfSome result (λ drained. IsSome finished.old.submitted) }
     {
         let ring = finished.ring.as_mut()?;
         Some(self.consumer.slots_after(ring) == 0)

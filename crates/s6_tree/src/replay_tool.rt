@@ -1,7 +1,9 @@
 //! The tool `replay`: buffers round what it reads and writes.
-ghost use Rattle.std.specs.Prelude.{List, IfOk};
+ghost use Rattle.std.specs.Prelude.{◌≡◌, ◌⊎◌, List, IfOk, IfErr};
 ghost use Rattle.tree_core.specs.declared.input.Input.{Input};
 ghost use Rattle.s6_replay.specs.Replay.{IsWhole};
+ghost use Rattle.s6_tree.specs.Flushed.{StopsFlushed};
+ghost use Rattle.s6_replay.specs.declared.fault.ReplayFault.TheVariants.{Write};
 
 use s6_replay::{Counts, ReplayFault, run};
 use std::alloc::{Allocator, Global};
@@ -15,6 +17,8 @@ fn replay_whole<A: Allocator + Copy, R: BufRead, W: Write>(
     writer: &mut W,
 ) -> Result<Counts, ReplayFault>
     ensures ok { IfOk result (λ counts. (inputs : List (Input A)) × IsWhole inputs counts
+        (R.remaining reader.old) (R.remaining reader.new) (W.contents writer.old) (W.contents writer.new)) }
+    ensures fault { IfErr result (λ fault. (fault ≡ Write) ⊎ StopsFlushed A fault
         (R.remaining reader.old) (R.remaining reader.new) (W.contents writer.old) (W.contents writer.new)) }
 {
     let replayed = run(alloc, patterns, reader, writer);
