@@ -40,6 +40,19 @@ worked_of p = record {
   listed = p.listed;
 }
 
+-- what is prepared where nothing is: the services as they stand, and nothing to answer or to do
+abbrev pub idle_of : Table → Prepared
+idle_of t = record {
+  services = t.services;
+  next_sid = t.next_sid;
+  events = [];
+  orders = [];
+  stale = false;
+  dropped = [];
+  listed = [];
+  timers = [];
+}
+
 -- nothing is prepared: a commit would leave all as it stands
 abbrev pub IsIdle : Kept → Type 0
-IsIdle r = worked_of r.prepared ≡ left_alone (charts_of r.shown.services) r.shown.next_sid
+IsIdle r = r.prepared ≡ idle_of r.shown

@@ -280,6 +280,7 @@ impl<A: Allocator + Copy> Registry<A> {
         ensures agrees { OnOk result ((history : List Moment) → clock_of history ≡ now → AllAgree self.old.shown.services history
             → AllAgree self.new.prepared.services (history ++ map moment_of self.new.prepared.events)) }
         ensures tallies { OnOk result (KeepTallied self.old.shown.next_sid self.old.shown.services self.new.prepared.services (deaths_given (asked_by work.now) now (charts_of self.old.shown.services))) }
+        ensures idle { OnErr result (IsIdle self.new) }
     {
         let worked = self
             .pending
@@ -318,17 +319,26 @@ impl<A: Allocator + Copy> Registry<A> {
             → IfOk result (λ answer. AllAgree self.new.shown.services (history ++ map moment_of answer.events.items)) }
         ensures tallies { OnOk result (KeepTallied self.old.shown.next_sid self.old.shown.services self.new.shown.services (deaths_given (asked_by work.now) now (charts_of self.old.shown.services))) }
         ensures unchanged { OnErr result (self.new.shown ≡ self.old.shown) }
+        ensures idle { IsIdle self.new }
     {
         self.prepare_alone(work, now)?;
-        let answer = self.answer()?;
-        self.commit();
-        Ok(answer)
+        let answer = self.answer();
+        match answer {
+            Ok(answer) => {
+                self.commit();
+                Ok(answer)
+            }
+            Err(refused) => {
+                self.pending.clear(self.next_sid);
+                Err(refused)
+            }
+        }
     }
 
     /// Takes a listing of the scan directory, at once: each service whose name is listed becomes active and takes the configuration
     /// that was read, each other one becomes inactive; an inactive one whose supervisor has ended is dropped; and each name for which
     /// no service stands gets one, in the order of the names' bytes. No name stands in the listing twice. `NoMemory` where a growth was
-    /// refused; then nothing that is shown changes. Page `s6-svscan`.
+    /// refused; then nothing that is shown changes. Either way nothing is prepared afterwards. Page `s6-svscan`.
     pub fn scan(&mut self, listing: &[Entry], now: At) -> Result<Answer<A>, NoMemory>
         requires listing { repeats (names_in listing.now) ≡ false }
         requires generations { All (λ c. c.generation + 1 < 2 ^ 64) (charts_of self.old.shown.services) }
@@ -343,13 +353,14 @@ impl<A: Allocator + Copy> Registry<A> {
             → IfOk result (λ answer. AllAgree self.new.shown.services (history ++ map moment_of answer.events.items)) }
         ensures tallies { OnOk result (KeepTallied self.old.shown.next_sid self.old.shown.services self.new.shown.services []) }
         ensures unchanged { OnErr result (self.new.shown ≡ self.old.shown) }
+        ensures idle { IsIdle self.new }
     {
         let work = Work::Listing(listing);
         self.make(&work, now)
     }
 
     /// Takes an order of all services, at once: nuke gives each inactive service the letters `x` and `d`; terminate makes each
-    /// service inactive and gives it both. `NoMemory` where a growth was refused; then nothing that is shown changes. Page
+    /// service inactive and gives it both. `NoMemory` where a growth was refused; then nothing that is shown changes. Either way nothing is prepared afterwards. Page
     /// `s6-svscanctl`; which letters they get is this project's own rule.
     pub fn control(&mut self, order: ScanOrder, now: At) -> Result<Answer<A>, NoMemory>
         requires generations { All (λ c. c.generation + 1 < 2 ^ 64) (charts_of self.old.shown.services) }
@@ -362,6 +373,7 @@ impl<A: Allocator + Copy> Registry<A> {
             → IfOk result (λ answer. AllAgree self.new.shown.services (history ++ map moment_of answer.events.items)) }
         ensures tallies { OnOk result (KeepTallied self.old.shown.next_sid self.old.shown.services self.new.shown.services []) }
         ensures unchanged { OnErr result (self.new.shown ≡ self.old.shown) }
+        ensures idle { IsIdle self.new }
     {
         self.make(&Work::Command(order), now)
     }

@@ -17,6 +17,7 @@ use supervise_core::ChartState;
 
 mod full;
 mod refused;
+mod refused_order;
 
 // Whether it is one of these.
 fn is_among(due: &[Sid], sid: Sid) -> bool
