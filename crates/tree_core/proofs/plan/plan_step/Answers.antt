@@ -3,7 +3,7 @@ use Rattle.event_directory.specs.Changes.{Change as DirectoryAsk, asked_by as as
 use Rattle.supervise_core.specs.Chart.{fire}
 use Rattle.svscan_core.specs.Deaths.{deaths_given, KeepTallied}
 use Rattle.svscan_core.specs.Moves.{moment_of, services_after}
-use Rattle.svscan_core.specs.Registry.{worked_of}
+use Rattle.svscan_core.specs.Registry.{worked_of, Prepared}
 use Rattle.svscan_core.specs.Table.{Table, charts_of}
 use Rattle.svscan_core.specs.Asked.{asked_by}
 use Rattle.svscan_core.specs.Work.{Work, Worked, stepped}
@@ -76,14 +76,14 @@ pub returns-in_err-tell-clause-quiet : goal.returns-in_err-tell-clause-quiet
 returns-in_err-tell-clause-quiet g c = λ q none.
     let still = c.work.ensures ∙ (c.in_ok-choice.ensures.idle q.reading).work in
     let idle = c.prepare.ensures.still none still in
-    let nothing = ap (λ (w : Worked). w.events) idle.0 in
+    let nothing = ap (λ (p : Prepared). p.events) idle.0 in
     not_ok c.tell.result _ _ c.in_err-tell.was (c.tell.ensures.quiet (c.events-2.ensures ∙ nothing))
 
 pub returns-in_err-listened-clause-quiet : goal.returns-in_err-listened-clause-quiet
 returns-in_err-listened-clause-quiet g c = λ q none.
     let still = c.work.ensures ∙ (c.in_ok-choice.ensures.idle q.reading).work in
     let idle = c.prepare.ensures.still none still in
-    let nothing = ap (λ (w : Worked). w.events) idle.0 in
+    let nothing = ap (λ (p : Prepared). p.events) idle.0 in
     not_ok_and c.prepare-2.result _ _ _ c.in_err-listened.was
     (c.prepare-2.ensures.quiet (c.as_slice-joining.ensures.value ∙ c.in_ok-moments.ensures.quiet q.early (c.events.ensures ∙ nothing)) (c.wait_change.ensures ∙ (c.in_ok-choice.ensures.idle q.reading).waiters))
 
@@ -91,7 +91,7 @@ pub returns-in_err-heard-clause-quiet : goal.returns-in_err-heard-clause-quiet
 returns-in_err-heard-clause-quiet g c = λ q none.
     let still = c.work.ensures ∙ (c.in_ok-choice.ensures.idle q.reading).work in
     let idle = c.prepare.ensures.still none still in
-    let nothing = ap (λ (w : Worked). w.events) idle.0 in
+    let nothing = ap (λ (p : Prepared). p.events) idle.0 in
     not_ok_and c.prepare-3.result _ _ _ c.in_err-heard.was
     (c.prepare-3.ensures.quiet (c.as_slice-joining.ensures.value ∙ c.in_ok-moments.ensures.quiet q.early (c.events.ensures ∙ nothing)) (c.directory_change.ensures ∙ (c.in_ok-choice.ensures.idle q.reading).directories))
 
@@ -99,7 +99,7 @@ pub returns-in_err-match_all-clause-quiet : goal.returns-in_err-match_all-clause
 returns-in_err-match_all-clause-quiet g c = λ q none.
     let still = c.work.ensures ∙ (c.in_ok-choice.ensures.idle q.reading).work in
     let idle = c.prepare.ensures.still none still in
-    let nothing = ap (λ (w : Worked). w.events) idle.0 in
+    let nothing = ap (λ (p : Prepared). p.events) idle.0 in
     let calm = c.in_ok-heard.ensures.quiet (c.as_slice-joining.ensures.value ∙ c.in_ok-moments.ensures.quiet q.early (c.events.ensures ∙ nothing)) (c.directory_change.ensures ∙ (c.in_ok-choice.ensures.idle q.reading).directories) in
     not_ok c.match_all.result _ _ c.in_err-match_all.was (c.match_all.ensures.quiet calm.0)
 
@@ -107,7 +107,7 @@ pub returns-in_err-release_all-clause-quiet : goal.returns-in_err-release_all-cl
 returns-in_err-release_all-clause-quiet g c = λ q none.
     let still = c.work.ensures ∙ (c.in_ok-choice.ensures.idle q.reading).work in
     let idle = c.prepare.ensures.still none still in
-    let nothing = ap (λ (w : Worked). w.events) idle.0 in
+    let nothing = ap (λ (p : Prepared). p.events) idle.0 in
     let calm = c.in_ok-listened.ensures.quiet (c.as_slice-joining.ensures.value ∙ c.in_ok-moments.ensures.quiet q.early (c.events.ensures ∙ nothing)) (c.wait_change.ensures ∙ (c.in_ok-choice.ensures.idle q.reading).waiters) in
     not_ok c.release_all.result _ _ c.in_err-release_all.was (c.release_all.ensures.quiet calm.0 (ap released_by_answer calm.1))
 
@@ -115,21 +115,21 @@ pub returns-in_err-moments-clause-quiet : goal.returns-in_err-moments-clause-qui
 returns-in_err-moments-clause-quiet g c = λ q none.
     let still = c.work.ensures ∙ (c.in_ok-choice.ensures.idle q.reading).work in
     let idle = c.prepare.ensures.still none still in
-    let nothing = ap (λ (w : Worked). w.events) idle.0 in
+    let nothing = ap (λ (p : Prepared). p.events) idle.0 in
     not_ok_and c.moments_of.result _ _ _ c.in_err-moments.was (c.moments_of.ensures.quiet q.early (c.events.ensures ∙ nothing))
 
 pub returns-in_err-timers-clause-quiet : goal.returns-in_err-timers-clause-quiet
 returns-in_err-timers-clause-quiet g c = λ q none.
     let still = c.work.ensures ∙ (c.in_ok-choice.ensures.idle q.reading).work in
     let idle = c.prepare.ensures.still none still in
-    let nothing = ap (λ (w : Worked). w.events) idle.0 in
+    let nothing = ap (λ (p : Prepared). p.events) idle.0 in
     not_ok c.timers.result _ _ c.in_err-timers.was (c.timers.ensures.quiet idle.1)
 
 pub returns-clause-quiet : goal.returns-clause-quiet
 returns-clause-quiet g c = λ q none.
     let still = c.work.ensures ∙ (c.in_ok-choice.ensures.idle q.reading).work in
     let idle = c.prepare.ensures.still none still in
-    let nothing = ap (λ (w : Worked). w.events) idle.0 in
+    let nothing = ap (λ (p : Prepared). p.events) idle.0 in
     (c.in_ok-moments.ensures.quiet q.early (c.events.ensures ∙ nothing), c.in_ok-timers.ensures.changes ∙ idle.1)
 
 pub returns-clause-count : goal.returns-clause-count
