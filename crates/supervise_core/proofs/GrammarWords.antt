@@ -81,15 +81,20 @@ begins_word marks q h =
     record { rest = word.rest; supervisors = word.goes_on.supervisors; spelled = word.spelled }
 
 -- the marks of a change lead on from where the service stood
+pub leads_on : (change : Change) (now : ℕ) (c after : ChartState) (marks : List Mark)
+    → after ≡ (changed_by change now c).chart → LeadsTo marks c → LeadsTo (marks ++ (changed_by change now c).marks) after
+leads_on change now c after marks chart leads =
+    let place : walk SupervisorEnded (marks ++ (changed_by change now c).marks) ≡ Some (place_of after) =
+    fold-append step_on (Some SupervisorEnded) marks (changed_by change now c).marks
+    ∙ (ap (λ p. fold step_on p (changed_by change now c).marks) leads.place
+    ∙ (walks_changed change now c ∙ ap (λ (x : ChartState). Some (place_of x)) (sym chart))) in
+    record { word = begins_word (marks ++ (changed_by change now c).marks) (place_of after) place; place = place }
+
+-- so do those that its answer has
 pub leads_after : (change : Change) (now : ℕ) (c after : ChartState) (out : Out) (marks : List Mark)
     → MatchesMove (changed_by change now c) after out → LeadsTo marks c → LeadsTo (marks ++ out.events.items) after
 leads_after change now c after out marks gives leads =
-    let place : walk SupervisorEnded (marks ++ out.events.items) ≡ Some (place_of after) =
-    fold-append step_on (Some SupervisorEnded) marks out.events.items
-    ∙ (ap (λ p. fold step_on p out.events.items) leads.place
-    ∙ (ap (λ ms. walk (place_of c) ms) gives.marks
-    ∙ (walks_changed change now c ∙ ap (λ (x : ChartState). Some (place_of x)) (sym gives.chart)))) in
-    record { word = begins_word (marks ++ out.events.items) (place_of after) place; place = place }
+    subst (λ ms. LeadsTo (marks ++ ms) after) (sym gives.marks) (leads_on change now c after marks gives.chart leads)
 
 walks_begin : (c : ChartState) → walk SupervisorEnded (begin_supervisor c).marks ≡ Some (place_of (begin_supervisor c).chart)
 walks_begin c = search rules

@@ -1,5 +1,7 @@
-ghost use Rattle.std.specs.Prelude.{◌≡◌, ◌+◌, ◌<◌, ◌≤◌, ◌^◌, length};
+ghost use Rattle.std.specs.Prelude.{◌≡◌, ◌+◌, ◌<◌, ◌≤◌, ◌^◌, ◌++◌, List, length};
+ghost use Rattle.s6_events.specs.declared.mark.Mark.{Mark};
 ghost use Rattle.supervise_core.specs.Chart.{set_active as with_activity, set_config as with_config, changed_by};
+ghost use Rattle.supervise_core.specs.EventGrammar.{LeadsTo};
 ghost use Rattle.supervise_core.specs.MatchesMove.{MatchesMove, AppendsMove, most_marks, most_orders};
 ghost use Rattle.supervise_core.specs.Service.{KeepsAgreeing};
 
@@ -83,12 +85,15 @@ impl Standing {
     }
 
     /// `change`, whose marks and orders are added to what is in `out`. For letters `out` has to hold no order, whatever their
-    /// number. This project's own.
+    /// number. Whatever marks led to where the service stood, they lead to where it stands with those of the change: they are the
+    /// beginning of a word of (`s` (`u` `U`? `d` `O`? `D`)* `x`)*. Page `s6-supervise`, "Events".
     pub fn change_onto(&mut self, change: &Change, now: At, out: &mut Out)
         requires marks { length out.old.events.items + most_marks change.now ≤ 4 }
         requires room { length out.old.orders.items + most_orders change.now ≤ 126 }
         requires next { self.old.chart.generation + 1 < 2 ^ 64 }
         ensures gives { AppendsMove (changed_by change.now now self.old.chart) self.new.chart out.old out.new }
+        ensures grammar { (marks : List Mark) → LeadsTo marks self.old.chart
+            → LeadsTo (marks ++ (changed_by change.now now self.old.chart).marks) self.new.chart }
         ensures agrees { KeepsAgreeing now (changed_by change.now now self.old.chart).marks self.old self.new }
         ensures sid { self.new.chart.sid ≡ self.old.chart.sid }
         ensures name { self.new.chart.name ≡ self.old.chart.name }
