@@ -88,17 +88,6 @@ send_read texts found reads (Send target message) h v d = reads target message h
 send_read texts found reads (MakeDir name) h v d = cc
 send_read texts found reads Tick h v d = cc
 
-pub send_found : {A : Type 0} (texts left : List (List ℕ)) (target : Target) (message word : List ℕ)
-    → ((t : Target) → IsTrue (is_name (target_name t)) → slice_index_or texts 0 [] ≡ target_word t → slice_index_or texts 1 [] ≡ target_name t → target ≡ t)
-    → left ≡ drop 2 texts → word ≡ slice_index_or left 0 [] → (is_message word ≡ true → message ≡ word)
-    → (act : Act A) → IsAct act → SendVerb ≡ verb_of_act act → texts ≡ details act → Send target message ≡ act
-send_found {A} texts left target message word reads_target taken third reads_message =
-    send_read texts (Send target message) (λ t m fits spelled.
-    let same_target : target ≡ t = reads_target t fits.0 (ap (λ ws. slice_index_or ws 0 []) spelled) (ap (λ ws. slice_index_or ws 1 []) spelled) in
-    let same_word : word ≡ m = third ∙ ap (λ ws. slice_index_or ws 0 []) (taken ∙ ap (drop 2) spelled) in
-    let same_message : message ≡ m = reads_message (ap is_message same_word ∙ fits.1) ∙ same_word in
-    λ i. Send (same_target i) (same_message i))
-
 -- none of their words has a space
 target_plain : (target : Target) → has_no_space (target_word target) ≡ true
 target_plain target = search rules

@@ -1,6 +1,6 @@
 -- The serials of names, one name after the other.
-use Rattle.std.proofs.Common.{◌≡◌, ◌∙◌, ℕ, zero, suc, arith, ◌<◌, ◌+◌, List, [], ◌∷◌, ◌++◌, Bool, true, false, ◌&&◌, refl, sym, ap, take, length, get_or}
-use Rattle.std.specs.Prelude.{Some, None, is_some}
+use Rattle.std.proofs.Common.{◌≡◌, ◌∙◌, ℕ, ◌<◌, ◌+◌, List, [], ◌∷◌, ◌++◌, true, refl, sym, ap, take, length, get_or}
+use Rattle.std.specs.Prelude.{Some, is_some}
 use Rattle.std.specs.List.{cons_option}
 use Rattle.std.proofs.lemmas.List.{take_more}
 use Rattle.std.proofs.lemmas.List.Elements.{filter_map-append}
@@ -26,13 +26,3 @@ more_serials names cs i name lt is sid found sids e =
     ∙ (ap (λ o. serials_named (take i names) cs ++ cons_option o []) (sym found)
     ∙ (sym (filter_map-append (λ n. serial_of n cs) (take i names) (name ∷ []))
     ∙ ap (λ ns. serials_named ns cs) (sym (next_name names i name lt is))))
-
--- a name of no service is one of them
-pub lacking_one : (names : List (List ℕ)) (cs : List ChartState) (i : ℕ) (name : List ℕ) → i < length names → name ≡ get_or names i name → serial_of name cs ≡ None → all_named names cs ≡ false
-lacking_one [] cs i name lt is none = absurd (omega (arith, lt))
-lacking_one (n ∷ names) cs zero name lt is none = ap (λ x. is_some (serial_of x cs) && all_named names cs) (sym is) ∙ ap (λ o. is_some o && all_named names cs) none
-lacking_one (n ∷ names) cs (suc i) name lt is none = by (is_some (serial_of n cs)) (lacking_one names cs i name (omega (arith, lt)) is none)
-  where
-    by : (b : Bool) → all_named names cs ≡ false → (b && all_named names cs) ≡ false
-    by true e = e
-    by false e = refl
