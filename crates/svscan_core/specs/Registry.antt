@@ -1,12 +1,12 @@
 -- What a contract sees of a registry.
-use Rattle.std.specs.Prelude.{◌≡◌, ℕ, List, Bool}
+use Rattle.std.specs.Prelude.{◌≡◌, ℕ, List, [], Bool, false}
 use Rattle.deadlines.specs.declared.timer.TimerChange.{TimerChange}
 use Rattle.s6_events.specs.declared.order.Order.{Order}
 use Rattle.supervise_core.specs.Service.{Supervised}
 use Rattle.svscan_core.specs.declared.entry.Listed.{Listed}
 use Rattle.svscan_core.specs.declared.event.Event.{Event}
 use Rattle.svscan_core.specs.Table.{Table, charts_of}
-use Rattle.svscan_core.specs.Work.{Worked, left_alone}
+use Rattle.svscan_core.specs.Work.{Worked}
 
 -- what a commit would leave, what is answered, and what it does to the timers
 pub record Prepared : Type 0 where

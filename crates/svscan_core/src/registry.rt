@@ -73,16 +73,16 @@ fn settle<A: Allocator + Copy>(
     slots: &mut Slots<A>,
     pending: &mut Pending<A>,
     next_sid: u64,
-    worked: Result<(), NoMemory>,
+    attempt: Result<(), NoMemory>,
 ) -> Result<(), NoMemory>
     ensures services { slots.new.services ≡ slots.old.services }
-    ensures ok { OnOk result (IsOk worked) }
+    ensures ok { OnOk result (IsOk attempt) }
     ensures same { OnOk result (pending.new ≡ pending.old) }
     ensures room { OnOk result (length pending.old.scan.added.items ≤ slots.new.room) }
     ensures blank { OnErr result (IsBlank next_sid pending.new) }
-    ensures quiet { IsOk worked → pending.old.scan.added.items ≡ [] → IsOk result }
+    ensures quiet { IsOk attempt → pending.old.scan.added.items ≡ [] → IsOk result }
 {
-    let settled = match worked {
+    let settled = match attempt {
         Ok(()) => slots.reserve(pending.scan.added.len()),
         Err(refused) => Err(refused),
     };
