@@ -74,10 +74,11 @@ impl<A: Allocator + Copy> Deadlines<A> {
     }
 
     /// Sets the timer of a service to a moment, in place of the one that it had. `NoMemory` where the growth was refused; nothing
-    /// has changed then.
+    /// has changed then, and the room that a plan was given is still there.
     pub fn set(&mut self, sid: Sid, at: At) -> Result<(), NoMemory>
         ensures ok { OnOk result (self.new.timers ≡ set_to sid at self.old.timers) }
         ensures err { OnErr result (self.new.timers ≡ self.old.timers) }
+        ensures same_room { OnErr result (self.old.spare_capacity ≤ self.new.spare_capacity) }
         ensures succeeds { 0 < self.old.spare_capacity → IsOk result }
     {
         self.timers.reserve(1)?;
@@ -127,12 +128,13 @@ impl<A: Allocator + Copy> Deadlines<A> {
         Ok(sids)
     }
 
-    /// Makes room for these changes, and changes nothing else. `NoMemory` where a growth was refused; none is asked for where there
-    /// is nothing to change.
+    /// Makes room for these changes, and changes nothing else: a plan that was made before keeps its room, also where this one is
+    /// refused. `NoMemory` where a growth was refused; none is asked for where there is nothing to change.
     pub fn prepare(&mut self, changes: &[TimerChange]) -> Result<Plan<A>, NoMemory>
         ensures ok { IfOk result (λ plan. plan ≡ changes.now) }
         ensures room { OnOk result (length changes.now ≤ self.new.spare_capacity) }
         ensures timers { self.new.timers ≡ self.old.timers }
+        ensures same_room { self.old.spare_capacity ≤ self.new.spare_capacity }
         ensures quiet { changes.now ≡ [] → IsOk result }
     {
         let mut planned = Vec::new(*self.timers.allocator());

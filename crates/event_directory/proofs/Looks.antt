@@ -1,8 +1,8 @@
 -- Looking a subscription up, and taking it out.
-use Rattle.std.proofs.Common.{◌≡◌, ℕ, List, [], ◌∷◌, Bool, true, false, map, ◌+◌, ◌<◌, ◌≤◌, ◌++◌, length, take, drop, get_or, sym, Some, None, refl, option_map, ap, ◌==◌, ◌∙◌, cond}
-use Rattle.std.proofs.lemmas.List.{drop_more, take_more, drop_all, take_all, append_assoc, append-nil}
+use Rattle.std.proofs.Common.{◌≡◌, ℕ, List, [], ◌∷◌, Bool, true, false, map, ◌+◌, ◌<◌, ◌≤◌, ◌++◌, length, take, drop, get_or, sym, Some, None, refl, option_map, ap, ◌==◌, ◌∙◌, cond, arith}
+use Rattle.std.proofs.lemmas.List.{drop_more, take_more, drop_all, take_all, append_assoc, append-nil, length-map}
 use Rattle.event_directory.specs.Sending.{view_of, without}
-use Rattle.event_directory.specs.Stored.{Stored, standing_of_stored, stored_of, stored_without}
+use Rattle.event_directory.specs.Stored.{Stored, planned_of, planned_standing, standing_of_stored, stored_of, stored_without}
 use Rattle.event_directory.specs.declared.sub_view.State.{State}
 
 abbrev pub shown : Stored → List ℕ × State
@@ -19,6 +19,30 @@ view_as_stored id (x ∷ xs) = rw (view_as_stored id xs, cond-map (option_map sh
 pub without_standing : (id : ℕ) (xs : List Stored) → map standing_of_stored (stored_without id xs) ≡ without id (map standing_of_stored xs)
 without_standing id [] = refl
 without_standing id (x ∷ xs) = rw (cond-map (map standing_of_stored) (x.standing.id == id), without_standing id xs) refl
+
+without_planned_standing : (id : ℕ) (xs : List Stored) → map planned_standing (stored_without id xs) ≡ without id (map planned_standing xs)
+without_planned_standing id [] = refl
+without_planned_standing id (x ∷ xs) = rw (cond-map (map planned_standing) (x.standing.id == id), without_planned_standing id xs) refl
+
+pub without_planned : (id : ℕ) (b : Bool) (xs : List Stored) → planned_of b (stored_without id xs) ≡ without id (planned_of b xs)
+without_planned id true xs = without_planned_standing id xs
+without_planned id false xs = without_standing id xs
+
+same_plan : (b : Bool) (new old : List Stored) → map standing_of_stored new ≡ map standing_of_stored old →
+    map planned_standing new ≡ map planned_standing old → planned_of b new ≡ planned_of b old
+same_plan true new old same planned = planned
+same_plan false new old same planned = same
+
+-- where a slice is written back in which neither what stands nor what is planned has changed, the plan stays
+pub kept_plan : (b : Bool) (new old slice : List Stored) (n : ℕ) → slice ≡ old → length slice ≡ n →
+    map standing_of_stored new ≡ map standing_of_stored slice → map planned_standing new ≡ map planned_standing slice →
+    planned_of b (take n (new ++ drop (length new) old)) ≡ planned_of b old
+kept_plan b new old slice n is len same planned =
+    let long : length new ≡ n = sym (length-map new standing_of_stored) ∙ ap length same ∙ length-map slice standing_of_stored ∙ len in
+    let short : length old ≤ length new = omega (arith, long, len, ap length is) in
+    let back : take n (new ++ drop (length new) old) ≡ new =
+    ap (λ xs. take n (new ++ xs)) (drop_all (length new) old short) ∙ ap (take n) (append-nil new) ∙ take_all n new (omega (arith, long)) in
+    ap (planned_of b) back ∙ same_plan b new slice same planned ∙ ap (planned_of b) is
 
 -- looking for the place: at the place i, none before it is meant
 pub without_here : (id : ℕ) (xs : List Stored) (i : ℕ) (d : Stored) → i < length xs → ((get_or xs i d).standing.id == id) ≡ true →

@@ -4,7 +4,7 @@ use Rattle.std.proofs.lemmas.List.{take_more, take_more_set, map-append, map-set
 use Rattle.std.proofs.lemmas.List.Elements.{filter_map-append}
 use Rattle.event_directory.specs.SubscriberList.{next, gained}
 use Rattle.event_directory.specs.Sending.{with_letter, hit_from, after_letter, hits_from}
-use Rattle.event_directory.specs.Stored.{Stored, prepared_standing, standing_of_stored}
+use Rattle.event_directory.specs.Stored.{Stored, planned_standing, prepared_standing, standing_of_stored}
 use Rattle.event_directory.specs.declared.hit.Hit.{Hit}
 
 -- the part of each element that does not change
@@ -32,6 +32,14 @@ pub walk_done : {X Y : Type 0} (f g : X → Y) (xs ys : List X) (i : ℕ) (y d :
 walk_done f g xs ys i y d lt rest done e =
     ap (map f) (take_more_set xs i y lt) ∙ map-append f (take i xs) (y ∷ []) ∙ ap (λ l. l ++ f y ∷ []) done ∙ ap (λ z. map g (take i ys) ++ z ∷ []) e
     ∙ sym (map-append g (take i ys) (get_or xs i d ∷ [])) ∙ ap (map g) (sym (walk_now xs ys i d lt rest))
+
+planned_same : (y item : Stored) → y.standing ≡ item.standing → y.planned ≡ item.planned → planned_standing y ≡ planned_standing item
+planned_same y item e p = rw (e, p) refl
+
+-- what is planned does not change
+pub walk_planned : (xs ys : List Stored) (i : ℕ) (y d : Stored) → i < length xs → map planned_standing xs ≡ map planned_standing ys →
+    y.standing ≡ (get_or xs i d).standing → y.planned ≡ (get_or xs i d).planned → map planned_standing (set xs i y) ≡ map planned_standing ys
+walk_planned xs ys i y d lt same e p = walk_same planned_standing xs ys i y d lt same (planned_same y (get_or xs i d) e p)
 
 map_twice : {X Y Z : Type 0} (f : X → Y) (g : Y → Z) (xs : List X) → map g (map f xs) ≡ map (λ x. g (f x)) xs
 map_twice f g [] = refl
@@ -89,3 +97,20 @@ pub walk_begin : (xs ys : List Stored) (i : ℕ) (y d : Stored) → i < length x
     y.standing ≡ (get_or xs i d).standing → y.prepared ≡ (get_or xs i d).standing.heard →
     map prepared_standing (take (i + 1) (set xs i y)) ≡ map standing_of_stored (take (i + 1) ys)
 walk_begin xs ys i y d lt rest done e p = walk_done prepared_standing standing_of_stored xs ys i y d lt rest done (prepared_is y (get_or xs i d) e p)
+
+now_prepared : (y item : Stored) → y.standing ≡ item.standing → y.prepared ≡ item.planned → prepared_standing y ≡ planned_standing item
+now_prepared y item e p = rw (e, p) refl
+
+now_planned : (y item : Stored) → y.standing ≡ item.standing → y.planned ≡ item.prepared → planned_standing y ≡ prepared_standing item
+now_planned y item e p = rw (e, p) refl
+
+-- what was planned is prepared, and what was prepared is planned
+pub walk_prepared_now : (xs ys : List Stored) (i : ℕ) (y d : Stored) → i < length xs → drop i xs ≡ drop i ys →
+    map prepared_standing (take i xs) ≡ map planned_standing (take i ys) → y.standing ≡ (get_or xs i d).standing → y.prepared ≡ (get_or xs i d).planned →
+    map prepared_standing (take (i + 1) (set xs i y)) ≡ map planned_standing (take (i + 1) ys)
+walk_prepared_now xs ys i y d lt rest done e p = walk_done prepared_standing planned_standing xs ys i y d lt rest done (now_prepared y (get_or xs i d) e p)
+
+pub walk_planned_now : (xs ys : List Stored) (i : ℕ) (y d : Stored) → i < length xs → drop i xs ≡ drop i ys →
+    map planned_standing (take i xs) ≡ map prepared_standing (take i ys) → y.standing ≡ (get_or xs i d).standing → y.planned ≡ (get_or xs i d).prepared →
+    map planned_standing (take (i + 1) (set xs i y)) ≡ map prepared_standing (take (i + 1) ys)
+walk_planned_now xs ys i y d lt rest done e p = walk_done planned_standing prepared_standing xs ys i y d lt rest done (now_planned y (get_or xs i d) e p)

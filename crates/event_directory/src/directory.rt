@@ -9,7 +9,7 @@ use crate::hit::Hit;
 use crate::plan::Plan;
 use crate::sub_view::SubView;
 use crate::subscription::Subscription;
-use crate::subscriptions::{begin_all, commit_all, prepare_all, prepare_letters};
+use crate::subscriptions::{begin_all, commit_all, exchange_all, prepare_all, prepare_letters};
 use s6_events::{Letter, NoMemory, SubId};
 use std::alloc::Allocator;
 use std::marker::Model;
@@ -17,44 +17,54 @@ use std::marker::Model;
 /// The subscriptions of one event directory, in the order in which they were made, so in rising serial. Page `fifodir`; that
 /// they are remembered in memory, and not in a folder of pipes, is this project's own.
 ///
-/// The letters of a step are prepared and then heard: `prepare` takes all memory and changes nothing that is shown, `commit`
-/// takes none. `send` does both for one letter. How many subscriptions there may be is for the caller to say.
+/// The letters of a step are planned and then heard: `prepare` takes all memory and changes nothing that is shown, `commit`
+/// takes none. `send` does both for one letter. A call that is refused leaves the plan that stood before it: its `commit` still
+/// hears the plan's letters, and no others. How many subscriptions there may be is for the caller to say.
 #[derive(Drop)]
 pub struct Directory<F: Finds, A: Allocator> {
     subscriptions: Vec<Subscription<F, A>, A>,
+    // Whether a plan stands that was not committed yet.
+    is_planned: bool,
 }
 
 impl<F: Finds, A: Allocator> Model for Directory<F, A> {
     ghost use Rattle.std.specs.Prelude.{map, ◌-◌, vec_len, vec_capacity};
-    ghost use Rattle.event_directory.specs.Stored.{Kept, prepared_standing, standing_of_stored};
+    ghost use Rattle.event_directory.specs.Stored.{Kept, planned_of, prepared_standing, standing_of_stored};
 
     ghost Value = { Kept };
 
     ghost view = { λ d. record {
       standing = map standing_of_stored d.subscriptions.items;
       prepared = map prepared_standing d.subscriptions.items;
+      planned = planned_of d.is_planned d.subscriptions.items;
       room = vec_capacity d.subscriptions - vec_len d.subscriptions;
     } };
 }
 
 impl<F: Finds, A: Allocator + Copy> Directory<F, A> {
-    /// A directory with no subscription. Takes no memory.
+    /// A directory with no subscription, and no plan.
     pub fn new(alloc: A) -> Directory<F, A>
-        ensures { result.standing ≡ [] }
+        ensures none { result.standing ≡ [] }
+        ensures planned { result.planned ≡ [] }
     {
         Directory {
             subscriptions: Vec::new(alloc),
+            is_planned: false,
         }
     }
 
     /// Subscribes from now on, with a serial greater than those before: once, or again after each match. Page
-    /// `s6-ftrig-listen1`. Where memory is wanting, the pattern comes back and nothing has changed.
+    /// `s6-ftrig-listen1`. A plan that stands gives it nothing. Where a growth is refused, the pattern comes back and nothing has
+    /// changed.
     pub fn subscribe(&mut self, id: SubId, pattern: F, repeats: bool) -> Result<(), F>
         requires { All (λ s. s.id < id) self.old.standing }
         ensures ok { OnOk result (self.new.standing ≡ self.old.standing ++ made_now id (F.source pattern) repeats ∷ []) }
         ensures hears { OnOk result ((subscribed : List Subscribed) → Hears F.test self.old.standing subscribed →
             Hears F.test self.new.standing (subscribed ++ subscribed_now id (F.source pattern) repeats ∷ [])) }
+        ensures planned { OnOk result
+            (self.new.planned ≡ self.old.planned ++ made_now id (F.source pattern) repeats ∷ []) }
         ensures err { IfErr result (λ back. (back ≡ pattern) × (self.new.standing ≡ self.old.standing)) }
+        ensures still { OnErr result (self.new.planned ≡ self.old.planned) }
     {
         if self.subscriptions.reserve(1).is_err() {
             return Err(pattern);
@@ -63,13 +73,15 @@ impl<F: Finds, A: Allocator + Copy> Directory<F, A> {
         Ok(())
     }
 
-    /// Subscribes from now on, in the place that `prepare` made. Takes no memory.
+    /// Subscribes from now on, in the place that `prepare` made. A plan that stands gives it nothing.
     pub fn join(&mut self, id: SubId, pattern: F, repeats: bool)
         requires room { 0 < self.old.room }
         requires greater { All (λ s. s.id < id) self.old.standing }
         ensures after { self.new.standing ≡ self.old.standing ++ made_now id (F.source pattern) repeats ∷ [] }
         ensures hears { (subscribed : List Subscribed) → Hears F.test self.old.standing subscribed →
             Hears F.test self.new.standing (subscribed ++ subscribed_now id (F.source pattern) repeats ∷ []) }
+        ensures planned { self.new.planned ≡
+            self.old.planned ++ made_now id (F.source pattern) repeats ∷ [] }
     {
         self.take_in(id, pattern, repeats);
     }
@@ -77,7 +89,10 @@ impl<F: Finds, A: Allocator + Copy> Directory<F, A> {
     // `join`, by what is stored alone.
     pub(crate) fn take_in(&mut self, id: SubId, pattern: F, repeats: bool)
         requires { 0 < self.old.room }
-        ensures { self.new.standing ≡ self.old.standing ++ made_now id (F.source pattern) repeats ∷ [] }
+        ensures after { self.new.standing ≡
+            self.old.standing ++ made_now id (F.source pattern) repeats ∷ [] }
+        ensures planned { self.new.planned ≡
+            self.old.planned ++ made_now id (F.source pattern) repeats ∷ [] }
     {
         let alloc = *self.subscriptions.allocator();
         self.subscriptions
@@ -91,7 +106,10 @@ impl<F: Finds, A: Allocator + Copy> Directory<F, A> {
     {
         let mut subscriptions = Vec::new(alloc);
         subscriptions.reserve(1)?;
-        Ok(Directory { subscriptions })
+        Ok(Directory {
+            subscriptions,
+            is_planned: false,
+        })
     }
 
     // A place for one more subscription.
@@ -99,6 +117,7 @@ impl<F: Finds, A: Allocator + Copy> Directory<F, A> {
         ensures room { OnOk result (0 < self.new.room) }
         ensures same { self.new.standing ≡ self.old.standing }
         ensures prepared { self.new.prepared ≡ self.old.prepared }
+        ensures planned { self.new.planned ≡ self.old.planned }
     {
         self.subscriptions.reserve(1)?;
         Ok(())
@@ -111,9 +130,10 @@ impl<F: Finds, A: Allocator + Copy> Directory<F, A> {
         self.subscriptions.is_empty()
     }
 
-    /// Ends the subscription of this serial, if there is one. Takes no memory.
+    /// Ends the subscription of this serial, if there is one, also in a plan that stands.
     pub fn unsubscribe(&mut self, id: SubId)
         ensures after { self.new.standing ≡ without id self.old.standing }
+        ensures planned { self.new.planned ≡ without id self.old.planned }
         ensures hears { (subscribed : List Subscribed) → Hears F.test self.old.standing subscribed →
             Hears F.test self.new.standing (left_without id subscribed) }
     {
@@ -140,14 +160,16 @@ impl<F: Finds, A: Allocator + Copy> Directory<F, A> {
         })
     }
 
-    /// Sends one letter: each live subscription looks at it, and the hits come in rising serial. Page `s6-ftrig-notify`.
-    /// NoMemory: nothing has changed.
+    /// Sends one letter: each live subscription looks at it, and the hits come in rising serial. A plan that stood is forgotten.
+    /// Page `s6-ftrig-notify`. NoMemory: nothing has changed, and the plan that stood stands.
     pub fn send(&mut self, letter: Letter) -> Result<Vec<(SubId, Hit), A>, NoMemory>
         ensures hits { IfOk result (λ hits. hits.items ≡ hits_from F.test letter self.old.standing) }
         ensures after { OnOk result (self.new.standing ≡ after_letter F.test letter self.old.standing) }
         ensures defined { IfOk result (λ hits. (subscribed : List Subscribed) → Hears F.test self.old.standing subscribed →
             Sends F.test self.new.standing letter subscribed hits.items) }
-        ensures err { OnErr result (self.new.standing ≡ self.old.standing) }
+        ensures idle { OnOk result (self.new.planned ≡ self.new.standing) }
+        ensures err { OnErr result
+            ((self.new.standing ≡ self.old.standing) × (self.new.planned ≡ self.old.planned)) }
     {
         let hits = self.hear(letter)?;
         Ok(hits)
@@ -157,21 +179,13 @@ impl<F: Finds, A: Allocator + Copy> Directory<F, A> {
     fn hear(&mut self, letter: Letter) -> Result<Vec<(SubId, Hit), A>, NoMemory>
         ensures hits { IfOk result (λ hits. hits.items ≡ hits_from F.test letter self.old.standing) }
         ensures after { OnOk result (self.new.standing ≡ after_letter F.test letter self.old.standing) }
-        ensures err { OnErr result (self.new.standing ≡ self.old.standing) }
-    {
-        let hits = self.prepare_one(letter)?;
-        self.hear_prepared();
-        Ok(hits)
-    }
-
-    // `prepare`, of one letter.
-    fn prepare_one(&mut self, letter: Letter) -> Result<Vec<(SubId, Hit), A>, NoMemory>
-        ensures hits { IfOk result (λ hits. hits.items ≡ hits_from F.test letter self.old.standing) }
-        ensures prepared { OnOk result (self.new.prepared ≡ after_letter F.test letter self.old.standing) }
-        ensures same { self.new.standing ≡ self.old.standing }
+        ensures idle { OnOk result (self.new.planned ≡ self.new.standing) }
+        ensures err { OnErr result
+            ((self.new.standing ≡ self.old.standing) × (self.new.planned ≡ self.old.planned)) }
     {
         self.begin()?;
         let hits = self.prepare_more(letter)?;
+        self.hear_prepared();
         Ok(hits)
     }
 
@@ -179,6 +193,7 @@ impl<F: Finds, A: Allocator + Copy> Directory<F, A> {
     pub(crate) fn begin(&mut self) -> Result<(), NoMemory>
         ensures prepared { OnOk result (self.new.prepared ≡ self.old.standing) }
         ensures same { self.new.standing ≡ self.old.standing }
+        ensures planned { self.new.planned ≡ self.old.planned }
         ensures room { self.new.room ≡ self.old.room }
     {
         begin_all(&mut self.subscriptions)?;
@@ -190,6 +205,7 @@ impl<F: Finds, A: Allocator + Copy> Directory<F, A> {
         ensures hits { IfOk result (λ hits. hits.items ≡ hits_from F.test letter self.old.prepared) }
         ensures prepared { OnOk result (self.new.prepared ≡ after_letter F.test letter self.old.prepared) }
         ensures same { self.new.standing ≡ self.old.standing }
+        ensures planned { self.new.planned ≡ self.old.planned }
         ensures room { self.new.room ≡ self.old.room }
     {
         let alloc = *self.subscriptions.allocator();
@@ -197,15 +213,17 @@ impl<F: Finds, A: Allocator + Copy> Directory<F, A> {
         Ok(hits)
     }
 
-    /// Prepares the letters of one step, and a place for one more subscription: nothing is heard yet, and what was prepared
-    /// before is forgotten. NoMemory: nothing is heard either.
+    /// Plans the letters of one step, and makes a place for one more subscription: nothing is heard yet, and a plan that stood
+    /// before is forgotten. NoMemory: nothing has changed, and the plan that stood stands.
     pub fn prepare(&mut self, letters: &[Letter]) -> Result<Plan<A>, NoMemory>
         ensures hits { IfOk result (λ plan. plan ≡ hits_from_letters F.test letters.now self.old.standing) }
-        ensures prepared { OnOk result (self.new.prepared ≡ after_letters F.test letters.now self.old.standing) }
+        ensures planned { OnOk result
+            (self.new.planned ≡ after_letters F.test letters.now self.old.standing) }
         ensures defined { IfOk result (λ plan. (subscribed : List Subscribed) → Hears F.test self.old.standing subscribed →
-            Prepares F.test self.new.prepared letters.now subscribed plan) }
+            Prepares F.test self.new.planned letters.now subscribed plan) }
         ensures room { OnOk result (0 < self.new.room) }
         ensures same { self.new.standing ≡ self.old.standing }
+        ensures still { OnErr result (self.new.planned ≡ self.old.planned) }
     {
         let plan = self.prepare_stored(letters)?;
         Ok(plan)
@@ -214,33 +232,67 @@ impl<F: Finds, A: Allocator + Copy> Directory<F, A> {
     // `prepare`, by what is stored alone.
     fn prepare_stored(&mut self, letters: &[Letter]) -> Result<Plan<A>, NoMemory>
         ensures hits { IfOk result (λ plan. plan ≡ hits_from_letters F.test letters.now self.old.standing) }
-        ensures prepared { OnOk result (self.new.prepared ≡ after_letters F.test letters.now self.old.standing) }
+        ensures planned { OnOk result
+            (self.new.planned ≡ after_letters F.test letters.now self.old.standing) }
         ensures room { OnOk result (0 < self.new.room) }
         ensures same { self.new.standing ≡ self.old.standing }
+        ensures still { OnErr result (self.new.planned ≡ self.old.planned) }
     {
-        let alloc = *self.subscriptions.allocator();
-        self.subscriptions.reserve(1)?;
-        begin_all(&mut self.subscriptions)?;
-        let hits = prepare_letters(alloc, &mut self.subscriptions, letters)?;
+        self.reserve()?;
+        self.begin()?;
+        let hits = self.prepare_each(letters)?;
+        self.stand_by();
         Ok(Plan { hits })
     }
 
-    /// Hears what was prepared, and gives the hits of its plan. Takes no memory.
+    // Prepares several letters, and says what each will give.
+    fn prepare_each(&mut self, letters: &[Letter]) -> Result<Vec<Vec<(SubId, Hit), A>, A>, NoMemory>
+        ensures hits { IfOk result (λ hits. map (λ v. v.items) hits.items ≡
+            hits_from_letters F.test letters.now self.old.prepared) }
+        ensures prepared { OnOk result
+            (self.new.prepared ≡ after_letters F.test letters.now self.old.prepared) }
+        ensures same { self.new.standing ≡ self.old.standing }
+        ensures planned { self.new.planned ≡ self.old.planned }
+        ensures room { self.new.room ≡ self.old.room }
+    {
+        let alloc = *self.subscriptions.allocator();
+        let hits = prepare_letters(alloc, &mut self.subscriptions, letters)?;
+        Ok(hits)
+    }
+
+    // What is prepared becomes the plan.
+    fn stand_by(&mut self)
+        ensures planned { self.new.planned ≡ self.old.prepared }
+        ensures same { self.new.standing ≡ self.old.standing }
+        ensures room { self.new.room ≡ self.old.room }
+    {
+        exchange_all(&mut self.subscriptions);
+        self.is_planned = true;
+    }
+
+    /// Hears the letters of the plan that stands, and gives the hits of its plan. Then no plan stands, so that a second commit
+    /// hears nothing.
     pub fn commit(&mut self, plan: Plan<A>) -> Vec<Vec<(SubId, Hit), A>, A>
-        ensures after { self.new.standing ≡ self.old.prepared }
+        ensures after { self.new.standing ≡ self.old.planned }
+        ensures idle { self.new.planned ≡ self.new.standing }
         ensures hits { map (λ v. v.items) result.items ≡ plan }
         ensures room { self.new.room ≡ self.old.room }
     {
-        self.hear_prepared();
+        if self.is_planned {
+            exchange_all(&mut self.subscriptions);
+            self.hear_prepared();
+        }
         plan.hits
     }
 
-    // `commit`, without a plan.
+    // Hears what is prepared. Then no plan stands.
     pub(crate) fn hear_prepared(&mut self)
         ensures after { self.new.standing ≡ self.old.prepared }
+        ensures idle { self.new.planned ≡ self.new.standing }
         ensures room { self.new.room ≡ self.old.room }
     {
         commit_all(&mut self.subscriptions);
+        self.is_planned = false;
     }
 }
 

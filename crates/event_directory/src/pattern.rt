@@ -1,7 +1,7 @@
 //! A pattern, built from its text.
 ghost use Rattle.std.specs.Prelude.{◌≡◌, IfOk, IsErrOf, ◌↔◌, true, false, IsTrue, nat_le, ◌<◌, ◌&&◌, string_bytes};
 ghost use Rattle.std.specs.List.{list_all};
-ghost use Rattle.event_directory.specs.Pattern.{is_pattern_text, is_expression, finds};
+ghost use Rattle.event_directory.specs.Pattern.{is_pattern_text, is_expression, finds, pattern_fault};
 
 use crate::finds::Finds;
 use crate::pattern_fault::PatternFault;
@@ -46,8 +46,7 @@ impl Pattern {
                 Ok(regex) => Ok(Pattern { regex, alloc }),
                 Err(_) => Err(PatternFault::NoMemory),
             },
-            Err(RegexError::OutOfMemory) => Err(PatternFault::NoMemory),
-            Err(_) => Err(PatternFault::Refused),
+            Err(error) => Err(fault_of(&error)),
         }
     }
 
@@ -77,6 +76,16 @@ impl Finds for Pattern {
         let text = spell(self.alloc, letters)?;
         let found = self.finds_in(&text)?;
         Ok(found)
+    }
+}
+
+// Why a text that `regex` didn't take is no pattern.
+fn fault_of(error: &RegexError) -> PatternFault
+    ensures { result ≡ pattern_fault error.now }
+{
+    match error {
+        RegexError::OutOfMemory => PatternFault::NoMemory,
+        _ => PatternFault::Refused,
     }
 }
 

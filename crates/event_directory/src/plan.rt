@@ -1,3 +1,4 @@
+//! The plan of the letters of one step.
 use crate::hit::Hit;
 use s6_events::SubId;
 use std::alloc::Allocator;

@@ -1,7 +1,7 @@
 //! All subscriptions of one directory.
 ghost use Rattle.std.specs.Prelude.{◌≡◌, IfOk, OnOk, map};
 ghost use Rattle.event_directory.specs.Sending.{after_letter, hits_from, after_letters, hits_from_letters};
-ghost use Rattle.event_directory.specs.Stored.{prepared_standing, standing_of_stored};
+ghost use Rattle.event_directory.specs.Stored.{planned_standing, prepared_standing, standing_of_stored};
 
 use crate::finds::Finds;
 use crate::hit::Hit;
@@ -14,6 +14,7 @@ pub fn begin_all<F: Finds, A: Allocator + Copy>(
     subscriptions: &mut [Subscription<F, A>],
 ) -> Result<(), NoMemory>
     ensures same { map standing_of_stored subscriptions.new ≡ map standing_of_stored subscriptions.old }
+    ensures planned { map planned_standing subscriptions.new ≡ map planned_standing subscriptions.old }
     ensures ok { OnOk result (map prepared_standing subscriptions.new ≡ map standing_of_stored subscriptions.old) }
 {
     for subscription in subscriptions.iter_mut() {
@@ -29,6 +30,7 @@ pub fn prepare_all<F: Finds, A: Allocator + Copy>(
     letter: Letter,
 ) -> Result<Vec<(SubId, Hit), A>, NoMemory>
     ensures same { map standing_of_stored subscriptions.new ≡ map standing_of_stored subscriptions.old }
+    ensures planned { map planned_standing subscriptions.new ≡ map planned_standing subscriptions.old }
     ensures next { OnOk result (map prepared_standing subscriptions.new ≡ after_letter F.test letter (map prepared_standing subscriptions.old)) }
     ensures hits { IfOk result (λ hits. hits.items ≡ hits_from F.test letter (map prepared_standing subscriptions.old)) }
 {
@@ -49,6 +51,7 @@ pub fn prepare_letters<F: Finds, A: Allocator + Copy>(
     letters: &[Letter],
 ) -> Result<Vec<Vec<(SubId, Hit), A>, A>, NoMemory>
     ensures same { map standing_of_stored subscriptions.new ≡ map standing_of_stored subscriptions.old }
+    ensures planned { map planned_standing subscriptions.new ≡ map planned_standing subscriptions.old }
     ensures next { OnOk result (map prepared_standing subscriptions.new ≡ after_letters F.test letters.now (map prepared_standing subscriptions.old)) }
     ensures hits { IfOk result (λ hits. map (λ v. v.items) hits.items ≡ hits_from_letters F.test letters.now (map prepared_standing subscriptions.old)) }
 {
@@ -60,7 +63,18 @@ pub fn prepare_letters<F: Finds, A: Allocator + Copy>(
     Ok(hits)
 }
 
-/// Hears what was prepared. Takes no memory.
+/// What was prepared becomes what is planned, and the other way round.
+pub fn exchange_all<F: Finds, A: Allocator + Copy>(subscriptions: &mut [Subscription<F, A>])
+    ensures same { map standing_of_stored subscriptions.new ≡ map standing_of_stored subscriptions.old }
+    ensures prepared { map prepared_standing subscriptions.new ≡ map planned_standing subscriptions.old }
+    ensures planned { map planned_standing subscriptions.new ≡ map prepared_standing subscriptions.old }
+{
+    for subscription in subscriptions.iter_mut() {
+        subscription.exchange();
+    }
+}
+
+/// Hears what was prepared; what was planned is forgotten.
 pub fn commit_all<F: Finds, A: Allocator + Copy>(subscriptions: &mut [Subscription<F, A>])
     ensures { map standing_of_stored subscriptions.new ≡ map prepared_standing subscriptions.old }
 {

@@ -1,8 +1,9 @@
-ghost use Rattle.std.specs.Prelude.{◌≡◌};
+//! Tests of rings, with and without threads.
+ghost use Rattle.std.specs.Prelude.{◌≡◌, ◌<◌, ◌≤◌, ◌+◌, ◌^◌, length};
 
 use super::*;
 use channel_names::Channels;
-use s6_events::{At, NoMemory, Sid};
+use s6_events::{At, Sid};
 use std::alloc::Global;
 use std::marker::Brand;
 use std::process::Abort;
@@ -22,6 +23,11 @@ fn act(number: u64) -> Act<Global> {
     Act::Started(Sid(number), 0, 0)
 }
 
+// The moment of so many milliseconds.
+fn moment(millis: u64) -> At {
+    At::new(millis).unwrap_or_default()
+}
+
 fn is_act(act: &Act<Global>, number: u64) -> bool {
     match act {
         Act::Started(sid, _, _) => sid.0 == number,
@@ -29,32 +35,27 @@ fn is_act(act: &Act<Global>, number: u64) -> bool {
     }
 }
 
-// The rings of two actors, 0 and 1; None where memory was refused.
-fn two_rings(alloc: Global) -> Option<(Ring, Ring)> {
-    let mut rings = open_rings(alloc, 2).ok()?;
-    let second = rings.pop()?;
-    let first = rings.pop()?;
-    Some((first, second))
+// The rings of two actors, 0 and 1.
+fn two_rings(alloc: Global) -> Result<(Ring, Ring), Fail> {
+    let mut rings = open_rings(alloc, 2)?;
+    let second = rings.pop().ok_or("no second ring")?;
+    let first = rings.pop().ok_or("no first ring")?;
+    Ok((first, second))
 }
 
 #[test]
-fn each_actor_has_a_ring(rt: HostRuntime) {
-    match open_rings(rt.alloc(), 16) {
-        Ok(rings) => {
-            assert_eq!(rt; rings.len(), 16);
-            for (number, ring) in rings.iter().enumerate() {
-                assert_eq!(rt; ring.actor().number() as usize, number);
-            }
-        }
-        Err(refused) => assert_eq!(rt; refused, NoMemory),
+fn each_actor_has_a_ring(rt: HostRuntime) -> Result<(), Fail> {
+    let rings = open_rings(rt.alloc(), 16)?;
+    assert_eq!(rt; rings.len(), 16);
+    for (number, ring) in rings.iter().enumerate() {
+        assert_eq!(rt; ring.actor().number() as usize, number);
     }
+    Ok(())
 }
 
 #[test]
 fn sixty_fifth_submission_is_full(rt: HostRuntime) -> Result<(), Fail> {
-    let Some((first, _)) = two_rings(rt.alloc()) else {
-        return Ok(());
-    };
+    let (first, _) = two_rings(rt.alloc())?;
     fill_and_take::<Brand, _>(&rt, first)
 }
 
@@ -87,10 +88,58 @@ fn fill_and_take<C: Channels, R: Abort>(rt: &R, ring: Ring) -> Result<(), Fail>
 }
 
 #[test]
+fn two_seats_make_one_run(rt: HostRuntime) -> Result<(), Fail> {
+    let (first, second) = two_rings(rt.alloc())?;
+    let actors = (first.actor().number(), second.actor().number());
+    assert!(rt; actors.0 == 0 && actors.1 == 1);
+    hand_in_ticks::<Brand, _>(&rt, first, second)
+}
+
+// Two seats submit 32 ticks each, and then each one's are taken: all of them, in the order in which they were submitted.
+fn hand_in_ticks<C: Channels, R: Abort>(rt: &R, first: Ring, second: Ring) -> Result<(), Fail>
+    requires first { first.ring ≡ C.seat_ring first.actor }
+    requires second { second.ring ≡ C.seat_ring second.actor }
+{
+    let (mut first_seat, mut first_drain) = first.ends::<C>();
+    let (mut second_seat, mut second_drain) = second.ends::<C>();
+    for number in 1..33 {
+        submit_tick(rt, &mut first_seat, number);
+        submit_tick(rt, &mut second_seat, number);
+    }
+    assert_eq!(rt; (first_seat.sent(), second_seat.sent()), (32, 32));
+    for number in 1..33 {
+        take_tick(rt, &mut second_drain, number);
+        take_tick(rt, &mut first_drain, number);
+    }
+    assert!(rt; first_drain.take_next().is_none());
+    assert!(rt; second_drain.take_next().is_none());
+    Ok(())
+}
+
+// Submits a tick at the moment of its number, which the seat takes.
+fn submit_tick<C: Channels, R: Abort>(rt: &R, seat: &mut Seat<C>, number: u64)
+    requires { length seat.old.submitted < 2 ^ 63 }
+    ensures { length seat.new.submitted ≤ length seat.old.submitted + 1 }
+{
+    let actor = seat.actor();
+    let ticket = seat.submit(moment(number), Act::Tick).ok();
+    assert_eq!(rt; ticket, Some(Ticket { actor, number }));
+}
+
+// Takes a tick, which is the one at the moment of this number.
+fn take_tick<C: Channels, R: Abort>(rt: &R, drain: &mut Drain<C>, number: u64) {
+    let actor = drain.actor();
+    let taken = drain.take_next();
+    assert!(rt;
+        taken.is_some_and(|input| {
+            input.actor == actor && input.at == moment(number) && matches!(&input.act, Act::Tick)
+        })
+    );
+}
+
+#[test]
 fn acts_of_two_seats_come_once_and_in_order(rt: HostRuntime) -> Result<(), Fail> {
-    let Some((first, second)) = two_rings(rt.alloc()) else {
-        return Ok(());
-    };
+    let (first, second) = two_rings(rt.alloc())?;
     let actors = (first.actor().number(), second.actor().number());
     assert!(rt; actors.0 == 0 && actors.1 == 1);
     hand_in_and_take::<Brand, _>(&rt, first, second)

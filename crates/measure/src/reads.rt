@@ -34,7 +34,9 @@ pub fn read_and_publish<C: Channels + Send + Sync, R: Threads + Wait + Sync>(
 ) -> Result<(), Fault>
     requires { board ≡ C.board }
 {
-    let mut writer = board.open::<C, &R, Global>(alloc, rt, 4, full_shot(0))?;
+    let mut writer = board
+        .open::<C, &R, Global>(alloc, rt, 4, &full_shot(0))
+        .map_err(|refused| refused.1)?;
     let (done, whole) = (AtomicU8::new(0), AtomicU8::new(0));
     let (done_by, whole_by) = (&done, &whole);
     thread::scope(thread::scope_env(), rt, |scope| {
@@ -86,7 +88,7 @@ fn publish_until<C: Channels, R: Wait + Drop>(
             break;
         }
         at = at.saturating_add(1);
-        writer.publish(full_shot(at))?;
+        writer.publish(&full_shot(at))?;
     }
     Ok(())
 }

@@ -176,6 +176,90 @@ fn a_refused_growth_is_told(rt: HostRuntime) -> Result<(), Fail> {
     Ok(())
 }
 
+// Takes all of the heap that there is.
+fn take_all(heap: &LocalHeap, alloc: Global) -> Result<Vec<Vec<u8, &LocalHeap>, Global>, Fail> {
+    let mut room: Vec<Vec<u8, &LocalHeap>, Global> = Vec::new(alloc);
+    let mut size = 8_192usize;
+    for _ in 0..400usize {
+        match Vec::with_capacity(heap, size) {
+            Ok(taken) => room.push(taken)?,
+            Err(_) => size /= 2,
+        }
+        if size < 8 {
+            break;
+        }
+    }
+    Ok(room)
+}
+
+// How many letters the subscription of this serial has heard, and whether one is this letter.
+fn letters_heard<A: Allocator + Copy>(
+    directory: &Directory<AtLeast, A>,
+    id: SubId,
+    letter: Letter,
+) -> Result<(usize, bool), Fail> {
+    let view = directory.list(id).ok_or("a subscription")?;
+    let is_heard = view.letters.iter().any(|heard| *heard == letter);
+    Ok((view.letters.len(), is_heard))
+}
+
+// A directory with one subscription, to each letter.
+fn one_subscription<A: Allocator + Copy>(alloc: A) -> Result<Directory<AtLeast, A>, Fail> {
+    let mut directory = Directory::new(alloc);
+    if directory
+        .subscribe(SubId(1), AtLeast { count: 1 }, true)
+        .is_err()
+    {
+        return Err("no memory".into());
+    }
+    Ok(directory)
+}
+
+// A plan of two letters, a letter or another plan that is refused, and then a commit of the plan: it hears its own letters.
+#[test]
+fn a_refused_letter_changes_no_plan(rt: HostRuntime) -> Result<(), Fail> {
+    let heap = LocalHeap::new(rt.alloc(), 16_384)?;
+    let a = Letter::new(b'a').ok_or("a letter")?;
+    let b = Letter::new(b'b').ok_or("a letter")?;
+    for sends in [true, false] {
+        let mut directory = one_subscription(&heap)?;
+        let plan = directory.prepare(&[a, a])?;
+        let room = take_all(&heap, rt.alloc())?;
+        if sends {
+            assert!(rt; directory.send(b).is_err());
+        } else {
+            assert!(rt; directory.prepare(&[b]).is_err());
+        }
+        drop(room);
+        let hits = directory.commit(plan);
+        assert_eq!(rt; hits.len(), 2);
+        let heard = letters_heard(&directory, SubId(1), b)?;
+        assert_eq!(rt; heard, (2, false));
+    }
+    Ok(())
+}
+
+// Once a letter is sent, a plan that was made before hears nothing; nor does a plan that is committed when another was.
+#[test]
+fn a_plan_is_heard_once(rt: HostRuntime) -> Result<(), Fail> {
+    let a = Letter::new(b'a').ok_or("a letter")?;
+    let b = Letter::new(b'b').ok_or("a letter")?;
+    let mut directory = one_subscription(rt.alloc())?;
+    let older = directory.prepare(&[a, a])?;
+    let sent = directory.send(b)?;
+    assert_eq!(rt; sent.len(), 1);
+    let _nothing_heard = directory.commit(older);
+    let after_sending = letters_heard(&directory, SubId(1), a)?;
+    assert_eq!(rt; after_sending, (1, false));
+    let first = directory.prepare(&[a])?;
+    let second = directory.prepare(&[a, a])?;
+    let _heard = directory.commit(second);
+    let _nothing_heard = directory.commit(first);
+    let after_both = letters_heard(&directory, SubId(1), a)?;
+    assert_eq!(rt; after_both, (3, true));
+    Ok(())
+}
+
 // A step, prepared and made.
 fn step<A: Allocator + Copy>(
     directories: &mut Directories<AtLeast, A>,

@@ -67,12 +67,13 @@ impl<A: Allocator + Copy> History<A> {
         self.len() == 0
     }
 
-    /// Adds a moment at the end. `NoMemory` where the growth was refused; nothing has changed then. None is asked for where there is
-    /// still room.
+    /// Adds a moment at the end. `NoMemory` where the growth was refused; nothing has changed then, and the room that a plan was given
+    /// is still there. None is asked for where there is still room.
     pub fn push(&mut self, moment: Moment) -> Result<(), NoMemory>
         requires { end_of self.old + 1 < 2 ^ 63 }
         ensures ok { OnOk result (self.new.kept ≡ self.old.kept ++ moment ∷ []) }
         ensures err { OnErr result (self.new.kept ≡ self.old.kept) }
+        ensures same_room { OnErr result (self.old.spare_capacity ≤ self.new.spare_capacity) }
         ensures forgotten { self.new.forgotten ≡ self.old.forgotten }
         ensures succeeds { 0 < self.old.spare_capacity → IsOk result }
     {
@@ -94,13 +95,14 @@ impl<A: Allocator + Copy> History<A> {
         Some(&self.moments[skipped..])
     }
 
-    /// Makes room for these pushes, and changes nothing else. `NoMemory` where a growth was refused; none is asked for where
-    /// there is nothing to push.
+    /// Makes room for these pushes, and changes nothing else: a plan that was made before keeps its room, also where this one is
+    /// refused. `NoMemory` where a growth was refused; none is asked for where there is nothing to push.
     pub fn prepare(&mut self, moments: &[Moment]) -> Result<Plan<A>, NoMemory>
         ensures ok { IfOk result (λ plan. plan ≡ moments.now) }
         ensures room { OnOk result (length moments.now ≤ self.new.spare_capacity) }
         ensures forgotten { self.new.forgotten ≡ self.old.forgotten }
         ensures kept { self.new.kept ≡ self.old.kept }
+        ensures same_room { self.old.spare_capacity ≤ self.new.spare_capacity }
         ensures quiet { moments.now ≡ [] → IsOk result }
     {
         let mut planned = Vec::new(*self.moments.allocator());

@@ -4,6 +4,10 @@ use Rattle.s6_events.specs.Name.{is_name}
 use Rattle.tree_core.specs.declared.input.Act.{Act}
 use Rattle.tree_core.specs.declared.input.Act.TheVariants.{Subscribe}
 use Rattle.tree_core.specs.declared.input.Input.{Input}
+use Rattle.event_directory.specs.declared.pattern_fault.PatternFault.{PatternFault}
+use Rattle.event_directory.specs.declared.pattern_fault.PatternFault.TheVariants as fault
+use Rattle.s6_script.specs.declared.parse.LineFault.{LineFault}
+use Rattle.s6_script.specs.declared.parse.LineFault.TheVariants as line
 use Rattle.s6_script.specs.declared.unbuilt.UnbuiltAct.{UnbuiltAct}
 use Rattle.s6_script.specs.declared.unbuilt.UnbuiltAct.TheVariants as unbuilt
 use Rattle.s6_script.specs.declared.unbuilt.UnbuiltInput.{UnbuiltInput}
@@ -22,3 +26,9 @@ input_read u = record { actor = u.actor; at = u.at; act = act_read u.act }
 abbrev pub FitsButText : {A : Type 0} → UnbuiltAct A → Type 0
 FitsButText (unbuilt.Whole act) = IsAct act × HasExpression act
 FitsButText (unbuilt.Subscribe target text repeats) = IsTrue (is_name (target_name target))
+
+-- what is wrong with a line whose pattern was not built
+abbrev pub pattern_line_fault : PatternFault → LineFault
+pattern_line_fault fault.Length = line.Line
+pattern_line_fault fault.Refused = line.Pattern
+pattern_line_fault fault.NoMemory = line.NoMemory

@@ -2,7 +2,7 @@
 ghost use Rattle.std.specs.Prelude.{◌≡◌, ◌≢◌, ◌↔◌, Err, IfOk, IsErrOf, IsTrue, false};
 ghost use Rattle.event_directory.specs.Pattern.{is_expression, is_pattern_text};
 ghost use Rattle.s6_script.specs.Spelling.{HasExpression, IsAct, IsSubscription};
-ghost use Rattle.s6_script.specs.Unbuilt.{act_read, input_read, FitsButText};
+ghost use Rattle.s6_script.specs.Unbuilt.{act_read, input_read, pattern_line_fault, FitsButText};
 
 use super::parse::LineFault;
 use event_directory::{Pattern, PatternFault};
@@ -33,9 +33,18 @@ fn build_pattern(patterns: Global, text: &str) -> Result<Pattern, LineFault>
 {
     match Pattern::build(patterns, text) {
         Ok(pattern) => Ok(pattern),
-        Err(PatternFault::Length) => Err(LineFault::Line),
-        Err(PatternFault::Refused) => Err(LineFault::Pattern),
-        Err(PatternFault::NoMemory) => Err(LineFault::NoMemory),
+        Err(fault) => Err(line_fault_of(fault)),
+    }
+}
+
+// What is wrong with a line whose pattern was not built.
+fn line_fault_of(fault: PatternFault) -> LineFault
+    ensures { result ≡ pattern_line_fault fault }
+{
+    match fault {
+        PatternFault::Length => LineFault::Line,
+        PatternFault::Refused => LineFault::Pattern,
+        PatternFault::NoMemory => LineFault::NoMemory,
     }
 }
 

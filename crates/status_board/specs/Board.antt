@@ -1,5 +1,5 @@
 -- Lists of published shots, oldest first.
-use Rattle.std.specs.Prelude.{ℕ, ◌≤◌, List, [], ◌∷◌, Option, Some, None}
+use Rattle.std.specs.Prelude.{ℕ, ◌≤◌, List, [], ◌∷◌, Option, Some, None, length, nat_le, if◌then◌else◌}
 use Rattle.status_board.specs.declared.shot.Shot.{Shot}
 
 abbrev pub last_or : Option Shot → List Shot → Option Shot
@@ -9,6 +9,10 @@ last_or other (shot ∷ shots) = last_or (Some shot) shots
 -- the shot that was published last
 abbrev pub last_shot : List Shot → Option Shot
 last_shot shots = last_or None shots
+
+-- what a reader that knows these gets from what is shown: the last shot of it, unless it has fewer shots than are known
+abbrev pub shot_unless_older : List Shot → List Shot → Option Shot
+shot_unless_older known shown = if nat_le (length known) (length shown) then last_shot shown else None
 
 abbrev pub steps_or : ℕ → List Shot → ℕ
 steps_or other [] = other

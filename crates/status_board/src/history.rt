@@ -1,5 +1,5 @@
 //! The history of what was published. It takes no bytes but for its length, and stands in proofs alone.
-ghost use Rattle.std.specs.Prelude.{◌≡◌, ◌+◌, ◌==◌, ◌<◌, ◌≤◌, ◌^◌, ◌++◌, ◌∷◌, [], length, MatchBool, IsTrue, IsFalse};
+ghost use Rattle.std.specs.Prelude.{◌≡◌, ◌+◌, ◌==◌, ◌<◌, ◌≤◌, ◌^◌, ◌++◌, ◌∷◌, [], length, nat_le, MatchBool, IsTrue, IsFalse};
 ghost use mathlib.Core.List.{IsPrefix};
 ghost use Rattle.status_board.specs.History.{count_of};
 
@@ -94,6 +94,18 @@ impl<C: Channels> Published<C> {
         }
     }
 
+    // What is known of the history.
+    pub(crate) fn into_log(self) -> Log
+        ensures { (result.book ≡ C.board) × (result.log ≡ self) }
+    {
+        let Published {
+            count: _,
+            log,
+            channels: _,
+        } = self;
+        log
+    }
+
     /// The same shots once more. Takes no memory.
     pub fn copied(&self) -> Published<C>
         ensures { result ≡ self.now }
@@ -107,6 +119,7 @@ impl<C: Channels> Published<C> {
 
     /// Becomes the other, where that has no fewer shots: of two beginnings of one history the shorter begins the longer.
     pub fn follow(&mut self, other: &Published<C>) -> bool
+        ensures whether { result ≡ nat_le (length self.old) (length other.now) }
         ensures yes { IsTrue result → (self.new ≡ other.now) × IsPrefix self.old self.new }
         ensures no { IsFalse result → (self.new ≡ self.old) × IsPrefix other.now self.old }
     {

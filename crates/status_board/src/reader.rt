@@ -1,6 +1,7 @@
+//! The end of the board that reads.
 ghost use Rattle.std.specs.Prelude.{◌≡◌, ◌≤◌, IfSome, IfNone, Some};
 ghost use mathlib.Core.List.{IsPrefix};
-ghost use Rattle.status_board.specs.Board.{last_shot, last_steps, NeverFalls};
+ghost use Rattle.status_board.specs.Board.{last_shot, last_steps, shot_unless_older, NeverFalls};
 
 use crate::history::Published;
 use crate::shot::Shot;
@@ -47,12 +48,7 @@ impl<C: Channels, A: Allocator> BoardReader<C, A> {
     {
         let guard = self.handle.enter()?;
         let shown: &Shown<C> = &guard;
-        let shot = shown.shot()?;
-        if self.known.follow(shown.published()) {
-            Some(shot)
-        } else {
-            None
-        }
+        take_shot(&mut self.known, shown)
     }
 
     /// From now on it knows of all that was told too, so that no read gives an older shot than the last of these.
@@ -61,5 +57,20 @@ impl<C: Channels, A: Allocator> BoardReader<C, A> {
         ensures told { IsPrefix told self.new }
     {
         self.known.follow(&told.published);
+    }
+}
+
+// The shot of what is shown, unless more is known than was published up to it. What is shown is known from then on.
+fn take_shot<C: Channels>(known: &mut Published<C>, shown: &Shown<C>) -> Option<Shot>
+    ensures answer { result ≡ shot_unless_older known.old shown.now }
+    ensures later { IsPrefix known.old known.new }
+    ensures last { IfSome result (λ shot. last_shot known.new ≡ Some shot) }
+    ensures none { IfNone result (known.new ≡ known.old) }
+{
+    let shot = shown.shot()?;
+    if known.follow(shown.published()) {
+        Some(shot)
+    } else {
+        None
     }
 }

@@ -1,3 +1,4 @@
+//! Tests of the board.
 ghost use Rattle.std.specs.Prelude.{◌≡◌};
 
 use super::*;
@@ -16,10 +17,23 @@ use std::thread::Threads;
 use supervise_core::Row;
 
 /// How many shots the writer publishes beside the readers.
-const SHOTS: u64 = 10_000;
+const SHOTS: u64 = 1_000;
 
-// A shot after so many steps. Its one row has the number of steps as its age, so that a row of another step is seen.
+// A shot after so many steps, with as many rows as there can be. Each has the number of steps as its age, so that a row of another
+// step is seen.
 fn shot(at: u64) -> Shot {
+    let row = Row {
+        up_down_for: Some(at),
+        ..Row::default()
+    };
+    Shot {
+        at,
+        rows: ArrayVec::from([row; 64]),
+    }
+}
+
+// A shot after so many steps, with one row.
+fn small_shot(at: u64) -> Shot {
     let mut rows = ArrayVec::new();
     rows.push(Row {
         up_down_for: Some(at),
@@ -28,12 +42,23 @@ fn shot(at: u64) -> Shot {
     Shot { at, rows }
 }
 
-// After how many steps a shot was taken; None where there is none, and where its row is of another step.
-fn steps_of(shot: Option<Shot>) -> Option<u64> {
+// After how many steps a shot was taken, and how many rows it has; None where there is none, and where a row is of another step.
+fn steps_and_rows_of(shot: Option<Shot>) -> Option<(u64, usize)> {
     let shot = shot?;
-    let row = shot.rows.as_slice().first()?;
-    let age = row.up_down_for?;
-    if age == shot.at { Some(age) } else { None }
+    let rows = shot.rows.as_slice();
+    if rows.iter().all(|row| row.up_down_for == Some(shot.at)) {
+        Some((shot.at, rows.len()))
+    } else {
+        None
+    }
+}
+
+// After how many steps a shot of 64 rows was taken.
+fn steps_of(shot: Option<Shot>) -> Option<u64> {
+    match steps_and_rows_of(shot) {
+        Some((steps, 64)) => Some(steps),
+        _ => None,
+    }
 }
 
 #[test]
@@ -41,7 +66,7 @@ fn a_reader_sees_what_it_was_told_of(rt: HostRuntime) -> Result<(), Fail> {
     tell_and_read::<Brand, _>(&rt, rt.alloc(), NewBoard::new())
 }
 
-// Where memory is refused the board is as it was, and shows what it showed.
+// Shots of one row and of 64 are published in turn, and each is read once it was told of.
 fn tell_and_read<C: Channels, R: Wait + Abort>(
     rt: &R,
     alloc: Global,
@@ -49,21 +74,20 @@ fn tell_and_read<C: Channels, R: Wait + Abort>(
 ) -> Result<(), Fail>
     requires { board ≡ C.board }
 {
-    let opened = board.open::<C, &R, Global>(alloc, rt, 1, shot(0));
-    let Ok(mut writer) = opened else {
-        return Ok(());
-    };
-    let Ok(mut reader) = writer.reader() else {
-        return Ok(());
-    };
-    let mut published = 0;
+    let opened = board.open::<C, &R, Global>(alloc, rt, 1, &shot(0));
+    let mut writer = opened.map_err(|_| "no memory")?;
+    let mut reader = writer.reader().map_err(|_| "no reader")?;
+    assert_eq!(rt; steps_and_rows_of(reader.read()), Some((0, 64)));
     for at in 1..5 {
-        match writer.publish(shot(at)) {
-            Ok(()) => published = at,
-            Err(refused) => assert_eq!(rt; refused, NoMemory),
-        }
+        let (next, rows) = if at % 2 == 0 {
+            (shot(at), 64)
+        } else {
+            (small_shot(at), 1)
+        };
+        writer.publish(&next)?;
         reader.learn(writer.tell());
-        assert_eq!(rt; steps_of(reader.read()), Some(published));
+        assert_eq!(rt; steps_and_rows_of(reader.read()), Some((at, rows)));
+        assert_eq!(rt; steps_and_rows_of(reader.read()), Some((at, rows)));
     }
     assert!(rt; writer.reader().is_err());
     drop(writer);
@@ -77,6 +101,34 @@ fn a_refused_publish_leaves_the_board_as_it_was(rt: HostRuntime) -> Result<(), F
     publish_without_room::<Brand, _>(&rt, &heap, NewBoard::new())
 }
 
+#[test]
+fn a_board_that_is_refused_comes_back(rt: HostRuntime) -> Result<(), Fail> {
+    let heap = LocalHeap::new(rt.alloc(), 100_000)?;
+    open_without_room::<Brand, _>(&rt, &heap, NewBoard::new())
+}
+
+// Opens a board while the heap has no room for it, and again once it has.
+fn open_without_room<C: Channels, R: Wait + Abort>(
+    rt: &R,
+    heap: &LocalHeap,
+    board: NewBoard,
+) -> Result<(), Fail>
+    requires { board ≡ C.board }
+{
+    let room: Vec<u8, &LocalHeap> = Vec::with_capacity(heap, heap.free().saturating_sub(1024))?;
+    let opened = board.open::<C, &R, &LocalHeap>(heap, rt, 1, &shot(0));
+    let Err((board, refused)) = opened else {
+        return Err("a board without room".into());
+    };
+    assert_eq!(rt; refused, NoMemory);
+    drop(room);
+    let opened = board.open::<C, &R, &LocalHeap>(heap, rt, 1, &shot(7));
+    let writer = opened.map_err(|_| "no memory")?;
+    let mut reader = writer.reader().map_err(|_| "no reader")?;
+    assert_eq!(rt; steps_of(reader.read()), Some(7));
+    Ok(())
+}
+
 // Publishes while the heap has no room for one more shot, and again once it has.
 fn publish_without_room<C: Channels, R: Wait + Abort>(
     rt: &R,
@@ -85,15 +137,15 @@ fn publish_without_room<C: Channels, R: Wait + Abort>(
 ) -> Result<(), Fail>
     requires { board ≡ C.board }
 {
-    let opened = board.open::<C, &R, &LocalHeap>(heap, rt, 1, shot(0));
+    let opened = board.open::<C, &R, &LocalHeap>(heap, rt, 1, &shot(0));
     let mut writer = opened.map_err(|_| "no memory")?;
     let mut reader = writer.reader().map_err(|_| "no reader")?;
     let room: Vec<u8, &LocalHeap> = Vec::with_capacity(heap, heap.free().saturating_sub(4096))?;
-    assert_eq!(rt; writer.publish(shot(1)).err(), Some(NoMemory));
+    assert_eq!(rt; writer.publish(&shot(1)).err(), Some(NoMemory));
     reader.learn(writer.tell());
     assert_eq!(rt; steps_of(reader.read()), Some(0));
     drop(room);
-    assert!(rt; writer.publish(shot(1)).is_ok());
+    assert!(rt; writer.publish(&shot(1)).is_ok());
     reader.learn(writer.tell());
     assert_eq!(rt; steps_of(reader.read()), Some(1));
     Ok(())
@@ -104,7 +156,7 @@ fn readers_beside_a_writer_never_see_an_older_shot(rt: HostRuntime) -> Result<()
     publish_and_read::<Brand, _>(&rt, rt.alloc(), NewBoard::new())
 }
 
-// Three readers read, each in a thread of its own, while 10,000 shots are published in a fourth.
+// Three readers read, each in a thread of its own, while 1,000 shots are published in a fourth.
 fn publish_and_read<C: Channels + Send + Sync, R: Threads + Wait + Abort + Sync>(
     rt: &R,
     alloc: Global,
@@ -112,7 +164,7 @@ fn publish_and_read<C: Channels + Send + Sync, R: Threads + Wait + Abort + Sync>
 ) -> Result<(), Fail>
     requires { board ≡ C.board }
 {
-    let opened = board.open::<C, &R, Global>(alloc, rt, 3, shot(0));
+    let opened = board.open::<C, &R, Global>(alloc, rt, 3, &shot(0));
     let mut writer = opened.map_err(|_| "no memory")?;
     let first = writer.reader().map_err(|_| "no reader")?;
     let second = writer.reader().map_err(|_| "no reader")?;
@@ -140,14 +192,14 @@ fn publish_and_read<C: Channels + Send + Sync, R: Threads + Wait + Abort + Sync>
     Ok(())
 }
 
-// Publishes the shots 1 to 10,000, and says so.
+// Publishes the shots 1 to 1,000, and says so.
 fn publish_all<C: Channels, R: Wait + Drop>(
     writer: &mut BoardWriter<C, R>,
     done: &AtomicU64,
 ) -> bool {
     let mut published = true;
     for at in 1..SHOTS + 1 {
-        published = writer.publish(shot(at)).is_ok() && published;
+        published = writer.publish(&shot(at)).is_ok() && published;
     }
     done.store(1, Ordering::SeqCst);
     published

@@ -1,4 +1,5 @@
-ghost use Rattle.std.specs.Prelude.{◌≡◌, ◌^◌, ◌<◌, [], ◌∷◌, ◌++◌, IfOk, OnErr, OnOk};
+//! The end of the board that publishes.
+ghost use Rattle.std.specs.Prelude.{◌≡◌, ◌^◌, ◌<◌, [], ◌∷◌, ◌++◌, IfErr, IfOk, OnErr, OnOk};
 ghost use Rattle.status_board.specs.History.{count_of};
 
 use crate::history::{Count, Log, Published};
@@ -21,6 +22,7 @@ use thiserror::Error;
 pub struct NoReader;
 
 /// A history in which nothing was published, and which no run has named yet. Contracts see it as the name that it is to get.
+#[derive(Drop)]
 pub struct NewBoard {
     word: Count,
     log: Log,
@@ -49,31 +51,48 @@ impl NewBoard {
     }
 
     /// A board on which this shot was published, with places for so many readers at a time, in a run whose board it is.
-    /// `NoMemory` where a growth was refused.
+    /// `NoMemory` where a growth was refused: the history then comes back, as it was.
     pub fn open<C: Channels, R: Wait + Drop, A: Allocator + Copy>(
         self,
         alloc: A,
         rt: R,
         readers: usize,
-        shot: Shot,
-    ) -> Result<BoardWriter<C, R, A>, NoMemory>
+        shot: &Shot,
+    ) -> Result<BoardWriter<C, R, A>, (NewBoard, NoMemory)>
         requires board { self ≡ C.board }
         requires readers { (0 < readers) × (readers < 2 ^ 32) }
-        ensures { IfOk result (λ writer. writer ≡ shot ∷ []) }
+        ensures ok { IfOk result (λ writer. writer ≡ shot.now ∷ []) }
+        ensures err { IfErr result (λ refused. refused.0 ≡ self) }
     {
         let NewBoard { word, log } = self;
         let published: Published<C> = Published::over(log);
         let first = Shown::new(None, published.copied());
         let second = first.copied();
-        let handle = WriteHandle::new(alloc, rt, first, second, readers)?;
+        let Ok(handle) = WriteHandle::new(alloc, rt, first, second, readers) else {
+            return Err((NewBoard::again(word, published), NoMemory));
+        };
         let mut writer = BoardWriter {
             alloc,
             handle,
             word,
             published,
         };
-        writer.publish(shot)?;
-        Ok(writer)
+        match writer.publish(shot) {
+            Ok(()) => Ok(writer),
+            Err(refused) => Err((writer.into_new(), refused)),
+        }
+    }
+
+    // A history in which nothing was published, that comes back.
+    fn again<C: Channels>(word: Count, published: Published<C>) -> NewBoard
+        requires word { word ≡ count_of C.board }
+        requires published { published ≡ [] }
+        ensures { result ≡ C.board }
+    {
+        NewBoard {
+            word,
+            log: published.into_log(),
+        }
     }
 }
 
@@ -105,11 +124,25 @@ where
 }
 
 impl<C: Channels, R: Wait + Drop, A: Allocator + Copy> BoardWriter<C, R, A> {
+    // The history of a board on which nothing was published.
+    fn into_new(self) -> NewBoard
+        requires { self ≡ [] }
+        ensures { result ≡ C.board }
+    {
+        let BoardWriter {
+            alloc: _,
+            handle: _,
+            word,
+            published,
+        } = self;
+        NewBoard::again(word, published)
+    }
+
     /// Shows this shot from now on. `NoMemory` where a growth was refused: the board is then as it was. It may wait for readers
     /// that are reading, and is the only call of the board that waits.
     #[tactic(auto, using(crate::proofs::Lasts::last_or_snoc))]
-    pub fn publish(&mut self, shot: Shot) -> Result<(), NoMemory>
-        ensures added { OnOk result (self.new ≡ self.old ++ shot ∷ []) }
+    pub fn publish(&mut self, shot: &Shot) -> Result<(), NoMemory>
+        ensures added { OnOk result (self.new ≡ self.old ++ shot.now ∷ []) }
         ensures same { OnErr result (self.new ≡ self.old) }
     {
         let next: Next<C, A> = Arc::new(self.alloc, OnceLock::new())?;
@@ -119,11 +152,11 @@ impl<C: Channels, R: Wait + Drop, A: Allocator + Copy> BoardWriter<C, R, A> {
         }
         // All memory is there. One writer publishes, so the history has no more than it knows.
         let mut published = self.published.copied();
-        if !published.add(&self.word, &shot) {
+        if !published.add(&self.word, shot) {
             return Err(NoMemory);
         }
         self.published = published.copied();
-        let _set = next.try_set(Shown::new(Some(shot), published));
+        let _set = next.try_set(Shown::new(Some(shot.copied()), published));
         let _shown = self.handle.publish();
         Ok(())
     }

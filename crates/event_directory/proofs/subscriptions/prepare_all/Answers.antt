@@ -1,12 +1,22 @@
 use Rattle.std.proofs.Common.{◌<◌, length, arith, ap, ◌∙◌}
 use Rattle.event_directory.specs.Stored.{standing_of_stored}
-use Rattle.event_directory.proofs.Walk.{walk_same, walk_rest, walk_next, walk_hit, walk_no_hit}
+use Rattle.event_directory.proofs.Walk.{walk_planned, walk_same, walk_rest, walk_next, walk_hit, walk_no_hit}
 use Rattle.event_directory.proofs.subscriptions.prepare_all.Goals as goal
 use Rattle.event_directory.proofs.subscriptions.prepare_all.Goals.{in-Some+in_ok-push-in-Some, in-None}
 
 pub returns-in_err-hit-clause-same : goal.returns-in_err-hit-clause-same
 returns-in_err-hit-clause-same g c =
     walk_same standing_of_stored c.loop-subscription.subscriptions _ c.loop-subscription.subscription-index _ c.subscription-item.result (omega arith) c.loop-subscription.invariant.same c.prepare.ensures.same
+
+pub returns-in_err-hit-clause-planned : goal.returns-in_err-hit-clause-planned
+returns-in_err-hit-clause-planned g c =
+    walk_planned c.loop-subscription.subscriptions _ c.loop-subscription.subscription-index _ c.subscription-item.result (omega arith)
+    c.loop-subscription.invariant.planned c.prepare.ensures.same c.prepare.ensures.planned
+
+pub returns-in_err-push-in-Some-clause-planned : goal.returns-in_err-push-in-Some-clause-planned
+returns-in_err-push-in-Some-clause-planned g c =
+    walk_planned c.loop-subscription.subscriptions _ c.loop-subscription.subscription-index _ c.subscription-item.result (omega arith)
+    c.loop-subscription.invariant.planned c.prepare.ensures.same c.prepare.ensures.planned
 
 pub returns-in_err-push-in-Some-clause-same : goal.returns-in_err-push-in-Some-clause-same
 returns-in_err-push-in-Some-clause-same g c =
@@ -18,6 +28,8 @@ loop-subscription-preserved g c =
       | in-Some+in_ok-push-in-Some w ↦ let lt : c.loop-subscription.subscription-index < length c.loop-subscription.subscriptions = omega arith in
           rw w.subscriptions-is (record {
             same = walk_same standing_of_stored c.loop-subscription.subscriptions _ c.loop-subscription.subscription-index _ c.subscription-item.result lt c.loop-subscription.invariant.same c.prepare.ensures.same;
+            planned = walk_planned c.loop-subscription.subscriptions _ c.loop-subscription.subscription-index _ c.subscription-item.result lt
+                c.loop-subscription.invariant.planned c.prepare.ensures.same c.prepare.ensures.planned;
             rest = walk_rest c.loop-subscription.subscriptions c.args.subscriptions.now c.loop-subscription.subscription-index _ c.loop-subscription.invariant.rest;
             done = walk_next g.F.Finds.test c.args.letter c.loop-subscription.subscriptions _ c.loop-subscription.subscription-index _ c.subscription-item.result lt
                 c.loop-subscription.invariant.rest c.loop-subscription.invariant.done c.prepare.ensures.same c.in_ok-hit.ensures.next;
@@ -27,6 +39,8 @@ loop-subscription-preserved g c =
       | in-None w ↦ let lt : c.loop-subscription.subscription-index < length c.loop-subscription.subscriptions = omega arith in
           rw w.subscriptions-is (record {
             same = walk_same standing_of_stored c.loop-subscription.subscriptions _ c.loop-subscription.subscription-index _ c.subscription-item.result lt c.loop-subscription.invariant.same c.prepare.ensures.same;
+            planned = walk_planned c.loop-subscription.subscriptions _ c.loop-subscription.subscription-index _ c.subscription-item.result lt
+                c.loop-subscription.invariant.planned c.prepare.ensures.same c.prepare.ensures.planned;
             rest = walk_rest c.loop-subscription.subscriptions c.args.subscriptions.now c.loop-subscription.subscription-index _ c.loop-subscription.invariant.rest;
             done = walk_next g.F.Finds.test c.args.letter c.loop-subscription.subscriptions _ c.loop-subscription.subscription-index _ c.subscription-item.result lt
                 c.loop-subscription.invariant.rest c.loop-subscription.invariant.done c.prepare.ensures.same c.in_ok-hit.ensures.next;

@@ -1,11 +1,12 @@
 use Rattle.std.proofs.Common.{◌≡◌, take, drop, map}
-use Rattle.event_directory.specs.Stored.{prepared_standing, standing_of_stored}
+use Rattle.event_directory.specs.Stored.{planned_standing, prepared_standing, standing_of_stored}
 use Rattle.event_directory.specs.Sending.{after_letter, hits_from}
 use Rattle.event_directory.proofs.subscriptions.prepare_all.Given as goal
 
 abbrev pub invariant-loop-subscription : goal.invariant-loop-subscription
 invariant-loop-subscription g l = record {
   same : map standing_of_stored l.subscriptions ≡ map standing_of_stored l.fn.subscriptions;
+  planned : map planned_standing l.subscriptions ≡ map planned_standing l.fn.subscriptions;
   rest : drop l.subscription-index l.subscriptions ≡ drop l.subscription-index l.fn.subscriptions;
   done : map prepared_standing (take l.subscription-index l.subscriptions) ≡ after_letter g.F.Finds.test l.letter (map prepared_standing (take l.subscription-index l.fn.subscriptions));
   hits : l.hits.items ≡ hits_from g.F.Finds.test l.letter (map prepared_standing (take l.subscription-index l.fn.subscriptions));
