@@ -8,7 +8,7 @@ use Rattle.supervise_core.specs.declared.change.Change.{Change}
 use Rattle.supervise_core.specs.declared.chart.ChartState.{ChartState}
 use Rattle.supervise_core.specs.declared.out.Out.{Out}
 use Rattle.supervise_core.specs.Chart.{changed_by}
-use Rattle.supervise_core.specs.Moves.{begin_supervisor}
+use Rattle.supervise_core.specs.Moves.{begin_move}
 use Rattle.supervise_core.specs.MatchesMove.{MatchesMove}
 use Rattle.supervise_core.proofs.Grammar.{walks_changed}
 
@@ -22,7 +22,8 @@ record GoesOn : Type 0 where
 -- the rest of a word from a place on
 abbrev rest_from : Mark → GoesOn → List Mark
 rest_from SupervisorStarted g = []
-rest_from Spawned g = perhaps g.became_ready Ready (Died ∷ perhaps g.failed_for_good PermanentFailure (FinishDone ∷ spell_runs g.runs (SupervisorEnded ∷ spell g.supervisors)))
+rest_from Spawned g = perhaps g.became_ready Ready
+    (Died ∷ perhaps g.failed_for_good PermanentFailure (FinishDone ∷ spell_runs g.runs (SupervisorEnded ∷ spell g.supervisors)))
 rest_from Ready g = Died ∷ perhaps g.failed_for_good PermanentFailure (FinishDone ∷ spell_runs g.runs (SupervisorEnded ∷ spell g.supervisors))
 rest_from Died g = perhaps g.failed_for_good PermanentFailure (FinishDone ∷ spell_runs g.runs (SupervisorEnded ∷ spell g.supervisors))
 rest_from PermanentFailure g = FinishDone ∷ spell_runs g.runs (SupervisorEnded ∷ spell g.supervisors)
@@ -96,11 +97,11 @@ pub leads_after : (change : Change) (now : ℕ) (c after : ChartState) (out : Ou
 leads_after change now c after out marks gives leads =
     subst (λ ms. LeadsTo (marks ++ ms) after) (sym gives.marks) (leads_on change now c after marks gives.chart leads)
 
-walks_begin : (c : ChartState) → walk SupervisorEnded (begin_supervisor c).marks ≡ Some (place_of (begin_supervisor c).chart)
+walks_begin : (c : ChartState) → walk SupervisorEnded (begin_move c).marks ≡ Some (place_of (begin_move c).chart)
 walks_begin c = search rules
 
 -- the marks of a supervisor that begins lead to where its service stands
-pub leads_begun : (c after : ChartState) (out : Out) → MatchesMove (begin_supervisor c) after out → LeadsTo out.events.items after
+pub leads_begun : (c after : ChartState) (out : Out) → MatchesMove (begin_move c) after out → LeadsTo out.events.items after
 leads_begun c after out gives =
     let place : walk SupervisorEnded out.events.items ≡ Some (place_of after) =
     ap (λ ms. walk SupervisorEnded ms) gives.marks ∙ (walks_begin c ∙ ap (λ (x : ChartState). Some (place_of x)) (sym gives.chart)) in

@@ -9,17 +9,20 @@ use Rattle.supervise_core.specs.declared.chart.ChartState.{ChartState}
 use Rattle.svscan_core.proofs.Truth.{both_of}
 use Rattle.tree_core.specs.Acts.{all_named, serial_of, serials_named}
 
-next_name : (names : List (List ℕ)) (i : ℕ) (name : List ℕ) → i < length names → name ≡ get_or names i name → take (i + 1) names ≡ take i names ++ name ∷ []
+next_name : (names : List (List ℕ)) (i : ℕ) (name : List ℕ) → i < length names → name ≡ get_or names i name
+    → take (i + 1) names ≡ take i names ++ name ∷ []
 next_name names i name lt is = take_more names i name lt ∙ ap (λ n. take i names ++ n ∷ []) (sym is)
 
-pub more_named : (names : List (List ℕ)) (cs : List ChartState) (i : ℕ) (name : List ℕ) → i < length names → name ≡ get_or names i name → (sid : ℕ) → serial_of name cs ≡ Some sid
+pub more_named : (names : List (List ℕ)) (cs : List ChartState) (i : ℕ) (name : List ℕ) → i < length names → name ≡ get_or names i name → (sid : ℕ)
+    → serial_of name cs ≡ Some sid
     → all_named (take i names) cs ≡ true → all_named (take (i + 1) names) cs ≡ true
 more_named names cs i name lt is sid found all =
     ap (λ ns. all_named ns cs) (next_name names i name lt is)
     ∙ (list_all-append (λ n. is_some (serial_of n cs)) (take i names) (name ∷ [])
     ∙ both_of (all_named (take i names) cs) _ all (both_of (is_some (serial_of name cs)) true (ap is_some found) refl))
 
-pub more_serials : (names : List (List ℕ)) (cs : List ChartState) (i : ℕ) (name : List ℕ) → i < length names → name ≡ get_or names i name → (sid : ℕ) → serial_of name cs ≡ Some sid
+pub more_serials : (names : List (List ℕ)) (cs : List ChartState) (i : ℕ) (name : List ℕ) → i < length names → name ≡ get_or names i name
+    → (sid : ℕ) → serial_of name cs ≡ Some sid
     → (sids : List ℕ) → sids ≡ serials_named (take i names) cs → sids ++ sid ∷ [] ≡ serials_named (take (i + 1) names) cs
 more_serials names cs i name lt is sid found sids e =
     ap (λ ss. ss ++ sid ∷ []) e

@@ -47,9 +47,16 @@ fn is_made_later(rt: &impl Abort, alloc: Global, left: usize) -> Result<(bool, b
     let answer = scan(rt, alloc, &mut registry, few.as_slice(), At::zero())?;
     assert!(rt; answer.is_some());
     drop(answer);
-    let work = Work::Command(ScanOrder::Terminate);
+    let work = ServiceWork::Command(ScanOrder::Terminate);
     let is_prepared = prepare(rt, alloc, &mut registry, &[], &work, At::zero())?;
-    let is_idle = prepare(rt, alloc, &mut registry, &[], &Work::Leave, At::zero())?;
+    let is_idle = prepare(
+        rt,
+        alloc,
+        &mut registry,
+        &[],
+        &ServiceWork::Nothing,
+        At::zero(),
+    )?;
     assert!(rt; is_prepared && is_idle);
     let before = shown(rt, alloc, &registry)?;
     let pieces = take_all_but(alloc, &heap, left)?;
@@ -69,6 +76,9 @@ fn a_refused_order_is_not_made_by_a_commit(rt: HostRuntime) -> Result<(), Fail> 
         refused = refused.saturating_add(u32::from(was_refused));
         made = made.saturating_add(u32::from(was_made));
     }
-    assert!(&rt; refused > 0 && made == 0, "{refused} refused, {made} of them made by a commit");
+    assert!(&rt;
+        refused > 0 && made == 0,
+        "{refused} refused, {made} of them made by a commit"
+    );
     Ok(())
 }

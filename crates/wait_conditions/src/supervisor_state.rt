@@ -1,13 +1,14 @@
+//! What is known of a service, and of it since a waiter began.
 ghost use Rattle.std.specs.Prelude.{◌≡◌, []};
 ghost use Rattle.s6_events.specs.Newest.{mark_of};
 ghost use Rattle.wait_conditions.specs.OneMore.{letter_after, ended_after, spawned_after, failed_after};
-ghost use Rattle.wait_conditions.specs.ServiceState.{state_of, since_of, state_after, since_after};
+ghost use Rattle.wait_conditions.specs.SupervisorState.{state_of, since_of, state_after, since_after};
 
 use s6_events::{Mark, Moment, Sid};
 
 /// What is known of a service.
 #[derive(Clone, Copy, Debug)]
-pub struct ServiceState {
+pub struct SupervisorState {
     pub letter: Mark,
     pub ended: bool,
 }
@@ -68,22 +69,22 @@ fn next_failed(mark: Option<Mark>, failed: bool) -> bool
     }
 }
 
-impl ServiceState {
+impl SupervisorState {
     /// Of a service with no mark.
-    pub fn unseen() -> ServiceState
+    pub fn unseen() -> SupervisorState
         ensures { result ≡ state_of 0 [] }
     {
-        ServiceState {
+        SupervisorState {
             letter: Mark::FinishDone,
             ended: false,
         }
     }
 
     /// After one more mark, if there is one.
-    pub fn after(self, mark: Option<Mark>) -> ServiceState
+    pub fn after(self, mark: Option<Mark>) -> SupervisorState
         ensures { result ≡ state_after mark self }
     {
-        ServiceState {
+        SupervisorState {
             letter: next_letter(mark, self.letter),
             ended: next_ended(mark, self.ended),
         }
@@ -113,10 +114,10 @@ impl SinceState {
 }
 
 /// What the moments say of a service.
-pub fn read_state(sid: Sid, moments: &[Moment]) -> ServiceState
+pub fn read_state(sid: Sid, moments: &[Moment]) -> SupervisorState
     ensures { result ≡ state_of sid moments.now }
 {
-    let mut state = ServiceState::unseen();
+    let mut state = SupervisorState::unseen();
     for moment in moments {
         state = state.after(mark_in(sid, moment));
     }

@@ -1,6 +1,7 @@
+//! A service without its tally, in a copy that takes the same changes.
 ghost use Rattle.std.specs.Prelude.{◌≡◌, ◌+◌, ◌<◌, ◌≤◌, ◌^◌, ◌++◌, List, length};
 ghost use Rattle.s6_events.specs.declared.mark.Mark.{Mark};
-ghost use Rattle.supervise_core.specs.Chart.{set_active as with_activity, set_config as with_config, changed_by};
+ghost use Rattle.supervise_core.specs.Chart.{with_activity, with_config, changed_by};
 ghost use Rattle.supervise_core.specs.EventGrammar.{LeadsTo};
 ghost use Rattle.supervise_core.specs.MatchesMove.{MatchesMove, AppendsMove, most_marks, most_orders};
 ghost use Rattle.supervise_core.specs.Service.{KeepsAgreeing};
@@ -14,37 +15,37 @@ use servicedir::Config;
 use std::marker::Model;
 
 /// What stands of a service beside its deaths: its state, and what it stores of its marks. It is copyable and takes each change as
-/// its service does, so that a change is known before it is made. No change takes memory. This project's own.
+/// its service does, so that a change is known before it is made. No change takes memory.
 #[derive(Clone, Copy)]
-pub struct Standing {
+pub struct ServiceState {
     chart: ChartState,
     status: Status,
 }
 
-impl Model for Standing {
-    ghost use Rattle.supervise_core.specs.Service.{Stands};
+impl Model for ServiceState {
+    ghost use Rattle.supervise_core.specs.Service.{ServiceView};
 
-    ghost Value = { Stands };
+    ghost Value = { ServiceView };
 
     ghost view = { λ s. record { chart = s.chart; status = s.status } };
 
     ghost inverse = { λ s. record { chart = s.chart; status = s.status } };
 }
 
-impl Standing {
+impl ServiceState {
     // This state, and this status.
-    pub(crate) fn new(chart: ChartState, status: Status) -> Standing
+    pub(crate) fn new(chart: ChartState, status: Status) -> ServiceState
         ensures chart { result.chart ≡ chart }
         ensures status { result.status ≡ status }
     {
-        Standing { chart, status }
+        ServiceState { chart, status }
     }
 
     /// Its state.
     pub fn chart(&self) -> ChartState
         ensures { result ≡ self.now.chart }
     {
-        let Standing { chart, .. } = self;
+        let ServiceState { chart, .. } = self;
         *chart
     }
 
@@ -52,7 +53,7 @@ impl Standing {
     pub fn status(&self) -> Status
         ensures { result ≡ self.now.status }
     {
-        let Standing { status, .. } = self;
+        let ServiceState { status, .. } = self;
         *status
     }
 
@@ -73,7 +74,8 @@ impl Standing {
     /// Takes any of the changes, as its service does.
     pub fn change(&mut self, change: &Change, now: At) -> Out
         requires { self.old.chart.generation + 1 < 2 ^ 64 }
-        ensures gives { MatchesMove (changed_by change.now now self.old.chart) self.new.chart result }
+        ensures gives { MatchesMove
+            (changed_by change.now now self.old.chart) self.new.chart result }
         ensures agrees { KeepsAgreeing now result.events.items self.old self.new }
         ensures sid { self.new.chart.sid ≡ self.old.chart.sid }
         ensures name { self.new.chart.name ≡ self.old.chart.name }
@@ -91,13 +93,16 @@ impl Standing {
         requires marks { length out.old.events.items + most_marks change.now ≤ 4 }
         requires room { length out.old.orders.items + most_orders change.now ≤ 126 }
         requires next { self.old.chart.generation + 1 < 2 ^ 64 }
-        ensures gives { AppendsMove (changed_by change.now now self.old.chart) self.new.chart out.old out.new }
+        ensures gives { AppendsMove
+            (changed_by change.now now self.old.chart) self.new.chart out.old out.new }
         ensures grammar { (marks : List Mark) → LeadsTo marks self.old.chart
             → LeadsTo (marks ++ (changed_by change.now now self.old.chart).marks) self.new.chart }
-        ensures agrees { KeepsAgreeing now (changed_by change.now now self.old.chart).marks self.old self.new }
+        ensures agrees { KeepsAgreeing now
+            (changed_by change.now now self.old.chart).marks self.old self.new }
         ensures sid { self.new.chart.sid ≡ self.old.chart.sid }
         ensures name { self.new.chart.name ≡ self.old.chart.name }
-        ensures few { length out.new.orders.items ≤ length out.old.orders.items + most_orders change.now }
+        ensures few { length out.new.orders.items
+            ≤ length out.old.orders.items + most_orders change.now }
     {
         let before = out.events.len();
         self.chart.change_onto(change, now, out);
