@@ -9,7 +9,7 @@ use Rattle.svscan_core.specs.Work.Work.{do_nothing, change_one, apply_listing, c
 
 -- the work that a caller hands in
 abbrev pub work_asked : ServiceWork → Work
-work_asked Leave = do_nothing
+work_asked Nothing = do_nothing
 work_asked (Change sid change) = change_one sid change.now
 work_asked (Listing listing) = apply_listing listing.now
 work_asked (Command order) = command order
