@@ -35,7 +35,12 @@ impl<L: Lanes> Lane<L> {
     pub(crate) fn over(number: usize, producer: Producer<Order>) -> Lane<L>
         requires ring { producer_ring producer ≡ L.lane_ring number }
         requires room { producer_capacity producer ≡ lane_room }
-        ensures { result ≡ record { number = number; sent = sent producer; free = known_free producer } }
+        ensures { result ≡ record {
+          number = number;
+          sent = sent producer;
+          free =
+              known_free producer;
+        } }
     {
         Lane {
             number,

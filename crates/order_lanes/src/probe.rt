@@ -57,7 +57,8 @@ impl<R> Probe<R> {
 impl<R: Wait + Drop> Probe<R> {
     // Adds the order to both lists, or to neither.
     fn write_down(&mut self, order: &Order) -> Result<(), NoMemory>
-        ensures added { OnOk result (self.new ≡ record self.old { asked = self.old.asked ++ order.now ∷ [] }) }
+        ensures added { OnOk result
+            (self.new ≡ record self.old { asked = self.old.asked ++ order.now ∷ [] }) }
         ensures same { OnErr result (self.new ≡ self.old) }
     {
         self.asked.reserve(1)?;

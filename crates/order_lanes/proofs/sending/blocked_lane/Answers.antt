@@ -8,12 +8,14 @@ pub returns-then-free_places-places-clause-blocked : goal.returns-then-free_plac
 returns-then-free_places-places-clause-blocked g c =
     let lanes = c.loop-k.lanes.items in
     let p = c.index_mut-lane.result.now in
-    let here : slice_get lanes c.loop-k.k ≡ Some p = slice_get_read lanes c.loop-k.lanes.len c.loop-k.k p c.loop-k.lanes.ok.0 (grind (arith, rules)) c.index_mut-lane.ensures.value in
+    let here : slice_get lanes c.loop-k.k ≡ Some p =
+    slice_get_read lanes c.loop-k.lanes.len c.loop-k.k p c.loop-k.lanes.ok.0 (grind (arith, rules)) c.index_mut-lane.ensures.value in
     record {
       lane = c.free_places.new.self;
       there = set_here lanes c.loop-k.k p c.free_places.new.self here;
       few = grind (arith, rules);
-      least = room_before lanes c.loop-k.k c.args.places c.free_places.new.self c.loop-k.invariant.2 }
+      least = room_before lanes c.loop-k.k c.args.places c.free_places.new.self c.loop-k.invariant.2;
+    }
 
 pub loop-k-preserved : goal.loop-k-preserved
 loop-k-preserved g c =
@@ -21,10 +23,15 @@ loop-k-preserved g c =
     let lanes = c.loop-k.lanes.items in
     let p = c.index_mut-lane.result.now in
     let q = c.free_places.new.self in
-    let here : slice_get lanes c.loop-k.k ≡ Some p = slice_get_read lanes c.loop-k.lanes.len c.loop-k.k p c.loop-k.lanes.ok.0 (grind (arith, rules)) c.index_mut-lane.ensures.value in
+    let here : slice_get lanes c.loop-k.k ≡ Some p =
+    slice_get_read lanes c.loop-k.lanes.len c.loop-k.k p c.loop-k.lanes.ok.0 (grind (arith, rules)) c.index_mut-lane.ensures.value in
     let free = c.free_places.ensures.free in
-    let past = c.if-free_places-places.false in
-    (grind (arith, rules), (λ j. sent_set lanes c.loop-k.k p q here c.free_places.ensures.sent j ∙ inv.1 j), room_below lanes c.loop-k.k c.args.places q inv.2 (omega arith))
+    let past = c.if-free_places-places.false in (
+      grind (arith, rules),
+      (λ j. sent_set lanes c.loop-k.k p q here c.free_places.ensures.sent j ∙ inv.1 j),
+      room_below lanes c.loop-k.k
+          c.args.places q inv.2 (omega arith),
+    )
 
 pub returns-clause-room : goal.returns-clause-room
 returns-clause-room g c k l at =
