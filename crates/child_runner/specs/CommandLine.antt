@@ -24,9 +24,10 @@ plain_line directory name = record { program = codes "./run"; arguments = name �
 -- the same behind a shell, for a descriptor of 3 to 9
 abbrev pub shell_line : List ℕ → List ℕ → ℕ → CommandLine
 shell_line directory name fd = record {
-    program = codes "/bin/sh";
-    arguments = codes "-c" ∷ redirection fd ∷ codes "./run" ∷ name ∷ [];
-    directory = Some directory }
+  program = codes "/bin/sh";
+  arguments = codes "-c" ∷ redirection fd ∷ codes "./run" ∷ name ∷ [];
+  directory = Some directory;
+}
 
 abbrev pub run_line : List ℕ → List ℕ → Option ℕ → CommandLine
 run_line directory name None = plain_line directory name
@@ -35,13 +36,15 @@ run_line directory name (Some fd) = if nat_le 3 fd && nat_le fd 9 then shell_lin
 -- `finish CODE SIGNAL NAME`
 abbrev pub finish_line : List ℕ → List ℕ → ℕ → ℕ → CommandLine
 finish_line directory name code signal = record {
-    program = codes "./finish";
-    arguments = decimal code ∷ decimal signal ∷ name ∷ [];
-    directory = Some directory }
+  program = codes "./finish";
+  arguments = decimal code ∷ decimal signal ∷ name ∷ [];
+  directory = Some directory;
+}
 
 -- `kill -SIGNAL PID`, by a shell
 abbrev pub kill_line : ℕ → ℕ → CommandLine
 kill_line pid signal = record {
-    program = codes "/bin/sh";
-    arguments = codes "-c" ∷ (codes "kill -" ++ decimal signal ++ codes " " ++ decimal pid) ∷ [];
-    directory = None }
+  program = codes "/bin/sh";
+  arguments = codes "-c" ∷ (codes "kill -" ++ decimal signal ++ codes " " ++ decimal pid) ∷ [];
+  directory = None;
+}

@@ -55,7 +55,12 @@ struct Launch {
 
 impl<R: Drop> ProcessBackend<R> {
     /// A backend whose children's threads this keeper starts. The services lie under `root`.
-    pub fn new(rt: R, alloc: Global, keeper: &Keeper<R>, root: &str) -> Result<ProcessBackend<R>, NoMemory>
+    pub fn new(
+        rt: R,
+        alloc: Global,
+        keeper: &Keeper<R>,
+        root: &str,
+    ) -> Result<ProcessBackend<R>, NoMemory>
         ensures { IfOk result (λ b. b ≡ record { asked = []; given = [] }) }
     {
         let bell = Arc::new(alloc, Bell::new())?;
@@ -81,7 +86,8 @@ impl<R: Drop> ProcessBackend<R> {
 impl<R: Processes<Started = SystemProcess> + Files + Wait + Drop> ProcessBackend<R> {
     // Starts what the launch says, or reports that it can't be started. All memory is taken before.
     fn start(&mut self, order: &Order, start: &Start, launch: Launch) -> Result<(), NoMemory>
-        ensures added { OnOk result (self.new ≡ record self.old { asked = self.old.asked ++ order.now ∷ [] }) }
+        ensures added { OnOk result
+            (self.new ≡ record self.old { asked = self.old.asked ++ order.now ∷ [] }) }
         ensures same { OnErr result (self.new ≡ self.old) }
     {
         let bell = Arc::try_clone(&self.bell)?;
@@ -143,7 +149,8 @@ impl<R: Processes<Started = SystemProcess> + Files + Wait + Drop> ProcessBackend
 
     // Sends a child a signal, if it still lives.
     fn signal(&mut self, order: &Order, start: &Start, signal: u8) -> Result<(), NoMemory>
-        ensures added { OnOk result (self.new ≡ record self.old { asked = self.old.asked ++ order.now ∷ [] }) }
+        ensures added { OnOk result
+            (self.new ≡ record self.old { asked = self.old.asked ++ order.now ∷ [] }) }
         ensures same { OnErr result (self.new ≡ self.old) }
     {
         let command = match self.pid_of(start) {
@@ -178,7 +185,8 @@ impl<R: Processes<Started = SystemProcess> + Files + Wait + Drop> ProcessBackend
     }
 
     fn carry_out(&mut self, order: &Order) -> Result<(), NoMemory>
-        ensures added { OnOk result (self.new ≡ record self.old { asked = self.old.asked ++ order.now ∷ [] }) }
+        ensures added { OnOk result
+            (self.new ≡ record self.old { asked = self.old.asked ++ order.now ∷ [] }) }
         ensures same { OnErr result (self.new ≡ self.old) }
     {
         match order {
@@ -231,8 +239,8 @@ impl<R: Processes<Started = SystemProcess> + Files + Wait + Drop> Backend for Pr
 
     ghost given = { λ b. b.given };
 
-    /// Starts or signals a process. `Busy` once the keeper is ending; `NoMemory` where a growth was refused, and then nothing was done.
-    /// A start that fails is accepted, and reported.
+    /// Starts or signals a process. `Busy` once the keeper is ending; `NoMemory` where a growth was refused, and then nothing was
+    /// done. A start that fails is accepted, and reported.
     fn ask(&mut self, order: Order) -> Result<(), (Order, AskFault)> {
         if self.roster.is_ending(&self.rt) {
             return Err((order, AskFault::Busy));

@@ -35,7 +35,9 @@ impl Bell {
     /// Waits until it rings, but at most so long, and stops it. Whether it rang.
     pub fn wait_at_most<R: Wait + Clock>(&self, rt: &R, time: Duration) -> bool {
         let ringing = self.is_ringing.lock(rt);
-        let (mut ringing, _late) = self.rang.wait_timeout_while(rt, ringing, time, |rings| !*rings);
+        let (mut ringing, _late) = self
+            .rang
+            .wait_timeout_while(rt, ringing, time, |rings| !*rings);
         let rang = *ringing;
         *ringing = false;
         rang

@@ -44,7 +44,10 @@ fn plain_command(alloc: Global, directory: &str, name: &Name) -> Result<Command,
     ensures { IfOk result (λ c. line_of c ≡ plain_line directory.now name.now) }
 {
     let mut command = Command::new(alloc, "./run")?;
-    command.arg(text_of(name))?.current_dir(directory)?.stdin(Stdio::null());
+    command
+        .arg(text_of(name))?
+        .current_dir(directory)?
+        .stdin(Stdio::null());
     Ok(command)
 }
 
@@ -53,13 +56,17 @@ fn shell_command(alloc: Global, directory: &str, name: &Name, fd: u8) -> Result<
 {
     let script = redirection_of(alloc, fd)?;
     let mut command = Command::new(alloc, "/bin/sh")?;
-    command.arg("-c")?.arg(script.as_str())?.arg("./run")?.arg(text_of(name))?;
+    command
+        .arg("-c")?
+        .arg(script.as_str())?
+        .arg("./run")?
+        .arg(text_of(name))?;
     command.current_dir(directory)?.stdin(Stdio::null());
     Ok(command)
 }
 
-/// `run` in the service's directory, with its name as the only argument. What it writes to the notification descriptor comes out at its
-/// standard output; under 3 to 9 a shell leads it there, which becomes `run` and so keeps the process number.
+/// `run` in the service's directory, with its name as the only argument. What it writes to the notification descriptor comes out at
+/// its standard output; under 3 to 9 a shell leads it there, which becomes `run` and so keeps the process number.
 pub(crate) fn run_command(
     alloc: Global,
     directory: &str,
@@ -87,7 +94,10 @@ pub(crate) fn finish_command(
     let code = format!(in alloc; "{code}")?;
     let signal = format!(in alloc; "{signal}")?;
     let mut command = Command::new(alloc, "./finish")?;
-    command.arg(code.as_str())?.arg(signal.as_str())?.arg(text_of(name))?;
+    command
+        .arg(code.as_str())?
+        .arg(signal.as_str())?
+        .arg(text_of(name))?;
     command.current_dir(directory)?.stdin(Stdio::null());
     Ok(command)
 }
@@ -98,12 +108,20 @@ pub(crate) fn kill_command(alloc: Global, pid: u32, signal: u8) -> Result<Comman
 {
     let script = format!(in alloc; "kill -{signal} {pid}")?;
     let mut command = Command::new(alloc, "/bin/sh")?;
-    command.arg("-c")?.arg(script.as_str())?.stdin(Stdio::null()).stderr(Stdio::null());
+    command
+        .arg("-c")?
+        .arg(script.as_str())?
+        .stdin(Stdio::null())
+        .stderr(Stdio::null());
     Ok(command)
 }
 
 /// The path of a program.
-pub(crate) fn path_of(alloc: Global, directory: &str, program: &Program) -> Result<String, NoMemory> {
+pub(crate) fn path_of(
+    alloc: Global,
+    directory: &str,
+    program: &Program,
+) -> Result<String, NoMemory> {
     let file = match program {
         Program::Run => "run",
         Program::Finish => "finish",

@@ -55,7 +55,10 @@ impl<R: Threads + Wait + Clock + Copy + Send + Sync + Drop + 'static> Keeper<R> 
     pub fn start(rt: R, alloc: Global) -> Result<Keeper<R>, KeeperFault> {
         let roster = Arc::new(alloc, Roster::new(alloc))?;
         let theirs = Arc::try_clone(&roster)?;
-        match Builder::new().stack_size(STACK).spawn(&rt, move || keep(rt, theirs)) {
+        match Builder::new()
+            .stack_size(STACK)
+            .spawn(&rt, move || keep(rt, theirs))
+        {
             Ok(thread) => Ok(Keeper {
                 rt,
                 alloc,
@@ -89,7 +92,11 @@ impl<R: Processes + Files + Threads + Wait + Drop> Keeper<R> {
 }
 
 // Kills a child, and wakes the thread that reads its descriptor, which another program may keep open.
-fn stop<R: Processes + Files + Wait>(rt: &R, alloc: Global, process: &ServiceProcess) -> Result<(), NoMemory> {
+fn stop<R: Processes + Files + Wait>(
+    rt: &R,
+    alloc: Global,
+    process: &ServiceProcess,
+) -> Result<(), NoMemory> {
     if let Some(pid) = process.pid(rt) {
         let _ = kill_command(alloc, pid, 9)?.status(rt);
     }
@@ -102,7 +109,11 @@ fn stop<R: Processes + Files + Wait>(rt: &R, alloc: Global, process: &ServicePro
 // Writes to the pipe of this descriptor, so that a read there returns.
 fn wake<R: Files>(rt: &R, alloc: Global, descriptor: RawFd) -> Result<(), NoMemory> {
     let path = format!(in alloc; "/proc/self/fd/{descriptor}")?;
-    if let Ok(mut pipe) = OpenOptions::new().read(true).write(true).open(rt, path.as_str()) {
+    if let Ok(mut pipe) = OpenOptions::new()
+        .read(true)
+        .write(true)
+        .open(rt, path.as_str())
+    {
         let _ = pipe.write(b"\n");
     }
     Ok(())

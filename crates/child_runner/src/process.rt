@@ -54,7 +54,9 @@ impl ServiceProcess {
     /// It runs.
     pub fn begin<R: Wait>(&self, rt: &R, child: Child<SystemProcess>, reader: Option<PipeReader>) {
         let reading = reader.as_ref().map(|end| end.as_raw_fd());
-        self.progress.lock(rt).begin(&self.start.program, child.id(), reading);
+        self.progress
+            .lock(rt)
+            .begin(&self.start.program, child.id(), reading);
         *self.running.lock(rt) = Some(Running { child, reader });
         self.bell.ring(rt);
     }
@@ -72,7 +74,11 @@ impl ServiceProcess {
     /// Waits until bytes can be taken in, or are wanted no more: how many, at least one.
     pub fn await_room<R: Wait>(&self, rt: &R) -> usize {
         let progress = self.progress.lock(rt);
-        let progress = self.changed.wait_while(rt, progress, |known| known.room() == 0 && !known.is_over());
+        let progress = self.changed.wait_while(
+            rt,
+            progress,
+            |known| known.room() == 0 && !known.is_over(),
+        );
         progress.room().max(1)
     }
 
@@ -93,7 +99,9 @@ impl ServiceProcess {
         let time = Duration::from_millis(LAST_WORDS);
         let mut progress = self.progress.lock(rt);
         progress.lose_pid();
-        let (mut progress, _late) = self.changed.wait_timeout_while(rt, progress, time, |known| !known.may_end());
+        let (mut progress, _late) = self
+            .changed
+            .wait_timeout_while(rt, progress, time, |known| !known.may_end());
         progress.end(exit);
         drop(progress);
         self.changed.notify_all();

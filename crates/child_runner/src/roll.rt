@@ -1,5 +1,6 @@
 //! What a backend was asked and gave, and which starts still live.
-ghost use Rattle.std.specs.Prelude.{◌≡◌, ◌<◌, ◌++◌, ◌∷◌, [], List, length, OnOk, OnErr, IfSome, IfNone, IsTrue, Some, slice_get};
+ghost use Rattle.std.specs.Prelude.{◌≡◌, ◌<◌, ◌++◌, ◌∷◌, [], List, length, IsTrue, Some, slice_get};
+ghost use Rattle.std.specs.Prelude.{OnOk, OnErr, IfSome, IfNone};
 ghost use Rattle.std.specs.List.{All};
 ghost use Rattle.child_runner.specs.Roll.{WasAsked, orders_in};
 ghost use Rattle.s6_events.specs.declared.order.Order.{Order as Asked};
@@ -51,14 +52,16 @@ fn place_of(orders: &[Order], report: &Report) -> Option<usize>
 #[tactic(auto, using(crate::proofs::Kept::answered))]
 fn place_of_start(living: &[Order], report: &Report) -> Option<usize>
     ensures place { IfSome result (λ k. k < length living.now) }
-    ensures asked { IfSome result (λ k. (asked : List Asked) → All (WasAsked asked) living.now → IsOfAsked asked report.now) }
+    ensures asked { IfSome result (λ k. (asked : List Asked)
+        → All (WasAsked asked) living.now → IsOfAsked asked report.now) }
 {
     place_of(living, report)
 }
 
 // Adds an order to the list.
 fn add(asked: &mut Vec<Snapshot<Order>>, order: &Order) -> Result<(), NoMemory>
-    ensures added { OnOk result (orders_in asked.new.items ≡ orders_in asked.old.items ++ order.now ∷ []) }
+    ensures added { OnOk result
+        (orders_in asked.new.items ≡ orders_in asked.old.items ++ order.now ∷ []) }
     ensures same { OnErr result (asked.new.items ≡ asked.old.items) }
 {
     asked.push(Snapshot::of(order))?;
@@ -80,7 +83,8 @@ impl Roll {
     /// An order was asked that starts nothing.
     #[tactic(auto, using(crate::proofs::Kept::more_asked))]
     pub fn note(&mut self, order: &Order) -> Result<(), NoMemory>
-        ensures added { OnOk result (self.new ≡ record self.old { asked = self.old.asked ++ order.now ∷ [] }) }
+        ensures added { OnOk result
+            (self.new ≡ record self.old { asked = self.old.asked ++ order.now ∷ [] }) }
         ensures same { OnErr result (self.new ≡ self.old) }
     {
         add(&mut self.asked, order)?;
@@ -90,7 +94,8 @@ impl Roll {
     /// An order was asked that starts a program.
     #[tactic(auto, using(crate::proofs::Kept::one_more_lives))]
     pub fn start(&mut self, order: &Order) -> Result<(), NoMemory>
-        ensures added { OnOk result (self.new ≡ record self.old { asked = self.old.asked ++ order.now ∷ [] }) }
+        ensures added { OnOk result
+            (self.new ≡ record self.old { asked = self.old.asked ++ order.now ∷ [] }) }
         ensures same { OnErr result (self.new ≡ self.old) }
     {
         self.living.reserve(1)?;
@@ -101,7 +106,8 @@ impl Roll {
 
     /// Lets a report through if its start lives.
     pub fn pass(&mut self, report: Report) -> Option<Report>
-        ensures given { IfSome result (λ r. (self.new ≡ record self.old { given = self.old.given ++ r ∷ [] }) × IsOfAsked self.old.asked r) }
+        ensures given { IfSome result (λ r. IsOfAsked self.old.asked r
+            × (self.new ≡ record self.old { given = self.old.given ++ r ∷ [] })) }
         ensures none { IfNone result (self.new ≡ self.old) }
     {
         let place = place_of_start(self.living.as_slice(), &report)?;

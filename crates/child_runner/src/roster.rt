@@ -34,11 +34,17 @@ pub(crate) struct Roster {
 
 impl Entries {
     fn place(&self, number: u64) -> Option<usize> {
-        self.entries.as_slice().iter().position(|entry| entry.process.number == number)
+        self.entries
+            .as_slice()
+            .iter()
+            .position(|entry| entry.process.number == number)
     }
 
     fn place_of_next(&self) -> Option<usize> {
-        self.entries.as_slice().iter().position(|entry| entry.needs_thread())
+        self.entries
+            .as_slice()
+            .iter()
+            .position(|entry| entry.needs_thread())
     }
 
     // Whether there is a child that needs a thread, or none will ever come.
@@ -125,7 +131,9 @@ impl Roster {
     /// Waits for a child that needs its thread; None once no more will come.
     pub fn next_child<R: Wait>(&self, rt: &R) -> Option<Arc<ServiceProcess, Global>> {
         let entries = self.entries.lock(rt);
-        let mut entries = self.changed.wait_while(rt, entries, |entries| !entries.has_news());
+        let mut entries = self
+            .changed
+            .wait_while(rt, entries, |entries| !entries.has_news());
         entries.take_next()
     }
 

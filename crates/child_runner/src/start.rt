@@ -53,5 +53,8 @@ impl Start {
 
 /// Whether nothing comes after the report.
 pub(crate) fn is_last(report: &Report) -> bool {
-    matches!(report, Report::StartFailed(..) | Report::Death(..) | Report::FinishEnded(..))
+    matches!(
+        report,
+        Report::StartFailed(..) | Report::Death(..) | Report::FinishEnded(..)
+    )
 }

@@ -57,7 +57,10 @@ fn start_listening<R: Threads + Wait + Clock + Copy + Send + Drop + 'static>(
     reader: PipeReader,
 ) -> Option<JoinHandle<()>> {
     let theirs = Arc::try_clone(process).ok()?;
-    Builder::new().stack_size(STACK).spawn(&rt, move || listen(rt, theirs, reader)).ok()
+    Builder::new()
+        .stack_size(STACK)
+        .spawn(&rt, move || listen(rt, theirs, reader))
+        .ok()
 }
 
 /// Kills a child that can have no thread, and tells how it ended.

@@ -21,15 +21,15 @@ room_before lanes k places q room j l below at =
 pub room_below : (lanes : List LaneView) (k places : ℕ) (q : LaneView) → HaveRoomBelow k places lanes → places ≤ q.free → HaveRoomBelow (k + 1) places (slice_set lanes k q)
 room_below lanes k places q room enough j l below at =
     ⊎_elim (λ t. subst (λ (x : LaneView). places ≤ x.free) t.1 enough)
-      (λ t. let n = t.0 in room j l (omega arith) t.1)
-      (read_set lanes k j q l at)
+    (λ t. let n = t.0 in room j l (omega arith) t.1)
+    (read_set lanes k j q l at)
 
 sent_more_at : (lanes : List LaneView) (at : ℕ) (o : Order) (p q : LaneView) → slice_get lanes at ≡ Some p → q.sent ≡ p.sent ++ o ∷ [] → (k : ℕ) (b : Bool) → (at == k) ≡ b
     → sent_in k (slice_set lanes at q) ≡ sent_in k lanes ++ (if b then o ∷ [] else [])
 sent_more_at lanes at o p q here sent k true is =
     let e : at ≡ k = grind (arith, nat_tests) in
     subst (λ (n : ℕ). sent_in n (slice_set lanes at q) ≡ sent_in n lanes ++ o ∷ []) e
-      (ap sent_of (set_here lanes at p q here) ∙ (sent ∙ ap (λ (l : Option LaneView). sent_of l ++ o ∷ []) (sym here)))
+    (ap sent_of (set_here lanes at p q here) ∙ (sent ∙ ap (λ (l : Option LaneView). sent_of l ++ o ∷ []) (sym here)))
 sent_more_at lanes at o p q here sent k false is =
     let ne : k ≢ at = λ e. grind (arith, nat_tests) in
     ap sent_of (set_there lanes at k q ne) ∙ sym (append-nil (sent_in k lanes))
@@ -44,8 +44,8 @@ sent_more lanes at count o p q is here sent k =
 pub room_less : (lanes : List LaneView) (at : ℕ) (p q : LaneView) → slice_get lanes at ≡ Some p → p.free ≡ q.free + 1 → (n : ℕ) → HaveRoom (n + 1) lanes → HaveRoom n (slice_set lanes at q)
 room_less lanes at p q here free n room k l is =
     ⊎_elim (λ t. let r = room at p here in subst (λ (x : LaneView). n ≤ x.free) t.1 (omega arith))
-      (λ t. let r = room k l t.1 in omega arith)
-      (read_set lanes at k q l is)
+    (λ t. let r = room k l t.1 in omega arith)
+    (read_set lanes at k q l is)
 
 -- a lane's part of one order more
 pub orders_more : (count k i : ℕ) (o : Order) (os : List Order) → i < length os → o ≡ get_or os i o

@@ -23,10 +23,11 @@ pub all_asked : (asked before taken known sent : List Order) (held : Option Orde
 all_asked asked before taken known sent (Some o) none carried went n is = absurd (cc none)
 all_asked asked before taken [] sent None none carried went n is =
     (λ _. sym (append-nil asked) ∙ (carried ∙ ap (λ (os : List Order). before ++ os) (sym (append-nil taken) ∙ went)), λ _. ap (λ k. nat_eq k 0) is)
-all_asked asked before taken (o ∷ known) sent None nothing carried went n is =
-    (λ none. absurd (grind (arith, none, is, rules)),
-     λ done. absurd (let a = ap length carried in let b = ap length went in let d = ap length done in
-        let la = length-append asked [] in let lb = length-append before taken in let lc = length-append taken (o ∷ known) in let ld = length-append before sent in grind (arith, rules)))
+all_asked asked before taken (o ∷ known) sent None nothing carried went n is = (
+  λ none. absurd (grind (arith, none, is, rules)),
+  λ done. absurd (let a = ap length carried in let b = ap length went in let d = ap length done in
+      let la = length-append asked [] in let lb = length-append before taken in let lc = length-append taken (o ∷ known) in let ld = length-append before sent in grind (arith, rules)),
+)
 
 pub not_all_asked : (asked before taken known sent : List Order) (o : Order) → asked ++ o ∷ [] ≡ before ++ taken → taken ++ known ≡ sent → asked ≡ before ++ sent → ⊥
 not_all_asked asked before taken known sent o carried went done =

@@ -1,5 +1,5 @@
 //! Where a backend is asked what its lane's ring gives.
-ghost use Rattle.std.specs.Prelude.{◌≡◌, ◌≢◌, [], ◌∷◌, ◌++◌, Some, None, IfSome, IfNone, IsTrue, ◌↔◌};
+ghost use Rattle.std.specs.Prelude.{◌≡◌, ◌↔◌, [], ◌∷◌, ◌++◌, Some, None, IfSome, IfNone, IsTrue};
 ghost use Rattle.rtrb.specs.Ring.{received, known_items};
 ghost use Rattle.channel_names.specs.RingName.{consumer_ring};
 ghost use Rattle.s6_events.specs.declared.order.Order.{Order as Next};
@@ -26,8 +26,8 @@ pub enum Carried {
     Refused(AskFault),
 }
 
-/// A lane's other end: a backend, which is asked what the ring gives, in order. An order that comes back is held, and is the next one
-/// asked.
+/// A lane's other end: a backend, which is asked what the ring gives, in order. An order that comes back is held, and is the next
+/// one asked.
 #[derive(Drop)]
 pub struct Desk<B: Backend, L: Lanes> {
     lane: usize,
@@ -46,8 +46,13 @@ impl<B: Backend, L: Lanes> Model for Desk<B, L> {
     ghost Value = { DeskView };
 
     ghost view = { λ d. record {
-        lane = d.lane; asked = B.asked d.backend; given = B.given d.backend; held = d.held;
-        taken = received d.consumer; seen = known_items d.consumer } };
+      lane = d.lane;
+      asked = B.asked d.backend;
+      given = B.given d.backend;
+      held = d.held;
+      taken = received d.consumer;
+      seen = known_items d.consumer;
+    } };
 
     ghost invariant = { λ d. (consumer_ring d.consumer ≡ L.lane_ring d.lane)
         × (B.asked d.backend ++ held_list d.held ≡ L.asked_before d.lane ++ received d.consumer) };
@@ -60,8 +65,13 @@ impl<B: Backend, L: Lanes> Desk<B, L> {
         requires unused { received consumer ≡ [] }
         requires before { B.asked backend ≡ L.asked_before lane }
         ensures { result ≡ record {
-            lane = lane; asked = B.asked backend; given = B.given backend; held = None;
-            taken = []; seen = known_items consumer } }
+          lane = lane;
+          asked = B.asked backend;
+          given = B.given backend;
+          held = None;
+          taken = [];
+          seen = known_items consumer;
+        } }
     {
         Desk {
             lane,
@@ -83,7 +93,8 @@ impl<B: Backend, L: Lanes> Desk<B, L> {
     #[tactic(auto, using(crate::proofs::Turns::takes_next))]
     fn hold_next(&mut self) -> Option<Order>
         ensures rest { (self.new.lane ≡ self.old.lane) × (self.new.given ≡ self.old.given) }
-        ensures since { self.new.asked ++ held_list self.new.held ≡ L.asked_before self.new.lane ++ self.new.taken }
+        ensures since { self.new.asked ++ held_list self.new.held
+            ≡ L.asked_before self.new.lane ++ self.new.taken }
         ensures next { IfSome result (λ order. HoldsNext order self.old self.new) }
         ensures none { IfNone result (HasNothing self.old self.new) }
     {
@@ -101,10 +112,12 @@ impl<B: Backend, L: Lanes> Desk<B, L> {
     #[tactic(auto, using(crate::proofs::Turns::asks_held))]
     pub fn carry_one(&mut self) -> Carried
         ensures rest { (self.new.lane ≡ self.old.lane) × (self.new.given ≡ self.old.given) }
-        ensures since { self.new.asked ++ held_list self.new.held ≡ L.asked_before self.new.lane ++ self.new.taken }
+        ensures since { self.new.asked ++ held_list self.new.held
+            ≡ L.asked_before self.new.lane ++ self.new.taken }
         ensures asked { result ≡ Asked → (order : Next) × AsksNext order self.old self.new }
         ensures idle { result ≡ Idle → HasNothing self.old self.new }
-        ensures refused { (fault : _) → result ≡ Refused fault → (order : Next) × HoldsNext order self.old self.new }
+        ensures refused { (fault : _) → result ≡ Refused fault
+            → (order : Next) × HoldsNext order self.old self.new }
     {
         let Some(order) = self.hold_next() else {
             return Carried::Idle;
@@ -121,7 +134,8 @@ impl<B: Backend, L: Lanes> Desk<B, L> {
     /// The backend's next report, if it has one.
     pub fn report_one(&mut self) -> Option<Report>
         ensures rest { self.new ≡ record self.old { given = self.new.given } }
-        ensures given { IfSome result (λ r. (self.new.given ≡ self.old.given ++ r ∷ []) × IsOfAsked self.old.asked r) }
+        ensures given { IfSome result (λ r.
+            (self.new.given ≡ self.old.given ++ r ∷ []) × IsOfAsked self.old.asked r) }
         ensures none { IfNone result (self.new.given ≡ self.old.given) }
     {
         self.backend.report()
@@ -133,7 +147,8 @@ impl<B: Backend, L: Lanes> Desk<B, L> {
         ensures number { lane.new.number ≡ lane.old.number }
         ensures sent { lane.new.sent ≡ lane.old.sent }
         ensures desk { self.new ≡ record self.old { seen = self.new.seen } }
-        ensures done { IsTrue result ↔ (self.old.asked ≡ L.asked_before self.old.lane ++ lane.old.sent) }
+        ensures done { IsTrue result
+            ↔ (self.old.asked ≡ L.asked_before self.old.lane ++ lane.old.sent) }
     {
         let waiting = self.consumer.slots_beside(&mut lane.producer);
         if self.held.is_some() {

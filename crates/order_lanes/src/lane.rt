@@ -27,7 +27,8 @@ impl<L: Lanes> Model for Lane<L> {
 
     ghost view = { λ l. record { number = l.number; sent = sent l.producer; free = known_free l.producer } };
 
-    ghost invariant = { λ l. (producer_capacity l.producer ≡ lane_room) × (producer_ring l.producer ≡ L.lane_ring l.number) };
+    ghost invariant = { λ l. (producer_capacity l.producer ≡ lane_room)
+        × (producer_ring l.producer ≡ L.lane_ring l.number) };
 }
 
 impl<L: Lanes> Lane<L> {
@@ -35,7 +36,11 @@ impl<L: Lanes> Lane<L> {
     pub(crate) fn over(number: usize, producer: Producer<Order>) -> Lane<L>
         requires ring { producer_ring producer ≡ L.lane_ring number }
         requires room { producer_capacity producer ≡ lane_room }
-        ensures { result ≡ record { number = number; sent = sent producer; free = known_free producer } }
+        ensures { result ≡ record {
+          number = number;
+          sent = sent producer;
+          free = known_free producer;
+        } }
     {
         Lane {
             number,

@@ -30,8 +30,8 @@ impl<R> Model for Probe<R> {
 }
 
 impl<R> Probe<R> {
-    /// A backend that answers its first `busy` asks Busy, and writes each later order into `log` too. The reports are given in their
-    /// order.
+    /// A backend that answers its first `busy` asks Busy, and writes each later order into `log` too. The reports are given in
+    /// their order.
     pub fn new(
         rt: R,
         alloc: Global,
@@ -57,7 +57,8 @@ impl<R> Probe<R> {
 impl<R: Wait + Drop> Probe<R> {
     // Adds the order to both lists, or to neither.
     fn write_down(&mut self, order: &Order) -> Result<(), NoMemory>
-        ensures added { OnOk result (self.new ≡ record self.old { asked = self.old.asked ++ order.now ∷ [] }) }
+        ensures added { OnOk result
+            (self.new ≡ record self.old { asked = self.old.asked ++ order.now ∷ [] }) }
         ensures same { OnErr result (self.new ≡ self.old) }
     {
         self.asked.reserve(1)?;

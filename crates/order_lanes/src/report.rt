@@ -44,7 +44,11 @@ impl Report {
         match self {
             Report::Started(sid, generation, pid) => Act::Started(*sid, *generation, *pid),
             Report::StartFailed(sid, generation) => Act::StartFailed(*sid, *generation),
-            Report::Notify(sid, generation, bytes) => Act::Notify(*sid, *generation, same_bytes(bytes)),
+            Report::Notify(sid, generation, bytes) => Act::Notify(
+                *sid,
+                *generation,
+                same_bytes(bytes),
+            ),
             Report::Death(sid, generation, exit) => Act::Death(*sid, *generation, *exit),
             Report::FinishEnded(sid, generation, exit) => {
                 Act::FinishEnded(*sid, *generation, *exit)

@@ -33,7 +33,8 @@ impl Model for LaneRing {
     ghost view = { λ r. record { number = r.number; ring = consumer_ring r.consumer } };
 
     ghost invariant = { λ r. IsPair r.producer r.consumer
-        × (sent r.producer ≡ []) × (known_free r.producer ≡ lane_room) × (producer_capacity r.producer ≡ lane_room)
+        × (sent r.producer ≡ []) × (known_free r.producer ≡ lane_room)
+        × (producer_capacity r.producer ≡ lane_room)
         × (received r.consumer ≡ []) × (known_items r.consumer ≡ []) };
 }
 
@@ -63,7 +64,13 @@ impl LaneRing {
         requires before { B.asked backend ≡ L.asked_before self.number }
         ensures lane { result.0 ≡ record { number = self.number; sent = []; free = lane_room } }
         ensures desk { result.1 ≡ record {
-            lane = self.number; asked = B.asked backend; given = B.given backend; held = None; taken = []; seen = [] } }
+          lane = self.number;
+          asked = B.asked backend;
+          given = B.given backend;
+          held = None;
+          taken = [];
+          seen = [];
+        } }
     {
         let LaneRing {
             number,
@@ -77,8 +84,8 @@ impl LaneRing {
     }
 }
 
-/// A ring for each of so many lanes, 1 to 4, in the order of their numbers, which begin at 0. `NoMemory` where a growth was refused;
-/// nothing is kept then.
+/// A ring for each of so many lanes, 1 to 4, in the order of their numbers, which begin at 0. `NoMemory` where a growth was
+/// refused; nothing is kept then.
 #[tactic(auto, using(crate::proofs::Numbers::numbered_more))]
 pub fn open_lane_rings(alloc: Global, lanes: usize) -> Result<Vec<LaneRing>, NoMemory>
     requires { (1 ≤ lanes) × (lanes ≤ 4) }

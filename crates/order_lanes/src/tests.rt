@@ -34,13 +34,7 @@ fn new_log(alloc: Global) -> Result<Log, NoMemory> {
 fn probe<R: Drop>(rt: R, alloc: Global, busy: u32, log: &Log) -> Result<Probe<R>, NoMemory>
     ensures { IfOk result (λ p. p.asked ≡ []) }
 {
-    Ok(Probe::new(
-        rt,
-        alloc,
-        Vec::new(alloc),
-        busy,
-        Arc::try_clone(log)?,
-    ))
+    Ok(Probe::new(rt, alloc, Vec::new(alloc), busy, Arc::try_clone(log)?))
 }
 
 // The rings of lanes 0 and 1.
@@ -116,7 +110,11 @@ fn send_and_carry<B: Backend + Send, L: Lanes + Send + Sync, R: Threads + Abort 
     let mut lanes = Vec::from_array(alloc, [even_lane, odd_lane]).expect(rt, "memory");
     assert_eq!(rt; blocked_lane(&mut lanes, 5), None);
     send_all(&mut lanes, &[run(1), run(2), run(3), kill(2), kill(3)]);
-    let carried = thread::join(rt, move || carry_all(even_desk), move || carry_all(odd_desk));
+    let carried = thread::join(
+        rt,
+        move || carry_all(even_desk),
+        move || carry_all(odd_desk),
+    );
     assert_eq!(rt; carried, (2, 3));
     Ok(())
 }
@@ -220,11 +218,7 @@ fn refused_growth_loses_nothing(rt: HostRuntime) -> Result<(), Fail> {
 }
 
 // An order that was refused once is asked again, and is taken just once.
-fn ask_twice<B: Backend, L: Lanes, R: Abort>(
-    rt: &R,
-    ring: LaneRing,
-    backend: B,
-) -> Result<(), Fail>
+fn ask_twice<B: Backend, L: Lanes, R: Abort>(rt: &R, ring: LaneRing, backend: B) -> Result<(), Fail>
     requires ring { ring.ring ≡ L.lane_ring ring.number }
     requires before { B.asked backend ≡ L.asked_before ring.number }
 {

@@ -13,7 +13,8 @@ returns-then-free_places-places-clause-blocked g c =
       lane = c.free_places.new.self;
       there = set_here lanes c.loop-k.k p c.free_places.new.self here;
       few = grind (arith, rules);
-      least = room_before lanes c.loop-k.k c.args.places c.free_places.new.self c.loop-k.invariant.2 }
+      least = room_before lanes c.loop-k.k c.args.places c.free_places.new.self c.loop-k.invariant.2;
+    }
 
 pub loop-k-preserved : goal.loop-k-preserved
 loop-k-preserved g c =

@@ -21,12 +21,14 @@ loop-order-preserved g c =
     let x = c.order-item.result in
     let count = c.len-count.result in
     let len : length old ≡ count = inv.0 ∙ sym inv.1 in
-    let t = c.loop-order-test.true in
-    (c.send_one.ensures.len ∙ inv.0, inv.1,
-     λ k below.
-        let sent : sent_in k c.send_one.new.lanes.items ≡ sent_in k old ++ orders_of_lane count k (x ∷ []) =
-            subst (λ (n : ℕ). sent_in k c.send_one.new.lanes.items ≡ sent_in k old ++ orders_of_lane n k (x ∷ [])) len (c.send_one.ensures.sent k (subst (λ (n : ℕ). k < n) (sym len) below)) in
-        sent ∙ (ap (λ (ys : List Order). ys ++ orders_of_lane count k (x ∷ [])) (inv.2 k below)
+    let t = c.loop-order-test.true in (
+      c.send_one.ensures.len ∙ inv.0,
+      inv.1,
+      λ k below.
+          let sent : sent_in k c.send_one.new.lanes.items ≡ sent_in k old ++ orders_of_lane count k (x ∷ []) =
+          subst (λ (n : ℕ). sent_in k c.send_one.new.lanes.items ≡ sent_in k old ++ orders_of_lane n k (x ∷ [])) len (c.send_one.ensures.sent k (subst (λ (n : ℕ). k < n) (sym len) below)) in
+          sent ∙ (ap (λ (ys : List Order). ys ++ orders_of_lane count k (x ∷ [])) (inv.2 k below)
           ∙ (append_assoc (sent_in k c.args.lanes.now.items) (orders_of_lane count k (take i os)) (orders_of_lane count k (x ∷ []))
           ∙ ap (λ (ys : List Order). sent_in k c.args.lanes.now.items ++ ys) (sym (orders_more count k i x os t c.order-item.is)))),
-     λ k l at. c.send_one.ensures.room (length os - (i + 1)) (λ j m is. let r = inv.3 j m is in omega arith) k l at)
+      λ k l at. c.send_one.ensures.room (length os - (i + 1)) (λ j m is. let r = inv.3 j m is in omega arith) k l at,
+    )
