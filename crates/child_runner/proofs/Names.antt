@@ -19,4 +19,6 @@ last a b c d is = grind (rules, is)
 
 pub name_is_text : (text : List ℕ) → IsTrue (is_name text) → IsUtf8 text
 unfolding is_name
-name_is_text text is = IsUtf8-from_ascii text (IsAscii-from_all text (all_small text (AllPass-from_list_all is_name_byte text (last (nat_le 1 (length text)) (nat_le (length text) 64) (not (slice_index text 0 == 46)) (list_all is_name_byte text) is))))
+name_is_text text is = IsUtf8-from_ascii text
+    (IsAscii-from_all text (all_small text (AllPass-from_list_all is_name_byte text
+    (last (nat_le 1 (length text)) (nat_le (length text) 64) (not (slice_index text 0 == 46)) (list_all is_name_byte text) is))))

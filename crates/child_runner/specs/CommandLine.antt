@@ -1,5 +1,6 @@
 -- Which program an order starts, with which arguments, and where.
-use Rattle.std.specs.Prelude.{◌≡◌, ℕ, List, [], ◌∷◌, ◌++◌, codes, decimal, Bool, true, false, ◌&&◌, nat_le, if◌then◌else◌, Option, Some, None}
+use Rattle.std.specs.Prelude.{◌≡◌, ℕ, List, [], ◌∷◌, ◌++◌, codes, decimal, Bool, true, false, ◌&&◌, nat_le}
+use Rattle.std.specs.Prelude.{if◌then◌else◌, Option, Some, None}
 use Rattle.std.specs.Process.{command_program, command_args, command_dir}
 use Rattle.std.specs.declared.process.command.Command.{Command}
 
@@ -31,7 +32,8 @@ shell_line directory name fd = record {
 
 abbrev pub run_line : List ℕ → List ℕ → Option ℕ → CommandLine
 run_line directory name None = plain_line directory name
-run_line directory name (Some fd) = if nat_le 3 fd && nat_le fd 9 then shell_line directory name fd else plain_line directory name
+run_line directory name (Some fd) =
+    if nat_le 3 fd && nat_le fd 9 then shell_line directory name fd else plain_line directory name
 
 -- `finish CODE SIGNAL NAME`
 abbrev pub finish_line : List ℕ → List ℕ → ℕ → ℕ → CommandLine

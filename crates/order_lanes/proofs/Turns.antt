@@ -45,7 +45,8 @@ all_asked asked before taken [] sent None none carried went n is =
 all_asked asked before taken (o ∷ known) sent None nothing carried went n is = (
   λ none. absurd (grind (arith, none, is, rules)),
   λ done. absurd (let a = ap length carried in let b = ap length went in let d = ap length done in
-      let la = length-append asked [] in let lb = length-append before taken in let lc = length-append taken (o ∷ known) in let ld = length-append before sent in grind (arith, rules)),
+      let la = length-append asked [] in let lb = length-append before taken in let lc = length-append taken (o ∷ known) in let ld =
+      length-append before sent in grind (arith, rules)),
 )
 
 pub not_all_asked : (asked before taken known sent : List Order) (o : Order) → asked ++ o ∷ [] ≡ before ++ taken → taken ++ known ≡ sent

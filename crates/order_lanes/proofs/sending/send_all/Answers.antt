@@ -26,7 +26,8 @@ loop-order-preserved g c =
       inv.1,
       λ k below.
           let sent : sent_in k c.send_one.new.lanes.items ≡ sent_in k old ++ orders_of_lane count k (x ∷ []) =
-          subst (λ (n : ℕ). sent_in k c.send_one.new.lanes.items ≡ sent_in k old ++ orders_of_lane n k (x ∷ [])) len (c.send_one.ensures.sent k (subst (λ (n : ℕ). k < n) (sym len) below)) in
+          subst (λ (n : ℕ). sent_in k c.send_one.new.lanes.items ≡ sent_in k old ++ orders_of_lane n k (x ∷ [])) len
+          (c.send_one.ensures.sent k (subst (λ (n : ℕ). k < n) (sym len) below)) in
           sent ∙ (ap (λ (ys : List Order). ys ++ orders_of_lane count k (x ∷ [])) (inv.2 k below)
           ∙ (append_assoc (sent_in k c.args.lanes.now.items) (orders_of_lane count k (take i os)) (orders_of_lane count k (x ∷ []))
           ∙ ap (λ (ys : List Order). sent_in k c.args.lanes.now.items ++ ys) (sym (orders_more count k i x os t c.order-item.is)))),

@@ -15,5 +15,6 @@ returns-clause-done g c =
     let went : received inside.consumer ++ known_items look.new.self ≡ c.args.lane.now.sent =
     grind (look.ensures.fifo, look.ensures.looked, look.ensures.producer, same, rules) in
     subst P c.self.view_is
-    (all_asked (g.B.Backend.asked inside.backend) (g.L.Lanes.asked_before inside.lane) (received inside.consumer) (known_items look.new.self) c.args.lane.now.sent inside.held
+    (all_asked (g.B.Backend.asked inside.backend) (g.L.Lanes.asked_before inside.lane) (received inside.consumer)
+    (known_items look.new.self) c.args.lane.now.sent inside.held
     (search rules) c.self.invariant.1 went look.result look.ensures.value)
