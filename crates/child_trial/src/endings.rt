@@ -40,6 +40,12 @@ impl<R: Processes<Started = SystemProcess> + Files + Wait + Clock + Drop> Stage<
         }
     }
 
+    // Starts a service that ends at once, and leaves behind a process with its descriptor.
+    fn start_leaver(&mut self) -> io::Result<bool> {
+        self.write("leaves", "run", "sleep 12 & exit 0", 0o755)?;
+        self.run(9, "leaves", Some(3))
+    }
+
     // Kills it. Whether the backend heard of that.
     fn hears_death(&mut self, sid: u64) -> bool {
         if !self.kill(sid, 9) {
@@ -107,12 +113,12 @@ fn try_end<R: Processes<Started = SystemProcess> + Files + Threads + Wait + Cloc
     output: &mut impl Write,
 ) -> io::Result<()> {
     let mut stage = Stage::new(*rt, alloc, &keeper, root)?;
-    let are_asked = stage.start_crowd(3, Some(3))?;
-    stage.write("leaves", "run", "sleep 12 & exit 0", 0o755)?;
-    let is_asked = stage.run(9, "leaves", Some(3))?;
-    let begin = Instant::now(rt)?;
+    let crowd = stage.start_crowd(3, Some(3));
+    let leaver = stage.start_leaver();
+    let begin = Instant::now(rt);
     keeper.end();
-    let is_soon = begin.elapsed(rt)?.as_secs() < PATIENCE;
+    let is_soon = begin?.elapsed(rt)?.as_secs() < PATIENCE;
+    let (are_asked, is_asked) = (crowd?, leaver?);
     let is_busy = !stage.run(10, "stays", None)?;
     writeln!(
         output,
