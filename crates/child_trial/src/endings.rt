@@ -12,6 +12,52 @@ use std::sync::Wait;
 use std::thread::Threads;
 use std::time::{Clock, Instant};
 
+// Whether a report is of the start of this service's `run`, or of its death.
+fn is_start_of(report: &Report, service: u64) -> bool {
+    match report {
+        Report::Started(sid, _, _) => sid.0 == service,
+        _ => false,
+    }
+}
+
+fn is_death_of(report: &Report, service: u64) -> bool {
+    match report {
+        Report::Death(sid, _, _) => sid.0 == service,
+        _ => false,
+    }
+}
+
+impl<R: Processes<Started = SystemProcess> + Files + Wait + Clock + Drop> Stage<R> {
+    // Starts one service. Whether the backend heard of it.
+    fn hears_start(&mut self, sid: u64) -> io::Result<bool> {
+        self.write("four", "run", "exec sleep 60", 0o755)?;
+        if !self.run(sid, "four", None)? {
+            return Ok(false);
+        }
+        match self.next_report() {
+            Some(report) => Ok(is_start_of(&report, sid)),
+            None => Ok(false),
+        }
+    }
+
+    // Starts a service that ends at once, and leaves behind a process with its descriptor.
+    fn start_leaver(&mut self) -> io::Result<bool> {
+        self.write("leaves", "run", "sleep 12 & exit 0", 0o755)?;
+        self.run(9, "leaves", Some(3))
+    }
+
+    // Kills it. Whether the backend heard of that.
+    fn hears_death(&mut self, sid: u64) -> bool {
+        if !self.kill(sid, 9) {
+            return false;
+        }
+        match self.next_report() {
+            Some(report) => is_death_of(&report, sid),
+            None => false,
+        }
+    }
+}
+
 // Services of four backends that share a keeper: each hears of its own alone.
 fn try_four<R: Processes<Started = SystemProcess> + Files + Wait + Clock + Copy + Drop>(
     rt: &R,
@@ -26,19 +72,12 @@ fn try_four<R: Processes<Started = SystemProcess> + Files + Wait + Clock + Copy 
     }
     let mut heard = 0u32;
     for (place, stage) in stages.iter_mut().enumerate() {
-        stage.write("four", "run", "exec sleep 60", 0o755)?;
-        let sid = place as u64;
-        if stage.run(sid, "four", None)?
-            && matches!(stage.next_report(), Some(Report::Started(of, ..)) if of.0 == sid)
-        {
+        if stage.hears_start(place as u64)? {
             heard = heard.saturating_add(1);
         }
     }
     for (place, stage) in stages.iter_mut().enumerate() {
-        let sid = place as u64;
-        if stage.kill(sid, 9)
-            && matches!(stage.next_report(), Some(Report::Death(of, ..)) if of.0 == sid)
-        {
+        if stage.hears_death(place as u64) {
             heard = heard.saturating_add(1);
         }
     }
@@ -74,12 +113,12 @@ fn try_end<R: Processes<Started = SystemProcess> + Files + Threads + Wait + Cloc
     output: &mut impl Write,
 ) -> io::Result<()> {
     let mut stage = Stage::new(*rt, alloc, &keeper, root)?;
-    let are_asked = stage.start_crowd(3, Some(3))?;
-    stage.write("leaves", "run", "sleep 12 & exit 0", 0o755)?;
-    let is_asked = stage.run(9, "leaves", Some(3))?;
-    let begin = Instant::now(rt)?;
+    let crowd = stage.start_crowd(3, Some(3));
+    let leaver = stage.start_leaver();
+    let begin = Instant::now(rt);
     keeper.end();
-    let is_soon = begin.elapsed(rt)?.as_secs() < PATIENCE;
+    let is_soon = begin?.elapsed(rt)?.as_secs() < PATIENCE;
+    let (are_asked, is_asked) = (crowd?, leaver?);
     let is_busy = !stage.run(10, "stays", None)?;
     writeln!(
         output,

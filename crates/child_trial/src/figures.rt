@@ -108,12 +108,12 @@ impl<R: Processes<Started = SystemProcess> + Files + Wait + Clock + Drop> Stage<
     }
 }
 
-/// Prints all figures.
-pub fn print_all<
-    R: Processes<Started = SystemProcess> + Files + Threads + Wait + Clock + Copy + Drop,
->(rt: &R, alloc: Global, keeper: Keeper<R>, root: &str, output: &mut impl Write) -> io::Result<()> {
-    let mut stage = Stage::new(*rt, alloc, &keeper, root)?;
-    let mut plain = measure_true(rt, alloc)?;
+// Measures with one backend.
+fn measure_all<R: Processes<Started = SystemProcess> + Files + Wait + Clock + Drop>(
+    stage: &mut Stage<R>,
+    output: &mut impl Write,
+) -> io::Result<()> {
+    let mut plain = measure_true(&stage.rt, stage.alloc)?;
     write_middle(output, "/bin/true", &mut plain)?;
     let mut times = stage.measure()?;
     write_middle(output, "order to Started", &mut times.start)?;
@@ -124,6 +124,17 @@ pub fn print_all<
             stage.weigh(output, crowd, fd)?;
         }
     }
-    keeper.end();
     Ok(())
+}
+
+/// Prints all figures, and ends the keeper.
+pub fn print_all<
+    R: Processes<Started = SystemProcess> + Files + Threads + Wait + Clock + Copy + Drop,
+>(rt: &R, alloc: Global, keeper: Keeper<R>, root: &str, output: &mut impl Write) -> io::Result<()> {
+    let done = match Stage::new(*rt, alloc, &keeper, root) {
+        Ok(mut stage) => measure_all(&mut stage, output),
+        Err(refused) => Err(refused),
+    };
+    keeper.end();
+    done
 }
