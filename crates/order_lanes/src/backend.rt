@@ -32,8 +32,8 @@ pub trait Backend: Drop {
     /// The next report, of a `run` or a `finish` whose start was asked here; None where there is none yet. It doesn't wait.
     fn report(&mut self) -> Option<Report>
         ensures asked { asked self.new ≡ asked self.old }
-        ensures given { IfSome result
-            (λ r. (given self.new ≡ given self.old ++ r ∷ []) × IsOfAsked (asked self.old) r) }
+        ensures given { IfSome result (λ r.
+            (given self.new ≡ given self.old ++ r ∷ []) × IsOfAsked (asked self.old) r) }
         ensures none { IfNone result (given self.new ≡ given self.old) };
 }
 

@@ -1,5 +1,5 @@
 //! Where a backend is asked what its lane's ring gives.
-ghost use Rattle.std.specs.Prelude.{◌≡◌, ◌≢◌, [], ◌∷◌, ◌++◌, Some, None, IfSome, IfNone, IsTrue, ◌↔◌};
+ghost use Rattle.std.specs.Prelude.{◌≡◌, ◌↔◌, [], ◌∷◌, ◌++◌, Some, None, IfSome, IfNone, IsTrue};
 ghost use Rattle.rtrb.specs.Ring.{received, known_items};
 ghost use Rattle.channel_names.specs.RingName.{consumer_ring};
 ghost use Rattle.s6_events.specs.declared.order.Order.{Order as Next};
@@ -26,8 +26,8 @@ pub enum Carried {
     Refused(AskFault),
 }
 
-/// A lane's other end: a backend, which is asked what the ring gives, in order. An order that comes back is held, and is the next one
-/// asked.
+/// A lane's other end: a backend, which is asked what the ring gives, in order. An order that comes back is held, and is the next
+/// one asked.
 #[derive(Drop)]
 pub struct Desk<B: Backend, L: Lanes> {
     lane: usize,
@@ -134,8 +134,8 @@ impl<B: Backend, L: Lanes> Desk<B, L> {
     /// The backend's next report, if it has one.
     pub fn report_one(&mut self) -> Option<Report>
         ensures rest { self.new ≡ record self.old { given = self.new.given } }
-        ensures given { IfSome result
-            (λ r. (self.new.given ≡ self.old.given ++ r ∷ []) × IsOfAsked self.old.asked r) }
+        ensures given { IfSome result (λ r.
+            (self.new.given ≡ self.old.given ++ r ∷ []) × IsOfAsked self.old.asked r) }
         ensures none { IfNone result (self.new.given ≡ self.old.given) }
     {
         self.backend.report()
@@ -147,8 +147,8 @@ impl<B: Backend, L: Lanes> Desk<B, L> {
         ensures number { lane.new.number ≡ lane.old.number }
         ensures sent { lane.new.sent ≡ lane.old.sent }
         ensures desk { self.new ≡ record self.old { seen = self.new.seen } }
-        ensures done { IsTrue result ↔
-            (self.old.asked ≡ L.asked_before self.old.lane ++ lane.old.sent) }
+        ensures done { IsTrue result
+            ↔ (self.old.asked ≡ L.asked_before self.old.lane ++ lane.old.sent) }
     {
         let waiting = self.consumer.slots_beside(&mut lane.producer);
         if self.held.is_some() {

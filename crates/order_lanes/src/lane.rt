@@ -27,7 +27,8 @@ impl<L: Lanes> Model for Lane<L> {
 
     ghost view = { λ l. record { number = l.number; sent = sent l.producer; free = known_free l.producer } };
 
-    ghost invariant = { λ l. (producer_capacity l.producer ≡ lane_room) × (producer_ring l.producer ≡ L.lane_ring l.number) };
+    ghost invariant = { λ l. (producer_capacity l.producer ≡ lane_room)
+        × (producer_ring l.producer ≡ L.lane_ring l.number) };
 }
 
 impl<L: Lanes> Lane<L> {
@@ -38,8 +39,7 @@ impl<L: Lanes> Lane<L> {
         ensures { result ≡ record {
           number = number;
           sent = sent producer;
-          free =
-              known_free producer;
+          free = known_free producer;
         } }
     {
         Lane {

@@ -1,8 +1,8 @@
 //! Which rings and backends the lanes of a run have.
 use std::marker::Brand;
 
-/// Which ring each lane of a run has, and which orders its backend had taken before. A lane's end in the tree and its desk bear such
-/// a type, so that a contract knows that they belong together. A run picks it once its rings are made.
+/// Which ring each lane of a run has, and which orders its backend had taken before. A lane's end in the tree and its desk bear
+/// such a type, so that a contract knows that they belong together. A run picks it once its rings are made.
 pub trait Lanes {
     ghost use Rattle.std.specs.Prelude.{ℕ, List};
     ghost use Rattle.channel_names.specs.RingName.{RingName};

@@ -30,8 +30,8 @@ impl<R> Model for Probe<R> {
 }
 
 impl<R> Probe<R> {
-    /// A backend that answers its first `busy` asks Busy, and writes each later order into `log` too. The reports are given in their
-    /// order.
+    /// A backend that answers its first `busy` asks Busy, and writes each later order into `log` too. The reports are given in
+    /// their order.
     pub fn new(
         rt: R,
         alloc: Global,

@@ -84,8 +84,8 @@ impl LaneRing {
     }
 }
 
-/// A ring for each of so many lanes, 1 to 4, in the order of their numbers, which begin at 0. `NoMemory` where a growth was refused;
-/// nothing is kept then.
+/// A ring for each of so many lanes, 1 to 4, in the order of their numbers, which begin at 0. `NoMemory` where a growth was
+/// refused; nothing is kept then.
 #[tactic(auto, using(crate::proofs::Numbers::numbered_more))]
 pub fn open_lane_rings(alloc: Global, lanes: usize) -> Result<Vec<LaneRing>, NoMemory>
     requires { (1 ≤ lanes) × (lanes ≤ 4) }

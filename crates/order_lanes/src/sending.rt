@@ -40,7 +40,8 @@ fn send_one<L: Lanes>(lanes: &mut Vec<Lane<L>>, order: &Order)
     requires lanes { 0 < length lanes.old.items }
     requires room { HaveRoom 1 lanes.old.items }
     ensures sent { (k : ℕ) → k < length lanes.old.items →
-        sent_in k lanes.new.items ≡ sent_in k lanes.old.items ++ orders_of_lane (length lanes.old.items) k (order.now ∷ []) }
+        sent_in k lanes.new.items
+        ≡ sent_in k lanes.old.items ++ orders_of_lane (length lanes.old.items) k (order.now ∷ []) }
     ensures room { (n : ℕ) → HaveRoom (n + 1) lanes.old.items → HaveRoom n lanes.new.items }
     ensures len { length lanes.new.items ≡ length lanes.old.items }
 {
@@ -55,7 +56,8 @@ pub fn send_all<L: Lanes>(lanes: &mut Vec<Lane<L>>, orders: &[Order])
     requires lanes { 0 < length lanes.old.items }
     requires room { HaveRoom (length orders.now) lanes.old.items }
     ensures sent { (k : ℕ) → k < length lanes.old.items →
-        sent_in k lanes.new.items ≡ sent_in k lanes.old.items ++ orders_of_lane (length lanes.old.items) k orders.now }
+        sent_in k lanes.new.items
+        ≡ sent_in k lanes.old.items ++ orders_of_lane (length lanes.old.items) k orders.now }
     ensures len { length lanes.new.items ≡ length lanes.old.items }
 {
     let count = lanes.len();
