@@ -5,8 +5,8 @@ use Rattle.deadlines.specs.Deadlines.{Armed}
 use Rattle.deadlines.specs.declared.deadlines.Deadlines.TheInside.{Inside}
 
 -- the timers, and the room that is left
-abbrev pub armed : {A : Type 0} → Inside A → Armed
-armed d = record { timers = d.timers.items; spare_capacity = vec_capacity d.timers - vec_len d.timers }
+abbrev pub deadlines_view : {A : Type 0} → Inside A → Armed
+deadlines_view d = record { timers = d.timers.items; spare_capacity = vec_capacity d.timers - vec_len d.timers }
 
 -- they stand in rising serial
 abbrev pub IsInOrder : {A : Type 0} → Inside A → Type 0

@@ -1,5 +1,6 @@
 -- Which services have a timer set, and which of the timers are due.
-use Rattle.std.specs.Prelude.{ℕ, List, [], ◌∷◌, ◌++◌, map, filter, fold, Bool, true, false, ◌&&◌, ◌==◌, nat_lt, nat_le, Option, None, Some}
+use Rattle.std.specs.Prelude.{ℕ, List, [], ◌∷◌, ◌++◌, map, filter, fold, Bool, true, false, ◌&&◌, ◌==◌, nat_lt, nat_le}
+use Rattle.std.specs.Prelude.{Option, None, Some}
 use Rattle.std.specs.List.{list_all}
 use Rattle.deadlines.specs.declared.timer.Timer.{Timer}
 use Rattle.deadlines.specs.declared.timer.TimerChange.{TimerChange}
@@ -18,25 +19,25 @@ abbrev pub above : ℕ → List Timer → List Timer
 above sid timers = filter (λ t. nat_lt sid t.sid) timers
 
 -- there is a timer, and it is that of this service
-abbrev pub is_of : ℕ → Option Timer → Bool
-is_of sid None = false
-is_of sid (Some timer) = timer.sid == sid
+abbrev pub is_timer_of : ℕ → Option Timer → Bool
+is_timer_of sid None = false
+is_timer_of sid (Some timer) = timer.sid == sid
 
 -- the timer of a service is set to a moment, in place of the one that it had
-abbrev pub set_to : ℕ → ℕ → List Timer → List Timer
-set_to sid at timers = below sid timers ++ record { sid = sid; at = at } ∷ above sid timers
+abbrev pub with_timer : ℕ → ℕ → List Timer → List Timer
+with_timer sid at timers = below sid timers ++ record { sid = sid; at = at } ∷ above sid timers
 
 -- the timer of a service is cleared, where it had one
-abbrev pub cleared : ℕ → List Timer → List Timer
-cleared sid timers = below sid timers ++ above sid timers
+abbrev pub without_timer : ℕ → List Timer → List Timer
+without_timer sid timers = below sid timers ++ above sid timers
 
 -- one change, and the changes of a step in their order
-abbrev pub changed : List Timer → TimerChange → List Timer
-changed timers (Set sid at) = set_to sid at timers
-changed timers (Clear sid) = cleared sid timers
+abbrev pub with_timer_change : List Timer → TimerChange → List Timer
+with_timer_change timers (Set sid at) = with_timer sid at timers
+with_timer_change timers (Clear sid) = without_timer sid timers
 
-abbrev pub changed_all : List TimerChange → List Timer → List Timer
-changed_all changes timers = fold changed timers changes
+abbrev pub with_timer_changes : List TimerChange → List Timer → List Timer
+with_timer_changes changes timers = fold with_timer_change timers changes
 
 -- the services whose timers are set to a moment at most now
 abbrev pub due_by : ℕ → List Timer → List ℕ

@@ -1,13 +1,14 @@
+//! The timers that are set, in rising serial, and which of them are due.
 ghost use Rattle.std.specs.Prelude.{◌≡◌, ◌+◌, ◌<◌, ◌≤◌, [], length, IsOk, IfOk, OnOk, OnErr, IfSome, nat_lt, take, slice_get, true, false};
 ghost use Rattle.std.specs.List.{list_all};
-ghost use Rattle.deadlines.specs.Timers.{set_to, cleared, changed, changed_all, due_by, is_rising, is_of};
+ghost use Rattle.deadlines.specs.Timers.{with_timer, without_timer, with_timer_change, with_timer_changes, due_by, is_rising, is_timer_of};
 
 use crate::timer::{Timer, TimerChange};
 use s6_events::{At, NoMemory, Sid};
 use std::alloc::Allocator;
 use std::marker::Model;
 
-/// The timers that are set, at most one for a service. This project's own.
+/// The timers that are set, at most one for a service.
 #[derive(Drop)]
 pub struct Deadlines<A: Allocator> {
     timers: Vec<Timer, A>,
@@ -18,20 +19,20 @@ impl<A: Allocator> Model for Deadlines<A> {
 
     ghost Value = { Armed };
 
-    ghost use Rattle.deadlines.specs.DeadlinesFields.{armed, IsInOrder};
+    ghost use Rattle.deadlines.specs.DeadlinesFields.{deadlines_view, IsInOrder};
 
-    ghost view = { armed };
+    ghost view = { deadlines_view };
 
     ghost invariant = { IsInOrder };
 }
 
 /// The changes of one step, for which the deadlines have made room.
 #[derive(Drop)]
-pub struct Plan<A: Allocator> {
+pub struct DeadlinesPlan<A: Allocator> {
     changes: Vec<TimerChange, A>,
 }
 
-impl<A: Allocator> Model for Plan<A> {
+impl<A: Allocator> Model for DeadlinesPlan<A> {
     ghost use Rattle.std.specs.Prelude.{List};
     ghost use Rattle.deadlines.specs.declared.timer.TimerChange.{TimerChange};
 
@@ -58,13 +59,13 @@ fn place_of(timers: &[Timer], sid: Sid) -> usize
 
 // The timer at this place is that of the service.
 fn is_at(timers: &[Timer], place: usize, sid: Sid) -> bool
-    ensures { result ≡ is_of sid (slice_get timers.now place) }
+    ensures { result ≡ is_timer_of sid (slice_get timers.now place) }
 {
     timers.get(place).is_some_and(|timer| timer.sid == sid)
 }
 
 impl<A: Allocator + Copy> Deadlines<A> {
-    /// No timer is set. It takes no memory yet, and keeps the allocator.
+    /// No timer is set. It keeps the allocator.
     pub fn new(alloc: A) -> Deadlines<A>
         ensures { result.timers ≡ [] }
     {
@@ -76,7 +77,7 @@ impl<A: Allocator + Copy> Deadlines<A> {
     /// Sets the timer of a service to a moment, in place of the one that it had. `NoMemory` where the growth was refused; nothing
     /// has changed then, and the room that a plan was given is still there.
     pub fn set(&mut self, sid: Sid, at: At) -> Result<(), NoMemory>
-        ensures ok { OnOk result (self.new.timers ≡ set_to sid at self.old.timers) }
+        ensures ok { OnOk result (self.new.timers ≡ with_timer sid at self.old.timers) }
         ensures err { OnErr result (self.new.timers ≡ self.old.timers) }
         ensures same_room { OnErr result (self.old.spare_capacity ≤ self.new.spare_capacity) }
         ensures succeeds { 0 < self.old.spare_capacity → IsOk result }
@@ -89,7 +90,7 @@ impl<A: Allocator + Copy> Deadlines<A> {
     // Sets a timer for which there is room.
     fn put(&mut self, sid: Sid, at: At)
         requires { 0 < self.old.spare_capacity }
-        ensures timers { self.new.timers ≡ set_to sid at self.old.timers }
+        ensures timers { self.new.timers ≡ with_timer sid at self.old.timers }
         ensures room { self.old.spare_capacity ≤ self.new.spare_capacity + 1 }
     {
         let place = place_of(&self.timers, sid);
@@ -101,9 +102,9 @@ impl<A: Allocator + Copy> Deadlines<A> {
         }
     }
 
-    /// Clears the timer of a service, where it was set. Takes no memory.
+    /// Clears the timer of a service, where it was set.
     pub fn clear(&mut self, sid: Sid)
-        ensures timers { self.new.timers ≡ cleared sid self.old.timers }
+        ensures timers { self.new.timers ≡ without_timer sid self.old.timers }
         ensures room { self.old.spare_capacity ≤ self.new.spare_capacity }
     {
         let place = place_of(&self.timers, sid);
@@ -130,7 +131,7 @@ impl<A: Allocator + Copy> Deadlines<A> {
 
     /// Makes room for these changes, and changes nothing else: a plan that was made before keeps its room, also where this one is
     /// refused. `NoMemory` where a growth was refused; none is asked for where there is nothing to change.
-    pub fn prepare(&mut self, changes: &[TimerChange]) -> Result<Plan<A>, NoMemory>
+    pub fn prepare(&mut self, changes: &[TimerChange]) -> Result<DeadlinesPlan<A>, NoMemory>
         ensures ok { IfOk result (λ plan. plan ≡ changes.now) }
         ensures room { OnOk result (length changes.now ≤ self.new.spare_capacity) }
         ensures timers { self.new.timers ≡ self.old.timers }
@@ -141,13 +142,13 @@ impl<A: Allocator + Copy> Deadlines<A> {
         planned.reserve(changes.len())?;
         self.timers.reserve(changes.len())?;
         planned.extend_from_slice(changes).unwrap();
-        Ok(Plan { changes: planned })
+        Ok(DeadlinesPlan { changes: planned })
     }
 
-    /// Makes the changes of a plan that these deadlines made, where nothing changed in between. Takes no memory.
-    pub fn commit(&mut self, plan: Plan<A>)
+    /// Makes the changes of a plan that these deadlines made, where nothing changed in between.
+    pub fn commit(&mut self, plan: DeadlinesPlan<A>)
         requires { length plan ≤ self.old.spare_capacity }
-        ensures { self.new.timers ≡ changed_all plan self.old.timers }
+        ensures { self.new.timers ≡ with_timer_changes plan self.old.timers }
     {
         for change in &plan.changes {
             self.make(change);
@@ -157,7 +158,7 @@ impl<A: Allocator + Copy> Deadlines<A> {
     // One change, for which there is room.
     fn make(&mut self, change: &TimerChange)
         requires { 0 < self.old.spare_capacity }
-        ensures timers { self.new.timers ≡ changed self.old.timers change.now }
+        ensures timers { self.new.timers ≡ with_timer_change self.old.timers change.now }
         ensures room { self.old.spare_capacity ≤ self.new.spare_capacity + 1 }
     {
         match change {

@@ -4,5 +4,5 @@
 mod deadlines;
 mod timer;
 
-pub use deadlines::{Deadlines, Plan};
+pub use deadlines::{Deadlines, DeadlinesPlan};
 pub use timer::{Timer, TimerChange};

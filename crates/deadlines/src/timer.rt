@@ -1,6 +1,7 @@
+//! A service's timer, and one change of it.
 use s6_events::{At, Sid};
 
-/// The timer of a service, set to a moment. This project's own.
+/// The timer of a service, set to a moment.
 #[derive(Clone, Copy, PartialEq, Eq, Debug)]
 pub struct Timer {
     pub sid: Sid,

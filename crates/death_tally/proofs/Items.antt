@@ -1,11 +1,12 @@
 -- The items of words, one word after the other.
-use Rattle.std.proofs.Common.{◌≡◌, ℕ, ◌+◌, ◌<◌, List, [], ◌∷◌, ◌++◌, Bor, Bool, true, false, cond, refl, sym, ◌∙◌, ap, map, take, drop, length, get_or}
+use Rattle.std.proofs.Common.{◌≡◌, ℕ, ◌+◌, ◌<◌, List, [], ◌∷◌, ◌++◌, Bor, Bool, true, false, cond, refl, sym, ◌∙◌, ap, map, take, drop, length}
+use Rattle.std.proofs.Common.{get_or}
 use Rattle.std.specs.Prelude.{fold, Option, None, Some}
 use Rattle.std.proofs.Math.ListN.{get_or-map}
 use Rattle.std.proofs.lemmas.List.{length-map, take_more, take-append-drop}
 use Rattle.std.proofs.lemmas.List.Sums.{fold-append}
 use Rattle.death_tally.specs.declared.death_list.DeathItem.{DeathItem}
-use Rattle.death_tally.specs.DeathList.{item_of, and_item, with_word, items_of, list_of}
+use Rattle.death_tally.specs.DeathList.{spelled_item, and_item, with_word, items_of, list_of}
 
 -- the words, as texts, and the text at a place
 abbrev pub texts_of : List (Bor (List ℕ)) → List (List ℕ)
@@ -21,15 +22,16 @@ to_word words i lt =
 
 -- one more word
 more_words : (words : List (Bor (List ℕ))) (i : ℕ) (items : List DeathItem) → i < length words → items_of (take i (texts_of words)) ≡ Some items
-    → items_of (take (i + 1) (texts_of words)) ≡ and_item items (item_of (text_at words i))
+    → items_of (take (i + 1) (texts_of words)) ≡ and_item items (spelled_item (text_at words i))
 more_words words i items lt before =
     ap items_of (to_word words i lt)
     ∙ (fold-append with_word (Some []) (take i (texts_of words)) (text_at words i ∷ [])
     ∙ ap (λ found. with_word found (text_at words i)) before)
 
 -- a word that spells an item
-pub next_item : (words : List (Bor (List ℕ))) (i : ℕ) (items : List DeathItem) (item : DeathItem) → i < length words → items_of (take i (texts_of words)) ≡ Some items
-    → item_of (text_at words i) ≡ Some item → items_of (take (i + 1) (texts_of words)) ≡ Some (items ++ item ∷ [])
+pub next_item : (words : List (Bor (List ℕ))) (i : ℕ) (items : List DeathItem) (item : DeathItem) → i < length words
+    → items_of (take i (texts_of words)) ≡ Some items
+    → spelled_item (text_at words i) ≡ Some item → items_of (take (i + 1) (texts_of words)) ≡ Some (items ++ item ∷ [])
 next_item words i items item lt before is = more_words words i items lt before ∙ ap (and_item items) is
 
 pub none_stays : (words : List (List ℕ)) → fold with_word None words ≡ None
@@ -42,7 +44,7 @@ none_anyway false x h = refl
 
 -- a word that spells none
 pub no_list : (words : List (Bor (List ℕ))) (i : ℕ) (items : List DeathItem) → i < length words → items_of (take i (texts_of words)) ≡ Some items
-    → item_of (text_at words i) ≡ None → list_of (texts_of words) ≡ None
+    → spelled_item (text_at words i) ≡ None → list_of (texts_of words) ≡ None
 no_list words i items lt before is =
     none_anyway _ (items_of (texts_of words))
     (ap items_of (sym (take-append-drop (i + 1) (texts_of words)))

@@ -1,42 +1,44 @@
 -- Which lists of exits there are, and which exits they name.
-use Rattle.std.specs.Prelude.{ℕ, ◌+◌, List, [], ◌∷◌, ◌++◌, fold, take, drop, position, Bool, false, ◌==◌, ◌&&◌, nat_le, length, Option, Some, None, option_map, if◌then◌else◌}
+use Rattle.std.specs.Prelude.{ℕ, ◌+◌, List, [], ◌∷◌, ◌++◌, fold, take, drop, position, Bool, false, ◌==◌, ◌&&◌, nat_le}
+use Rattle.std.specs.Prelude.{length, Option, Some, None, option_map, if◌then◌else◌}
 use Rattle.std.specs.List.{list_any, slice_split}
 use Rattle.s6_events.specs.declared.exit.Exit.{Exit}
-use Rattle.s6_events.specs.declared.exit.Exit.TheVariants.{Code as EndedBy, Killed}
+use Rattle.s6_events.specs.declared.exit.Exit.TheVariants as exit_kind
 use Rattle.servicedir.specs.Number.{number_up_to}
 use Rattle.servicedir.specs.SignalName.{signal_of_word}
 use Rattle.death_tally.specs.declared.death_list.DeathItem.{DeathItem}
 use Rattle.death_tally.specs.declared.death_list.DeathItem.TheVariants.{Code, Range, Signal}
 
 -- an item names an exit
-abbrev pub names_exit : DeathItem → Exit → Bool
-names_exit (Code code) (EndedBy c) = code == c
-names_exit (Range low high) (EndedBy c) = nat_le low c && nat_le c high
-names_exit (Signal number) (Killed k) = number == k
-names_exit item exit = false
+abbrev pub item_names : DeathItem → Exit → Bool
+item_names (Code code) (exit_kind.Code c) = code == c
+item_names (Range low high) (exit_kind.Code c) = nat_le low c && nat_le c high
+item_names (Signal number) (exit_kind.Killed k) = number == k
+item_names item exit = false
 
 -- a list names an exit
 abbrev pub list_names : List DeathItem → Exit → Bool
-list_names items exit = list_any (λ item. names_exit item exit) items
+list_names items exit = list_any (λ item. item_names item exit) items
 
 -- a word by itself: a number up to 255, or else the name of a signal
-abbrev pub code_or_signal : Option ℕ → Option ℕ → Option DeathItem
-code_or_signal (Some code) signal = Some (Code code)
-code_or_signal None signal = option_map Signal signal
+abbrev pub spelled_exit : Option ℕ → Option ℕ → Option DeathItem
+spelled_exit (Some code) signal = Some (Code code)
+spelled_exit None signal = option_map Signal signal
 
 -- two numbers with a dash between them: a range that rises or has one number
-abbrev pub range_of : Option ℕ → Option ℕ → Option DeathItem
-range_of (Some low) (Some high) = if nat_le low high then Some (Range low high) else None
-range_of low high = None
+abbrev pub spelled_range : Option ℕ → Option ℕ → Option DeathItem
+spelled_range (Some low) (Some high) = if nat_le low high then Some (Range low high) else None
+spelled_range low high = None
 
 -- an item, from the word and the place of its first dash
 abbrev pub item_with_dash : Option ℕ → List ℕ → Option DeathItem
-item_with_dash None word = code_or_signal (number_up_to 255 word) (signal_of_word word)
-item_with_dash (Some place) word = range_of (number_up_to 255 (take place word)) (number_up_to 255 (drop (place + 1) word))
+item_with_dash None word = spelled_exit (number_up_to 255 word) (signal_of_word word)
+item_with_dash (Some place) word = spelled_range (number_up_to 255 (take place word))
+    (number_up_to 255 (drop (place + 1) word))
 
 -- the item that a word spells
-abbrev pub item_of : List ℕ → Option DeathItem
-item_of word = item_with_dash (position (λ b. b == 45) word) word
+abbrev pub spelled_item : List ℕ → Option DeathItem
+spelled_item word = item_with_dash (position (λ b. b == 45) word) word
 
 -- one more item, where there is one
 abbrev pub and_item : List DeathItem → Option DeathItem → Option (List DeathItem)
@@ -45,7 +47,7 @@ and_item items (Some item) = Some (items ++ item ∷ [])
 
 abbrev pub with_word : Option (List DeathItem) → List ℕ → Option (List DeathItem)
 with_word None word = None
-with_word (Some items) word = and_item items (item_of word)
+with_word (Some items) word = and_item items (spelled_item word)
 
 -- the items that words spell, or none where one of them spells none
 abbrev pub items_of : List (List ℕ) → Option (List DeathItem)

@@ -1,8 +1,9 @@
+//! Lists of exits, as `s6-permafailon` takes them.
 ghost use Rattle.std.specs.Prelude.{◌≡◌, ◌==◌, ◌<◌, length, map, position, IfSome, IfOk};
 ghost use Rattle.std.specs.List.{slice_split};
 ghost use Rattle.servicedir.specs.Number.{number_up_to};
 ghost use Rattle.servicedir.specs.SignalName.{signal_of_word};
-ghost use Rattle.death_tally.specs.DeathList.{names_exit as is_named, list_names, code_or_signal as one_of_both, range_of as range_between, item_of as spelled_item, list_of, death_list};
+ghost use Rattle.death_tally.specs.DeathList.{item_names, list_names, spelled_exit, spelled_range, spelled_item, list_of, death_list};
 
 use arrayvec::ArrayVec;
 use s6_events::{Exit, NoMemory};
@@ -28,7 +29,7 @@ impl Default for DeathItem {
     }
 }
 
-/// A list of exits: 1 to 32 items. Page `s6-permafailon`; the limit is this project's own.
+/// A list of exits: 1 to 32 items. Page `s6-permafailon`; the limit is chosen here.
 #[derive(Clone, Debug, Drop)]
 pub struct DeathList {
     items: ArrayVec<DeathItem, 32>,
@@ -45,7 +46,7 @@ impl Model for DeathList {
 
 // Whether an item names the exit.
 fn names_exit(item: &DeathItem, exit: Exit) -> bool
-    ensures { result ≡ is_named item.now exit }
+    ensures { result ≡ item_names item.now exit }
 {
     match (*item, exit) {
         (DeathItem::Code(code), Exit::Code(c)) => code == c,
@@ -65,7 +66,7 @@ fn code_of(word: &[u8]) -> Option<u8>
 
 // The item that a word with no dash spells.
 fn code_or_signal(word: &[u8]) -> Option<DeathItem>
-    ensures { result ≡ one_of_both (number_up_to 255 word.now) (signal_of_word word.now) }
+    ensures { result ≡ spelled_exit (number_up_to 255 word.now) (signal_of_word word.now) }
 {
     match code_of(word) {
         Some(code) => Some(DeathItem::Code(code)),
@@ -75,7 +76,7 @@ fn code_or_signal(word: &[u8]) -> Option<DeathItem>
 
 // The item that two words with a dash between them spell.
 fn range_of(low: &[u8], high: &[u8]) -> Option<DeathItem>
-    ensures { result ≡ range_between (number_up_to 255 low.now) (number_up_to 255 high.now) }
+    ensures { result ≡ spelled_range (number_up_to 255 low.now) (number_up_to 255 high.now) }
 {
     let low = code_of(low)?;
     let high = code_of(high)?;
@@ -106,7 +107,8 @@ fn item_of(word: &[u8]) -> Option<DeathItem>
 
 // The words of a text, between its commas.
 fn words_of<A: Allocator + Copy>(alloc: A, text: &[u8]) -> Result<Vec<&[u8], A>, AllocError>
-    ensures { IfOk result (λ words. map (λ w. w.now) words.items ≡ slice_split (λ b. b == 44) text.now) }
+    ensures { IfOk result (λ words. map (λ w. w.now) words.items
+        ≡ slice_split (λ b. b == 44) text.now) }
 {
     text.split(|byte| *byte == b',').collect(alloc)
 }

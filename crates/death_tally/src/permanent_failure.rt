@@ -1,5 +1,6 @@
+//! Whether enough listed deaths came within the last seconds.
 ghost use Rattle.std.specs.Prelude.{◌≡◌, length, filter};
-ghost use Rattle.death_tally.specs.PermanentFailure.{counts as is_counted, is_permanent};
+ghost use Rattle.death_tally.specs.PermanentFailure.{is_counted, are_permanent_failure};
 
 use super::death_list::DeathList;
 use super::tally::Tally;
@@ -28,7 +29,7 @@ fn count_of(deaths: &[(At, Exit)], now: At, seconds: u32, list: &DeathList) -> u
 }
 
 /// Whether at least `count` of the deaths that the tally has are no longer ago than so many seconds and are named by the list: a
-/// permanent failure. A count of 0 is always met. Takes no memory. Page `s6-permafailon`; what a count of 0 means is this project's
+/// permanent failure. A count of 0 is always met. Page `s6-permafailon`; what a count of 0 means is this project's
 /// own rule.
 pub fn permafails<A: Allocator + Copy>(
     tally: &Tally<A>,
@@ -37,7 +38,7 @@ pub fn permafails<A: Allocator + Copy>(
     count: u32,
     list: &DeathList,
 ) -> bool
-    ensures { result ≡ is_permanent now seconds count list.now tally.now.kept }
+    ensures { result ≡ are_permanent_failure now seconds count list.now tally.now.kept }
 {
     count_of(tally.as_slice(), now, seconds, list) >= u64::from(count)
 }

@@ -1,3 +1,4 @@
+//! The last deaths of a service.
 ghost use Rattle.std.specs.Prelude.{◌≡◌, ◌++◌, ◌∷◌, [], IfOk, List, ℕ};
 ghost use Rattle.s6_events.specs.declared.exit.Exit.{Exit};
 ghost use Rattle.death_tally.specs.LastDeaths.{Tallies, new_tally, with_death};
@@ -36,10 +37,11 @@ impl<A: Allocator + Copy> Tally<A> {
         Ok(Tally { deaths, most })
     }
 
-    /// One more death. Where the tally is full the oldest is forgotten. Takes no memory.
+    /// One more death. Where the tally is full the oldest is forgotten.
     pub fn add(&mut self, at: At, exit: Exit)
         ensures kept { self.new ≡ with_death self.old (at, exit) }
-        ensures last { (all : List (ℕ × Exit)) → Tallies self.old all → Tallies self.new (all ++ (at, exit) ∷ []) }
+        ensures last { (all : List (ℕ × Exit)) → Tallies self.old all
+            → Tallies self.new (all ++ (at, exit) ∷ []) }
     {
         if self.most == 0 {
             return;

@@ -14,7 +14,8 @@ own_tree : (P : Nested Re × Names → Type 0) (o : Option (Nested Re × Names))
 own_tree P None h = absurd h
 own_tree P (Some p) h = same_refl p.0.value
 
-read_as_itself : (r : Regex) (text : List ℕ) → regex_source r ≡ text → regex_config r ≡ default_config → IsReadFromSource r → IsReadAs default_config text (pattern_of_text text)
+read_as_itself : (r : Regex) (text : List ℕ) → regex_source r ≡ text → regex_config r ≡ default_config → IsReadFromSource r
+    → IsReadAs default_config text (pattern_of_text text)
 unfolding Reads pattern_of_text
 read_as_itself r text e d is = own_tree _ (read default_config (chars text)) (rw (e, d) at is)
 
@@ -23,7 +24,8 @@ read_some P None h = absurd h
 read_some P (Some p) h = refl
 
 -- the text of a built pattern is an expression
-pub built_expression : (r : Regex) (text : List ℕ) → regex_source r ≡ text → regex_config r ≡ default_config → IsReadFromSource r → is_expression text ≡ true
+pub built_expression : (r : Regex) (text : List ℕ) → regex_source r ≡ text → regex_config r ≡ default_config → IsReadFromSource r
+    → is_expression text ≡ true
 unfolding Reads
 built_expression r text e d is = read_some _ (read default_config (chars text)) (rw (e, d) at is)
 

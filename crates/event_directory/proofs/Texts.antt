@@ -1,5 +1,6 @@
 -- The texts of subscriptions, once a letter more has come.
-use Rattle.std.proofs.Common.{◌≡◌, ℕ, suc, ◌≤◌, ◌==◌, List, [], ◌∷◌, ◌++◌, Bool, true, false, cond, length, drop, map, filter, All, bytes_eq, option_map, None, Some, refl, sym, ap, ◌∙◌, arith}
+use Rattle.std.proofs.Common.{◌≡◌, ℕ, suc, ◌≤◌, ◌==◌, List, [], ◌∷◌, ◌++◌, Bool, true, false, cond, length, drop, map, filter, All, bytes_eq}
+use Rattle.std.proofs.Common.{option_map, None, Some, refl, sym, ap, ◌∙◌, arith}
 use Rattle.std.specs.List.{cons_option, list_any}
 use Rattle.std.proofs.lemmas.Bool.{false≢true}
 use Rattle.std.proofs.lemmas.List.{append-nil, drop-append-le, length-append}
@@ -10,44 +11,50 @@ use Rattle.s6_events.specs.Newest.{mark_of}
 use Rattle.s6_events.specs.declared.mark.Mark.{Mark}
 use Rattle.s6_events.specs.declared.moment.Moment.{Moment}
 use Rattle.s6_events.specs.declared.moment.Moment.TheVariants.{Clock, Event}
-use Rattle.event_directory.specs.Directories.{Directories, FreeDirectory, Placed, is_same, letters_of, sent_to, text_from, place_now, subscribed, after_moment, with_letter, after_sent}
-use Rattle.event_directory.specs.Sending.{grown}
+use Rattle.event_directory.specs.Directories.{WrittenDirectories, FreeDirectory, WrittenSubscription, is_same_source, letters_of, sent_to}
+use Rattle.event_directory.specs.Directories.{text_from, place_now, with_text, directories_after_moment, free_with_letter, after_sent}
+use Rattle.event_directory.specs.Sending.{with_more_text}
 use Rattle.event_directory.specs.declared.source.Source.{Source}
 use Rattle.event_directory.specs.declared.source.Source.TheVariants.{Service, Directory}
 use Rattle.event_directory.proofs.Sources.{is_same_true, is_same-sym}
 
 -- what a letter of one source is to another
 abbrev pub letter_for : Source → Source → ℕ → List ℕ
-letter_for s of x = cond (is_same s of) (x ∷ []) []
+letter_for s of x = cond (is_same_source s of) (x ∷ []) []
 
 -- each text has these letters more
-abbrev pub Grow : Directories → Directories → (Source → List ℕ) → Type 0
+abbrev pub Grow : WrittenDirectories → WrittenDirectories → (Source → List ℕ) → Type 0
 Grow d new letters = (s : Source) (place : ℕ) → place ≤ place_now s d → text_from s place new ≡ text_from s place d ++ letters s
 
 -- no place is past its source
-abbrev pub ArePlaced : Directories → List Placed → Type 0
+abbrev pub ArePlaced : WrittenDirectories → List WrittenSubscription → Type 0
 ArePlaced d ps = All (λ p. p.place ≤ place_now p.source d) ps
 
-placed_rest : (d : Directories) (p : Placed) (ps : List Placed) → ArePlaced d (p ∷ ps) → ArePlaced d ps
+placed_rest : (d : WrittenDirectories) (p : WrittenSubscription) (ps : List WrittenSubscription) → ArePlaced d (p ∷ ps) → ArePlaced d ps
 placed_rest d p ps all = λ k q lt. all (suc k) q (omega arith)
 
-text_grown : (d new : Directories) (letters : Source → List ℕ) → Grow d new letters → (s : Source) (p : Placed) → is_same s p.source ≡ true → p.place ≤ place_now p.source d →
+text_grown : (d new : WrittenDirectories) (letters : Source → List ℕ) → Grow d new letters → (s : Source) (p : WrittenSubscription)
+    → is_same_source s p.source ≡ true → p.place ≤ place_now p.source d →
     text_from p.source p.place new ≡ text_from p.source p.place d ++ letters s
 text_grown d new letters grow s p e le =
     grow p.source p.place le ∙ ap (λ t. text_from p.source p.place d ++ letters t) (sym (is_same_true s p.source e))
 
-hearing_by : (d new : Directories) (letters : Source → List ℕ) → Grow d new letters → (s : Source) (p : Placed) (ps : List Placed) (b : Bool) → is_same s p.source ≡ b → p.place ≤ place_now p.source d →
-    map (subscribed new) ps ≡ map (grown (letters s)) (map (subscribed d) ps) →
-    map (subscribed new) (cond b (p ∷ ps) ps) ≡ map (grown (letters s)) (map (subscribed d) (cond b (p ∷ ps) ps))
+hearing_by : (d new : WrittenDirectories) (letters : Source → List ℕ) → Grow d new letters
+    → (s : Source) (p : WrittenSubscription) (ps : List WrittenSubscription) (b : Bool) → is_same_source s p.source ≡ b
+    → p.place ≤ place_now p.source d →
+    map (with_text new) ps ≡ map (with_more_text (letters s)) (map (with_text d) ps) →
+    map (with_text new) (cond b (p ∷ ps) ps) ≡ map (with_more_text (letters s)) (map (with_text d) (cond b (p ∷ ps) ps))
 hearing_by d new letters grow s p ps true e le rest = λ i.
     record { id = p.id; pattern = p.pattern; repeats = p.repeats; text = text_grown d new letters grow s p e le i } ∷ rest i
 hearing_by d new letters grow s p ps false e le rest = rest
 
-pub hearing_grown : (d new : Directories) (letters : Source → List ℕ) → Grow d new letters → (s : Source) (ps : List Placed) → ArePlaced d ps →
-    map (subscribed new) (filter (λ p. is_same s p.source) ps) ≡ map (grown (letters s)) (map (subscribed d) (filter (λ p. is_same s p.source) ps))
+pub hearing_grown : (d new : WrittenDirectories) (letters : Source → List ℕ) → Grow d new letters → (s : Source) (ps : List WrittenSubscription)
+    → ArePlaced d ps →
+    map (with_text new) (filter (λ p. is_same_source s p.source) ps)
+    ≡ map (with_more_text (letters s)) (map (with_text d) (filter (λ p. is_same_source s p.source) ps))
 hearing_grown d new letters grow s [] all = refl
 hearing_grown d new letters grow s (p ∷ ps) all =
-    hearing_by d new letters grow s p (filter (λ p. is_same s p.source) ps) (is_same s p.source) refl (all 0 p (omega arith))
+    hearing_by d new letters grow s p (filter (λ p. is_same_source s p.source) ps) (is_same_source s p.source) refl (all 0 p (omega arith))
     (hearing_grown d new letters grow s ps (placed_rest d p ps all))
 
 -- a moment of a service
@@ -67,7 +74,7 @@ not_free : (m : Moment) (name : List ℕ) → moment_letters m (Directory name) 
 not_free (Clock at) name = refl
 not_free (Event sid mark) name = refl
 
-pub moment_grows : (d : Directories) (m : Moment) → Grow d (after_moment d m) (moment_letters m)
+pub moment_grows : (d : WrittenDirectories) (m : Moment) → Grow d (directories_after_moment d m) (moment_letters m)
 moment_grows d m (Service sid) place le =
     ap (letters_of sid) (drop-append-le place d.history (m ∷ []) le)
     ∙ filter_map-append (λ m. option_map letter_of (mark_of sid m)) (drop place d.history) (m ∷ [])
@@ -75,7 +82,7 @@ moment_grows d m (Service sid) place le =
 moment_grows d m (Directory name) place le =
     sym (append-nil _) ∙ ap (λ l. drop place (sent_to name d.free) ++ l) (sym (not_free m name))
 
-pub moment_places : (d : Directories) (m : Moment) (s : Source) → place_now s d ≤ place_now s (after_moment d m)
+pub moment_places : (d : WrittenDirectories) (m : Moment) (s : Source) → place_now s d ≤ place_now s (directories_after_moment d m)
 moment_places d m (Service sid) = omega (arith, length-append d.history (m ∷ []))
 moment_places d m (Directory name) = omega arith
 
@@ -87,46 +94,54 @@ named_by : (x : ℕ) (f : FreeDirectory) (b : Bool) → (cond b (record f { lett
 named_by x f true = refl
 named_by x f false = refl
 
-pub same_names : (name : List ℕ) (x : ℕ) (free : List FreeDirectory) → names_of (map (with_letter name x) free) ≡ names_of free
+pub same_names : (name : List ℕ) (x : ℕ) (free : List FreeDirectory) → names_of (map (free_with_letter name x) free) ≡ names_of free
 same_names name x [] = refl
 same_names name x (f ∷ fs) = λ i. named_by x f (bytes_eq name f.name) i ∷ same_names name x fs i
 
-other_by : (n name : List ℕ) (x : ℕ) (f : FreeDirectory) (new old : List ℕ) (b : Bool) → bytes_eq name f.name ≡ b → bytes_eq n name ≡ false → new ≡ old →
-    cond (bytes_eq n (cond b (record f { letters = f.letters ++ x ∷ [] }) f).name) (cond b (record f { letters = f.letters ++ x ∷ [] }) f).letters new ≡ cond (bytes_eq n f.name) f.letters old
+other_by : (n name : List ℕ) (x : ℕ) (f : FreeDirectory) (new old : List ℕ) (b : Bool) → bytes_eq name f.name ≡ b → bytes_eq n name ≡ false
+    → new ≡ old →
+    cond (bytes_eq n (cond b (record f { letters = f.letters ++ x ∷ [] }) f).name)
+    (cond b (record f { letters = f.letters ++ x ∷ [] }) f).letters new ≡ cond (bytes_eq n f.name) f.letters old
 other_by n name x f new old true e not rest =
     let other : bytes_eq n f.name ≡ false = ap (bytes_eq n) (sym ((bytes_eq-Decides name f.name).0 e)) ∙ not in
     rw other rest
 other_by n name x f new old false e not rest = ap (cond (bytes_eq n f.name) f.letters) rest
 
-sent_other : (n name : List ℕ) (x : ℕ) (free : List FreeDirectory) → bytes_eq n name ≡ false → sent_to n (map (with_letter name x) free) ≡ sent_to n free
+sent_other : (n name : List ℕ) (x : ℕ) (free : List FreeDirectory) → bytes_eq n name ≡ false
+    → sent_to n (map (free_with_letter name x) free) ≡ sent_to n free
 sent_other n name x [] not = refl
 sent_other n name x (f ∷ fs) not = other_by n name x f _ _ (bytes_eq name f.name) refl not (sent_other n name x fs not)
 
 same_by : (name : List ℕ) (x : ℕ) (f : FreeDirectory) (new old : List ℕ) (b : Bool) → bytes_eq name f.name ≡ b → (b ≡ false → new ≡ old ++ x ∷ []) →
-    cond (bytes_eq name (cond b (record f { letters = f.letters ++ x ∷ [] }) f).name) (cond b (record f { letters = f.letters ++ x ∷ [] }) f).letters new ≡ cond (bytes_eq name f.name) f.letters old ++ x ∷ []
+    cond (bytes_eq name (cond b (record f { letters = f.letters ++ x ∷ [] }) f).name)
+    (cond b (record f { letters = f.letters ++ x ∷ [] }) f).letters new ≡ cond (bytes_eq name f.name) f.letters old ++ x ∷ []
 same_by name x f new old true e rest = rw e refl
 same_by name x f new old false e rest = rw e (rest refl)
 
-sent_same : (name : List ℕ) (x : ℕ) (free : List FreeDirectory) → list_any (λ f. bytes_eq name f.name) free ≡ true → sent_to name (map (with_letter name x) free) ≡ sent_to name free ++ x ∷ []
+sent_same : (name : List ℕ) (x : ℕ) (free : List FreeDirectory) → list_any (λ f. bytes_eq name f.name) free ≡ true
+    → sent_to name (map (free_with_letter name x) free) ≡ sent_to name free ++ x ∷ []
 sent_same name x [] has = absurd (false≢true has)
 sent_same name x (f ∷ fs) has =
     same_by name x f _ _ (bytes_eq name f.name) refl (λ e. sent_same name x fs (rw e at has))
 
-sent_by : (n name : List ℕ) (x : ℕ) (free : List FreeDirectory) (b : Bool) → bytes_eq n name ≡ b → list_any (λ f. bytes_eq name f.name) free ≡ true →
-    sent_to n (map (with_letter name x) free) ≡ sent_to n free ++ cond b (x ∷ []) []
+sent_by : (n name : List ℕ) (x : ℕ) (free : List FreeDirectory) (b : Bool) → bytes_eq n name ≡ b
+    → list_any (λ f. bytes_eq name f.name) free ≡ true →
+    sent_to n (map (free_with_letter name x) free) ≡ sent_to n free ++ cond b (x ∷ []) []
 sent_by n name x free true e has = let same : n ≡ name = (bytes_eq-Decides n name).0 e in rw same (sent_same name x free has)
 sent_by n name x free false e has = sent_other n name x free e ∙ sym (append-nil _)
 
 pub sent_more : (n name : List ℕ) (x : ℕ) (free : List FreeDirectory) → list_any (λ f. bytes_eq name f.name) free ≡ true →
-    sent_to n (map (with_letter name x) free) ≡ sent_to n free ++ cond (bytes_eq n name) (x ∷ []) []
+    sent_to n (map (free_with_letter name x) free) ≡ sent_to n free ++ cond (bytes_eq n name) (x ∷ []) []
 sent_more n name x free has = sent_by n name x free (bytes_eq n name) refl has
 
-pub letter_grows : (name : List ℕ) (x : ℕ) (d : Directories) → list_any (λ f. bytes_eq name f.name) d.free ≡ true → Grow d (after_sent name d x) (λ s. letter_for s (Directory name) x)
+pub letter_grows : (name : List ℕ) (x : ℕ) (d : WrittenDirectories) → list_any (λ f. bytes_eq name f.name) d.free ≡ true
+    → Grow d (after_sent name d x) (λ s. letter_for s (Directory name) x)
 letter_grows name x d has (Service sid) place le = sym (append-nil _)
 letter_grows name x d has (Directory n) place le =
     ap (drop place) (sent_more n name x d.free has) ∙ drop-append-le place (sent_to n d.free) (cond (bytes_eq n name) (x ∷ []) []) le
 
-pub letter_places : (name : List ℕ) (x : ℕ) (d : Directories) → list_any (λ f. bytes_eq name f.name) d.free ≡ true → (s : Source) → place_now s d ≤ place_now s (after_sent name d x)
+pub letter_places : (name : List ℕ) (x : ℕ) (d : WrittenDirectories) → list_any (λ f. bytes_eq name f.name) d.free ≡ true → (s : Source)
+    → place_now s d ≤ place_now s (after_sent name d x)
 letter_places name x d has (Service sid) = omega arith
 letter_places name x d has (Directory n) =
     omega (arith, ap length (sent_more n name x d.free has), length-append (sent_to n d.free) (cond (bytes_eq n name) (x ∷ []) []))

@@ -3,8 +3,8 @@ use Rattle.std.specs.Prelude.{ℕ, List, [], ◌∷◌, ◌++◌, Bool, if◌the
 use Rattle.s6_events.specs.Mark.{letter_of}
 use Rattle.s6_events.specs.declared.moment.Moment.{Moment}
 use Rattle.s6_events.specs.declared.moment.Moment.TheVariants.{Clock, Event}
-use Rattle.event_directory.specs.Directories.{is_same}
-use Rattle.event_directory.specs.Remembered.{Followed, standing_at}
+use Rattle.event_directory.specs.Directories.{is_same_source}
+use Rattle.event_directory.specs.Remembered.{Followed, kept_at}
 use Rattle.event_directory.specs.Sending.{after_letter, hits_from}
 use Rattle.event_directory.specs.declared.hit.Hit.{Hit}
 use Rattle.event_directory.specs.declared.source.Source.{Source}
@@ -14,7 +14,9 @@ use Rattle.event_directory.specs.declared.source.Source.TheVariants.{Service, Di
 abbrev pub heard_more : (List ℕ → List ℕ → Bool) → Source → ℕ → List Followed → List Followed
 heard_more test source x [] = []
 heard_more test source x (f ∷ fs) =
-    if is_same source f.source then (record { source = f.source; standing = after_letter test x f.standing } ∷ fs) else (f ∷ heard_more test source x fs)
+    if is_same_source source f.source then
+    (record { source = f.source; standing = after_letter test x f.standing } ∷ fs)
+    else (f ∷ heard_more test source x fs)
 
 -- one moment more
 abbrev pub heard_moment : (List ℕ → List ℕ → Bool) → Moment → List Followed → List Followed
@@ -24,7 +26,7 @@ heard_moment test (Event sid mark) fs = heard_more test (Service sid) (letter_of
 -- what it gives
 abbrev pub hits_of_moment : (List ℕ → List ℕ → Bool) → Moment → List Followed → List (ℕ × Hit)
 hits_of_moment test (Clock at) fs = []
-hits_of_moment test (Event sid mark) fs = hits_from test (letter_of mark) (standing_at (Service sid) fs)
+hits_of_moment test (Event sid mark) fs = hits_from test (letter_of mark) (kept_at (Service sid) fs)
 
 -- several moments
 abbrev pub heard_moments : (List ℕ → List ℕ → Bool) → List Moment → List Followed → List Followed
@@ -45,4 +47,5 @@ heard_message test name (x ∷ xs) fs = heard_message test name xs (heard_more t
 abbrev pub hits_of_message : (List ℕ → List ℕ → Bool) → List ℕ → List ℕ → List Followed → List (ℕ × Hit)
 hits_of_message test name [] fs = []
 hits_of_message test name (x ∷ xs) fs =
-    hits_from test x (standing_at (Directory name) fs) ++ hits_of_message test name xs (heard_more test (Directory name) x fs)
+    hits_from test x (kept_at (Directory name) fs)
+    ++ hits_of_message test name xs (heard_more test (Directory name) x fs)

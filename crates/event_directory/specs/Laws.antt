@@ -1,17 +1,18 @@
 -- Laws of the list of a subscription.
 use Rattle.std.specs.Prelude.{◌≡◌, ℕ, ◌≤◌, ◌<◌, List, [], ◌∷◌, ◌++◌, Bool, true, false, length, take, Some, None}
 use Rattle.s6_events.specs.Rising.{AreRising}
-use Rattle.event_directory.specs.Directories.{Directories, hearing}
-use Rattle.event_directory.specs.Remembered.{AreHeard, Shown}
+use Rattle.event_directory.specs.Directories.{WrittenDirectories, subscriptions_to}
+use Rattle.event_directory.specs.Remembered.{AreHeard, DirectoriesShown}
 use Rattle.event_directory.specs.Sending.{hit_ids, hits_of_letter}
-use Rattle.event_directory.specs.SubscriberList.{least_match, heard_by, heard, listening, next}
+use Rattle.event_directory.specs.SubscriberList.{least_match, list_by, subscriber_list, live_with, list_with_letter}
 use Rattle.event_directory.specs.declared.source.Source.{Source}
 
 -- a list is that of the least match of its text, and then the list of what follows that match
 abbrev pub BeginsAgain : Type 0
 BeginsAgain =
     (find : List ℕ → Bool) (repeats : Bool) (text : List ℕ) →
-    heard find repeats text ≡ heard_by (least_match find text) (λ rest. heard find repeats rest) repeats text
+    subscriber_list find repeats text ≡ list_by (least_match find text)
+    (λ rest. subscriber_list find repeats rest) repeats text
 
 -- the first k letters of the text have a match, and no fewer of them have one
 pub record IsLeastMatch (find : List ℕ → Bool) (text : List ℕ) (k : ℕ) : Type 0 where
@@ -23,7 +24,8 @@ pub record IsLeastMatch (find : List ℕ → Bool) (text : List ℕ) (k : ℕ) :
 
 -- a least match is one
 abbrev pub LeastIsLeast : Type 0
-LeastIsLeast = (find : List ℕ → Bool) (text : List ℕ) (k : ℕ) → least_match find text ≡ Some k → IsLeastMatch find text k
+LeastIsLeast = (find : List ℕ → Bool) (text : List ℕ) (k : ℕ) → least_match find text ≡ Some k
+    → IsLeastMatch find text k
 
 -- without a least match there is none at all, in the letters that are searched
 abbrev pub NoneIsNone : Type 0
@@ -33,16 +35,16 @@ NoneIsNone =
 
 -- the list of a text without letters is live and empty
 abbrev pub StartsLive : Type 0
-StartsLive = (find : List ℕ → Bool) (repeats : Bool) → heard find repeats [] ≡ listening []
+StartsLive = (find : List ℕ → Bool) (repeats : Bool) → subscriber_list find repeats [] ≡ live_with []
 
 -- the list of a text with one letter more is found from the list of the text
 abbrev pub GrowsByLetters : Type 0
 GrowsByLetters =
     (find : List ℕ → Bool) (repeats : Bool) (x : ℕ) (text : List ℕ) →
-    heard find repeats (text ++ x ∷ []) ≡ next find repeats x (heard find repeats text)
+    subscriber_list find repeats (text ++ x ∷ []) ≡ list_with_letter find repeats x (subscriber_list find repeats text)
 
 -- in all directories that are remembered, the matches of a letter come in rising serial, whatever its source
 abbrev pub MatchesRise : Type 0
 MatchesRise =
-    (test : List ℕ → List ℕ → Bool) (s : Shown) (d : Directories) → AreHeard test s d →
-    (source : Source) (x : ℕ) → AreRising (hit_ids (hits_of_letter test x (hearing source d)))
+    (test : List ℕ → List ℕ → Bool) (s : DirectoriesShown) (d : WrittenDirectories) → AreHeard test s d →
+    (source : Source) (x : ℕ) → AreRising (hit_ids (hits_of_letter test x (subscriptions_to source d)))

@@ -1,23 +1,23 @@
 -- What is stored of the event directories that are listened to.
 use Rattle.std.specs.Prelude.{◌≡◌, ℕ, List, [], ◌∷◌, false, if◌then◌else◌}
 use Rattle.std.specs.List.{list_any}
-use Rattle.event_directory.specs.Directories.{is_same}
+use Rattle.event_directory.specs.Directories.{is_same_source}
 use Rattle.event_directory.specs.Remembered.{Followed}
-use Rattle.event_directory.specs.Stored.{Kept}
+use Rattle.event_directory.specs.Stored.{StoredDirectory}
 use Rattle.event_directory.specs.declared.source.Source.{Source}
 
 -- the event directory of a source: what is kept of its subscriptions
 pub record Listened : Type 0 where
   pub source : Source
-  pub kept : Kept
+  pub kept : StoredDirectory
 
 -- as they stand
 abbrev pub followed_of : Listened → Followed
 followed_of l = record { source = l.source; standing = l.kept.standing }
 
 -- as they will stand once what is prepared is heard
-abbrev pub prepared_of : Listened → Followed
-prepared_of l = record { source = l.source; standing = l.kept.prepared }
+abbrev pub followed_after : Listened → Followed
+followed_after l = record { source = l.source; standing = l.kept.prepared }
 
 -- for how many more there is room
 abbrev pub room_of : Listened → Source × ℕ
@@ -26,11 +26,11 @@ room_of l = (l.source, l.kept.room)
 -- for how many more of this source there is room
 abbrev pub room_at : Source → List (Source × ℕ) → ℕ
 room_at source [] = 0
-room_at source (r ∷ rs) = if is_same source r.0 then r.1 else room_at source rs
+room_at source (r ∷ rs) = if is_same_source source r.0 then r.1 else room_at source rs
 
 -- nothing is listened to of this source
 abbrev pub IsAbsent : Source → List Source → Type 0
-IsAbsent source sources = list_any (is_same source) sources ≡ false
+IsAbsent source sources = list_any (is_same_source source) sources ≡ false
 
 -- no source stands twice
 abbrev pub AreDistinct : List Source → Type 0

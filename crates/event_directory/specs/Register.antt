@@ -1,14 +1,16 @@
 -- What is stored of all event directories, and what one change makes of it.
-use Rattle.std.specs.Prelude.{◌≡◌, ℕ, ◌<◌, ◌^◌, ◌==◌, List, [], ◌∷◌, ◌++◌, Bool, true, not, Option, None, Some, bytes_eq, filter, length, map, nat_le, if◌then◌else◌}
+use Rattle.std.specs.Prelude.{◌≡◌, ℕ, ◌<◌, ◌^◌, ◌==◌, List, [], ◌∷◌, ◌++◌, Bool, true, not, Option, None, Some}
+use Rattle.std.specs.Prelude.{bytes_eq, filter, length, map, nat_le, if◌then◌else◌}
 use Rattle.std.specs.List.{list_any}
 use Rattle.s6_events.specs.declared.moment.Moment.{Moment}
-use Rattle.event_directory.specs.Changes.{Change, directory_limit, subscription_limit, unless, refused_or}
-use Rattle.event_directory.specs.Changes.Change.{leave, make_directory, send, subscribe, unsubscribe}
-use Rattle.event_directory.specs.Directories.{is_same}
+use Rattle.event_directory.specs.Changes.{DirectoryRequest, directory_limit, subscription_limit, unless, refused_or}
+use Rattle.event_directory.specs.Changes.DirectoryRequest.{no_directory_request, make_directory, send, subscribe}
+use Rattle.event_directory.specs.Changes.DirectoryRequest.{unsubscribe}
+use Rattle.event_directory.specs.Directories.{is_same_source}
 use Rattle.event_directory.specs.Hearing.{heard_message, hits_of_message, heard_moments}
 use Rattle.event_directory.specs.Parts.{room_at, IsAbsent}
-use Rattle.event_directory.specs.Remembered.{Followed, Shown, Prepared, standing_at}
-use Rattle.event_directory.specs.Sending.{Standing, without, view_of}
+use Rattle.event_directory.specs.Remembered.{Followed, DirectoriesShown, DirectoriesPrepared, kept_at}
+use Rattle.event_directory.specs.Sending.{KeptSubscription, kept_without, view_of}
 use Rattle.event_directory.specs.declared.directory_change.DirectoryAnswer.{DirectoryAnswer}
 use Rattle.event_directory.specs.declared.directory_change.DirectoryAnswer.TheVariants as answer
 use Rattle.event_directory.specs.declared.directory_change.DirectoryFault.{DirectoryFault}
@@ -34,20 +36,20 @@ pub record Registered : Type 0 where
   pub source_room : ℕ
 
 -- what is there now
-abbrev pub shown_in : Registered → Shown
+abbrev pub shown_in : Registered → DirectoriesShown
 shown_in r = record { names = r.names; subscribers = r.subscribers; followed = r.followed; next = r.next }
 
 -- what will be there once what is prepared is heard
-abbrev pub prepared_in : Registered → Shown
+abbrev pub prepared_in : Registered → DirectoriesShown
 prepared_in r = record { names = r.names; subscribers = r.subscribers; followed = r.prepared; next = r.next }
 
 -- all but what is prepared
-abbrev pub unprepared : Registered → Registered
-unprepared r = record r { prepared = [] }
+abbrev pub without_prepared : Registered → Registered
+without_prepared r = record r { prepared = [] }
 
 -- all but what is heard and prepared
-abbrev pub unfollowed : Registered → Registered
-unfollowed r = record r { followed = []; prepared = [] }
+abbrev pub without_followed : Registered → Registered
+without_followed r = record r { followed = []; prepared = [] }
 
 -- the source of the subscription of this serial
 abbrev pub source_of : ℕ → List (ℕ × Source) → Option Source
@@ -61,42 +63,51 @@ subscribers_without id (s ∷ ss) = if s.0 == id then ss else (s ∷ subscribers
 
 -- the others than those of a source
 abbrev pub followed_others : Source → List Followed → List Followed
-followed_others source fs = filter (λ f. not (is_same source f.source)) fs
+followed_others source fs = filter (λ f. not (is_same_source source f.source)) fs
 
 -- a source that has no subscription left is not followed any more
-abbrev pub followed_if : Source → List Standing → List Followed → List Followed
+abbrev pub followed_if : Source → List KeptSubscription → List Followed → List Followed
 followed_if source [] fs = followed_others source fs
 followed_if source (s ∷ ss) fs = record { source = source; standing = s ∷ ss } ∷ fs
 
 -- the subscription of this serial and this source is ended
-abbrev pub left_at : ℕ → Source → List Followed → List Followed
-left_at id source [] = []
-left_at id source (f ∷ fs) = if is_same source f.source then followed_if f.source (without id f.standing) fs else (f ∷ left_at id source fs)
+abbrev pub without_subscription_at : ℕ → Source → List Followed → List Followed
+without_subscription_at id source [] = []
+without_subscription_at id source (f ∷ fs) =
+    if is_same_source source f.source then followed_if f.source (kept_without id f.standing) fs
+    else (f ∷ without_subscription_at id source fs)
 
 -- the same in all
-abbrev pub left_by : ℕ → Source → Shown → Shown
-left_by id source s = record {
+abbrev pub without_subscription_by : ℕ → Source → DirectoriesShown → DirectoriesShown
+without_subscription_by id source s = record {
   names = s.names;
   subscribers = subscribers_without id s.subscribers;
-  followed = left_at id source s.followed;
+  followed = without_subscription_at id source s.followed;
   next = s.next;
 }
 
 -- with one name more
-abbrev pub named : List ℕ → Shown → Shown
-named name s = record { names = s.names ++ name ∷ []; subscribers = s.subscribers; followed = s.followed; next = s.next }
+abbrev pub with_free_name : List ℕ → DirectoriesShown → DirectoriesShown
+with_free_name name s = record {
+  names = s.names ++ name ∷ [];
+  subscribers = s.subscribers;
+  followed =
+      s.followed;
+  next = s.next;
+}
 
 -- with what was heard
-abbrev pub following : List Followed → Shown → Shown
-following fs s = record { names = s.names; subscribers = s.subscribers; followed = fs; next = s.next }
+abbrev pub with_followed : List Followed → DirectoriesShown → DirectoriesShown
+with_followed fs s = record { names = s.names; subscribers = s.subscribers; followed = fs; next = s.next }
 
 -- what is left to be done when the step is made
-abbrev pub pended : {F A : Type 0} → Pending F A → Shown → Prepared
-pended pending.Nothing s = record { shown = s; joins = None }
-pended (pending.Make name) s = record { shown = named name s; joins = None }
-pended (pending.Join source) s = record { shown = s; joins = Some source }
-pended (pending.Start directory) s = record { shown = s; joins = Some directory.source }
-pended (pending.Leave id source) s = record { shown = left_by id source s; joins = None }
+abbrev pub prepared_by_pending : {F A : Type 0} → Pending F A → DirectoriesShown → DirectoriesPrepared
+prepared_by_pending pending.Nothing s = record { shown = s; joins = None }
+prepared_by_pending (pending.Make name) s = record { shown = with_free_name name s; joins = None }
+prepared_by_pending (pending.Join source) s = record { shown = s; joins = Some source }
+prepared_by_pending (pending.Start directory) s = record { shown = s; joins = Some directory.source }
+prepared_by_pending (pending.Unsubscribe id source) s =
+    record { shown = without_subscription_by id source s; joins = None }
 
 -- there is room for a subscription to a source that is listened to
 pub record CanJoin (source : Source) (r : Registered) : Type 0 where
@@ -105,7 +116,7 @@ pub record CanJoin (source : Source) (r : Registered) : Type 0 where
   pub next : r.next < 2 ^ 63
 
 -- there is room for a subscription to a source that is not listened to
-pub record CanStart (source : Source) (standing : List Standing) (room : ℕ) (r : Registered) : Type 0 where
+pub record CanStart (source : Source) (standing : List KeptSubscription) (room : ℕ) (r : Registered) : Type 0 where
   pub subscriber : 0 < r.subscriber_room
   pub directory : 0 < r.source_room
   pub place : 0 < room
@@ -119,65 +130,72 @@ HasRoom pending.Nothing r = Unit {0}
 HasRoom (pending.Make name) r = 0 < r.name_room
 HasRoom (pending.Join source) r = CanJoin source r
 HasRoom (pending.Start directory) r = CanStart directory.source directory.kept.standing directory.kept.room r
-HasRoom (pending.Leave id source) r = Unit {0}
+HasRoom (pending.Unsubscribe id source) r = Unit {0}
 
 -- whether a source is there
-abbrev pub is_named : Source → List (List ℕ) → Bool
-is_named (Service sid) names = true
-is_named (Directory name) names = list_any (bytes_eq name) names
+abbrev pub is_source_named : Source → List (List ℕ) → Bool
+is_source_named (Service sid) names = true
+is_source_named (Directory name) names = list_any (bytes_eq name) names
 
 -- why a change is refused, by the names and the subscribers
-abbrev pub stored_refusal : Change → List (List ℕ) → List (ℕ × Source) → Option DirectoryFault
-stored_refusal leave names subscribers = None
-stored_refusal (make_directory name) names subscribers = if list_any (bytes_eq name) names then Some Exists else if nat_le directory_limit (length names) then Some TooMany else None
+abbrev pub stored_refusal : DirectoryRequest → List (List ℕ) → List (ℕ × Source) → Option DirectoryFault
+stored_refusal no_directory_request names subscribers = None
+stored_refusal (make_directory name) names subscribers =
+    if list_any (bytes_eq name) names then Some Exists else if nat_le directory_limit (length names) then Some TooMany
+    else None
 stored_refusal (send name letters) names subscribers = if list_any (bytes_eq name) names then None else Some NoSuch
-stored_refusal (subscribe source) names subscribers = if not (is_named source names) then Some NoSuch else if nat_le subscription_limit (length subscribers) then Some TooMany else None
+stored_refusal (subscribe source) names subscribers =
+    if not (is_source_named source names) then Some NoSuch else if nat_le subscription_limit (length subscribers)
+    then Some TooMany else None
 stored_refusal (unsubscribe id) names subscribers = if list_any (λ s. s.0 == id) subscribers then None else Some NoSuch
 
 -- the subscription of this serial ends, if there is one
-abbrev pub left_of : Option Source → ℕ → Shown → Shown
-left_of None id s = s
-left_of (Some source) id s = left_by id source s
+abbrev pub without_subscription_of : Option Source → ℕ → DirectoriesShown → DirectoriesShown
+without_subscription_of None id s = s
+without_subscription_of (Some source) id s = without_subscription_by id source s
 
 -- what a change prepares that is not refused
-abbrev pub stored_change : (List ℕ → List ℕ → Bool) → Change → Shown → Prepared
-stored_change test leave s = record { shown = s; joins = None }
-stored_change test (make_directory name) s = record { shown = named name s; joins = None }
-stored_change test (send name letters) s = record { shown = following (heard_message test name letters s.followed) s; joins = None }
+abbrev pub stored_change : (List ℕ → List ℕ → Bool) → DirectoryRequest → DirectoriesShown → DirectoriesPrepared
+stored_change test no_directory_request s = record { shown = s; joins = None }
+stored_change test (make_directory name) s = record { shown = with_free_name name s; joins = None }
+stored_change test (send name letters) s =
+    record { shown = with_followed (heard_message test name letters s.followed) s; joins = None }
 stored_change test (subscribe source) s = record { shown = s; joins = Some source }
-stored_change test (unsubscribe id) s = record { shown = left_of (source_of id s.subscribers) id s; joins = None }
+stored_change test (unsubscribe id) s =
+    record { shown = without_subscription_of (source_of id s.subscribers) id s; joins = None }
 
 -- what it gives
-abbrev pub stored_given : (List ℕ → List ℕ → Bool) → Change → Shown → List (ℕ × Hit)
+abbrev pub stored_given : (List ℕ → List ℕ → Bool) → DirectoryRequest → DirectoriesShown → List (ℕ × Hit)
 stored_given test (send name letters) s = hits_of_message test name letters s.followed
 stored_given test change s = []
 
 -- how it is answered
-abbrev pub stored_told : Change → Shown → DirectoryAnswer
+abbrev pub stored_told : DirectoryRequest → DirectoriesShown → DirectoryAnswer
 stored_told (subscribe source) s = answer.Subscribed s.next
 stored_told change s = answer.Done
 
 -- the same of any change
-abbrev pub refusal_in : Change → Shown → Option DirectoryFault
+abbrev pub refusal_in : DirectoryRequest → DirectoriesShown → Option DirectoryFault
 refusal_in change s = stored_refusal change s.names s.subscribers
 
-abbrev pub prepared_change : (List ℕ → List ℕ → Bool) → Change → Shown → Prepared
-prepared_change test change s = unless (refusal_in change s) (stored_change test change s) (record { shown = s; joins = None })
+abbrev pub prepared_change : (List ℕ → List ℕ → Bool) → DirectoryRequest → DirectoriesShown → DirectoriesPrepared
+prepared_change test change s = unless (refusal_in change s) (stored_change test change s)
+    (record { shown = s; joins = None })
 
-abbrev pub given_change : (List ℕ → List ℕ → Bool) → Change → Shown → List (ℕ × Hit)
+abbrev pub given_change : (List ℕ → List ℕ → Bool) → DirectoryRequest → DirectoriesShown → List (ℕ × Hit)
 given_change test change s = unless (refusal_in change s) (stored_given test change s) []
 
-abbrev pub told_change : Change → Shown → DirectoryAnswer
+abbrev pub told_change : DirectoryRequest → DirectoriesShown → DirectoryAnswer
 told_change change s = refused_or (refusal_in change s) (stored_told change s)
 
 -- what is there after the moments of a step
-abbrev pub after_step : (List ℕ → List ℕ → Bool) → List Moment → Shown → Shown
-after_step test moments s = following (heard_moments test moments s.followed) s
+abbrev pub after_step : (List ℕ → List ℕ → Bool) → List Moment → DirectoriesShown → DirectoriesShown
+after_step test moments s = with_followed (heard_moments test moments s.followed) s
 
 -- the list and the state of the subscription of this serial and this source
-abbrev pub viewed : Option Source → ℕ → Shown → Option (List ℕ × State)
-viewed None id s = None
-viewed (Some source) id s = view_of id (standing_at source s.followed)
+abbrev pub view_at : Option Source → ℕ → DirectoriesShown → Option (List ℕ × State)
+view_at None id s = None
+view_at (Some source) id s = view_of id (kept_at source s.followed)
 
-abbrev pub view_in : ℕ → Shown → Option (List ℕ × State)
-view_in id s = viewed (source_of id s.subscribers) id s
+abbrev pub view_in : ℕ → DirectoriesShown → Option (List ℕ × State)
+view_in id s = view_at (source_of id s.subscribers) id s

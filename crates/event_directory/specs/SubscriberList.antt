@@ -1,5 +1,6 @@
 -- The list of a subscription, by its text alone: the letters that were sent since it was made.
-use Rattle.std.specs.Prelude.{ℕ, zero, suc, ◌-◌, List, [], ◌∷◌, ◌++◌, Bool, true, false, ◌&&◌, length, take, drop, min, nat_le, nat_lt, Option, None, Some, if◌then◌else◌, slice_index}
+use Rattle.std.specs.Prelude.{ℕ, zero, suc, ◌-◌, List, [], ◌∷◌, ◌++◌, Bool, true, false, ◌&&◌, length, take, drop, min}
+use Rattle.std.specs.Prelude.{nat_le, nat_lt, Option, None, Some, if◌then◌else◌, slice_index}
 use Rattle.std.specs.List.{filter}
 use Rattle.event_directory.specs.declared.sub_view.State.{State}
 use Rattle.event_directory.specs.declared.sub_view.State.TheVariants as state
@@ -35,31 +36,32 @@ pub record Heard : Type 0 where
   pub text : List ℕ
 
 -- live, with nothing heard yet
-abbrev pub listening : List ℕ → Heard
-listening text = record { letters = []; state = state.Live; text = text }
+abbrev pub live_with : List ℕ → Heard
+live_with text = record { letters = []; state = state.Live; text = text }
 
 -- ended in this state, with nothing heard yet
-abbrev pub ended : State → Heard
-ended s = record { letters = []; state = s; text = [] }
+abbrev pub over_in : State → Heard
+over_in s = record { letters = []; state = s; text = [] }
 
 -- with letters that were heard before
 abbrev pub after_hearing : List ℕ → Heard → Heard
 after_hearing letters h = record { letters = letters ++ h.letters; state = h.state; text = h.text }
 
 -- by the least match of the text: its letter, and then Done, or what is heard of the rest; without one, Overlong or Live
-abbrev pub heard_by : Option ℕ → (List ℕ → Heard) → Bool → List ℕ → Heard
-heard_by None follow repeats text = if nat_le 1025 (length text) then ended state.Overlong else listening text
-heard_by (Some k) follow repeats text =
-    after_hearing (slice_index text (k - 1) ∷ []) (if repeats then follow (drop k text) else ended state.Done)
+abbrev pub list_by : Option ℕ → (List ℕ → Heard) → Bool → List ℕ → Heard
+list_by None follow repeats text = if nat_le 1025 (length text) then over_in state.Overlong else live_with text
+list_by (Some k) follow repeats text =
+    after_hearing (slice_index text (k - 1) ∷ []) (if repeats then follow (drop k text) else over_in state.Done)
 
 -- of a text that has at most n letters
-unfoldable pub heard_within : ℕ → (List ℕ → Bool) → Bool → List ℕ → Heard
-heard_within zero find repeats text = listening text
-heard_within (suc n) find repeats text = heard_by (least_match find text) (λ rest. heard_within n find repeats rest) repeats text
+unfoldable pub list_within : ℕ → (List ℕ → Bool) → Bool → List ℕ → Heard
+list_within zero find repeats text = live_with text
+list_within (suc n) find repeats text =
+    list_by (least_match find text) (λ rest. list_within n find repeats rest) repeats text
 
 -- the list of a subscription whose pattern finds a match in the texts that pass `find`
-unfoldable pub heard : (List ℕ → Bool) → Bool → List ℕ → Heard
-heard find repeats text = heard_within (length text) find repeats text
+unfoldable pub subscriber_list : (List ℕ → Bool) → Bool → List ℕ → Heard
+subscriber_list find repeats text = list_within (length text) find repeats text
 
 -- whether it looks at the next letter
 abbrev pub is_live : State → Bool
@@ -72,17 +74,18 @@ is_overlong state.Overlong = true
 is_overlong _ = false
 
 -- what the letter x gave, by the list before it and with it: the list grew, or the text became overlong
-abbrev pub gained : ℕ → Heard → Heard → Option Hit
-gained x before with_it =
+abbrev pub hit_between : ℕ → Heard → Heard → Option Hit
+hit_between x before with_it =
     if nat_lt (length before.letters) (length with_it.letters) then Some (hit.Matched x)
     else if is_live before.state && is_overlong with_it.state then Some hit.Overlong
     else None
 
 -- the list with one letter more, by the list before it
-abbrev pub next : (List ℕ → Bool) → Bool → ℕ → Heard → Heard
-next find repeats x h =
+abbrev pub list_with_letter : (List ℕ → Bool) → Bool → ℕ → Heard → Heard
+list_with_letter find repeats x h =
     if is_live h.state then
     (if nat_le text_limit (length h.text) then record { letters = h.letters; state = state.Overlong; text = [] }
-    else if find (h.text ++ x ∷ []) then record { letters = h.letters ++ x ∷ []; state = (if repeats then state.Live else state.Done); text = [] }
+    else if find (h.text ++ x ∷ []) then record
+    { letters = h.letters ++ x ∷ []; state = (if repeats then state.Live else state.Done); text = [] }
     else record { letters = h.letters; state = state.Live; text = h.text ++ x ∷ [] })
     else h

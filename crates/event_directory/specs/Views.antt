@@ -1,10 +1,10 @@
 -- What a directory shows of a subscription.
 use Rattle.std.specs.Prelude.{ℕ, ◌==◌, List, [], ◌∷◌, Bool, Option, None, Some, if◌then◌else◌}
-use Rattle.event_directory.specs.Sending.{Subscribed, heard_of}
+use Rattle.event_directory.specs.Sending.{TextSubscription, heard_of}
 use Rattle.event_directory.specs.declared.sub_view.State.{State}
 
 -- what the subscription of this serial has heard, and its state
-abbrev pub list_of : (List ℕ → List ℕ → Bool) → ℕ → List Subscribed → Option (List ℕ × State)
-list_of test id [] = None
-list_of test id (s ∷ ss) =
-    if s.id == id then Some ((heard_of test s).letters, (heard_of test s).state) else list_of test id ss
+abbrev pub list_of_subscription : (List ℕ → List ℕ → Bool) → ℕ → List TextSubscription → Option (List ℕ × State)
+list_of_subscription test id [] = None
+list_of_subscription test id (s ∷ ss) =
+    if s.id == id then Some ((heard_of test s).letters, (heard_of test s).state) else list_of_subscription test id ss

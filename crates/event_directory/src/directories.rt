@@ -1,15 +1,15 @@
 //! All event directories of a tree.
 ghost use Rattle.std.specs.Prelude.{◌≡◌, ◌≤◌, ◌<◌, ◌+◌, ◌^◌, ◌++◌, [], IfOk, IsOkAnd, OnOk, OnErr, true, option_map};
-ghost use Rattle.event_directory.specs.Changes.{Offer, asked_by, matches_of, answer_to, after_change};
-ghost use Rattle.event_directory.specs.Changes.Change.{leave};
-ghost use Rattle.event_directory.specs.Directories.{Directories as WrittenDirectories, new_directories, list_named, matches_by, after_moments};
+ghost use Rattle.event_directory.specs.Changes.{Offer, directory_request_of, matches_of, directory_answer, directories_after_change};
+ghost use Rattle.event_directory.specs.Changes.DirectoryRequest.{no_directory_request};
+ghost use Rattle.event_directory.specs.Directories.{WrittenDirectories, new_directories, list_named, matches_by, directories_after_moments};
 ghost use Rattle.event_directory.specs.Hearing.{hits_of_moments};
 ghost use Rattle.event_directory.specs.Register.{prepared_change, given_change, told_change, after_step, view_in};
-ghost use Rattle.event_directory.specs.Remembered.{AreHeard, committed, unplanned};
+ghost use Rattle.event_directory.specs.Remembered.{AreHeard, directories_after_commit, nothing_prepared};
 ghost use Rattle.event_directory.specs.declared.directory_change.DirectoryAnswer.TheVariants as answer;
 
 use crate::directory_change::{DirectoryAnswer, DirectoryChange};
-use crate::directory_plan::DirectoryPlan;
+use crate::directory_plan::DirectoriesPlan;
 use crate::finds::Finds;
 use crate::pending::Pending;
 use crate::register::Register;
@@ -21,7 +21,7 @@ use std::marker::Model;
 
 /// All event directories of a tree: the free ones by name, at most 256, and at most 256 subscriptions to them and to services.
 /// Pages `fifodir`, `s6-mkfifodir`, `s6-ftrig-listen1` and `s6-ftrig-notify`; the limits, and that all is remembered in memory and
-/// not in folders of pipes, are this project's own.
+/// not in folders of pipes, are chosen here.
 ///
 /// A step is worked out first (`prepare`), which changes nothing that is shown, and then made (`commit`), which takes no memory.
 #[derive(Drop)]
@@ -34,25 +34,25 @@ pub struct Directories<F: Finds, A: Allocator> {
 
 impl<F: Finds, A: Allocator> Model for Directories<F, A> {
     ghost use Rattle.std.specs.Prelude.{if◌then◌else◌};
-    ghost use Rattle.event_directory.specs.Register.{shown_in, prepared_in, pended, HasRoom};
+    ghost use Rattle.event_directory.specs.Register.{shown_in, prepared_in, prepared_by_pending, HasRoom};
     ghost use Rattle.event_directory.specs.Remembered.{Remembered};
 
     ghost Value = { Remembered };
 
     ghost view = { λ d. record {
       shown = shown_in d.register;
-      prepared = pended d.pending (if d.is_prepared then prepared_in d.register else shown_in d.register);
+      prepared = prepared_by_pending d.pending (if d.is_prepared then prepared_in d.register else shown_in d.register);
     } };
 
     ghost invariant = { λ d. HasRoom d.pending d.register };
 }
 
 impl<F: Finds, A: Allocator + Copy> Directories<F, A> {
-    /// No directory, and no subscription. Takes no memory, and keeps the allocator.
+    /// No directory, and no subscription. It keeps the allocator.
     pub fn new(alloc: A) -> Directories<F, A>
         ensures empty { AreHeard F.test result.shown new_directories }
         ensures serials { result.shown.next ≡ 1 }
-        ensures idle { result.prepared ≡ unplanned result.shown }
+        ensures idle { result.prepared ≡ nothing_prepared result.shown }
     {
         Directories {
             register: Register::new(alloc),
@@ -61,7 +61,7 @@ impl<F: Finds, A: Allocator + Copy> Directories<F, A> {
         }
     }
 
-    /// What the subscription of this serial has heard, or None where there is none. Takes no memory. Page `s6-ftrig-listen1`.
+    /// What the subscription of this serial has heard, or None where there is none. Page `s6-ftrig-listen1`.
     pub fn list(&self, id: SubId) -> Option<SubView<'_>>
         ensures { (d : WrittenDirectories) → AreHeard F.test self.now.shown d →
             option_map (λ v. (v.letters.now, v.state)) result ≡ list_named F.test id d }
@@ -85,23 +85,26 @@ impl<F: Finds, A: Allocator + Copy> Directories<F, A> {
     /// subscription, does not stand. Then the moments alone are heard.
     ///
     /// The next serial is below 2^63. NoMemory where a growth was refused; then nothing is prepared. A step that does nothing takes no memory, and gives nothing.
-    /// Pages `s6-mkfifodir`, `s6-ftrig-notify` and `s6-ftrig-listen1`; the order of a step is this project's own.
+    /// Pages `s6-mkfifodir`, `s6-ftrig-notify` and `s6-ftrig-listen1`; the order of a step is chosen here.
     pub fn prepare(
         &mut self,
         moments: &[Moment],
         change: &DirectoryChange<'_>,
-    ) -> Result<DirectoryPlan<A>, NoMemory>
+    ) -> Result<DirectoriesPlan<A>, NoMemory>
         requires { self.old.shown.next < 2 ^ 63 }
         ensures matches { IfOk result (λ plan. (d : WrittenDirectories) → AreHeard F.test self.old.shown d →
-            plan.matches.items ≡ matches_by F.test d moments.now ++ matches_of F.test (asked_by change.now) (after_moments d moments.now)) }
+            plan.matches.items ≡ matches_by F.test d moments.now ++ matches_of F.test (directory_request_of change.now) (directories_after_moments d moments.now)) }
         ensures answer { IfOk result (λ plan. (d : WrittenDirectories) → AreHeard F.test self.old.shown d →
-            plan.answer ≡ answer_to (asked_by change.now) (after_moments d moments.now)) }
+            plan.answer ≡ directory_answer (directory_request_of change.now) (directories_after_moments d moments.now)) }
         ensures prepared { OnOk result ((offer : Offer) → (d : WrittenDirectories) → AreHeard F.test self.old.shown d →
-            AreHeard F.test (committed self.new.prepared offer) (after_change (asked_by change.now) offer (after_moments d moments.now))) }
-        ensures serials { OnOk result ((offer : Offer) → (committed self.new.prepared offer).next ≤ self.old.shown.next + 1) }
+            AreHeard F.test (directories_after_commit self.new.prepared offer) (directories_after_change (directory_request_of change.now) offer (directories_after_moments d moments.now))) }
+        ensures serials { OnOk result
+            ((offer : Offer) → (directories_after_commit self.new.prepared offer).next
+            ≤ self.old.shown.next + 1) }
         ensures shown { self.new.shown ≡ self.old.shown }
-        ensures idle { OnErr result (self.new.prepared ≡ unplanned self.old.shown) }
-        ensures quiet { moments.now ≡ [] → asked_by change.now ≡ leave → IsOkAnd result (λ plan. (plan.matches.items ≡ []) × (plan.answer ≡ answer.Done)) }
+        ensures idle { OnErr result (self.new.prepared ≡ nothing_prepared self.old.shown) }
+        ensures quiet { moments.now ≡ [] → directory_request_of change.now ≡ no_directory_request
+            → IsOkAnd result (λ plan. (plan.matches.items ≡ []) × (plan.answer ≡ answer.Done)) }
     {
         let plan = self.prepare_stored(moments, change)?;
         Ok(plan)
@@ -112,21 +115,26 @@ impl<F: Finds, A: Allocator + Copy> Directories<F, A> {
         &mut self,
         moments: &[Moment],
         change: &DirectoryChange<'_>,
-    ) -> Result<DirectoryPlan<A>, NoMemory>
+    ) -> Result<DirectoriesPlan<A>, NoMemory>
         requires { self.old.shown.next < 2 ^ 63 }
         ensures matches { IfOk result (λ plan. plan.matches.items ≡ hits_of_moments F.test moments.now self.old.shown.followed
-            ++ given_change F.test (asked_by change.now) (after_step F.test moments.now self.old.shown)) }
-        ensures answer { IfOk result (λ plan. plan.answer ≡ told_change (asked_by change.now) (after_step F.test moments.now self.old.shown)) }
-        ensures prepared { OnOk result (self.new.prepared ≡ prepared_change F.test (asked_by change.now) (after_step F.test moments.now self.old.shown)) }
+            ++ given_change F.test (directory_request_of change.now) (after_step F.test moments.now self.old.shown)) }
+        ensures answer { IfOk result
+            (λ plan. plan.answer ≡ told_change (directory_request_of change.now)
+            (after_step F.test moments.now self.old.shown)) }
+        ensures prepared { OnOk result
+            (self.new.prepared ≡ prepared_change F.test (directory_request_of change.now)
+            (after_step F.test moments.now self.old.shown)) }
         ensures shown { self.new.shown ≡ self.old.shown }
-        ensures idle { OnErr result (self.new.prepared ≡ unplanned self.old.shown) }
-        ensures quiet { moments.now ≡ [] → asked_by change.now ≡ leave → IsOkAnd result (λ plan. (plan.matches.items ≡ []) × (plan.answer ≡ answer.Done)) }
+        ensures idle { OnErr result (self.new.prepared ≡ nothing_prepared self.old.shown) }
+        ensures quiet { moments.now ≡ [] → directory_request_of change.now ≡ no_directory_request
+            → IsOkAnd result (λ plan. (plan.matches.items ≡ []) × (plan.answer ≡ answer.Done)) }
     {
         let mut matches = Vec::new(self.register.allocator());
         self.pending = Pending::Nothing;
         self.is_prepared = false;
         if moments.is_empty() && asks_nothing(change) {
-            return Ok(DirectoryPlan {
+            return Ok(DirectoriesPlan {
                 matches,
                 answer: DirectoryAnswer::Done,
             });
@@ -134,15 +142,17 @@ impl<F: Finds, A: Allocator + Copy> Directories<F, A> {
         let (pending, answer) = work_out(&mut self.register, moments, change, &mut matches)?;
         self.is_prepared = true;
         self.pending = pending;
-        Ok(DirectoryPlan { matches, answer })
+        Ok(DirectoriesPlan { matches, answer })
     }
 
     /// Makes the step that was prepared: what it gives is in its plan. A subscription that it makes takes the pattern that is
     /// offered, and whether it repeats; where none is to be made, or none is offered, nobody subscribes. Where nothing is
-    /// prepared, nothing changes. Takes no memory. This project's own.
+    /// prepared, nothing changes.
     pub fn commit(&mut self, offered: Option<(F, bool)>)
-        ensures after { self.new.shown ≡ committed self.old.prepared (option_map (λ o. (F.source o.0, o.1)) offered) }
-        ensures idle { self.new.prepared ≡ unplanned self.new.shown }
+        ensures after { self.new.shown
+            ≡ directories_after_commit self.old.prepared
+            (option_map (λ o. (F.source o.0, o.1)) offered) }
+        ensures idle { self.new.prepared ≡ nothing_prepared self.new.shown }
     {
         let pending = std::mem::replace(&mut self.pending, Pending::Nothing);
         if self.is_prepared {
@@ -154,8 +164,8 @@ impl<F: Finds, A: Allocator + Copy> Directories<F, A> {
 }
 
 fn asks_nothing(change: &DirectoryChange<'_>) -> bool
-    ensures nothing { result ≡ true → asked_by change.now ≡ leave }
-    ensures any { asked_by change.now ≡ leave → result ≡ true }
+    ensures nothing { result ≡ true → directory_request_of change.now ≡ no_directory_request }
+    ensures any { directory_request_of change.now ≡ no_directory_request → result ≡ true }
 {
     matches!(change, DirectoryChange::Nothing)
 }

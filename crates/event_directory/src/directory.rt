@@ -1,12 +1,12 @@
 //! One event directory: the subscriptions of a service's events, or of letters that are sent to it.
 ghost use Rattle.std.specs.Prelude.{◌≡◌, ◌<◌, ◌++◌, ◌∷◌, [], List, IfOk, OnOk, OnErr, IfErr, All, map, ◌+◌, take, drop, IfSome, IfNone, option_map, length, ◌==◌};
-ghost use Rattle.event_directory.specs.Sending.{Subscribed, Hears, after_letter, hits_from, after_letters, hits_from_letters, Sends, Prepares, left_without, made_now, subscribed_now, view_of, without};
-ghost use Rattle.event_directory.specs.Views.{list_of};
+ghost use Rattle.event_directory.specs.Sending.{TextSubscription, HaveHeard, after_letter, hits_from, after_letters, hits_from_letters, Sends, Prepares, left_without, new_kept_subscription, new_text_subscription, view_of, kept_without};
+ghost use Rattle.event_directory.specs.Views.{list_of_subscription};
 ghost use Rattle.event_directory.specs.Stored.{stored_of, stored_without};
 
 use crate::finds::Finds;
 use crate::hit::Hit;
-use crate::plan::Plan;
+use crate::plan::LettersPlan;
 use crate::sub_view::SubView;
 use crate::subscription::Subscription;
 use crate::subscriptions::{begin_all, commit_all, exchange_all, prepare_all, prepare_letters};
@@ -15,7 +15,7 @@ use std::alloc::Allocator;
 use std::marker::Model;
 
 /// The subscriptions of one event directory, in the order in which they were made, so in rising serial. Page `fifodir`; that
-/// they are remembered in memory, and not in a folder of pipes, is this project's own.
+/// they are remembered in memory, and not in a folder of pipes, is chosen here.
 ///
 /// The letters of a step are planned and then heard: `prepare` takes all memory and changes nothing that is shown, `commit`
 /// takes none. `send` does both for one letter. A call that is refused leaves the plan that stood before it: its `commit` still
@@ -29,9 +29,9 @@ pub struct Directory<F: Finds, A: Allocator> {
 
 impl<F: Finds, A: Allocator> Model for Directory<F, A> {
     ghost use Rattle.std.specs.Prelude.{map, ◌-◌, vec_len, vec_capacity};
-    ghost use Rattle.event_directory.specs.Stored.{Kept, planned_of, prepared_standing, standing_of_stored};
+    ghost use Rattle.event_directory.specs.Stored.{StoredDirectory, planned_of, prepared_standing, standing_of_stored};
 
-    ghost Value = { Kept };
+    ghost Value = { StoredDirectory };
 
     ghost view = { λ d. record {
       standing = map standing_of_stored d.subscriptions.items;
@@ -58,12 +58,14 @@ impl<F: Finds, A: Allocator + Copy> Directory<F, A> {
     /// changed.
     pub fn subscribe(&mut self, id: SubId, pattern: F, repeats: bool) -> Result<(), F>
         requires { All (λ s. s.id < id) self.old.standing }
-        ensures ok { OnOk result (self.new.standing ≡ self.old.standing ++ made_now id (F.source pattern) repeats ∷ []) }
-        ensures hears { OnOk result ((subscribed : List Subscribed) → Hears F.test self.old.standing subscribed →
-            Hears F.test self.new.standing (subscribed ++ subscribed_now id (F.source pattern) repeats ∷ [])) }
+        ensures ok { OnOk result (self.new.standing
+            ≡ self.old.standing ++ new_kept_subscription id (F.source pattern) repeats ∷ []) }
+        ensures hears { OnOk result ((subscribed : List TextSubscription) → HaveHeard F.test self.old.standing subscribed →
+            HaveHeard F.test self.new.standing (subscribed ++ new_text_subscription id (F.source pattern) repeats ∷ [])) }
         ensures planned { OnOk result
-            (self.new.planned ≡ self.old.planned ++ made_now id (F.source pattern) repeats ∷ []) }
-        ensures err { IfErr result (λ back. (back ≡ pattern) × (self.new.standing ≡ self.old.standing)) }
+            (self.new.planned ≡ self.old.planned ++ new_kept_subscription id (F.source pattern) repeats ∷ []) }
+        ensures err { IfErr result (λ back. (back ≡ pattern)
+            × (self.new.standing ≡ self.old.standing)) }
         ensures still { OnErr result (self.new.planned ≡ self.old.planned) }
     {
         if self.subscriptions.reserve(1).is_err() {
@@ -77,11 +79,12 @@ impl<F: Finds, A: Allocator + Copy> Directory<F, A> {
     pub fn join(&mut self, id: SubId, pattern: F, repeats: bool)
         requires room { 0 < self.old.room }
         requires greater { All (λ s. s.id < id) self.old.standing }
-        ensures after { self.new.standing ≡ self.old.standing ++ made_now id (F.source pattern) repeats ∷ [] }
-        ensures hears { (subscribed : List Subscribed) → Hears F.test self.old.standing subscribed →
-            Hears F.test self.new.standing (subscribed ++ subscribed_now id (F.source pattern) repeats ∷ []) }
+        ensures after { self.new.standing
+            ≡ self.old.standing ++ new_kept_subscription id (F.source pattern) repeats ∷ [] }
+        ensures hears { (subscribed : List TextSubscription) → HaveHeard F.test self.old.standing subscribed →
+            HaveHeard F.test self.new.standing (subscribed ++ new_text_subscription id (F.source pattern) repeats ∷ []) }
         ensures planned { self.new.planned ≡
-            self.old.planned ++ made_now id (F.source pattern) repeats ∷ [] }
+            self.old.planned ++ new_kept_subscription id (F.source pattern) repeats ∷ [] }
     {
         self.take_in(id, pattern, repeats);
     }
@@ -90,9 +93,9 @@ impl<F: Finds, A: Allocator + Copy> Directory<F, A> {
     pub(crate) fn take_in(&mut self, id: SubId, pattern: F, repeats: bool)
         requires { 0 < self.old.room }
         ensures after { self.new.standing ≡
-            self.old.standing ++ made_now id (F.source pattern) repeats ∷ [] }
+            self.old.standing ++ new_kept_subscription id (F.source pattern) repeats ∷ [] }
         ensures planned { self.new.planned ≡
-            self.old.planned ++ made_now id (F.source pattern) repeats ∷ [] }
+            self.old.planned ++ new_kept_subscription id (F.source pattern) repeats ∷ [] }
     {
         let alloc = *self.subscriptions.allocator();
         self.subscriptions
@@ -132,19 +135,20 @@ impl<F: Finds, A: Allocator + Copy> Directory<F, A> {
 
     /// Ends the subscription of this serial, if there is one, also in a plan that stands.
     pub fn unsubscribe(&mut self, id: SubId)
-        ensures after { self.new.standing ≡ without id self.old.standing }
-        ensures planned { self.new.planned ≡ without id self.old.planned }
-        ensures hears { (subscribed : List Subscribed) → Hears F.test self.old.standing subscribed →
-            Hears F.test self.new.standing (left_without id subscribed) }
+        ensures after { self.new.standing ≡ kept_without id self.old.standing }
+        ensures planned { self.new.planned ≡ kept_without id self.old.planned }
+        ensures hears { (subscribed : List TextSubscription) → HaveHeard F.test self.old.standing subscribed →
+            HaveHeard F.test self.new.standing (left_without id subscribed) }
     {
         drop_one(&mut self.subscriptions, id);
     }
 
-    /// What the subscription of this serial has heard, or None where there is none. Takes no memory.
+    /// What the subscription of this serial has heard, or None where there is none.
     pub fn list(&self, id: SubId) -> Option<SubView<'_>>
-        ensures stored { option_map (λ v. (v.letters.now, v.state)) result ≡ view_of id self.now.standing }
-        ensures defined { (subscribed : List Subscribed) → Hears F.test self.now.standing subscribed →
-            option_map (λ v. (v.letters.now, v.state)) result ≡ list_of F.test id subscribed }
+        ensures stored { option_map (λ v. (v.letters.now, v.state)) result
+            ≡ view_of id self.now.standing }
+        ensures defined { (subscribed : List TextSubscription) → HaveHeard F.test self.now.standing subscribed →
+            option_map (λ v. (v.letters.now, v.state)) result ≡ list_of_subscription F.test id subscribed }
     {
         self.stored_view(id)
     }
@@ -163,9 +167,11 @@ impl<F: Finds, A: Allocator + Copy> Directory<F, A> {
     /// Sends one letter: each live subscription looks at it, and the hits come in rising serial. A plan that stood is forgotten.
     /// Page `s6-ftrig-notify`. NoMemory: nothing has changed, and the plan that stood stands.
     pub fn send(&mut self, letter: Letter) -> Result<Vec<(SubId, Hit), A>, NoMemory>
-        ensures hits { IfOk result (λ hits. hits.items ≡ hits_from F.test letter self.old.standing) }
-        ensures after { OnOk result (self.new.standing ≡ after_letter F.test letter self.old.standing) }
-        ensures defined { IfOk result (λ hits. (subscribed : List Subscribed) → Hears F.test self.old.standing subscribed →
+        ensures hits { IfOk result (λ hits. hits.items
+            ≡ hits_from F.test letter self.old.standing) }
+        ensures after { OnOk result
+            (self.new.standing ≡ after_letter F.test letter self.old.standing) }
+        ensures defined { IfOk result (λ hits. (subscribed : List TextSubscription) → HaveHeard F.test self.old.standing subscribed →
             Sends F.test self.new.standing letter subscribed hits.items) }
         ensures idle { OnOk result (self.new.planned ≡ self.new.standing) }
         ensures err { OnErr result
@@ -177,8 +183,10 @@ impl<F: Finds, A: Allocator + Copy> Directory<F, A> {
 
     // `send`, by what is stored alone.
     fn hear(&mut self, letter: Letter) -> Result<Vec<(SubId, Hit), A>, NoMemory>
-        ensures hits { IfOk result (λ hits. hits.items ≡ hits_from F.test letter self.old.standing) }
-        ensures after { OnOk result (self.new.standing ≡ after_letter F.test letter self.old.standing) }
+        ensures hits { IfOk result (λ hits. hits.items
+            ≡ hits_from F.test letter self.old.standing) }
+        ensures after { OnOk result
+            (self.new.standing ≡ after_letter F.test letter self.old.standing) }
         ensures idle { OnOk result (self.new.planned ≡ self.new.standing) }
         ensures err { OnErr result
             ((self.new.standing ≡ self.old.standing) × (self.new.planned ≡ self.old.planned)) }
@@ -202,8 +210,10 @@ impl<F: Finds, A: Allocator + Copy> Directory<F, A> {
 
     // Prepares one letter more, and says what it will give.
     pub(crate) fn prepare_more(&mut self, letter: Letter) -> Result<Vec<(SubId, Hit), A>, NoMemory>
-        ensures hits { IfOk result (λ hits. hits.items ≡ hits_from F.test letter self.old.prepared) }
-        ensures prepared { OnOk result (self.new.prepared ≡ after_letter F.test letter self.old.prepared) }
+        ensures hits { IfOk result (λ hits. hits.items
+            ≡ hits_from F.test letter self.old.prepared) }
+        ensures prepared { OnOk result
+            (self.new.prepared ≡ after_letter F.test letter self.old.prepared) }
         ensures same { self.new.standing ≡ self.old.standing }
         ensures planned { self.new.planned ≡ self.old.planned }
         ensures room { self.new.room ≡ self.old.room }
@@ -215,11 +225,12 @@ impl<F: Finds, A: Allocator + Copy> Directory<F, A> {
 
     /// Plans the letters of one step, and makes a place for one more subscription: nothing is heard yet, and a plan that stood
     /// before is forgotten. NoMemory: nothing has changed, and the plan that stood stands.
-    pub fn prepare(&mut self, letters: &[Letter]) -> Result<Plan<A>, NoMemory>
-        ensures hits { IfOk result (λ plan. plan ≡ hits_from_letters F.test letters.now self.old.standing) }
+    pub fn prepare(&mut self, letters: &[Letter]) -> Result<LettersPlan<A>, NoMemory>
+        ensures hits { IfOk result (λ plan. plan
+            ≡ hits_from_letters F.test letters.now self.old.standing) }
         ensures planned { OnOk result
             (self.new.planned ≡ after_letters F.test letters.now self.old.standing) }
-        ensures defined { IfOk result (λ plan. (subscribed : List Subscribed) → Hears F.test self.old.standing subscribed →
+        ensures defined { IfOk result (λ plan. (subscribed : List TextSubscription) → HaveHeard F.test self.old.standing subscribed →
             Prepares F.test self.new.planned letters.now subscribed plan) }
         ensures room { OnOk result (0 < self.new.room) }
         ensures same { self.new.standing ≡ self.old.standing }
@@ -230,8 +241,9 @@ impl<F: Finds, A: Allocator + Copy> Directory<F, A> {
     }
 
     // `prepare`, by what is stored alone.
-    fn prepare_stored(&mut self, letters: &[Letter]) -> Result<Plan<A>, NoMemory>
-        ensures hits { IfOk result (λ plan. plan ≡ hits_from_letters F.test letters.now self.old.standing) }
+    fn prepare_stored(&mut self, letters: &[Letter]) -> Result<LettersPlan<A>, NoMemory>
+        ensures hits { IfOk result (λ plan. plan
+            ≡ hits_from_letters F.test letters.now self.old.standing) }
         ensures planned { OnOk result
             (self.new.planned ≡ after_letters F.test letters.now self.old.standing) }
         ensures room { OnOk result (0 < self.new.room) }
@@ -242,7 +254,7 @@ impl<F: Finds, A: Allocator + Copy> Directory<F, A> {
         self.begin()?;
         let hits = self.prepare_each(letters)?;
         self.stand_by();
-        Ok(Plan { hits })
+        Ok(LettersPlan { hits })
     }
 
     // Prepares several letters, and says what each will give.
@@ -272,7 +284,7 @@ impl<F: Finds, A: Allocator + Copy> Directory<F, A> {
 
     /// Hears the letters of the plan that stands, and gives the hits of its plan. Then no plan stands, so that a second commit
     /// hears nothing.
-    pub fn commit(&mut self, plan: Plan<A>) -> Vec<Vec<(SubId, Hit), A>, A>
+    pub fn commit(&mut self, plan: LettersPlan<A>) -> Vec<Vec<(SubId, Hit), A>, A>
         ensures after { self.new.standing ≡ self.old.planned }
         ensures idle { self.new.planned ≡ self.new.standing }
         ensures hits { map (λ v. v.items) result.items ≡ plan }
@@ -313,7 +325,10 @@ fn place_of<F: Finds, A: Allocator + Copy>(
     subscriptions: &[Subscription<F, A>],
     id: SubId,
 ) -> Option<usize>
-    ensures place { IfSome result (λ place. (place < length subscriptions.now) × (stored_without id subscriptions.now ≡ take place subscriptions.now ++ drop (place + 1) subscriptions.now)) }
+    ensures place { IfSome result
+        (λ place. (place < length subscriptions.now)
+        × (stored_without id subscriptions.now
+        ≡ take place subscriptions.now ++ drop (place + 1) subscriptions.now)) }
     ensures none { IfNone result (stored_without id subscriptions.now ≡ subscriptions.now) }
 {
     for (place, s) in subscriptions.iter().enumerate() {

@@ -4,7 +4,7 @@ use crate::source::Source;
 use s6_events::{Name, SubId};
 use thiserror::Error;
 
-/// What a step asks of the event directories, after its moments. This project's own.
+/// What a step asks of the event directories, after its moments.
 #[derive(Clone, Copy)]
 pub enum DirectoryChange<'a> {
     /// Nothing.
@@ -19,7 +19,7 @@ pub enum DirectoryChange<'a> {
     Unsubscribe(SubId),
 }
 
-/// Why a change was not made. This project's own.
+/// Why a change was not made.
 #[derive(Clone, Copy, Debug, PartialEq, Eq, Error)]
 pub enum DirectoryFault {
     /// No free directory has this name, or no subscription this serial.
@@ -33,7 +33,7 @@ pub enum DirectoryFault {
     Exists = 3,
 }
 
-/// What a step answers to its change. This project's own.
+/// What a step answers to its change.
 #[derive(Clone, Copy, Debug, PartialEq, Eq)]
 pub enum DirectoryAnswer {
     /// It was done, or nothing was asked.

@@ -3,8 +3,8 @@ ghost use Rattle.std.specs.Prelude.{◌≡◌, ◌++◌, OnOk, map, true};
 ghost use Rattle.std.specs.List.{list_all};
 ghost use Rattle.s6_events.specs.Letter.{is_letter};
 ghost use Rattle.event_directory.specs.Hearing.{heard_more, heard_moment, heard_moments, heard_message, hits_of_moment, hits_of_moments, hits_of_message};
-ghost use Rattle.event_directory.specs.Parts.{followed_of, prepared_of, room_of};
-ghost use Rattle.event_directory.specs.Remembered.{standing_at};
+ghost use Rattle.event_directory.specs.Parts.{followed_of, followed_after, room_of};
+ghost use Rattle.event_directory.specs.Remembered.{kept_at};
 ghost use Rattle.event_directory.specs.Sending.{hits_from};
 ghost use Rattle.event_directory.specs.declared.source.Source.TheVariants.{Directory};
 
@@ -24,8 +24,12 @@ fn hear_moment<F: Finds, A: Allocator + Copy>(
 ) -> Result<(), NoMemory>
     ensures same { map followed_of listened.new ≡ map followed_of listened.old }
     ensures rooms { map room_of listened.new ≡ map room_of listened.old }
-    ensures prepared { OnOk result (map prepared_of listened.new ≡ heard_moment F.test moment (map prepared_of listened.old)) }
-    ensures matches { OnOk result (matches.new.items ≡ matches.old.items ++ hits_of_moment F.test moment (map prepared_of listened.old)) }
+    ensures prepared { OnOk result
+        (map followed_after listened.new
+        ≡ heard_moment F.test moment (map followed_after listened.old)) }
+    ensures matches { OnOk result
+        (matches.new.items ≡ matches.old.items
+        ++ hits_of_moment F.test moment (map followed_after listened.old)) }
 {
     match moment {
         Moment::Clock(_) => Ok(()),
@@ -41,8 +45,12 @@ pub fn hear_moments<F: Finds, A: Allocator + Copy>(
 ) -> Result<(), NoMemory>
     ensures same { map followed_of listened.new ≡ map followed_of listened.old }
     ensures rooms { map room_of listened.new ≡ map room_of listened.old }
-    ensures prepared { OnOk result (map prepared_of listened.new ≡ heard_moments F.test moments.now (map prepared_of listened.old)) }
-    ensures matches { OnOk result (matches.new.items ≡ matches.old.items ++ hits_of_moments F.test moments.now (map prepared_of listened.old)) }
+    ensures prepared { OnOk result
+        (map followed_after listened.new
+        ≡ heard_moments F.test moments.now (map followed_after listened.old)) }
+    ensures matches { OnOk result
+        (matches.new.items ≡ matches.old.items
+        ++ hits_of_moments F.test moments.now (map followed_after listened.old)) }
 {
     for moment in moments {
         hear_moment(listened, *moment, matches)?;
@@ -60,8 +68,12 @@ fn hear_byte<F: Finds, A: Allocator + Copy>(
     requires { is_letter byte ≡ true }
     ensures same { map followed_of listened.new ≡ map followed_of listened.old }
     ensures rooms { map room_of listened.new ≡ map room_of listened.old }
-    ensures prepared { OnOk result (map prepared_of listened.new ≡ heard_more F.test (Directory name) byte (map prepared_of listened.old)) }
-    ensures matches { OnOk result (matches.new.items ≡ matches.old.items ++ hits_from F.test byte (standing_at (Directory name) (map prepared_of listened.old))) }
+    ensures prepared { OnOk result
+        (map followed_after listened.new
+        ≡ heard_more F.test (Directory name) byte (map followed_after listened.old)) }
+    ensures matches { OnOk result
+        (matches.new.items ≡ matches.old.items
+        ++ hits_from F.test byte (kept_at (Directory name) (map followed_after listened.old))) }
 {
     match Letter::new(byte) {
         Some(letter) => hear(listened, Source::Directory(name), letter, matches),
@@ -79,8 +91,12 @@ pub fn hear_letters<F: Finds, A: Allocator + Copy>(
     requires { list_all is_letter bytes.now ≡ true }
     ensures same { map followed_of listened.new ≡ map followed_of listened.old }
     ensures rooms { map room_of listened.new ≡ map room_of listened.old }
-    ensures prepared { OnOk result (map prepared_of listened.new ≡ heard_message F.test name bytes.now (map prepared_of listened.old)) }
-    ensures matches { OnOk result (matches.new.items ≡ matches.old.items ++ hits_of_message F.test name bytes.now (map prepared_of listened.old)) }
+    ensures prepared { OnOk result
+        (map followed_after listened.new
+        ≡ heard_message F.test name bytes.now (map followed_after listened.old)) }
+    ensures matches { OnOk result
+        (matches.new.items ≡ matches.old.items
+        ++ hits_of_message F.test name bytes.now (map followed_after listened.old)) }
 {
     for byte in bytes {
         hear_byte(listened, name, *byte, matches)?;

@@ -2,25 +2,25 @@
 ghost use Rattle.event_directory.specs.Laws.{BeginsAgain, LeastIsLeast, NoneIsNone, StartsLive, GrowsByLetters, MatchesRise};
 
 /// A list is the letter of the least match of its text, and then the list of what follows it, which counts from 1 again; without
-/// a match it is Overlong from 1,025 letters on, and else Live. This project's own.
+/// a match it is Overlong from 1,025 letters on, and else Live.
 pub fn begins_again()
     ensures { BeginsAgain }
 {}
 
 /// The least match of a text is a match, from 1 to 1,024 letters long, and no shorter beginning of the text has one; where there
-/// is none, no beginning of at most 1,024 letters has a match. This project's own.
+/// is none, no beginning of at most 1,024 letters has a match.
 pub fn least_match_is_least()
     ensures some { LeastIsLeast }
     ensures none { NoneIsNone }
 {}
 
-/// The list of a text with one letter more is found from the list of the text alone, by one search at most. This project's own.
+/// The list of a text with one letter more is found from the list of the text alone, by one search at most.
 pub fn one_letter_more()
     ensures start { StartsLive }
     ensures next { GrowsByLetters }
 {}
 
-/// The matches of one letter come in rising serial, whether a supervisor told it or it was sent. This project's own.
+/// The matches of one letter come in rising serial, whether a supervisor told it or it was sent.
 pub fn matches_rise()
     ensures { MatchesRise }
 {}

@@ -1,12 +1,12 @@
 //! All event directories that are listened to.
 ghost use Rattle.std.specs.Prelude.{◌≡◌, ◌<◌, ◌++◌, IfOk, OnOk, map, option_map, true, false};
 ghost use Rattle.std.specs.List.{position};
-ghost use Rattle.event_directory.specs.Directories.{is_same};
+ghost use Rattle.event_directory.specs.Directories.{is_same_source};
 ghost use Rattle.event_directory.specs.Hearing.{heard_more};
-ghost use Rattle.event_directory.specs.Parts.{followed_of, prepared_of, room_of, room_at, IsAbsent, AreDistinct};
-ghost use Rattle.event_directory.specs.Register.{left_at};
-ghost use Rattle.event_directory.specs.Remembered.{standing_at, joined_at};
-ghost use Rattle.event_directory.specs.Sending.{hits_from, made_now, view_of};
+ghost use Rattle.event_directory.specs.Parts.{followed_of, followed_after, room_of, room_at, IsAbsent, AreDistinct};
+ghost use Rattle.event_directory.specs.Register.{without_subscription_at};
+ghost use Rattle.event_directory.specs.Remembered.{kept_at, with_subscription_at};
+ghost use Rattle.event_directory.specs.Sending.{hits_from, new_kept_subscription, view_of};
 
 use crate::finds::Finds;
 use crate::hit::Hit;
@@ -21,7 +21,7 @@ pub fn begin_each<F: Finds, A: Allocator + Copy>(
     listened: &mut [SourceDirectory<F, A>],
 ) -> Result<(), NoMemory>
     ensures same { map followed_of listened.new ≡ map followed_of listened.old }
-    ensures ok { OnOk result (map prepared_of listened.new ≡ map followed_of listened.old) }
+    ensures ok { OnOk result (map followed_after listened.new ≡ map followed_of listened.old) }
     ensures rooms { map room_of listened.new ≡ map room_of listened.old }
 {
     for directory in listened.iter_mut() {
@@ -30,9 +30,9 @@ pub fn begin_each<F: Finds, A: Allocator + Copy>(
     Ok(())
 }
 
-/// Hears what was prepared. Takes no memory.
+/// Hears what was prepared.
 pub fn commit_each<F: Finds, A: Allocator + Copy>(listened: &mut [SourceDirectory<F, A>])
-    ensures after { map followed_of listened.new ≡ map prepared_of listened.old }
+    ensures after { map followed_of listened.new ≡ map followed_after listened.old }
     ensures rooms { map room_of listened.new ≡ map room_of listened.old }
 {
     for directory in listened.iter_mut() {
@@ -45,7 +45,7 @@ fn place_in<F: Finds, A: Allocator + Copy>(
     listened: &[SourceDirectory<F, A>],
     source: Source,
 ) -> Option<usize>
-    ensures { result ≡ position (λ l. is_same source l.source) listened.now }
+    ensures { result ≡ position (λ l. is_same_source source l.source) listened.now }
 {
     listened
         .iter()
@@ -61,8 +61,12 @@ pub fn hear<F: Finds, A: Allocator + Copy>(
 ) -> Result<(), NoMemory>
     ensures same { map followed_of listened.new ≡ map followed_of listened.old }
     ensures rooms { map room_of listened.new ≡ map room_of listened.old }
-    ensures prepared { OnOk result (map prepared_of listened.new ≡ heard_more F.test source letter (map prepared_of listened.old)) }
-    ensures matches { OnOk result (matches.new.items ≡ matches.old.items ++ hits_from F.test letter (standing_at source (map prepared_of listened.old))) }
+    ensures prepared { OnOk result
+        (map followed_after listened.new
+        ≡ heard_more F.test source letter (map followed_after listened.old)) }
+    ensures matches { OnOk result
+        (matches.new.items ≡ matches.old.items
+        ++ hits_from F.test letter (kept_at source (map followed_after listened.old))) }
 {
     match place_in(listened, source) {
         Some(place) => {
@@ -80,9 +84,11 @@ pub fn reserve_at<F: Finds, A: Allocator + Copy>(
     source: Source,
 ) -> Result<bool, NoMemory>
     ensures same { map followed_of listened.new ≡ map followed_of listened.old }
-    ensures prepared { map prepared_of listened.new ≡ map prepared_of listened.old }
-    ensures place { IfOk result (λ there. there ≡ true → 0 < room_at source (map room_of listened.new)) }
-    ensures absent { IfOk result (λ there. there ≡ false → IsAbsent source (map (λ l. l.source) listened.new)) }
+    ensures prepared { map followed_after listened.new ≡ map followed_after listened.old }
+    ensures place { IfOk result (λ there. there ≡ true
+        → 0 < room_at source (map room_of listened.new)) }
+    ensures absent { IfOk result
+        (λ there. there ≡ false → IsAbsent source (map (λ l. l.source) listened.new)) }
 {
     match place_in(listened, source) {
         Some(place) => {
@@ -93,7 +99,7 @@ pub fn reserve_at<F: Finds, A: Allocator + Copy>(
     }
 }
 
-/// Subscribes from now on to this source, in a place that was made. Takes no memory.
+/// Subscribes from now on to this source, in a place that was made.
 pub fn take_in_at<F: Finds, A: Allocator + Copy>(
     listened: &mut [SourceDirectory<F, A>],
     source: Source,
@@ -102,7 +108,9 @@ pub fn take_in_at<F: Finds, A: Allocator + Copy>(
     repeats: bool,
 )
     requires { 0 < room_at source (map room_of listened.old) }
-    ensures after { map followed_of listened.new ≡ joined_at source (made_now id (F.source pattern) repeats) (map followed_of listened.old) }
+    ensures after { map followed_of listened.new
+        ≡ with_subscription_at source (new_kept_subscription id (F.source pattern) repeats)
+        (map followed_of listened.old) }
     ensures sources { map (λ l. l.source) listened.new ≡ map (λ l. l.source) listened.old }
 {
     match place_in(listened, source) {
@@ -112,14 +120,14 @@ pub fn take_in_at<F: Finds, A: Allocator + Copy>(
 }
 
 /// Ends the subscription of this serial and this source, if there is one. A source that nobody hears is not listened to any more.
-/// Takes no memory.
 pub fn leave_at<F: Finds, A: Allocator + Copy>(
     listened: &mut Vec<SourceDirectory<F, A>, A>,
     source: Source,
     id: SubId,
 )
     requires { AreDistinct (map (λ l. l.source) listened.old.items) }
-    ensures after { map followed_of listened.new.items ≡ left_at id source (map followed_of listened.old.items) }
+    ensures after { map followed_of listened.new.items
+        ≡ without_subscription_at id source (map followed_of listened.old.items) }
     ensures distinct { AreDistinct (map (λ l. l.source) listened.new.items) }
 {
     match place_in(listened, source) {
@@ -139,7 +147,8 @@ pub fn list_at<F: Finds, A: Allocator + Copy>(
     source: Source,
     id: SubId,
 ) -> Option<SubView<'_>>
-    ensures { option_map (λ v. (v.letters.now, v.state)) result ≡ view_of id (standing_at source (map followed_of listened.now)) }
+    ensures { option_map (λ v. (v.letters.now, v.state)) result
+        ≡ view_of id (kept_at source (map followed_of listened.now)) }
 {
     let place = place_in(listened, source)?;
     listened[place].list(id)

@@ -50,7 +50,7 @@ impl Pattern {
         }
     }
 
-    /// The text that it was built from. Takes no memory.
+    /// The text that it was built from.
     pub fn text(&self) -> &str
         ensures text { result.now ≡ self.now }
         ensures kind { IsTrue (is_pattern_text result.now) }

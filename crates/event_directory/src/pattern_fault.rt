@@ -1,3 +1,4 @@
+//! Why a text makes no pattern.
 use thiserror::Error;
 
 /// Why a pattern was not built.

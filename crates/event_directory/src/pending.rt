@@ -1,3 +1,4 @@
+//! The change that a prepared step still has to make.
 use crate::finds::Finds;
 use crate::source::Source;
 use crate::source_directory::SourceDirectory;
@@ -16,5 +17,5 @@ pub enum Pending<F: Finds, A: Allocator> {
     /// The next subscription is to a source that is not listened to yet: this is its directory.
     Start(SourceDirectory<F, A>),
     /// The subscription of this serial ends, which is to this source.
-    Leave(SubId, Source),
+    Unsubscribe(SubId, Source),
 }

@@ -1,9 +1,9 @@
 //! Why a change of the event directories is refused.
 ghost use Rattle.std.specs.Prelude.{◌≡◌, ◌==◌, [], Bool, bytes_eq, option_map};
 ghost use Rattle.std.specs.List.{list_any};
-ghost use Rattle.event_directory.specs.Changes.{asked_by};
-ghost use Rattle.event_directory.specs.Changes.Change.{make_directory, send, subscribe, unsubscribe};
-ghost use Rattle.event_directory.specs.Register.{is_named, stored_refusal};
+ghost use Rattle.event_directory.specs.Changes.{directory_request_of};
+ghost use Rattle.event_directory.specs.Changes.DirectoryRequest.{make_directory, send, subscribe, unsubscribe};
+ghost use Rattle.event_directory.specs.Register.{is_source_named, stored_refusal};
 
 use crate::directory_change::{DirectoryChange, DirectoryFault};
 use crate::source::Source;
@@ -22,7 +22,7 @@ fn has_name(names: &[Name], name: Name) -> bool
 }
 
 fn is_there(names: &[Name], source: Source) -> bool
-    ensures { result ≡ is_named source names.now }
+    ensures { result ≡ is_source_named source names.now }
 {
     match source {
         Source::Service(_) => true,
@@ -84,13 +84,13 @@ fn unsubscribe_refusal(subscribers: &[(SubId, Source)], id: SubId) -> Option<Dir
     }
 }
 
-/// Why a change is refused, where these free directories and these subscribers stand. Takes no memory.
+/// Why a change is refused, where these free directories and these subscribers stand.
 pub fn refusal(
     names: &[Name],
     subscribers: &[(SubId, Source)],
     change: &DirectoryChange<'_>,
 ) -> Option<DirectoryFault>
-    ensures { result ≡ stored_refusal (asked_by change.now) names.now subscribers.now }
+    ensures { result ≡ stored_refusal (directory_request_of change.now) names.now subscribers.now }
 {
     match *change {
         DirectoryChange::Nothing => None,

@@ -1,9 +1,9 @@
 //! What is stored of all event directories.
 ghost use Rattle.std.specs.Prelude.{◌≡◌, ◌<◌, ◌++◌, ◌+◌, ◌^◌, [], IfOk, OnOk, IfSome, IfNone, Some, drop, length, option_map, take};
-ghost use Rattle.event_directory.specs.Changes.{asked_by};
+ghost use Rattle.event_directory.specs.Changes.{directory_request_of};
 ghost use Rattle.event_directory.specs.Hearing.{heard_moments, heard_message, hits_of_moments, hits_of_message};
-ghost use Rattle.event_directory.specs.Register.{shown_in, prepared_in, unprepared, unfollowed, source_of, subscribers_without, named, left_by, pended, HasRoom, CanJoin, CanStart, stored_refusal, view_in};
-ghost use Rattle.event_directory.specs.Remembered.{Shown, joined_to};
+ghost use Rattle.event_directory.specs.Register.{shown_in, prepared_in, without_prepared, without_followed, source_of, subscribers_without, with_free_name, without_subscription_by, prepared_by_pending, HasRoom, CanJoin, CanStart, stored_refusal, view_in};
+ghost use Rattle.event_directory.specs.Remembered.{DirectoriesShown, with_subscription_to};
 
 use crate::directory_change::{DirectoryChange, DirectoryFault};
 use crate::finds::Finds;
@@ -35,7 +35,7 @@ pub struct Register<F: Finds, A: Allocator> {
 
 impl<F: Finds, A: Allocator> Model for Register<F, A> {
     ghost use Rattle.std.specs.Prelude.{map, ◌-◌, vec_len, vec_capacity};
-    ghost use Rattle.event_directory.specs.Parts.{followed_of, prepared_of, room_of, AreDistinct};
+    ghost use Rattle.event_directory.specs.Parts.{followed_of, followed_after, room_of, AreDistinct};
     ghost use Rattle.event_directory.specs.Register.{Registered};
 
     ghost Value = { Registered };
@@ -44,7 +44,7 @@ impl<F: Finds, A: Allocator> Model for Register<F, A> {
       names = r.names.items;
       subscribers = r.subscribers.items;
       followed = map followed_of r.listened.items;
-      prepared = map prepared_of r.listened.items;
+      prepared = map followed_after r.listened.items;
       next = r.next;
       rooms = map room_of r.listened.items;
       name_room = vec_capacity r.names - vec_len r.names;
@@ -56,9 +56,10 @@ impl<F: Finds, A: Allocator> Model for Register<F, A> {
 }
 
 impl<F: Finds, A: Allocator + Copy> Register<F, A> {
-    /// With nothing in it. Takes no memory.
+    /// With nothing in it.
     pub fn new(alloc: A) -> Register<F, A>
-        ensures { shown_in result ≡ record { names = []; subscribers = []; followed = []; next = 1 } }
+        ensures { shown_in result ≡ record
+            { names = []; subscribers = []; followed = []; next = 1 } }
     {
         Register {
             names: Vec::new(alloc),
@@ -89,7 +90,8 @@ impl<F: Finds, A: Allocator + Copy> Register<F, A> {
 
     /// What the subscription of this serial has heard.
     pub fn list(&self, id: SubId) -> Option<SubView<'_>>
-        ensures { option_map (λ v. (v.letters.now, v.state)) result ≡ view_in id (shown_in self.now) }
+        ensures { option_map (λ v. (v.letters.now, v.state)) result
+            ≡ view_in id (shown_in self.now) }
     {
         let source = find_source(&self.subscribers, id)?;
         list_at(&self.listened, source, id)
@@ -97,14 +99,15 @@ impl<F: Finds, A: Allocator + Copy> Register<F, A> {
 
     /// Why a change is refused.
     pub fn refusal(&self, change: &DirectoryChange<'_>) -> Option<DirectoryFault>
-        ensures { result ≡ stored_refusal (asked_by change.now) self.now.names self.now.subscribers }
+        ensures { result ≡ stored_refusal
+            (directory_request_of change.now) self.now.names self.now.subscribers }
     {
         refusal(&self.names, &self.subscribers, change)
     }
 
     /// Begins to prepare: no letter is prepared.
     pub fn begin(&mut self) -> Result<(), NoMemory>
-        ensures same { unprepared self.new ≡ unprepared self.old }
+        ensures same { without_prepared self.new ≡ without_prepared self.old }
         ensures ok { OnOk result (self.new.prepared ≡ self.old.followed) }
     {
         begin_each(&mut self.listened)
@@ -116,9 +119,12 @@ impl<F: Finds, A: Allocator + Copy> Register<F, A> {
         moments: &[Moment],
         matches: &mut Vec<(SubId, Hit), A>,
     ) -> Result<(), NoMemory>
-        ensures same { unprepared self.new ≡ unprepared self.old }
-        ensures prepared { OnOk result (self.new.prepared ≡ heard_moments F.test moments.now self.old.prepared) }
-        ensures matches { OnOk result (matches.new.items ≡ matches.old.items ++ hits_of_moments F.test moments.now self.old.prepared) }
+        ensures same { without_prepared self.new ≡ without_prepared self.old }
+        ensures prepared { OnOk result
+            (self.new.prepared ≡ heard_moments F.test moments.now self.old.prepared) }
+        ensures matches { OnOk result
+            (matches.new.items ≡ matches.old.items
+            ++ hits_of_moments F.test moments.now self.old.prepared) }
     {
         hear_moments(&mut self.listened, moments, matches)
     }
@@ -130,17 +136,20 @@ impl<F: Finds, A: Allocator + Copy> Register<F, A> {
         message: &Message,
         matches: &mut Vec<(SubId, Hit), A>,
     ) -> Result<(), NoMemory>
-        ensures same { unprepared self.new ≡ unprepared self.old }
-        ensures prepared { OnOk result (self.new.prepared ≡ heard_message F.test name message.now self.old.prepared) }
-        ensures matches { OnOk result (matches.new.items ≡ matches.old.items ++ hits_of_message F.test name message.now self.old.prepared) }
+        ensures same { without_prepared self.new ≡ without_prepared self.old }
+        ensures prepared { OnOk result
+            (self.new.prepared ≡ heard_message F.test name message.now self.old.prepared) }
+        ensures matches { OnOk result
+            (matches.new.items ≡ matches.old.items
+            ++ hits_of_message F.test name message.now self.old.prepared) }
     {
         hear_letters(&mut self.listened, name, message.as_bytes(), matches)
     }
 
-    /// Hears what was prepared. Takes no memory.
+    /// Hears what was prepared.
     pub fn hear_prepared(&mut self)
         ensures after { self.new.followed ≡ self.old.prepared }
-        ensures same { unfollowed self.new ≡ unfollowed self.old }
+        ensures same { without_followed self.new ≡ without_followed self.old }
     {
         commit_each(&mut self.listened);
     }
@@ -160,7 +169,9 @@ impl<F: Finds, A: Allocator + Copy> Register<F, A> {
         requires { self.old.next < 2 ^ 63 }
         ensures shown { shown_in self.new ≡ shown_in self.old }
         ensures prepared { prepared_in self.new ≡ prepared_in self.old }
-        ensures pending { IfOk result (λ p. (s : Shown) → pended p s ≡ record { shown = s; joins = Some source.now }) }
+        ensures pending { IfOk result
+            (λ p. (s : DirectoriesShown)
+            → prepared_by_pending p s ≡ record { shown = s; joins = Some source.now }) }
         ensures room { IfOk result (λ p. HasRoom p self.new) }
     {
         self.subscribers.reserve(1)?;
@@ -172,18 +183,19 @@ impl<F: Finds, A: Allocator + Copy> Register<F, A> {
         Ok(Pending::Start(directory))
     }
 
-    /// One more name, in a place that was made. Takes no memory.
+    /// One more name, in a place that was made.
     pub fn add_name(&mut self, name: Name)
         requires { 0 < self.old.name_room }
-        ensures { shown_in self.new ≡ named name (shown_in self.old) }
+        ensures { shown_in self.new ≡ with_free_name name (shown_in self.old) }
     {
         self.names.push_reserved(name);
     }
 
-    /// Subscribes to a source that is listened to, in places that were made. Takes no memory.
+    /// Subscribes to a source that is listened to, in places that were made.
     pub fn join(&mut self, source: &Source, pattern: F, repeats: bool)
         requires { CanJoin source.now self.old }
-        ensures { shown_in self.new ≡ joined_to source.now (F.source pattern, repeats) (shown_in self.old) }
+        ensures { shown_in self.new
+            ≡ with_subscription_to source.now (F.source pattern, repeats) (shown_in self.old) }
     {
         let id = SubId(self.next);
         self.subscribers.push_reserved((id, *source));
@@ -191,10 +203,12 @@ impl<F: Finds, A: Allocator + Copy> Register<F, A> {
         self.next += 1;
     }
 
-    /// Subscribes to a source that is not listened to yet, in places that were made. Takes no memory.
+    /// Subscribes to a source that is not listened to yet, in places that were made.
     pub fn start(&mut self, mut directory: SourceDirectory<F, A>, pattern: F, repeats: bool)
         requires { CanStart directory.source directory.kept.standing directory.kept.room self.old }
-        ensures { shown_in self.new ≡ joined_to directory.source (F.source pattern, repeats) (shown_in self.old) }
+        ensures { shown_in self.new
+            ≡ with_subscription_to directory.source (F.source pattern, repeats)
+            (shown_in self.old) }
     {
         let id = SubId(self.next);
         self.subscribers.push_reserved((id, directory.source()));
@@ -203,9 +217,9 @@ impl<F: Finds, A: Allocator + Copy> Register<F, A> {
         self.next += 1;
     }
 
-    /// Ends the subscription of this serial and this source. Takes no memory.
+    /// Ends the subscription of this serial and this source.
     pub fn leave(&mut self, id: SubId, source: Source)
-        ensures { shown_in self.new ≡ left_by id source (shown_in self.old) }
+        ensures { shown_in self.new ≡ without_subscription_by id source (shown_in self.old) }
     {
         drop_subscriber(&mut self.subscribers, id);
         leave_at(&mut self.listened, source, id);
@@ -235,7 +249,10 @@ fn drop_subscriber<A: Allocator + Copy>(subscribers: &mut Vec<(SubId, Source), A
 
 // The place of the subscriber of this serial.
 fn place_of(subscribers: &[(SubId, Source)], id: SubId) -> Option<usize>
-    ensures place { IfSome result (λ place. (place < length subscribers.now) × (subscribers_without id subscribers.now ≡ take place subscribers.now ++ drop (place + 1) subscribers.now)) }
+    ensures place { IfSome result
+        (λ place. (place < length subscribers.now)
+        × (subscribers_without id subscribers.now
+        ≡ take place subscribers.now ++ drop (place + 1) subscribers.now)) }
     ensures none { IfNone result (subscribers_without id subscribers.now ≡ subscribers.now) }
 {
     for (place, subscriber) in subscribers.iter().enumerate() {

@@ -1,5 +1,6 @@
+//! Whose letters a subscription hears.
 ghost use Rattle.std.specs.Prelude.{◌≡◌};
-ghost use Rattle.event_directory.specs.Directories.{is_same};
+ghost use Rattle.event_directory.specs.Directories.{is_same_source};
 ghost use Rattle.event_directory.specs.declared.source.Source.TheVariants.{Service, Directory};
 
 use s6_events::{Name, Sid};
@@ -16,7 +17,7 @@ pub enum Source {
 
 /// Whether both are the same service, or the same free directory.
 pub fn same_source(one: Source, other: Source) -> bool
-    ensures { result ≡ is_same one other }
+    ensures { result ≡ is_same_source one other }
 {
     match one {
         Source::Service(sid) => is_service(sid, other),
@@ -25,7 +26,7 @@ pub fn same_source(one: Source, other: Source) -> bool
 }
 
 fn is_service(sid: Sid, source: Source) -> bool
-    ensures { result ≡ is_same (Service sid) source }
+    ensures { result ≡ is_same_source (Service sid) source }
 {
     match source {
         Source::Service(other) => sid == other,
@@ -34,7 +35,7 @@ fn is_service(sid: Sid, source: Source) -> bool
 }
 
 fn is_directory(name: Name, source: Source) -> bool
-    ensures { result ≡ is_same (Directory name) source }
+    ensures { result ≡ is_same_source (Directory name) source }
 {
     match source {
         Source::Service(_) => false,

@@ -1,7 +1,7 @@
 //! The event directory of one source.
 ghost use Rattle.std.specs.Prelude.{◌≡◌, ◌<◌, ◌++◌, ◌∷◌, ◌==◌, [], IfOk, OnOk, length, option_map};
-ghost use Rattle.event_directory.specs.Directories.{is_same};
-ghost use Rattle.event_directory.specs.Sending.{after_letter, hits_from, made_now, view_of, without};
+ghost use Rattle.event_directory.specs.Directories.{is_same_source};
+ghost use Rattle.event_directory.specs.Sending.{after_letter, hits_from, new_kept_subscription, view_of, kept_without};
 
 use crate::directory::Directory;
 use crate::finds::Finds;
@@ -47,7 +47,7 @@ impl<F: Finds, A: Allocator + Copy> SourceDirectory<F, A> {
 
     /// Whether it is the one of this source.
     pub fn is_of(&self, source: Source) -> bool
-        ensures { result ≡ is_same source self.now.source }
+        ensures { result ≡ is_same_source source self.now.source }
     {
         same_source(source, self.source)
     }
@@ -65,15 +65,17 @@ impl<F: Finds, A: Allocator + Copy> SourceDirectory<F, A> {
     /// Prepares one letter more, and says what it will give.
     pub fn prepare_more(&mut self, letter: Letter) -> Result<Vec<(SubId, Hit), A>, NoMemory>
         ensures source { self.new.source ≡ self.old.source }
-        ensures hits { IfOk result (λ hits. hits.items ≡ hits_from F.test letter self.old.kept.prepared) }
-        ensures prepared { OnOk result (self.new.kept.prepared ≡ after_letter F.test letter self.old.kept.prepared) }
+        ensures hits { IfOk result (λ hits. hits.items
+            ≡ hits_from F.test letter self.old.kept.prepared) }
+        ensures prepared { OnOk result
+            (self.new.kept.prepared ≡ after_letter F.test letter self.old.kept.prepared) }
         ensures same { self.new.kept.standing ≡ self.old.kept.standing }
         ensures room { self.new.kept.room ≡ self.old.kept.room }
     {
         self.directory.prepare_more(letter)
     }
 
-    /// Hears what was prepared. Takes no memory.
+    /// Hears what was prepared.
     pub fn hear_prepared(&mut self)
         ensures source { self.new.source ≡ self.old.source }
         ensures after { self.new.kept.standing ≡ self.old.kept.prepared }
@@ -92,19 +94,20 @@ impl<F: Finds, A: Allocator + Copy> SourceDirectory<F, A> {
         self.directory.reserve()
     }
 
-    /// Subscribes from now on, in a place that was made. Takes no memory.
+    /// Subscribes from now on, in a place that was made.
     pub fn take_in(&mut self, id: SubId, pattern: F, repeats: bool)
         requires { 0 < self.old.kept.room }
         ensures source { self.new.source ≡ self.old.source }
-        ensures after { self.new.kept.standing ≡ self.old.kept.standing ++ made_now id (F.source pattern) repeats ∷ [] }
+        ensures after { self.new.kept.standing
+            ≡ self.old.kept.standing ++ new_kept_subscription id (F.source pattern) repeats ∷ [] }
     {
         self.directory.take_in(id, pattern, repeats);
     }
 
-    /// Ends the subscription of this serial, if there is one, and says whether none is left. Takes no memory.
+    /// Ends the subscription of this serial, if there is one, and says whether none is left.
     pub fn unsubscribe(&mut self, id: SubId) -> bool
         ensures source { self.new.source ≡ self.old.source }
-        ensures after { self.new.kept.standing ≡ without id self.old.kept.standing }
+        ensures after { self.new.kept.standing ≡ kept_without id self.old.kept.standing }
         ensures none_left { result ≡ (length self.new.kept.standing == 0) }
     {
         self.directory.unsubscribe(id);
@@ -113,7 +116,8 @@ impl<F: Finds, A: Allocator + Copy> SourceDirectory<F, A> {
 
     /// What the subscription of this serial has heard.
     pub fn list(&self, id: SubId) -> Option<SubView<'_>>
-        ensures { option_map (λ v. (v.letters.now, v.state)) result ≡ view_of id self.now.kept.standing }
+        ensures { option_map (λ v. (v.letters.now, v.state)) result
+            ≡ view_of id self.now.kept.standing }
     {
         self.directory.list(id)
     }

@@ -1,10 +1,10 @@
 //! A step of all event directories: its letters, and then one change.
 ghost use Rattle.std.specs.Prelude.{◌≡◌, ◌<◌, ◌++◌, ◌^◌, [], None, Some, IfOk, OnOk, option_map};
-ghost use Rattle.event_directory.specs.Changes.{asked_by};
-ghost use Rattle.event_directory.specs.Changes.Change.{unsubscribe};
+ghost use Rattle.event_directory.specs.Changes.{directory_request_of};
+ghost use Rattle.event_directory.specs.Changes.DirectoryRequest.{unsubscribe};
 ghost use Rattle.event_directory.specs.Hearing.{hits_of_moments};
-ghost use Rattle.event_directory.specs.Register.{shown_in, prepared_in, pended, HasRoom, stored_change, stored_given, stored_told, refusal_in, prepared_change, given_change, told_change, after_step};
-ghost use Rattle.event_directory.specs.Remembered.{committed};
+ghost use Rattle.event_directory.specs.Register.{shown_in, prepared_in, prepared_by_pending, HasRoom, stored_change, stored_given, stored_told, refusal_in, prepared_change, given_change, told_change, after_step};
+ghost use Rattle.event_directory.specs.Remembered.{directories_after_commit};
 
 use crate::directory_change::{DirectoryAnswer, DirectoryChange};
 use crate::finds::Finds;
@@ -19,11 +19,12 @@ fn prepare_leave<F: Finds, A: Allocator + Copy>(
     register: &Register<F, A>,
     id: SubId,
 ) -> Pending<F, A>
-    ensures pending { pended result (prepared_in register.now) ≡ stored_change F.test (unsubscribe id) (prepared_in register.now) }
+    ensures pending { prepared_by_pending result (prepared_in register.now)
+        ≡ stored_change F.test (unsubscribe id) (prepared_in register.now) }
     ensures room { HasRoom result register.now }
 {
     match register.source(id) {
-        Some(source) => Pending::Leave(id, source),
+        Some(source) => Pending::Unsubscribe(id, source),
         None => Pending::Nothing,
     }
 }
@@ -36,9 +37,14 @@ fn prepare_change<F: Finds, A: Allocator + Copy>(
 ) -> Result<(Pending<F, A>, DirectoryAnswer), NoMemory>
     requires { register.old.next < 2 ^ 63 }
     ensures shown { shown_in register.new ≡ shown_in register.old }
-    ensures pending { IfOk result (λ r. pended r.0 (prepared_in register.new) ≡ stored_change F.test (asked_by change.now) (prepared_in register.old)) }
-    ensures answer { IfOk result (λ r. r.1 ≡ stored_told (asked_by change.now) (prepared_in register.old)) }
-    ensures matches { OnOk result (matches.new.items ≡ matches.old.items ++ stored_given F.test (asked_by change.now) (prepared_in register.old)) }
+    ensures pending { IfOk result
+        (λ r. prepared_by_pending r.0 (prepared_in register.new)
+        ≡ stored_change F.test (directory_request_of change.now) (prepared_in register.old)) }
+    ensures answer { IfOk result
+        (λ r. r.1 ≡ stored_told (directory_request_of change.now) (prepared_in register.old)) }
+    ensures matches { OnOk result
+        (matches.new.items ≡ matches.old.items
+        ++ stored_given F.test (directory_request_of change.now) (prepared_in register.old)) }
     ensures room { IfOk result (λ r. HasRoom r.0 register.new) }
 {
     match *change {
@@ -72,10 +78,15 @@ pub fn work_out<F: Finds, A: Allocator + Copy>(
 ) -> Result<(Pending<F, A>, DirectoryAnswer), NoMemory>
     requires { register.old.next < 2 ^ 63 }
     ensures shown { shown_in register.new ≡ shown_in register.old }
-    ensures pending { IfOk result (λ r. pended r.0 (prepared_in register.new) ≡ prepared_change F.test (asked_by change.now) (after_step F.test moments.now (shown_in register.old))) }
-    ensures answer { IfOk result (λ r. r.1 ≡ told_change (asked_by change.now) (after_step F.test moments.now (shown_in register.old))) }
+    ensures pending { IfOk result
+        (λ r. prepared_by_pending r.0 (prepared_in register.new)
+        ≡ prepared_change F.test (directory_request_of change.now)
+        (after_step F.test moments.now (shown_in register.old))) }
+    ensures answer { IfOk result
+        (λ r. r.1 ≡ told_change (directory_request_of change.now)
+        (after_step F.test moments.now (shown_in register.old))) }
     ensures matches { OnOk result (matches.new.items ≡ matches.old.items ++ hits_of_moments F.test moments.now register.old.followed
-        ++ given_change F.test (asked_by change.now) (after_step F.test moments.now (shown_in register.old))) }
+        ++ given_change F.test (directory_request_of change.now) (after_step F.test moments.now (shown_in register.old))) }
     ensures room { IfOk result (λ r. HasRoom r.0 register.new) }
 {
     hear_step(register, moments, matches)?;
@@ -92,21 +103,26 @@ fn hear_step<F: Finds, A: Allocator + Copy>(
     matches: &mut Vec<(SubId, Hit), A>,
 ) -> Result<(), NoMemory>
     ensures shown { shown_in register.new ≡ shown_in register.old }
-    ensures prepared { OnOk result (prepared_in register.new ≡ after_step F.test moments.now (shown_in register.old)) }
-    ensures matches { OnOk result (matches.new.items ≡ matches.old.items ++ hits_of_moments F.test moments.now register.old.followed) }
+    ensures prepared { OnOk result
+        (prepared_in register.new ≡ after_step F.test moments.now (shown_in register.old)) }
+    ensures matches { OnOk result
+        (matches.new.items ≡ matches.old.items
+        ++ hits_of_moments F.test moments.now register.old.followed) }
 {
     register.begin()?;
     register.hear_moments(moments, matches)
 }
 
-/// Does what was left to be done when the step is made. Takes no memory.
+/// Does what was left to be done when the step is made.
 pub fn finish_step<F: Finds, A: Allocator + Copy>(
     register: &mut Register<F, A>,
     pending: Pending<F, A>,
     offered: Option<(F, bool)>,
 )
     requires { HasRoom pending register.old }
-    ensures { shown_in register.new ≡ committed (pended pending (shown_in register.old)) (option_map (λ o. (F.source o.0, o.1)) offered) }
+    ensures { shown_in register.new
+        ≡ directories_after_commit (prepared_by_pending pending (shown_in register.old))
+        (option_map (λ o. (F.source o.0, o.1)) offered) }
 {
     match pending {
         Pending::Nothing => {}
@@ -119,6 +135,6 @@ pub fn finish_step<F: Finds, A: Allocator + Copy>(
             Some((pattern, repeats)) => register.start(directory, pattern, repeats),
             None => {}
         },
-        Pending::Leave(id, source) => register.leave(id, source),
+        Pending::Unsubscribe(id, source) => register.leave(id, source),
     }
 }

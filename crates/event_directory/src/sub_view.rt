@@ -1,6 +1,7 @@
+//! What is seen of a subscription: its letters and its state.
 use s6_events::Letter;
 
-/// Whether a subscription still listens. It stands until it is unsubscribed, whatever its state. This project's own.
+/// Whether a subscription still listens. It stands until it is unsubscribed, whatever its state.
 #[derive(Clone, Copy, PartialEq, Eq, Debug)]
 pub enum State {
     /// It looks at the next letter.

@@ -1,7 +1,7 @@
 //! One subscription, with the text that it has not matched yet.
 ghost use Rattle.std.specs.Prelude.{◌≡◌, [], IfOk, OnOk, vec_len};
-ghost use Rattle.event_directory.specs.SubscriberList.{next, gained, listening};
-ghost use Rattle.event_directory.specs.Sending.{made_now};
+ghost use Rattle.event_directory.specs.SubscriberList.{list_with_letter, hit_between, live_with};
+ghost use Rattle.event_directory.specs.Sending.{new_kept_subscription};
 ghost use Rattle.event_directory.specs.declared.sub_view.State.TheVariants as state;
 
 use crate::finds::Finds;
@@ -59,9 +59,9 @@ pub struct Subscription<F: Finds, A: Allocator> {
 
 impl<F: Finds, A: Allocator> Model for Subscription<F, A> {
     ghost use Rattle.std.specs.Prelude.{◌≤◌, ◌+◌, ◌++◌, vec_len, vec_capacity};
-    ghost use Rattle.event_directory.specs.Stored.{Stored};
+    ghost use Rattle.event_directory.specs.Stored.{StoredSubscription};
 
-    ghost Value = { Stored };
+    ghost Value = { StoredSubscription };
 
     ghost view = { λ s. record {
       standing = record {
@@ -89,8 +89,8 @@ impl<F: Finds, A: Allocator> Model for Subscription<F, A> {
 impl<F: Finds, A: Allocator + Copy> Subscription<F, A> {
     /// A subscription from now on.
     pub fn new(alloc: A, id: SubId, pattern: F, repeats: bool) -> Subscription<F, A>
-        ensures standing { result.standing ≡ made_now id (F.source pattern) repeats }
-        ensures planned { result.planned ≡ listening [] }
+        ensures standing { result.standing ≡ new_kept_subscription id (F.source pattern) repeats }
+        ensures planned { result.planned ≡ live_with [] }
     {
         Subscription {
             id,
@@ -142,10 +142,10 @@ impl<F: Finds, A: Allocator + Copy> Subscription<F, A> {
     pub fn prepare(&mut self, letter: Letter) -> Result<Option<Hit>, NoMemory>
         ensures same { self.new.standing ≡ self.old.standing }
         ensures planned { self.new.planned ≡ self.old.planned }
-        ensures hit { IfOk result (λ hit. hit ≡ gained letter self.old.prepared
-            (next (F.test self.old.standing.pattern) self.old.standing.repeats letter self.old.prepared)) }
+        ensures hit { IfOk result (λ hit. hit ≡ hit_between letter self.old.prepared
+            (list_with_letter (F.test self.old.standing.pattern) self.old.standing.repeats letter self.old.prepared)) }
         ensures next { OnOk result (self.new.prepared ≡
-            next (F.test self.old.standing.pattern) self.old.standing.repeats letter self.old.prepared) }
+            list_with_letter (F.test self.old.standing.pattern) self.old.standing.repeats letter self.old.prepared) }
     {
         if self.prepared.state != State::Live {
             return Ok(None);

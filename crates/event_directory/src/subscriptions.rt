@@ -13,9 +13,12 @@ use std::alloc::Allocator;
 pub fn begin_all<F: Finds, A: Allocator + Copy>(
     subscriptions: &mut [Subscription<F, A>],
 ) -> Result<(), NoMemory>
-    ensures same { map standing_of_stored subscriptions.new ≡ map standing_of_stored subscriptions.old }
-    ensures planned { map planned_standing subscriptions.new ≡ map planned_standing subscriptions.old }
-    ensures ok { OnOk result (map prepared_standing subscriptions.new ≡ map standing_of_stored subscriptions.old) }
+    ensures same { map standing_of_stored subscriptions.new
+        ≡ map standing_of_stored subscriptions.old }
+    ensures planned { map planned_standing subscriptions.new
+        ≡ map planned_standing subscriptions.old }
+    ensures ok { OnOk result (map prepared_standing subscriptions.new
+        ≡ map standing_of_stored subscriptions.old) }
 {
     for subscription in subscriptions.iter_mut() {
         subscription.begin()?;
@@ -29,10 +32,14 @@ pub fn prepare_all<F: Finds, A: Allocator + Copy>(
     subscriptions: &mut [Subscription<F, A>],
     letter: Letter,
 ) -> Result<Vec<(SubId, Hit), A>, NoMemory>
-    ensures same { map standing_of_stored subscriptions.new ≡ map standing_of_stored subscriptions.old }
-    ensures planned { map planned_standing subscriptions.new ≡ map planned_standing subscriptions.old }
-    ensures next { OnOk result (map prepared_standing subscriptions.new ≡ after_letter F.test letter (map prepared_standing subscriptions.old)) }
-    ensures hits { IfOk result (λ hits. hits.items ≡ hits_from F.test letter (map prepared_standing subscriptions.old)) }
+    ensures same { map standing_of_stored subscriptions.new
+        ≡ map standing_of_stored subscriptions.old }
+    ensures planned { map planned_standing subscriptions.new
+        ≡ map planned_standing subscriptions.old }
+    ensures next { OnOk result (map prepared_standing subscriptions.new
+        ≡ after_letter F.test letter (map prepared_standing subscriptions.old)) }
+    ensures hits { IfOk result (λ hits. hits.items
+        ≡ hits_from F.test letter (map prepared_standing subscriptions.old)) }
 {
     let mut hits = Vec::new(alloc);
     for subscription in subscriptions.iter_mut() {
@@ -50,10 +57,14 @@ pub fn prepare_letters<F: Finds, A: Allocator + Copy>(
     subscriptions: &mut [Subscription<F, A>],
     letters: &[Letter],
 ) -> Result<Vec<Vec<(SubId, Hit), A>, A>, NoMemory>
-    ensures same { map standing_of_stored subscriptions.new ≡ map standing_of_stored subscriptions.old }
-    ensures planned { map planned_standing subscriptions.new ≡ map planned_standing subscriptions.old }
-    ensures next { OnOk result (map prepared_standing subscriptions.new ≡ after_letters F.test letters.now (map prepared_standing subscriptions.old)) }
-    ensures hits { IfOk result (λ hits. map (λ v. v.items) hits.items ≡ hits_from_letters F.test letters.now (map prepared_standing subscriptions.old)) }
+    ensures same { map standing_of_stored subscriptions.new
+        ≡ map standing_of_stored subscriptions.old }
+    ensures planned { map planned_standing subscriptions.new
+        ≡ map planned_standing subscriptions.old }
+    ensures next { OnOk result (map prepared_standing subscriptions.new
+        ≡ after_letters F.test letters.now (map prepared_standing subscriptions.old)) }
+    ensures hits { IfOk result (λ hits. map (λ v. v.items) hits.items
+        ≡ hits_from_letters F.test letters.now (map prepared_standing subscriptions.old)) }
 {
     let mut hits = Vec::new(alloc);
     for letter in letters {
@@ -65,9 +76,12 @@ pub fn prepare_letters<F: Finds, A: Allocator + Copy>(
 
 /// What was prepared becomes what is planned, and the other way round.
 pub fn exchange_all<F: Finds, A: Allocator + Copy>(subscriptions: &mut [Subscription<F, A>])
-    ensures same { map standing_of_stored subscriptions.new ≡ map standing_of_stored subscriptions.old }
-    ensures prepared { map prepared_standing subscriptions.new ≡ map planned_standing subscriptions.old }
-    ensures planned { map planned_standing subscriptions.new ≡ map prepared_standing subscriptions.old }
+    ensures same { map standing_of_stored subscriptions.new
+        ≡ map standing_of_stored subscriptions.old }
+    ensures prepared { map prepared_standing subscriptions.new
+        ≡ map planned_standing subscriptions.old }
+    ensures planned { map planned_standing subscriptions.new
+        ≡ map prepared_standing subscriptions.old }
 {
     for subscription in subscriptions.iter_mut() {
         subscription.exchange();

@@ -1,3 +1,4 @@
+//! What the exit of `finish` says: 125 is a permanent failure.
 ghost use Rattle.std.specs.Prelude.{◌≡◌};
 ghost use Rattle.finish_core.specs.ExitVerdict.{verdict_of};
 

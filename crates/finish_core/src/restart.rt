@@ -1,3 +1,4 @@
+//! When a dead service is started again.
 ghost use Rattle.std.specs.Prelude.{◌≡◌};
 ghost use Rattle.finish_core.specs.Restart.{restart_moment};
 
@@ -8,7 +9,7 @@ const PAUSE: u32 = 1000;
 
 /// The number of the moment, in milliseconds, at which a service whose `finish` is done starts again: `now` where it had been
 /// ready for more than 1000 ms when it died, else no sooner than 1000 ms after its death. Page `s6-supervise`,
-/// "Detailed operation"; from which moment the second counts is this project's own rule.
+/// "Detailed operation"; from which moment the second counts is chosen here.
 pub fn restart_due(ready_since: Option<At>, death: At, now: At) -> u64
     ensures { result ≡ restart_moment ready_since death now }
 {

@@ -37,7 +37,36 @@ use Rattle.std.specs.contracts.impls.GlobalAllocator.TheImpl as heap_ghosts
 use Rattle.std.specs.contracts.marker.PhantomData as PhantomData
 use Rattle.s6_events.specs.contracts.ids.Actor as Actor
 
-ruleset parts = (class.the_field_send, class.the_send, dfa.the_field_send, dfa.the_send, frame.the_field_send, frame.the_send, byteset.the_send, caseless.the_send, ladder.the_field_send, ladder.the_send, prefilter.the_send, config.the_field_send, config.the_send, flags.the_field_send, flags.the_send, look.the_field_send, look.the_send, role.the_field_send, role.the_send, global.the_field_send, global.the_send, option.the_field_send, option.the_send, string.the_field_send, string.the_send, hir.crosses, crosses, sendable)
+ruleset parts = (
+  class.the_field_send,
+  class.the_send,
+  dfa.the_field_send,
+  dfa.the_send,
+  frame.the_field_send,
+  frame.the_send,
+  byteset.the_send,
+  caseless.the_send,
+  ladder.the_field_send,
+  ladder.the_send,
+  prefilter.the_send,
+  config.the_field_send,
+  config.the_send,
+  flags.the_field_send,
+  flags.the_send,
+  look.the_field_send,
+  look.the_send,
+  role.the_field_send,
+  role.the_send,
+  global.the_field_send,
+  global.the_send,
+  option.the_field_send,
+  option.the_send,
+  string.the_field_send,
+  string.the_send,
+  hir.crosses,
+  crosses,
+  sendable,
+)
 
 regex_send : IsSend Regex.the_row
 regex_send = search parts depth 60 fits 20000
@@ -60,7 +89,8 @@ actor_send = search (actor.the_send, sendable) depth 60 fits 20000
 phantom_send : (C : RattleType) → IsSend C → IsSend (PhantomData.the_field C).row
 phantom_send C c = search (phantom.the_field_send, sendable) depth 60 fits 20000
 
-producer_send : IsSend (Producer.the_field Submission.the_row Global.the_row AnyItems.the_row heap_ghosts.ghosts (any_ghosts.ghosts Submission.the_row)).row
+producer_send : IsSend (Producer.the_field Submission.the_row Global.the_row AnyItems.the_row heap_ghosts.ghosts
+    (any_ghosts.ghosts Submission.the_row)).row
 producer_send = search (submission_send, global_send, producer.the_field_send, crosses, sendable) depth 60 fits 20000
 
 number_send : IsSend u64

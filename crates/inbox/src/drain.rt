@@ -1,3 +1,4 @@
+//! The end of a ring that takes inputs out.
 ghost use Rattle.std.specs.Prelude.{◌≡◌, ◌≢◌, ◌<◌, [], ◌∷◌, ◌++◌, length, true, false, IsSome, IfSome, IfNone, Some, None};
 ghost use mathlib.Core.List.{IsPrefix};
 ghost use Rattle.rtrb.specs.Ring.{received, known_items};
@@ -12,7 +13,7 @@ use std::alloc::Global;
 use std::marker::{Model, PhantomData};
 use tree_core::Input;
 
-/// The tree's end of an actor's ring: here its submissions are taken, oldest first. This project's own.
+/// The tree's end of an actor's ring: here its submissions are taken, oldest first.
 #[derive(Drop)]
 pub struct Drain<C: Channels> {
     actor: Actor,
@@ -37,7 +38,12 @@ impl<C: Channels> Drain<C> {
     // The end of a ring.
     pub(crate) fn over(actor: Actor, consumer: Consumer<Submission>) -> Drain<C>
         requires { consumer_ring consumer ≡ C.seat_ring actor }
-        ensures { result ≡ record { actor = actor; taken = received consumer; seen = known_items consumer } }
+        ensures { result ≡ record {
+          actor = actor;
+          taken = received consumer;
+          seen =
+              known_items consumer;
+        } }
     {
         Drain {
             actor,
@@ -57,8 +63,11 @@ impl<C: Channels> Drain<C> {
     /// for nobody.
     pub fn take_next(&mut self) -> Option<Input<Global>>
         ensures actor { self.new.actor ≡ self.old.actor }
-        ensures taken { IfSome result (λ i. (i.actor ≡ self.old.actor) × (self.new.taken ≡ self.old.taken ++ record { at = i.at; act = i.act } ∷ [])) }
-        ensures next { IfSome result (λ i. IsPrefix self.old.seen (record { at = i.at; act = i.act } ∷ self.new.seen)) }
+        ensures taken { IfSome result
+            (λ i. (i.actor ≡ self.old.actor)
+            × (self.new.taken ≡ self.old.taken ++ record { at = i.at; act = i.act } ∷ [])) }
+        ensures next { IfSome result
+            (λ i. IsPrefix self.old.seen (record { at = i.at; act = i.act } ∷ self.new.seen)) }
         ensures none { IfNone result ((self.new.taken ≡ self.old.taken) × (self.new.seen ≡ [])) }
         ensures succeeds { 0 < length self.old.seen → IsSome result }
     {

@@ -1,3 +1,4 @@
+//! The end of a seat that submits no more.
 ghost use Rattle.std.specs.Prelude.{◌≡◌, option_map};
 ghost use Rattle.std.specs.Option.{ForSome};
 ghost use Rattle.rtrb.specs.Ring.{all_sent};
@@ -8,7 +9,7 @@ use channel_names::Channels;
 use s6_events::Actor;
 use std::marker::{Model, PhantomData};
 
-/// What is left of a seat that submits no more. This project's own.
+/// What is left of a seat that submits no more.
 #[derive(Drop)]
 pub struct Finished<C: Channels> {
     actor: Actor,

@@ -1,3 +1,4 @@
+//! One ring for each actor, and how they are opened.
 ghost use Rattle.std.specs.Prelude.{◌≡◌, ◌≤◌, [], IfOk, map};
 ghost use Rattle.inbox.specs.Ends.{places, numbers_below};
 
@@ -13,7 +14,7 @@ use std::marker::Model;
 /// How many submissions a ring holds.
 const PLACES: usize = 64;
 
-/// A new ring, through which nothing went yet. Its ends come once a run has picked the names of its rings. This project's own.
+/// A new ring, through which nothing went yet. Its ends come once a run has picked the names of its rings.
 #[derive(Drop)]
 pub struct Ring {
     actor: Actor,
@@ -32,7 +33,8 @@ impl Model for Ring {
     ghost view = { λ r. record { actor = r.actor; ring = consumer_ring r.consumer } };
 
     ghost invariant = { λ r. IsPair r.producer r.consumer
-        × (sent r.producer ≡ []) × (known_free r.producer ≡ places) × (producer_capacity r.producer ≡ places)
+        × (sent r.producer ≡ []) × (known_free r.producer ≡ places)
+        × (producer_capacity r.producer ≡ places)
         × (received r.consumer ≡ []) × (known_items r.consumer ≡ []) };
 }
 

@@ -1,3 +1,4 @@
+//! The end of a ring that submits inputs.
 ghost use Rattle.std.specs.Prelude.{◌≡◌, ◌+◌, ◌-◌, ◌^◌, ◌<◌, ◌≤◌, [], ◌∷◌, ◌++◌, length, IsOk, IfOk, IfErr, IfSome};
 ghost use Rattle.rtrb.specs.Ring.{sent, known_free, producer_capacity};
 ghost use Rattle.channel_names.specs.RingName.{producer_ring};
@@ -13,7 +14,7 @@ use std::alloc::Global;
 use std::marker::{Model, PhantomData};
 use tree_core::Act;
 
-/// An actor's end of its ring: here it hands in what happened. It may move to a thread of its own. This project's own.
+/// An actor's end of its ring: here it hands in what happened. It may move to a thread of its own.
 #[derive(Drop)]
 pub struct Seat<C: Channels> {
     actor: Actor,
@@ -39,7 +40,8 @@ impl<C: Channels> Seat<C> {
     // The end of a ring through which nothing went yet.
     pub(crate) fn over(actor: Actor, producer: Producer<Submission>) -> Seat<C>
         requires ring { producer_ring producer ≡ C.seat_ring actor }
-        requires unused { (sent producer ≡ []) × (known_free producer ≡ places) × (producer_capacity producer ≡ places) }
+        requires unused { (sent producer ≡ []) × (known_free producer ≡ places)
+            × (producer_capacity producer ≡ places) }
         ensures { result ≡ record { actor = actor; submitted = []; waiting = 0 } }
     {
         Seat {
@@ -56,10 +58,14 @@ impl<C: Channels> Seat<C> {
     pub fn submit(&mut self, at: At, act: Act<Global>) -> Result<Ticket, (Act<Global>, Full)>
         requires { length self.old.submitted < 2 ^ 63 }
         ensures actor { self.new.actor ≡ self.old.actor }
-        ensures appended { IfOk result (λ _. self.new.submitted ≡ self.old.submitted ++ record { at = at; act = act } ∷ []) }
-        ensures ticket { IfOk result (λ t. (t.actor ≡ self.old.actor) × (t.number ≡ length self.new.submitted)) }
+        ensures appended { IfOk result
+            (λ _. self.new.submitted ≡ self.old.submitted ++ record { at = at; act = act } ∷ []) }
+        ensures ticket { IfOk result
+            (λ t. (t.actor ≡ self.old.actor) × (t.number ≡ length self.new.submitted)) }
         ensures one_more { IfOk result (λ _. self.new.waiting ≤ self.old.waiting + 1) }
-        ensures full { IfErr result (λ e. (e.0 ≡ act) × (self.new.submitted ≡ self.old.submitted) × (self.new.waiting ≡ places)) }
+        ensures full { IfErr result
+            (λ e. (e.0 ≡ act) × (self.new.submitted ≡ self.old.submitted)
+            × (self.new.waiting ≡ places)) }
         ensures succeeds { self.old.waiting < places → IsOk result }
     {
         match self.producer.push(Submission { at, act }) {

@@ -1,8 +1,9 @@
+//! An input, as it lies in a ring.
 use s6_events::At;
 use std::alloc::Global;
 use tree_core::Act;
 
-/// What a ring holds: an input but for its actor, who is the same for all of a ring. This project's own.
+/// What a ring holds: an input but for its actor, who is the same for all of a ring.
 #[derive(Drop)]
 pub struct Submission {
     pub at: At,

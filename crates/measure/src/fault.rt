@@ -1,3 +1,4 @@
+//! Why a measurement stopped.
 use s6_events::NoMemory;
 use status_board::NoReader;
 use thiserror::Error;

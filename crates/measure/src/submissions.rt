@@ -14,7 +14,8 @@ use tree_core::Act;
 
 /// The rings of the actors 0 to 3.
 pub fn four_rings(alloc: Global) -> Result<(Ring, Ring, Ring, Ring), NoMemory>
-    ensures { IfOk result (λ r. (r.0.actor ≡ 0) × (r.1.actor ≡ 1) × (r.2.actor ≡ 2) × (r.3.actor ≡ 3)) }
+    ensures { IfOk result (λ r. (r.0.actor ≡ 0) × (r.1.actor ≡ 1) × (r.2.actor ≡ 2)
+        × (r.3.actor ≡ 3)) }
 {
     let mut rings = open_rings(alloc, 4)?.into_iter();
     let (Some(a), Some(b), Some(c), Some(d)) = (

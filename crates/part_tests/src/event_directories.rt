@@ -1,8 +1,9 @@
+//! Event directories by their public calls: matches, refusals, plans and refused memory.
 ghost use Rattle.std.specs.Prelude.{◌≤◌, ◌<◌, ◌+◌, ◌^◌, nat_le, length, sum};
 
 use event_directory::{
-    Directories, Directory, DirectoryAnswer, DirectoryChange, DirectoryFault, DirectoryPlan, Finds,
-    Hit, Message, Pattern, PatternFault, Source, State,
+    Directories, DirectoriesPlan, Directory, DirectoryAnswer, DirectoryChange, DirectoryFault,
+    Finds, Hit, Message, Pattern, PatternFault, Source, State,
 };
 use linked_list_allocator::LocalHeap;
 use s6_events::{Letter, Mark, Moment, Name, NoMemory, Sid, SubId};
@@ -266,7 +267,7 @@ fn step<A: Allocator + Copy>(
     moments: &[Moment],
     change: &DirectoryChange<'_>,
     offered: Option<(AtLeast, bool)>,
-) -> Result<DirectoryPlan<A>, NoMemory>
+) -> Result<DirectoriesPlan<A>, NoMemory>
     requires { directories.old.shown.next < 2 ^ 63 }
     ensures { directories.new.shown.next ≤ directories.old.shown.next + 1 }
 {
@@ -277,7 +278,7 @@ fn step<A: Allocator + Copy>(
 
 // Whether a step was answered so, and gave these matches.
 fn gave<A: Allocator + Copy>(
-    plan: &DirectoryPlan<A>,
+    plan: &DirectoriesPlan<A>,
     answer: DirectoryAnswer,
     matches: &[(SubId, Hit)],
 ) -> bool {

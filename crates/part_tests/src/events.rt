@@ -1,3 +1,4 @@
+//! Names, letters, actors, moments and histories by their public calls.
 use linked_list_allocator::LocalHeap;
 use s6_events::{Actor, At, History, Letter, Mark, Moment, Name, NoMemory, Sid};
 use std::alloc::Allocator;

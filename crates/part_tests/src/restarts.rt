@@ -1,3 +1,4 @@
+//! Restarts, arguments of `finish` and its verdict, by their public calls.
 use finish_core::{Verdict125, finish_args, restart_due, verdict};
 use s6_events::{At, Exit};
 use std::test::Fail;

@@ -1,3 +1,4 @@
+//! Deadlines by their public calls.
 use deadlines::{Deadlines, TimerChange};
 use linked_list_allocator::LocalHeap;
 use s6_events::{At, NoMemory, Sid};

@@ -1,3 +1,4 @@
+//! Waiters by their public calls: releases, refusals, plans and refused memory.
 ghost use Rattle.std.specs.Prelude.{◌≡◌, ◌<◌, ◌+◌, ◌≤◌, ◌^◌, IfOk, OnOk, length};
 
 use linked_list_allocator::LocalHeap;
@@ -5,7 +6,7 @@ use s6_events::{At, Condition, Mark, Mode, Moment, NoMemory, Sid, WaitId};
 use std::alloc::{Allocator, Global};
 use std::process::Abort;
 use std::test::Fail;
-use wait_conditions::{AddFault, Standing, Verdict, WaitAnswer, WaitChange, Waits};
+use wait_conditions::{AddFault, Verdict, WaitAnswer, WaitChange, WaitState, Waits};
 
 fn at(millis: u64) -> Result<At, Fail> {
     Ok(At::new(millis).ok_or("a moment")?)
@@ -82,7 +83,7 @@ fn released_after(
     for moment in &moments_of(alloc, since)? {
         count = count.saturating_add(1);
         for (released, verdict) in &waits.moment(moment)? {
-            if *released == id && waits.result(id) == Some(Standing::Released(*verdict)) {
+            if *released == id && waits.result(id) == Some(WaitState::Released(*verdict)) {
                 return Ok(Some((count, *verdict)));
             }
         }
@@ -284,7 +285,7 @@ fn a_cancelled_waiter_is_gone(rt: HostRuntime) -> Result<(), Fail> {
     let released = waits.moment(&Moment::Event(Sid(1), Mark::Spawned))?;
     assert!(rt; released.as_slice() == [(WaitId(2), Verdict::Held)].as_slice());
     assert!(rt; waits.result(WaitId(1)).is_none());
-    assert!(rt; waits.result(WaitId(2)) == Some(Standing::Released(Verdict::Held)));
+    assert!(rt; waits.result(WaitId(2)) == Some(WaitState::Released(Verdict::Held)));
     Ok(())
 }
 
@@ -315,7 +316,7 @@ fn a_refused_growth_is_told(rt: HostRuntime) -> Result<(), Fail> {
 }
 
 // Where the waiters 1, 2 and 3 stand.
-fn stands<A: Allocator + Copy>(waits: &Waits<A>) -> [Option<Standing>; 3] {
+fn stands<A: Allocator + Copy>(waits: &Waits<A>) -> [Option<WaitState>; 3] {
     [
         waits.result(WaitId(1)),
         waits.result(WaitId(2)),
@@ -329,7 +330,7 @@ type Row<'a> = (
     WaitChange<'a>,
     &'a [(WaitId, Verdict)],
     WaitAnswer,
-    [Option<Standing>; 3],
+    [Option<WaitState>; 3],
 );
 
 // The step is prepared, which shows nothing, and made.
@@ -374,8 +375,8 @@ fn take_steps(
 
 #[test]
 fn a_step_is_prepared_and_made(rt: HostRuntime) -> Result<(), Fail> {
-    let waiting = Some(Standing::Waiting);
-    let held = Some(Standing::Released(Verdict::Held));
+    let waiting = Some(WaitState::Waiting);
+    let held = Some(WaitState::Released(Verdict::Held));
     let start = At::zero();
     let one: &[Sid] = &[Sid(1)];
     let two: &[Sid] = &[Sid(2)];

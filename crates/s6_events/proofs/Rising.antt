@@ -16,7 +16,8 @@ rising_push f m (x ∷ xs) rising below = (
   rising_push f m xs rising.1 (All-tail (λ y. f y < m) x xs below),
 )
 
-above_left_by : {X : Type 0} (f : X → ℕ) (n : ℕ) (b : Bool) (x : X) (us : List X) → n < f x → AreAbove n (map f us) → AreAbove n (map f (cond b (x ∷ us) us))
+above_left_by : {X : Type 0} (f : X → ℕ) (n : ℕ) (b : Bool) (x : X) (us : List X) → n < f x → AreAbove n (map f us)
+    → AreAbove n (map f (cond b (x ∷ us) us))
 above_left_by f n true x us lt above = (lt, above)
 above_left_by f n false x us lt above = above
 
@@ -24,7 +25,8 @@ above_left : {X : Type 0} (f : X → ℕ) (p : X → Bool) (n : ℕ) (xs : List 
 above_left f p n [] above = tt
 above_left f p n (x ∷ xs) above = above_left_by f n (p x) x (filter p xs) above.0 (above_left f p n xs above.1)
 
-rising_left_by : {X : Type 0} (f : X → ℕ) (b : Bool) (x : X) (us : List X) → AreAbove (f x) (map f us) → AreRising (map f us) → AreRising (map f (cond b (x ∷ us) us))
+rising_left_by : {X : Type 0} (f : X → ℕ) (b : Bool) (x : X) (us : List X) → AreAbove (f x) (map f us) → AreRising (map f us)
+    → AreRising (map f (cond b (x ∷ us) us))
 rising_left_by f true x us above rising = (above, rising)
 rising_left_by f false x us above rising = rising
 
@@ -42,11 +44,13 @@ above_told_by : {V : Type 0} (n m : ℕ) (o : Option V) (us : List (ℕ × V)) �
 above_told_by n m None us lt above = above
 above_told_by n m (Some v) us lt above = (lt, above)
 
-above_told : {X V : Type 0} (f : X → ℕ) (told : X → Option V) (n : ℕ) (xs : List X) → AreAbove n (map f xs) → AreAbove n (map (λ (r : ℕ × V). r.0) (filter_map (told_of f told) xs))
+above_told : {X V : Type 0} (f : X → ℕ) (told : X → Option V) (n : ℕ) (xs : List X) → AreAbove n (map f xs)
+    → AreAbove n (map (λ (r : ℕ × V). r.0) (filter_map (told_of f told) xs))
 above_told f told n [] above = tt
 above_told f told n (x ∷ xs) above = above_told_by n (f x) (told x) (filter_map (told_of f told) xs) above.0 (above_told f told n xs above.1)
 
-rising_told_by : {V : Type 0} (m : ℕ) (o : Option V) (us : List (ℕ × V)) → AreAbove m (map (λ (r : ℕ × V). r.0) us) → AreRising (map (λ (r : ℕ × V). r.0) us) →
+rising_told_by : {V : Type 0} (m : ℕ) (o : Option V) (us : List (ℕ × V)) → AreAbove m (map (λ (r : ℕ × V). r.0) us)
+    → AreRising (map (λ (r : ℕ × V). r.0) us) →
     AreRising (map (λ (r : ℕ × V). r.0) (cons_option (option_map (λ v. (m, v)) o) us))
 rising_told_by m None us above rising = rising
 rising_told_by m (Some v) us above rising = (above, rising)

@@ -14,4 +14,5 @@ end_of h = h.forgotten + length h.kept
 
 -- the moments from a place on, where the place stands or is the end
 abbrev pub from_place : Recorded → ℕ → Option (List Moment)
-from_place h place = if nat_le h.forgotten place && nat_le place (end_of h) then Some (drop (place - h.forgotten) h.kept) else None
+from_place h place = if nat_le h.forgotten place && nat_le place (end_of h)
+    then Some (drop (place - h.forgotten) h.kept) else None

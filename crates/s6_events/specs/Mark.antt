@@ -2,7 +2,8 @@
 use Rattle.std.specs.Prelude.{ℕ}
 pub use Rattle.s6_events.specs.Letter.{is_letter}
 use Rattle.s6_events.specs.declared.mark.Mark.{Mark}
-use Rattle.s6_events.specs.declared.mark.Mark.TheVariants.{SupervisorStarted, Spawned, Ready, Died, FinishDone, PermanentFailure, SupervisorEnded}
+use Rattle.s6_events.specs.declared.mark.Mark.TheVariants.{SupervisorStarted, Spawned, Ready, Died, FinishDone}
+use Rattle.s6_events.specs.declared.mark.Mark.TheVariants.{PermanentFailure, SupervisorEnded}
 
 -- the letter that stands for a mark: s, u, U, d, D, O, x
 abbrev pub letter_of : Mark → ℕ

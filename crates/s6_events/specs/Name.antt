@@ -10,4 +10,5 @@ is_name_byte b =
 
 -- 1 to 64 such bytes, the first of them no dot
 unfoldable pub is_name : List ℕ → Bool
-is_name text = nat_le 1 (length text) && nat_le (length text) 64 && not (slice_index text 0 == 46) && list_all is_name_byte text
+is_name text = nat_le 1 (length text) && nat_le (length text) 64 && not (slice_index text 0 == 46)
+    && list_all is_name_byte text

@@ -12,7 +12,8 @@ Dated = ℕ × Mark
 abbrev pub dated_from : ℕ → ℕ → List Moment → List Dated
 dated_from sid clock [] = []
 dated_from sid clock (Clock at ∷ rest) = dated_from sid at rest
-dated_from sid clock (Event of mark ∷ rest) = if of == sid then (clock, mark) ∷ dated_from sid clock rest else dated_from sid clock rest
+dated_from sid clock (Event of mark ∷ rest) =
+    if of == sid then (clock, mark) ∷ dated_from sid clock rest else dated_from sid clock rest
 
 -- the marks of a service in a history, each with its moment
 abbrev pub dated_marks : ℕ → List Moment → List Dated

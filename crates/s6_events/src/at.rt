@@ -1,3 +1,4 @@
+//! A moment in milliseconds.
 ghost use Rattle.std.specs.Prelude.{◌≡◌, ◌≤◌, ◌+◌, None, Some, nat_le, if◌then◌else◌};
 ghost use Rattle.s6_events.specs.At.{last_moment};
 
@@ -6,7 +7,7 @@ use std::marker::Model;
 /// The greatest moment, in milliseconds.
 const LAST_MOMENT: u64 = 1_000_000_000_000_000;
 
-/// A moment in milliseconds, from 0 to 10^15. Moments and their limit are this project's own: s6 stamps with TAI64N labels.
+/// A moment in milliseconds, from 0 to 10^15. Moments and their limit are chosen here: s6 stamps with TAI64N labels.
 #[derive(Clone, Copy, PartialEq, Eq, PartialOrd, Ord, Hash, Debug, Default)]
 pub struct At {
     millis: u64,

@@ -1,3 +1,4 @@
+//! What a waiter waits for, and of how many of its services.
 /// What a waiter wants of each of its services. Pages `s6-svwait` and `s6-svlisten`.
 #[derive(Clone, Copy, Debug, Default, PartialEq, Eq)]
 pub enum Condition {

@@ -1,3 +1,4 @@
+//! How a program ended.
 /// How a program ended. Page `s6-supervise`: its exit code, or the signal that killed it.
 #[derive(Clone, Copy, PartialEq, Eq, Debug)]
 pub enum Exit {

@@ -1,3 +1,4 @@
+//! The list of all moments, of which the first may be forgotten.
 ghost use Rattle.std.specs.Prelude.{◌≡◌, ◌==◌, ◌+◌, ◌^◌, ◌<◌, ◌≤◌, ◌++◌, ◌∷◌, [], length, vec_len, vec_capacity, IsOk, IfOk, OnOk, OnErr, option_map};
 ghost use Rattle.s6_events.specs.History.{end_of, from_place};
 
@@ -6,7 +7,7 @@ use crate::no_memory::NoMemory;
 use std::alloc::Allocator;
 use std::marker::Model;
 
-/// All moments since it was made, in the order in which they were pushed; places count from 0. This project's own.
+/// All moments since it was made, in the order in which they were pushed; places count from 0.
 #[derive(Drop)]
 pub struct History<A: Allocator> {
     forgotten: u64,
@@ -18,20 +19,20 @@ impl<A: Allocator> Model for History<A> {
 
     ghost Value = { Recorded };
 
-    ghost use Rattle.s6_events.specs.HistoryFields.{recorded, IsCounted};
+    ghost use Rattle.s6_events.specs.HistoryFields.{history_view, IsCounted};
 
-    ghost view = { recorded };
+    ghost view = { history_view };
 
     ghost invariant = { IsCounted };
 }
 
 /// The moments that one step will push, for which a history has made room.
 #[derive(Drop)]
-pub struct Plan<A: Allocator> {
+pub struct HistoryPlan<A: Allocator> {
     moments: Vec<Moment, A>,
 }
 
-impl<A: Allocator> Model for Plan<A> {
+impl<A: Allocator> Model for HistoryPlan<A> {
     ghost use Rattle.std.specs.Prelude.{List};
     ghost use Rattle.s6_events.specs.declared.moment.Moment.{Moment};
 
@@ -41,7 +42,7 @@ impl<A: Allocator> Model for Plan<A> {
 }
 
 impl<A: Allocator + Copy> History<A> {
-    /// A history with no moment. It takes no memory yet, and keeps the allocator.
+    /// A history with no moment. It keeps the allocator.
     pub fn new(alloc: A) -> History<A>
         ensures forgotten { result.forgotten ≡ 0 }
         ensures kept { result.kept ≡ [] }
@@ -97,7 +98,7 @@ impl<A: Allocator + Copy> History<A> {
 
     /// Makes room for these pushes, and changes nothing else: a plan that was made before keeps its room, also where this one is
     /// refused. `NoMemory` where a growth was refused; none is asked for where there is nothing to push.
-    pub fn prepare(&mut self, moments: &[Moment]) -> Result<Plan<A>, NoMemory>
+    pub fn prepare(&mut self, moments: &[Moment]) -> Result<HistoryPlan<A>, NoMemory>
         ensures ok { IfOk result (λ plan. plan ≡ moments.now) }
         ensures room { OnOk result (length moments.now ≤ self.new.spare_capacity) }
         ensures forgotten { self.new.forgotten ≡ self.old.forgotten }
@@ -109,11 +110,11 @@ impl<A: Allocator + Copy> History<A> {
         planned.reserve(moments.len())?;
         self.moments.reserve(moments.len())?;
         planned.extend_from_slice(moments).unwrap();
-        Ok(Plan { moments: planned })
+        Ok(HistoryPlan { moments: planned })
     }
 
-    /// Makes the pushes of a plan that this history made, where nothing was pushed in between. Takes no memory.
-    pub fn commit(&mut self, plan: Plan<A>)
+    /// Makes the pushes of a plan that this history made, where nothing was pushed in between.
+    pub fn commit(&mut self, plan: HistoryPlan<A>)
         requires room { length plan ≤ self.old.spare_capacity }
         requires count { end_of self.old + length plan < 2 ^ 63 }
         ensures forgotten { self.new.forgotten ≡ self.old.forgotten }

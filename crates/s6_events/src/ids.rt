@@ -1,4 +1,4 @@
-//! Serials and actors, all of which are this project's own.
+//! Serials and actors, all of which are chosen here.
 ghost use Rattle.std.specs.Prelude.{◌≡◌, ◌≤◌, None, Some, nat_le, if◌then◌else◌};
 
 use std::marker::Model;

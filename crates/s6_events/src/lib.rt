@@ -17,7 +17,7 @@ pub use at::At;
 pub use condition::{Condition, Mode};
 pub use exit::Exit;
 pub use field::Field;
-pub use history::{History, Plan};
+pub use history::{History, HistoryPlan};
 pub use ids::{Actor, Sid, SubId, WaitId};
 pub use mark::{Letter, Mark};
 pub use moment::Moment;

@@ -1,3 +1,4 @@
+//! The letters of event directories, and the seven marks of supervisors among them.
 ghost use Rattle.std.specs.Prelude.{◌≡◌, ◌≤◌, None, Some, if◌then◌else◌};
 ghost use Rattle.s6_events.specs.Mark.{letter_of, is_letter};
 

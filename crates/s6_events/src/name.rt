@@ -1,3 +1,4 @@
+//! Names of services and of free directories.
 ghost use Rattle.std.specs.Prelude.{◌≡◌, ◌≤◌, length, if◌then◌else◌, nat_le, nat_eq, IsTrue, refl, Some};
 ghost use Rattle.std.specs.Hash as fed;
 ghost use Rattle.std.specs.Ordering.{nat_cmp};
@@ -16,7 +17,7 @@ use std::marker::Model;
 const NAME_LIMIT: usize = 64;
 
 /// The name of a service or of a free event directory: 1 to 64 bytes of `A-Z a-z 0-9 . _ - @`, the first of them no dot.
-/// Names are compared and ordered by their bytes. The alphabet and the length are this project's own rule; page `s6-svscan`
+/// Names are compared and ordered by their bytes. The alphabet and the length are chosen here; page `s6-svscan`
 /// says that a name with a dot in front is not scanned.
 #[derive(Clone, Copy, Debug)]
 pub struct Name {

@@ -1,3 +1,4 @@
+//! The fault of a refused growth.
 ghost use Rattle.std.specs.Prelude.{◌≡◌};
 
 use std::alloc::{AllocError, AllocFailed};

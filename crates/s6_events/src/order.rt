@@ -1,8 +1,9 @@
+//! What the machine orders to be done to a service's processes.
 use crate::ids::Sid;
 use crate::name::Name;
 
 /// What the outside is asked to do for a service. The second field is the generation: the number of the run, from 1, that is
-/// started or signalled. Page `s6-supervise`, "Detailed operation"; that starts and signals are orders is this project's own.
+/// started or signalled. Page `s6-supervise`, "Detailed operation"; that starts and signals are orders is chosen here.
 #[derive(Clone, Copy, PartialEq, Eq, Debug)]
 pub enum Order {
     /// Spawn `run` of the service of this name; the last field is the descriptor on which it will say that it is ready.

@@ -1,5 +1,6 @@
 -- What a buffer shows of a line, up to its newline.
-use Rattle.std.proofs.Common.{◌≡◌, ℕ, ◌+◌, ◌<◌, ◌≤◌, List, [], ◌∷◌, ◌++◌, true, length, take, slice_index, is_some, sym, ap, subst, ◌∙◌, arith, get_or-take, length-take-le, append_assoc}
+use Rattle.std.proofs.Common.{◌≡◌, ℕ, ◌+◌, ◌<◌, ◌≤◌, List, [], ◌∷◌, ◌++◌, true, length, take, slice_index, is_some, sym, ap, subst, ◌∙◌, arith}
+use Rattle.std.proofs.Common.{get_or-take, length-take-le, append_assoc}
 use Rattle.std.specs.Prelude.{Option, Some, None}
 use Rattle.std.specs.Option.{unwrap_or}
 use Rattle.std.specs.Io.KnownBytes.{Consumes}
@@ -48,4 +49,5 @@ module _ (start a b : Option (List ℕ)) (line part new : List ℕ) where
   -- and its newline was consumed with it
   pub reads_newline : Consumes start a line → Consumes a b (part ++ 10 ∷ []) → new ≡ line ++ part → Consumes start b (new ++ 10 ∷ [])
   reads_newline p q e =
-      subst (Consumes start b) (sym (ap (λ l. l ++ 10 ∷ []) e ∙ append_assoc line part (10 ∷ []))) (Consumes-trans start a b line (part ++ 10 ∷ []) p q)
+      subst (Consumes start b) (sym (ap (λ l. l ++ 10 ∷ []) e ∙ append_assoc line part (10 ∷ [])))
+      (Consumes-trans start a b line (part ++ 10 ∷ []) p q)

@@ -15,17 +15,29 @@ one_byte (b ∷ []) (suc (suc n)) e h = refl
 one_byte (b ∷ d ∷ bs) n e h = absurd (omega (arith, e))
 
 -- a reader that ended before the text was through did not begin with it
-pub ended_early : (a b c : Option (List ℕ)) (k : ℕ) (text rest : List ℕ) → Consumes a b (take k text) → Consumes b c [] → IsAtEnd c → k < length text
+pub ended_early : (a b c : Option (List ℕ)) (k : ℕ) (text rest : List ℕ) → Consumes a b (take k text) → Consumes b c [] → IsAtEnd c
+    → k < length text
     → a ≡ Some (text ++ rest) → ⊥
-ended_early a b c k text rest p q end lt e = short c (subst (λ (known : Option (List ℕ)). Consumes known c (take k text ++ [])) e (Consumes-trans a b c _ _ p q)) end
+ended_early a b c k text rest p q end lt e =
+    short c (subst (λ (known : Option (List ℕ)). Consumes known c (take k text ++ [])) e (Consumes-trans a b c _ _ p q)) end
   where
     short : (c : Option (List ℕ)) → Consumes (Some (text ++ rest)) c (take k text ++ []) → IsAtEnd c → ⊥
     short None p end = p
     short (Some ys) p end =
-        omega (arith, ap length p, ap length end, length-append text rest, length-append (take k text ++ []) ys, length-append (take k text) [], length-take-le k text (omega arith))
+        omega (
+          arith,
+          ap length p,
+          ap length end,
+          length-append text rest,
+          length-append (take k text ++ []) ys,
+          length-append
+              (take k text) [],
+          length-take-le k text (omega arith),
+        )
 
 -- the byte at the place k of a list that begins with k bytes and that one
-at_place : (front ys text rest : List ℕ) (b : ℕ) → text ++ rest ≡ (front ++ b ∷ []) ++ ys → length front < length text → b ≡ get_or text (length front) 0
+at_place : (front ys text rest : List ℕ) (b : ℕ) → text ++ rest ≡ (front ++ b ∷ []) ++ ys → length front < length text
+    → b ≡ get_or text (length front) 0
 at_place [] ys [] rest b e lt = absurd (omega arith)
 at_place [] ys (t ∷ text) rest b e lt = cc
 at_place (f ∷ front) ys [] rest b e lt = absurd (omega arith)

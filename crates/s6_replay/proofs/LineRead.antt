@@ -7,7 +7,7 @@ use Rattle.std.proofs.lemmas.List.{length-append}
 use Rattle.tree_core.specs.declared.input.Input.{Input}
 use Rattle.tree_core.specs.Machine.{Machine, Outcome}
 use Rattle.tree_core.specs.Run.{after, outcome}
-use Rattle.tree_core.specs.StandsFor.{Stored, StandsFor}
+use Rattle.tree_core.specs.StandsFor.{StoredTree, StandsFor}
 use Rattle.s6_replay.specs.Lines.{HasNoNewline, AppendsFront}
 use Rattle.s6_script.specs.Spelling.{HasExpression, Spells, SpellsButForPattern, spelling}
 use Rattle.s6_replay.specs.Replay.{HasLine, IsNoInputLine, IsLineButForPattern, input_line, input_limit}
@@ -26,19 +26,22 @@ pub is_no_spelling : (A : Type 0) (line : List ℕ) → HasNoNewline line → le
     → (before : ℕ) → before < input_limit → IsNoInputLine A before (line ++ 10 ∷ [])
 is_no_spelling A line plain within none before room = spells_nothing room line (record { plain = plain; within = within; none = none }) refl
 
-pub is_but_for_pattern : (A : Type 0) (line : List ℕ) → HasNoNewline line → length line ≤ 65535 → SpellsButForPattern A line → IsLineButForPattern A line
+pub is_but_for_pattern : (A : Type 0) (line : List ℕ) → HasNoNewline line → length line ≤ 65535 → SpellsButForPattern A line
+    → IsLineButForPattern A line
 is_but_for_pattern A line plain within but = record { plain = plain; within = within; but_for_pattern = but }
 
 pub has_line : {A : Type 0} (line : List ℕ) (i : Input A) → Spells line i → HasExpression i.act → length line ≤ 65535 → HasLine i
-has_line line i s expression within = record { spelt = s.spelt; expression = expression; within = omega (arith, length-append (spelling i) (10 ∷ []), ap length s.text_is) }
+has_line line i s expression within = record
+    { spelt = s.spelt; expression = expression; within = omega (arith, length-append (spelling i) (10 ∷ []), ap length s.text_is) }
 
 pub plain_spelling : {A : Type 0} (line : List ℕ) (i : Input A) → Spells line i → HasNoNewline line → HasNoNewline (spelling i)
 plain_spelling line i s plain = subst HasNoNewline s.text_is plain
 
-pub line_read : {A : Type 0} (a b : Option (List ℕ)) (line : List ℕ) (i : Input A) → Spells line i → Consumes a b (line ++ 10 ∷ []) → Consumes a b (input_line i)
+pub line_read : {A : Type 0} (a b : Option (List ℕ)) (line : List ℕ) (i : Input A) → Spells line i → Consumes a b (line ++ 10 ∷ [])
+    → Consumes a b (input_line i)
 line_read a b line i s read = subst (λ (text : List ℕ). Consumes a b (text ++ 10 ∷ [])) s.text_is read
 
-pub answers_by : {A : Type 0} (events orders number : ℕ) (old new : Stored) (held held' : Option (List ℕ)) (input : Input A) (given : Outcome A)
+pub answers_by : {A : Type 0} (events orders number : ℕ) (old new : StoredTree) (held held' : Option (List ℕ)) (input : Input A) (given : Outcome A)
     → ((m : Machine) → StandsFor old m → (given ≡ outcome m input) × StandsFor new (after m input))
     → Appends held held' (block number given) → events ≡ length given.events → orders ≡ length given.orders
     → (m : Machine) → StandsFor old m → Answers events orders number new held held' (outcome m input) (after m input)
@@ -50,7 +53,7 @@ answers_by {A} events orders number old new held held' input given step written 
       order_count = o ∙ ap (λ g. length g.orders) here.0;
     }
 
-pub stops_by : {A : Type 0} (number : ℕ) (old new : Stored) (held held' : Option (List ℕ)) (input : Input A) (given : Outcome A)
+pub stops_by : {A : Type 0} (number : ℕ) (old new : StoredTree) (held held' : Option (List ℕ)) (input : Input A) (given : Outcome A)
     → ((m : Machine) → StandsFor old m → (given ≡ outcome m input) × StandsFor new (after m input))
     → AppendsFront held held' (block number given)
     → (m : Machine) → StandsFor old m → AppendsFront held held' (block number (outcome m input))

@@ -1,5 +1,6 @@
 -- A run that goes on by one input, stops or ends.
-use Rattle.std.proofs.Common.{◌≡◌, ℕ, ◌+◌, ◌*◌, ◌^◌, ◌<◌, ◌≤◌, List, [], ◌∷◌, ◌++◌, length, refl, sym, ap, ◌∙◌, subst, append_assoc, append-nil, arith, rules, inl, inr}
+use Rattle.std.proofs.Common.{◌≡◌, ℕ, ◌+◌, ◌*◌, ◌^◌, ◌<◌, ◌≤◌, List, [], ◌∷◌, ◌++◌, length, refl, sym, ap, ◌∙◌, subst, append_assoc, append-nil}
+use Rattle.std.proofs.Common.{arith, rules, inl, inr}
 use Rattle.std.specs.Prelude.{Option}
 use Rattle.std.specs.List.{flat_map, AllByRecursion}
 use Rattle.std.specs.Io.KnownBytes.{IsAtEnd, Consumes, Appends}
@@ -8,7 +9,7 @@ use Rattle.std.proofs.lemmas.List.{length-append}
 use Rattle.tree_core.specs.declared.input.Input.{Input}
 use Rattle.tree_core.specs.Machine.{Machine, Outcome, new_machine}
 use Rattle.tree_core.specs.Run.{after, outcome, outcomes, after_all}
-use Rattle.tree_core.specs.StandsFor.{Stored, StandsFor}
+use Rattle.tree_core.specs.StandsFor.{StoredTree, StandsFor}
 use Rattle.s6_replay.specs.Lines.{HasNoNewline, AppendsFront}
 use Rattle.s6_replay.specs.Replay.{HasLine, Written, CountsOf, IsWhole, ReadsOn, Stops, head_line, input_line, script, transcript}
 use Rattle.s6_replay.specs.Replay.IsNoInputLine.{too_many}
@@ -21,7 +22,8 @@ use Rattle.s6_replay.specs.declared.fault.ReplayFault.TheVariants.{Head, Line, P
 use Rattle.s6_replay.specs.declared.turn.Turn.TheVariants.{Done, End}
 
 -- the run has come so far: these inputs were read, done, printed and counted
-pub record RunsTo {A : Type 0} (left left' held held' : Option (List ℕ)) (tree : Stored) (done : ℕ) (counts : Counts) (inputs : List (Input A)) : Type 0 where
+pub record RunsTo {A : Type 0} (left left' held held' : Option (List ℕ)) (tree : StoredTree) (done : ℕ) (counts : Counts)
+    (inputs : List (Input A)) : Type 0 where
   pub lines : AllByRecursion HasLine inputs
   pub many : length inputs ≡ done
   pub read : Consumes left left' (script inputs)
@@ -31,14 +33,16 @@ pub record RunsTo {A : Type 0} (left left' held held' : Option (List ℕ)) (tree
   pub events_fit : counts.events ≤ done * 2 ^ 64
   pub orders_fit : counts.orders ≤ done * 2 ^ 64
 
-all_more : {A : Type 0} (inputs : List (Input A)) (i : Input A) → AllByRecursion HasLine inputs → HasLine i → AllByRecursion HasLine (inputs ++ i ∷ [])
+all_more : {A : Type 0} (inputs : List (Input A)) (i : Input A) → AllByRecursion HasLine inputs → HasLine i
+    → AllByRecursion HasLine (inputs ++ i ∷ [])
 all_more [] i h one = (one, tt)
 all_more (x ∷ xs) i h one = (h.0, all_more xs i h.1 one)
 
 length_more : {A : Type 0} (inputs : List (Input A)) (i : Input A) → length (inputs ++ i ∷ []) ≡ length inputs + 1
 length_more inputs i = length-append inputs (i ∷ [])
 
-lines_more : {A : Type 0} (inputs : List (Input A)) (i : Input A) → flat_map input_line (inputs ++ i ∷ []) ≡ flat_map input_line inputs ++ input_line i
+lines_more : {A : Type 0} (inputs : List (Input A)) (i : Input A)
+    → flat_map input_line (inputs ++ i ∷ []) ≡ flat_map input_line inputs ++ input_line i
 lines_more [] i = append-nil (input_line i)
 lines_more (x ∷ xs) i =
     ap (λ rest. input_line x ++ rest) (lines_more xs i) ∙ sym (append_assoc (input_line x) (flat_map input_line xs) (input_line i))
@@ -71,7 +75,8 @@ count_more f [] x = ap length (append-nil (f x)) ∙ omega arith
 count_more f (y ∷ ys) x =
     omega (arith, length-append (f y) (flat_map f (ys ++ x ∷ [])), length-append (f y) (flat_map f ys), count_more f ys x)
 
-pub goes_on : (A : Type 0) (a b c x y z : Option (List ℕ)) (tree new : Stored) (events orders number : ℕ) (counts more : Counts) (inputs : List (Input A))
+pub goes_on : (A : Type 0) (a b c x y z : Option (List ℕ)) (tree new : StoredTree) (events orders number : ℕ) (counts more : Counts)
+    (inputs : List (Input A))
     → RunsTo a b x y tree number counts inputs → Turns A (Done events orders) (number + 1) tree new b c y z
     → more.inputs ≡ counts.inputs + 1 → more.events ≡ counts.events + events → more.orders ≡ counts.orders + orders
     → (all : List (Input A)) × RunsTo a c x z new (number + 1) more all
@@ -93,7 +98,8 @@ goes_on A a b c x y z tree new events orders number counts more inputs done t e0
         lines = all_more inputs i done.lines t.1;
         many = omega (arith, length_more inputs i, done.many);
         read = subst (Consumes a c) (sym (script_more inputs i)) (Consumes-trans a b c _ _ done.read t.2);
-        written = subst (Appends x z) (sym (blocks_more 1 new_machine inputs i (number + 1) place)) (Appends-trans x y z _ _ done.written step.written);
+        written = subst (Appends x z) (sym (blocks_more 1 new_machine inputs i (number + 1) place))
+            (Appends-trans x y z _ _ done.written step.written);
         stands = subst (StandsFor new) (sym (after_more new_machine inputs i)) step.stands;
         counted = counted;
         events_fit = omega (arith, e1, t.3.0, done.events_fit);
@@ -106,7 +112,7 @@ reads_on : {A : Type 0} (inputs : List (Input A)) (a b c : Option (List ℕ)) (b
 reads_on inputs a b c bytes p q = Consumes-trans a b c (script inputs) bytes p q
 
 -- what stands written where a turn wrote nothing
-kept : {A : Type 0} (a b x y z : Option (List ℕ)) (tree : Stored) (number : ℕ) (counts : Counts) (inputs : List (Input A))
+kept : {A : Type 0} (a b x y z : Option (List ℕ)) (tree : StoredTree) (number : ℕ) (counts : Counts) (inputs : List (Input A))
     → RunsTo a b x y tree number counts inputs → number ≤ 1000000 → z ≡ y → Written inputs x z
 kept a b x y z tree number counts inputs done few same = record {
   lines = done.lines;
@@ -115,7 +121,8 @@ kept a b x y z tree number counts inputs done few same = record {
 }
 
 -- where no input was read, the run so far is left
-unread : (A : Type 0) (fault : ReplayFault) (a b c x y z : Option (List ℕ)) (tree : Stored) (number : ℕ) (counts : Counts) (inputs : List (Input A))
+unread : (A : Type 0) (fault : ReplayFault) (a b c x y z : Option (List ℕ)) (tree : StoredTree) (number : ℕ) (counts : Counts)
+    (inputs : List (Input A))
     → RunsTo a b x y tree number counts inputs → number < 1000000 → ReadingStops A fault (number + 1) b c → z ≡ y → Stops A fault a c x z
 unread A Head a b c x y z tree number counts inputs done few t same = absurd t
 unread A (Line n) a b c x y z tree number counts inputs done few t same = (
@@ -144,14 +151,20 @@ unread A Read a b c x y z tree number counts inputs done few t same =
       kept a b x y z tree number counts inputs done (omega arith) same,
       (t.0, t.1, λ last. absurd (omega (arith, last, done.many)), reads_on inputs a b c t.0 done.read t.2),
     )
-unread A NoMemory a b c x y z tree number counts inputs done few t same =
-    (inputs, kept a b x y z tree number counts inputs done (omega arith) same, omega (arith, done.many), (t.0, t.1, reads_on inputs a b c t.0 done.read t.2))
+unread A NoMemory a b c x y z tree number counts inputs done few t same = (
+  inputs,
+  kept a b x y z tree number counts inputs done (omega arith) same,
+  omega (arith, done.many),
+  (t.0, t.1, reads_on inputs a b c t.0 done.read t.2),
+)
 unread A Write a b c x y z tree number counts inputs done few t same = absurd t
 
 -- where an input was read and not answered, the run so far is left, at a failed write with some of one more block
-unanswered : (A : Type 0) (fault : ReplayFault) (a b c x y z : Option (List ℕ)) (tree : Stored) (number : ℕ) (counts : Counts) (inputs : List (Input A))
+unanswered : (A : Type 0) (fault : ReplayFault) (a b c x y z : Option (List ℕ)) (tree : StoredTree) (number : ℕ) (counts : Counts)
+    (inputs : List (Input A))
     → RunsTo a b x y tree number counts inputs → number < 1000000
-    → (i : Input A) → HasLine i → HasNoNewline (spelling i) → Consumes b c (input_line i) → AnswerStops fault (number + 1) tree i y z → Stops A fault a c x z
+    → (i : Input A) → HasLine i → HasNoNewline (spelling i) → Consumes b c (input_line i) → AnswerStops fault (number + 1) tree i y z
+    → Stops A fault a c x z
 unanswered A Head a b c x y z tree number counts inputs done few i h plain read t = absurd t
 unanswered A (Line n) a b c x y z tree number counts inputs done few i h plain read t = absurd t
 unanswered A (Pattern n) a b c x y z tree number counts inputs done few i h plain read t = absurd t
@@ -161,7 +174,12 @@ unanswered A NoMemory a b c x y z tree number counts inputs done few i h plain r
   inputs,
   kept a b x y z tree number counts inputs done (omega arith) t,
   omega (arith, done.many),
-  (input_line i, inr (spelling i, plain, omega (arith, h.within, length-append (spelling i) (10 ∷ [])), refl), reads_on inputs a b c (input_line i) done.read read),
+  (
+    input_line i,
+    inr (spelling i, plain, omega (arith, h.within, length-append (spelling i) (10 ∷ [])), refl),
+    reads_on inputs a b c
+        (input_line i) done.read read,
+  ),
 )
 unanswered A Write a b c x y z tree number counts inputs done few i h plain read t =
     let place : number + 1 ≡ length inputs + 1 = omega (arith, done.many) in (
@@ -174,7 +192,8 @@ unanswered A Write a b c x y z tree number counts inputs done few i h plain read
             whole = kept a b x y y tree number counts inputs done (omega arith) refl;
             room = omega (arith, done.many);
             line = h;
-            some = subst (λ (k : ℕ). AppendsFront y z (block k (outcome (after_all new_machine inputs) i))) place (t (after_all new_machine inputs) done.stands);
+            some = subst (λ (k : ℕ). AppendsFront y z (block k (outcome (after_all new_machine inputs) i))) place
+                (t (after_all new_machine inputs) done.stands);
           },
         ),
         reads_on inputs a b c (input_line i) done.read read,
@@ -182,7 +201,8 @@ unanswered A Write a b c x y z tree number counts inputs done few i h plain read
     )
 
 -- a turn that stopped
-pub stops_after : (A : Type 0) (fault : ReplayFault) (a b c x y z : Option (List ℕ)) (tree : Stored) (number : ℕ) (counts : Counts) (inputs : List (Input A))
+pub stops_after : (A : Type 0) (fault : ReplayFault) (a b c x y z : Option (List ℕ)) (tree : StoredTree) (number : ℕ) (counts : Counts)
+    (inputs : List (Input A))
     → RunsTo a b x y tree number counts inputs → number < 1000000 → TurnStops A fault (number + 1) tree b c y z → Stops A fault a c x z
 stops_after A fault a b c x y z tree number counts inputs done few (inl t) =
     unread A fault a b c x y z tree number counts inputs done few t.0 t.1
@@ -190,7 +210,7 @@ stops_after A fault a b c x y z tree number counts inputs done few (inr t) =
     unanswered A fault a b c x y z tree number counts inputs done few t.0 t.1 t.2 t.3 t.4
 
 -- the script has ended
-pub ends_whole : (A : Type 0) (a b c x y z : Option (List ℕ)) (tree new : Stored) (number : ℕ) (counts : Counts) (inputs : List (Input A))
+pub ends_whole : (A : Type 0) (a b c x y z : Option (List ℕ)) (tree new : StoredTree) (number : ℕ) (counts : Counts) (inputs : List (Input A))
     → RunsTo a b x y tree number counts inputs → number ≤ 1000000 → Turns A End (number + 1) tree new b c y z → IsWhole inputs counts a c x z
 ends_whole A a b c x y z tree new number counts inputs done few t = record {
   answered = kept a b x y z tree number counts inputs done few t.2;
@@ -200,13 +220,14 @@ ends_whole A a b c x y z tree new number counts inputs done few t = record {
 }
 
 -- so it has where nothing is behind the last line that it may have
-pub ends_at_limit : (A : Type 0) (a b c x y : Option (List ℕ)) (tree : Stored) (number : ℕ) (counts : Counts) (inputs : List (Input A))
+pub ends_at_limit : (A : Type 0) (a b c x y : Option (List ℕ)) (tree : StoredTree) (number : ℕ) (counts : Counts) (inputs : List (Input A))
     → RunsTo a b x y tree number counts inputs → number ≤ 1000000 → Consumes b c [] × IsAtEnd c → IsWhole inputs counts a c x y
 ends_at_limit A a b c x y tree number counts inputs done few t =
     ends_whole A a b c x y y tree tree number counts inputs done few (t.0, t.1, refl)
 
 -- there was something behind the last line, or the reader failed there
-pub stops_at_end : (A : Type 0) (fault : ReplayFault) (a b c x y : Option (List ℕ)) (tree : Stored) (number : ℕ) (counts : Counts) (inputs : List (Input A))
+pub stops_at_end : (A : Type 0) (fault : ReplayFault) (a b c x y : Option (List ℕ)) (tree : StoredTree) (number : ℕ) (counts : Counts)
+    (inputs : List (Input A))
     → RunsTo a b x y tree number counts inputs → number ≡ 1000000 → EndStops fault b c → Stops A fault a c x y
 stops_at_end A Head a b c x y tree number counts inputs done last t = absurd t
 stops_at_end A (Line n) a b c x y tree number counts inputs done last t = (
@@ -218,12 +239,16 @@ stops_at_end A (Line n) a b c x y tree number counts inputs done last t = (
 stops_at_end A (Pattern n) a b c x y tree number counts inputs done last t = absurd t
 stops_at_end A Truncated a b c x y tree number counts inputs done last t = absurd t
 stops_at_end A Read a b c x y tree number counts inputs done last t =
-    inl (inputs, kept a b x y y tree number counts inputs done (omega arith) refl, ([], record { plain = search rules; within = omega arith }, λ _. refl, reads_on inputs a b c [] done.read t))
+    inl (
+      inputs,
+      kept a b x y y tree number counts inputs done (omega arith) refl,
+      ([], record { plain = search rules; within = omega arith }, λ _. refl, reads_on inputs a b c [] done.read t),
+    )
 stops_at_end A NoMemory a b c x y tree number counts inputs done last t = absurd t
 stops_at_end A Write a b c x y tree number counts inputs done last t = absurd t
 
 -- before the first input
-pub starts : (A : Type 0) (a b x : Option (List ℕ)) (tree : Stored) (counts : Counts) → Consumes a b head_line → StandsFor tree new_machine
+pub starts : (A : Type 0) (a b x : Option (List ℕ)) (tree : StoredTree) (counts : Counts) → Consumes a b head_line → StandsFor tree new_machine
     → counts.inputs ≡ 0 → counts.events ≡ 0 → counts.orders ≡ 0 → (inputs : List (Input A)) × RunsTo a b x x tree 0 counts inputs
 starts A a b x tree counts read stands e0 e1 e2 = (
   [],

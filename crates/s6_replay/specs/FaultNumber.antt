@@ -1,7 +1,8 @@
 -- The numbers of the faults of a replay.
 use Rattle.std.specs.Prelude.{ℕ}
 use Rattle.s6_replay.specs.declared.fault.ReplayFault.{ReplayFault}
-use Rattle.s6_replay.specs.declared.fault.ReplayFault.TheVariants.{Head, Line, Pattern, Truncated, Read, Write, NoMemory}
+use Rattle.s6_replay.specs.declared.fault.ReplayFault.TheVariants.{Head, Line, Pattern, Truncated, Read, Write}
+use Rattle.s6_replay.specs.declared.fault.ReplayFault.TheVariants.{NoMemory}
 
 -- the number of a fault
 abbrev pub number_of : ReplayFault → ℕ

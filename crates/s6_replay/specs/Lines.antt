@@ -15,7 +15,8 @@ pub record IsPart (line : List ℕ) : Type 0 where
 
 -- at most one line, within the limit: its newline has not come, or is the last byte
 abbrev pub IsWithinLine : List ℕ → Type 0
-IsWithinLine bytes = IsPart bytes ⊎ ((line : List ℕ) × HasNoNewline line × (length line ≤ 65535) × (bytes ≡ line ++ 10 ∷ []))
+IsWithinLine bytes = IsPart bytes ⊎
+    ((line : List ℕ) × HasNoNewline line × (length line ≤ 65535) × (bytes ≡ line ++ 10 ∷ []))
 
 -- how a line ended: by its newline, within the limit; by the end of the input; or it went on beyond the limit
 abbrev pub EndsAs : Ended → Option (List ℕ) → Option (List ℕ) → List ℕ → Type 0

@@ -10,7 +10,8 @@ use Rattle.s6_script.specs.Spelling.{IsSpelt, HasExpression, Spells, SpellsButFo
 use Rattle.s6_replay.specs.Transcript.{block, blocks}
 use Rattle.s6_replay.specs.declared.counts.Counts.{Counts}
 use Rattle.s6_replay.specs.declared.fault.ReplayFault.{ReplayFault}
-use Rattle.s6_replay.specs.declared.fault.ReplayFault.TheVariants.{Head, Line, Pattern, Truncated, Read, Write, NoMemory}
+use Rattle.s6_replay.specs.declared.fault.ReplayFault.TheVariants.{Head, Line, Pattern, Truncated, Read, Write}
+use Rattle.s6_replay.specs.declared.fault.ReplayFault.TheVariants.{NoMemory}
 
 -- the head line of a script
 abbrev pub head_line : List ℕ
@@ -51,7 +52,8 @@ pub record Written {A : Type 0} (inputs : List (Input A)) (held held' : Option (
   pub written : Appends held held' (transcript inputs)
 
 -- all that was read is a script, and its transcript was written
-pub record IsWhole {A : Type 0} (inputs : List (Input A)) (counts : Counts) (left left' held held' : Option (List ℕ)) : Type 0 where
+pub record IsWhole {A : Type 0} (inputs : List (Input A)) (counts : Counts)
+    (left left' held held' : Option (List ℕ)) : Type 0 where
   pub answered : Written inputs held held'
   pub read : Consumes left left' (script inputs)
   pub ended : IsAtEnd left'
@@ -71,8 +73,10 @@ pub record IsLineButForPattern (A : Type 0) (line : List ℕ) : Type 0 where
 
 -- what is no input line after so many inputs: a line that spells no input, or is too long, where a line may follow; else any byte
 pub data IsNoInputLine (A : Type 0) (before : ℕ) (bytes : List ℕ) : Type 0 where
-  spells_nothing : before < input_limit → (line : List ℕ) → SpellsNothing A line → bytes ≡ line ++ 10 ∷ [] → IsNoInputLine A before bytes
-  too_long : before < input_limit → HasNoNewline (take 65536 bytes) → length bytes ≡ 65537 → IsNoInputLine A before bytes
+  spells_nothing : before < input_limit → (line : List ℕ) → SpellsNothing A line → bytes ≡ line ++ 10 ∷ []
+      → IsNoInputLine A before bytes
+  too_long : before < input_limit → HasNoNewline (take 65536 bytes) → length bytes ≡ 65537
+      → IsNoInputLine A before bytes
   too_many : before ≡ input_limit → length bytes ≡ 1 → IsNoInputLine A before bytes
 
 -- the script of the inputs was read, and then these bytes
@@ -84,7 +88,8 @@ abbrev pub ReadsHead : Option (List ℕ) → Option (List ℕ) → Type 0
 ReadsHead left left' = (n : ℕ) × Consumes left left' (take n head_line)
 
 -- the transcript of the inputs was written, and some of the block of one more
-pub record WritesInto {A : Type 0} (inputs : List (Input A)) (last : Input A) (held between held' : Option (List ℕ)) : Type 0 where
+pub record WritesInto {A : Type 0} (inputs : List (Input A)) (last : Input A)
+    (held between held' : Option (List ℕ)) : Type 0 where
   pub whole : Written inputs held between
   pub room : length inputs < input_limit
   pub line : HasLine last
@@ -108,11 +113,13 @@ Stops A Truncated left left' held held' =
     (inputs : List (Input A)) × Written inputs held held' × (length inputs < input_limit) × IsAtEnd left'
     × ((line : List ℕ) × IsPart line × (line ≢ []) × Consumes left left' (script inputs ++ line))
 Stops A Read left left' held held' =
-    ((inputs : List (Input A)) × Written inputs held held' × ((part : List ℕ) × IsPart part × NoneAfterLast (length inputs) part × ReadsOn inputs part left left'))
+    ((inputs : List (Input A)) × Written inputs held held'
+    × ((part : List ℕ) × IsPart part × NoneAfterLast (length inputs) part × ReadsOn inputs part left left'))
     ⊎ (ReadsHead left left' × (held' ≡ held))
 Stops A NoMemory left left' held held' =
     (inputs : List (Input A)) × Written inputs held held' × (length inputs < input_limit)
     × ((bytes : List ℕ) × IsWithinLine bytes × ReadsOn inputs bytes left left')
 Stops A Write left left' held held' =
-    (inputs : List (Input A)) × ((last : Input A) × ((between : Option (List ℕ)) × WritesInto inputs last held between held')
+    (inputs : List (Input A)) × ((last : Input A)
+    × ((between : Option (List ℕ)) × WritesInto inputs last held between held')
     × ReadsOn inputs (input_line last) left left')

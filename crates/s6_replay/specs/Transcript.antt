@@ -15,9 +15,10 @@ use Rattle.tree_core.specs.declared.effect.Release.{Release}
 use Rattle.svscan_core.specs.declared.entry.Listed.{Listed}
 use Rattle.svscan_core.specs.declared.entry.Listed.TheVariants.{Added, Full, Unread}
 use Rattle.tree_core.specs.declared.reply.Refusal.{Refusal}
-use Rattle.tree_core.specs.declared.reply.Refusal.TheVariants.{NoService, Stale, Reserved, TooMany, NoSuch, Closing, Repeated, Empty, Exists, Ended, Spent}
+use Rattle.tree_core.specs.declared.reply.Refusal.TheVariants.{NoService, Stale, Reserved, TooMany, NoSuch, Closing}
+use Rattle.tree_core.specs.declared.reply.Refusal.TheVariants.{Repeated, Empty, Exists, Ended, Spent}
 use Rattle.tree_core.specs.declared.reply.Reply.{Reply}
-use Rattle.tree_core.specs.declared.reply.Reply.TheVariants.{Done, Refused, Scanned, Row as RowReply, Tally, PermanentFailure, Waiter, Subscription}
+use Rattle.tree_core.specs.declared.reply.Reply.TheVariants as answers
 use Rattle.wait_conditions.specs.declared.verdict.Verdict.{Verdict}
 use Rattle.wait_conditions.specs.declared.verdict.Verdict.TheVariants.{Held, Failed, Gone, TimedOut}
 use Rattle.tree_core.specs.Machine.{Outcome}
@@ -77,8 +78,10 @@ number_field number = 32 ∷ number_text number
 abbrev pub row_text : Row → List ℕ
 row_text r =
     (codes "row " ++ (decimal r.sid ++ (32 ∷ []))) ++ r.name
-    ++ (truth_field r.up ++ truth_field r.wanted_up ++ truth_field r.normally_up ++ truth_field r.ready ++ truth_field r.paused)
-    ++ (number_field r.pid ++ number_field (exit_code r.exit) ++ number_field (signal_number r.exit) ++ number_field r.up_down_for ++ number_field r.ready_for)
+    ++ (truth_field r.up ++ truth_field r.wanted_up ++ truth_field r.normally_up ++ truth_field r.ready
+    ++ truth_field r.paused)
+    ++ (number_field r.pid ++ number_field (exit_code r.exit) ++ number_field (signal_number r.exit)
+    ++ number_field r.up_down_for ++ number_field r.ready_for)
 
 -- how a run ended, by its code or its signal, and a death with its moment
 abbrev pub end_text : Exit → List ℕ
@@ -95,14 +98,14 @@ failure_text false = codes "permafail 0"
 
 -- a reply
 abbrev pub reply_text : {A : Type 0} → Reply A → List ℕ
-reply_text Done = codes "done"
-reply_text (Refused why) = codes "refused " ++ reason why
-reply_text (RowReply row) = row_text row
-reply_text (Scanned s) = codes "scanned" ++ flat_map dropped_text s.dropped ++ flat_map listed_text s.listed
-reply_text (Tally deaths) = codes "tally" ++ flat_map death_text deaths
-reply_text (PermanentFailure fails) = failure_text fails
-reply_text (Waiter id) = codes "wait " ++ decimal id
-reply_text (Subscription id) = codes "sub " ++ decimal id
+reply_text answers.Done = codes "done"
+reply_text (answers.Refused why) = codes "refused " ++ reason why
+reply_text (answers.Row row) = row_text row
+reply_text (answers.Scanned s) = codes "scanned" ++ flat_map dropped_text s.dropped ++ flat_map listed_text s.listed
+reply_text (answers.Tally deaths) = codes "tally" ++ flat_map death_text deaths
+reply_text (answers.PermanentFailure fails) = failure_text fails
+reply_text (answers.Waiter id) = codes "wait " ++ decimal id
+reply_text (answers.Subscription id) = codes "sub " ++ decimal id
 
 -- the line of an event
 abbrev pub event_line : Event → List ℕ
@@ -114,10 +117,12 @@ order_line (Run sid generation name None) = codes "o run " ++ (decimal sid ++ (3
 order_line (Run sid generation name (Some fd)) =
     codes "o run " ++ (decimal sid ++ (32 ∷ (decimal generation ++ (codes " fd " ++ (decimal fd ++ (10 ∷ []))))))
 order_line (Finish sid generation name code signal) =
-    codes "o finish " ++ (decimal sid ++ (32 ∷ (decimal generation ++ (32 ∷ (decimal code ++ (32 ∷ (decimal signal ++ (10 ∷ []))))))))
+    codes "o finish " ++ (decimal sid ++
+    (32 ∷ (decimal generation ++ (32 ∷ (decimal code ++ (32 ∷ (decimal signal ++ (10 ∷ []))))))))
 order_line (Signal sid generation n) =
     codes "o signal " ++ (decimal sid ++ (32 ∷ (decimal generation ++ (32 ∷ (decimal n ++ (10 ∷ []))))))
-order_line (KillFinish sid generation) = codes "o killfinish " ++ (decimal sid ++ (32 ∷ (decimal generation ++ (10 ∷ []))))
+order_line (KillFinish sid generation) =
+    codes "o killfinish " ++ (decimal sid ++ (32 ∷ (decimal generation ++ (10 ∷ []))))
 
 -- the letter of a hit, or that it was overlong
 abbrev pub hit_text : Hit → List ℕ

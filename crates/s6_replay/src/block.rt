@@ -55,7 +55,7 @@ fn make_block<A: Allocator>(
 }
 
 /// Writes all of the bytes. The only fault is `Write`: then some of them were written, from the front on, and not all. The writer is
-/// not flushed. Takes no memory.
+/// not flushed.
 pub fn write_whole<W: Write>(writer: &mut W, bytes: &[u8]) -> Result<(), WriteFault>
     ensures ok { OnOk result (Appends (W.contents writer.old) (W.contents writer.new) bytes.now) }
     ensures write { IfErr result (λ fault. (fault ≡ WriteFault.Write)
@@ -80,10 +80,12 @@ pub fn write_effect<A: Allocator + Copy, W: Write>(
     effect: &Effect<A>,
     writer: &mut W,
 ) -> Result<(), WriteFault>
-    ensures ok { OnOk result (Appends (W.contents writer.old) (W.contents writer.new) (block number (outcome_of effect.now))) }
+    ensures ok { OnOk result (Appends (W.contents writer.old) (W.contents writer.new)
+        (block number (outcome_of effect.now))) }
     ensures write { result ≡ Err WriteFault.Write → AppendsFront (W.contents writer.old) (W.contents writer.new)
         (block number (outcome_of effect.now)) }
-    ensures no_memory { result ≡ Err WriteFault.NoMemory → W.contents writer.new ≡ W.contents writer.old }
+    ensures no_memory { result ≡ Err WriteFault.NoMemory
+        → W.contents writer.new ≡ W.contents writer.old }
 {
     let mut text = Vec::new(alloc);
     write_block(number, effect, &mut text, writer)
@@ -96,10 +98,12 @@ pub fn write_block<A: Allocator, W: Write>(
     text: &mut Vec<u8, A>,
     writer: &mut W,
 ) -> Result<(), WriteFault>
-    ensures ok { OnOk result (Appends (W.contents writer.old) (W.contents writer.new) (block number (outcome_of effect.now))) }
+    ensures ok { OnOk result (Appends (W.contents writer.old) (W.contents writer.new)
+        (block number (outcome_of effect.now))) }
     ensures write { result ≡ Err WriteFault.Write → AppendsFront (W.contents writer.old) (W.contents writer.new)
         (block number (outcome_of effect.now)) }
-    ensures no_memory { result ≡ Err WriteFault.NoMemory → W.contents writer.new ≡ W.contents writer.old }
+    ensures no_memory { result ≡ Err WriteFault.NoMemory
+        → W.contents writer.new ≡ W.contents writer.old }
 {
     make_block(number, effect, text)?;
     write_whole(writer, text.as_slice())

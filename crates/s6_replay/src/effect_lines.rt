@@ -33,7 +33,9 @@ fn push_run<A: Allocator>(
     sid: Sid,
     generation: u64,
 ) -> Result<(), AllocError>
-    ensures { OnOk result (text.new.items ≡ text.old.items ++ (codes "o " ++ (word.now ++ (32 ∷ (decimal sid ++ (32 ∷ decimal generation)))))) }
+    ensures { OnOk result (text.new.items
+        ≡ text.old.items ++ (codes "o "
+        ++ (word.now ++ (32 ∷ (decimal sid ++ (32 ∷ decimal generation)))))) }
 {
     text.extend_from_slice(b"o ")?;
     text.extend_from_slice(word.as_bytes())?;

@@ -5,7 +5,7 @@ ghost use Rattle.s6_replay.specs.FaultNumber.{number_of};
 use thiserror::Error;
 
 /// Why a script was not replayed to its end. Lines are counted from 1, the head line included, so that the first input stands in
-/// line 2. Faults, their numbers and their order are this project's own.
+/// line 2. Faults, their numbers and their order are chosen here.
 #[derive(Clone, Copy, Debug, PartialEq, Eq, Error)]
 pub enum ReplayFault {
     /// The input does not begin with the head line and its newline. Nothing was written.

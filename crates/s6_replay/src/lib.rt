@@ -1,4 +1,4 @@
-//! The replay of scripts and its transcript, which is what the machine answers. Its format is this project's own.
+//! The replay of scripts and its transcript, which is what the machine answers. Its format is chosen here.
 #![tactic(auto)]
 
 mod block;

@@ -33,8 +33,10 @@ pub fn read_line<A: Allocator + Copy, R: BufRead>(
     reader: &mut R,
     line: &mut Vec<u8, A>,
 ) -> Result<Ended, ReadFault>
-    ensures ok { IfOk result (λ ended. EndsAs ended (R.remaining reader.old) (R.remaining reader.new) line.new.items) }
-    ensures err { OnErr result (Consumes (R.remaining reader.old) (R.remaining reader.new) line.new.items) }
+    ensures ok { IfOk result (λ ended.
+        EndsAs ended (R.remaining reader.old) (R.remaining reader.new) line.new.items) }
+    ensures err { OnErr result (Consumes (R.remaining reader.old)
+        (R.remaining reader.new) line.new.items) }
     ensures part { OnErr result (IsPart line.new.items) }
 {
     line.clear();
@@ -62,9 +64,12 @@ fn read_byte<A: Allocator + Copy, R: BufRead>(
 ) -> Result<Option<Ended>, ReadFault>
     requires part { IsPart line.old.items }
     requires room { length line.old.items < 65536 }
-    ensures ok { IfOk result (λ ended. (start : Option (List ℕ)) → Consumes start (R.remaining reader.old) line.old.items → GoesOnOrEnds ended start (R.remaining reader.new) line.new.items) }
+    ensures ok { IfOk result (λ ended. (start : Option (List ℕ))
+        → Consumes start (R.remaining reader.old) line.old.items
+        → GoesOnOrEnds ended start (R.remaining reader.new) line.new.items) }
     ensures more { result ≡ Ok None → length line.old.items < length line.new.items }
-    ensures err { OnErr result ((line.new.items ≡ line.old.items) × Keeps (R.remaining reader.old) (R.remaining reader.new)) }
+    ensures err { OnErr result ((line.new.items ≡ line.old.items)
+        × Keeps (R.remaining reader.old) (R.remaining reader.new)) }
 {
     if line.reserve(1).is_err() {
         return Err(ReadFault::NoMemory);
@@ -88,9 +93,12 @@ fn read_buffered<A: Allocator + Copy, R: BufRead>(
     line: &mut Vec<u8, A>,
 ) -> Result<Option<Ended>, ReadFault>
     requires part { IsPart line.old.items }
-    ensures ok { IfOk result (λ ended. (start : Option (List ℕ)) → Consumes start (R.remaining reader.old) line.old.items → GoesOnOrEnds ended start (R.remaining reader.new) line.new.items) }
+    ensures ok { IfOk result (λ ended. (start : Option (List ℕ))
+        → Consumes start (R.remaining reader.old) line.old.items
+        → GoesOnOrEnds ended start (R.remaining reader.new) line.new.items) }
     ensures more { result ≡ Ok None → length line.old.items ≤ length line.new.items }
-    ensures err { OnErr result ((line.new.items ≡ line.old.items) × Keeps (R.remaining reader.old) (R.remaining reader.new)) }
+    ensures err { OnErr result ((line.new.items ≡ line.old.items)
+        × Keeps (R.remaining reader.old) (R.remaining reader.new)) }
 {
     let Ok(buffered) = reader.fill_buf() else {
         return Err(ReadFault::Read);

@@ -19,8 +19,10 @@ const INPUT_LIMIT: u64 = 1_000_000;
 
 // Reads the head line.
 fn read_head<R: BufRead>(reader: &mut R) -> Result<(), ReplayFault>
-    ensures ok { OnOk result (Consumes (R.remaining reader.old) (R.remaining reader.new) head_line) }
-    ensures fault { IfErr result (λ fault. HeadStops fault (R.remaining reader.old) (R.remaining reader.new)) }
+    ensures ok { OnOk result (Consumes (R.remaining reader.old)
+        (R.remaining reader.new) head_line) }
+    ensures fault { IfErr result
+        (λ fault. HeadStops fault (R.remaining reader.old) (R.remaining reader.new)) }
 {
     let mut byte = [0; 1];
     for want in b"s6-script 1\n" {
@@ -38,8 +40,10 @@ fn read_head<R: BufRead>(reader: &mut R) -> Result<(), ReplayFault>
 
 // Looks for the end of the input, after the last line that a script may have.
 fn read_end<R: BufRead>(reader: &mut R) -> Result<(), ReplayFault>
-    ensures ok { OnOk result (Consumes (R.remaining reader.old) (R.remaining reader.new) [] × IsAtEnd (R.remaining reader.new)) }
-    ensures fault { IfErr result (λ fault. EndStops fault (R.remaining reader.old) (R.remaining reader.new)) }
+    ensures ok { OnOk result (Consumes (R.remaining reader.old) (R.remaining reader.new) []
+        × IsAtEnd (R.remaining reader.new)) }
+    ensures fault { IfErr result
+        (λ fault. EndStops fault (R.remaining reader.old) (R.remaining reader.new)) }
 {
     let mut byte = [0; 1];
     match reader.read(&mut byte) {

@@ -29,7 +29,6 @@ pub struct Scratch<A: Allocator> {
 }
 
 impl<A: Allocator + Copy> Scratch<A> {
-    // Takes no memory.
     pub fn new(alloc: A) -> Scratch<A> {
         Scratch {
             line: Vec::new(alloc),
@@ -49,8 +48,11 @@ fn read_input<A: Allocator + Copy, R: BufRead>(
     input_number: u64,
 ) -> Result<Option<Input<A>>, ReplayFault>
     requires { input_number + 1 < 2 ^ 64 }
-    ensures fault { IfErr result (λ fault. ReadingStops A fault input_number (R.remaining reader.old) (R.remaining reader.new)) }
-    ensures ok { IfOk result (λ found. WasRead found (R.remaining reader.old) (R.remaining reader.new)) }
+    ensures fault { IfErr result
+        (λ fault. ReadingStops A fault input_number (R.remaining reader.old)
+        (R.remaining reader.new)) }
+    ensures ok { IfOk result (λ found.
+        WasRead found (R.remaining reader.old) (R.remaining reader.new)) }
 {
     match read_line(reader, line) {
         Err(ReadFault::Read) => return Err(ReplayFault::Read),
@@ -81,7 +83,9 @@ fn answer_input<A: Allocator + Copy, W: Write>(
     input: Input<A>,
     input_number: u64,
 ) -> Result<(usize, usize), ReplayFault>
-    ensures fault { IfErr result (λ fault. AnswerStops fault input_number tree.old input (W.contents writer.old) (W.contents writer.new)) }
+    ensures fault { IfErr result
+        (λ fault. AnswerStops fault input_number tree.old input (W.contents writer.old)
+        (W.contents writer.new)) }
     ensures ok { IfOk result (λ given. IsAnswered given.0 given.1 input_number tree.old tree.new input
         (W.contents writer.old) (W.contents writer.new)) }
 {

@@ -22,12 +22,14 @@ pub record IsReadable {A : Type 0} (u : UnbuiltInput A) : Type 0 where
   pub actor : u.actor ≤ 15
   pub act : FitsButText u.act
 
-spells_it : {A : Type 0} (line : List ℕ) (u : UnbuiltInput A) → IsReadable u → IsAct (act_read u.act) → line ≡ spelling (input_read u) → Spells line (input_read u)
+spells_it : {A : Type 0} (line : List ℕ) (u : UnbuiltInput A) → IsReadable u → IsAct (act_read u.act) → line ≡ spelling (input_read u)
+    → Spells line (input_read u)
 spells_it line u readable fits same = record { spelt = record { at = readable.at; actor = readable.actor; act = fits }; text_is = same }
 
 -- what is built is the input that the line spells
 pub built_found : {A : Type 0} (line : List ℕ) (u : UnbuiltInput A) (r : Result (Input A) LineFault) → IsReadable u
-    → IfOk r (λ built. built ≡ input_read u) → (r ≢ Err Line → FitsButText u.act → IsAct (act_read u.act)) → line ≡ spelling (input_read u) → IfOk r (Spells line)
+    → IfOk r (λ built. built ≡ input_read u) → (r ≢ Err Line → FitsButText u.act → IsAct (act_read u.act)) → line ≡ spelling (input_read u)
+    → IfOk r (Spells line)
 built_found {A} line u (Ok built) readable same fits text_is =
     let act : IsAct (act_read u.act) = fits (λ e. cc e) readable.act in
     subst (λ (i : Input A). Spells line i) (sym same) (spells_it line u readable act text_is)
@@ -44,7 +46,8 @@ pub unbuilt_line : {A : Type 0} (line : List ℕ) (u : UnbuiltInput A) (r : Resu
 unbuilt_line {A} line u r strange reads e i s = strange e (subst (λ (j : Input A). IsAct j.act) (sym (reads i s)) s.spelt.act)
 
 pub unbuilt_pattern : {A : Type 0} (line : List ℕ) (u : UnbuiltInput A) (r : Result (Input A) LineFault) → IsReadable u
-    → (r ≢ Err Line → FitsButText u.act → IsAct (act_read u.act)) → (r ≡ Err Pattern → IsSubscription (act_read u.act)) → line ≡ spelling (input_read u)
+    → (r ≢ Err Line → FitsButText u.act → IsAct (act_read u.act)) → (r ≡ Err Pattern → IsSubscription (act_read u.act))
+    → line ≡ spelling (input_read u)
     → r ≡ Err Pattern → SpellsButForPattern A line
 unbuilt_pattern {A} line u r readable fits refused text_is e =
     let act : IsAct (act_read u.act) = fits (λ l. cc (e, l)) readable.act in

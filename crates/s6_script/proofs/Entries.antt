@@ -1,5 +1,6 @@
 -- Entries are read back from their spelling.
-use Rattle.std.proofs.Common.{◌≡◌, ◌∙◌, ap, sym, refl, ℕ, ◌+◌, ◌<◌, ◌≤◌, ◌^◌, List, [], ◌∷◌, ◌++◌, Bool, true, false, not, ◌==◌, Option, Some, None, length, map, take, drop, fold, get_or, append_assoc, append-nil, arith, rules}
+use Rattle.std.proofs.Common.{◌≡◌, ◌∙◌, ap, sym, refl, ℕ, ◌+◌, ◌<◌, ◌≤◌, ◌^◌, List, [], ◌∷◌, ◌++◌, Bool, true, false, not, ◌==◌, Option, Some}
+use Rattle.std.proofs.Common.{None, length, map, take, drop, fold, get_or, append_assoc, append-nil, arith, rules}
 use Rattle.std.specs.Prelude.{All, codes, nat_lt, slice_index_or, ◌≢◌}
 use Rattle.std.proofs.lemmas.Bool.{eqb-true, and_parts, and_from, false≢true}
 use Rattle.std.proofs.lemmas.Bool.Decides.{nat_tests}
@@ -15,7 +16,8 @@ use Rattle.servicedir.specs.declared.config.Config.{Config}
 use Rattle.svscan_core.specs.declared.entry.Entry.{Entry}
 use Rattle.s6_script.specs.declared.entry_options.Setting.{Setting}
 use Rattle.s6_script.specs.declared.entry_options.Setting.TheVariants.{Down, Finish, Notify, Kill, FinishTime, Tally, Signal}
-use Rattle.s6_script.specs.Options.{where_so, descriptor_setting, number_setting, settings, option_word, option_words, behind_name, config_text, entry_text, with_setting, IsSetting, IsConfig, IsEntry, ends_part}
+use Rattle.s6_script.specs.Options.{where_so, descriptor_setting, number_setting, settings, option_word, option_words, behind_name, config_text}
+use Rattle.s6_script.specs.Options.{entry_text, with_setting, IsSetting, IsConfig, IsEntry, ends_part}
 use Rattle.s6_script.proofs.Joined.{is_no_space, has_no_space, lacks, lacking, split_joined}
 use Rattle.s6_script.proofs.Plain.{is_no_mark, is_plain, digits_plain, name_plain, no_space_in, no_mark_in, no_end_in}
 
@@ -37,10 +39,12 @@ flag_back so s before field sets so_far =
     by false = refl
 
 -- the descriptor
-descriptor_back : (found : Option ℕ) (before : List Setting) (field : Option ℕ → Config) → ((n : ℕ) → with_setting (field None) (Notify n) ≡ field (Some n))
+descriptor_back : (found : Option ℕ) (before : List Setting) (field : Option ℕ → Config)
+    → ((n : ℕ) → with_setting (field None) (Notify n) ≡ field (Some n))
     → fold with_setting plain_config before ≡ field None → fold with_setting plain_config (before ++ descriptor_setting found) ≡ field found
 descriptor_back found before field sets so_far =
-    fold-append with_setting plain_config before (descriptor_setting found) ∙ (ap (λ c. fold with_setting c (descriptor_setting found)) so_far ∙ by found)
+    fold-append with_setting plain_config before (descriptor_setting found)
+    ∙ (ap (λ c. fold with_setting c (descriptor_setting found)) so_far ∙ by found)
   where
     by : (f : Option ℕ) → fold with_setting (field None) (descriptor_setting f) ≡ field f
     by None = refl
@@ -68,7 +72,8 @@ settings_back c =
     number_back Signal 15 c.down_signal s6 (λ v. record c { down_signal = v }) refl
     (number_back Tally 100 c.max_death_tally s5 (λ v. record c { max_death_tally = v; down_signal = 15 }) refl
     (number_back FinishTime 5000 c.timeout_finish s4 (λ v. record c { timeout_finish = v; max_death_tally = 100; down_signal = 15 }) refl
-    (number_back Kill 0 c.timeout_kill s3 (λ v. record plain_config { down = c.down; finish = c.finish; notification_fd = c.notification_fd; timeout_kill = v }) refl
+    (number_back Kill 0 c.timeout_kill s3 (λ v.
+    record plain_config { down = c.down; finish = c.finish; notification_fd = c.notification_fd; timeout_kill = v }) refl
     (descriptor_back c.notification_fd s2 (λ v. record plain_config { down = c.down; finish = c.finish; notification_fd = v }) (λ n. refl)
     (flag_back c.finish Finish s1 (λ v. record plain_config { down = c.down; finish = v }) refl
     (flag_back c.down Down [] (λ v. record plain_config { down = v }) refl refl))))))
@@ -124,13 +129,16 @@ all_options_read now words c got i past spelled so_far =
     so_far ∙ (ap (fold with_setting plain_config) (take_all i (settings c) (omega (arith, past, long))) ∙ settings_back c)
 
 -- the mark and the option that stand behind the options before
-pub behind_more : (options : List (List ℕ)) (option : List ℕ) → behind_name (options ++ option ∷ []) ≡ behind_name options ++ (mark_behind options ∷ option)
+pub behind_more : (options : List (List ℕ)) (option : List ℕ)
+    → behind_name (options ++ option ∷ []) ≡ behind_name options ++ (mark_behind options ∷ option)
 behind_more [] option = refl
 behind_more (first ∷ options) option = ap (λ text. 58 ∷ text) (joined first options)
   where
-    joined : (word : List ℕ) (words : List (List ℕ)) → join_with_byte 44 (word ∷ words ++ option ∷ []) ≡ join_with_byte 44 (word ∷ words) ++ (44 ∷ option)
+    joined : (word : List ℕ) (words : List (List ℕ))
+        → join_with_byte 44 (word ∷ words ++ option ∷ []) ≡ join_with_byte 44 (word ∷ words) ++ (44 ∷ option)
     joined word [] = refl
-    joined word (next ∷ words) = ap (λ rest. word ++ (44 ∷ rest)) (joined next words) ∙ sym (append_assoc word (44 ∷ join_with_byte 44 (next ∷ words)) (44 ∷ option))
+    joined word (next ∷ words) = ap (λ rest. word ++ (44 ∷ rest)) (joined next words)
+        ∙ sym (append_assoc word (44 ∷ join_with_byte 44 (next ∷ words)) (44 ∷ option))
 
 pub mark_more : (options : List (List ℕ)) (option : List ℕ) → mark_behind (options ++ option ∷ []) ≡ 44
 mark_more [] option = refl
@@ -148,7 +156,8 @@ one_option_written old text pushed new list d mark option i here so_far marked s
     let last : List ℕ = option_word (get_or list i d) in
     let text_is : new ≡ (old ++ behind_name before) ++ (mark_behind before ∷ last) =
     adds ∙ ((λ k. pushes k ++ spelled k) ∙ (append_assoc text (mark ∷ []) last ∙ (λ k. so_far k ++ (marked k ∷ last)))) in (
-      text_is ∙ (append_assoc old (behind_name before) (mark_behind before ∷ last) ∙ ap (λ behind. old ++ behind) (sym (behind_more before last) ∙ ap behind_name (sym more))),
+      text_is ∙ (append_assoc old (behind_name before) (mark_behind before ∷ last)
+          ∙ ap (λ behind. old ++ behind) (sym (behind_more before last) ∙ ap behind_name (sym more))),
       sym (mark_more before last) ∙ ap mark_behind (sym more),
     )
 
@@ -177,7 +186,8 @@ one_entry_more entries got new left left' word read so_far some first behind rea
         }
 
 -- all entries are read
-pub all_entries_read : (entries got : List Entry) (left : List (List ℕ)) → EntriesSoFar entries got left → nat_lt 0 (length left) ≡ false → got ≡ entries
+pub all_entries_read : (entries got : List Entry) (left : List (List ℕ)) → EntriesSoFar entries got left → nat_lt 0 (length left) ≡ false
+    → got ≡ entries
 all_entries_read entries got left so_far none = by so_far.rest so_far.whole so_far.words
   where
     by : (rest : List Entry) → got ++ rest ≡ entries → left ≡ map entry_text rest → got ≡ entries
@@ -212,7 +222,8 @@ ends_in_none (word ∷ words) h =
 
 split_behind : (name : List ℕ) (options : List (List ℕ)) → is_plain name ≡ true → list_all is_plain options ≡ true
     → slice_split ends_part (name ++ behind_name options) ≡ name ∷ options
-split_behind name [] h k = ap (slice_split ends_part) (append-nil name) ∙ slice_split_none ends_part name (lacking ends_part name (no_end_in name h))
+split_behind name [] h k = ap (slice_split ends_part) (append-nil name)
+    ∙ slice_split_none ends_part name (lacking ends_part name (no_end_in name h))
 split_behind name (option ∷ options) h k =
     slice_split_at ends_part name 58 (join_with_byte 44 (option ∷ options)) (lacking ends_part name (no_end_in name h)) refl
     ∙ ap (λ rest. name ∷ rest) (split_joined ends_part 44 refl option options (ends_in_none (option ∷ options) k))
@@ -224,23 +235,27 @@ parts_back name config h k = split_behind name (option_words config) (name_plain
 
 -- ---- what no byte of a plain text is stands nowhere in an entry, if it is no colon and no comma
 
-joined_lacks : (p : ℕ → Bool) → p 44 ≡ true → ((text : List ℕ) → is_plain text ≡ true → list_all p text ≡ true) → (word : List ℕ) (words : List (List ℕ))
+joined_lacks : (p : ℕ → Bool) → p 44 ≡ true → ((text : List ℕ) → is_plain text ≡ true → list_all p text ≡ true)
+    → (word : List ℕ) (words : List (List ℕ))
     → list_all is_plain (word ∷ words) ≡ true → list_all p (join_with_byte 44 (word ∷ words)) ≡ true
 joined_lacks p comma plain word [] h = plain word (and_parts _ _ h).0
 joined_lacks p comma plain word (next ∷ words) h =
     list_all-append p word (44 ∷ join_with_byte 44 (next ∷ words))
     ∙ and_from _ _ (plain word (and_parts _ _ h).0) (and_from _ _ comma (joined_lacks p comma plain next words (and_parts _ _ h).1))
 
-behind_lacks : (p : ℕ → Bool) → p 58 ≡ true → p 44 ≡ true → ((text : List ℕ) → is_plain text ≡ true → list_all p text ≡ true) → (options : List (List ℕ))
+behind_lacks : (p : ℕ → Bool) → p 58 ≡ true → p 44 ≡ true → ((text : List ℕ) → is_plain text ≡ true → list_all p text ≡ true)
+    → (options : List (List ℕ))
     → list_all is_plain options ≡ true → list_all p (behind_name options) ≡ true
 behind_lacks p colon comma plain [] h = refl
 behind_lacks p colon comma plain (option ∷ options) h = and_from _ _ colon (joined_lacks p comma plain option options h)
 
-served_lacks : (p : ℕ → Bool) → p 58 ≡ true → p 44 ≡ true → ((text : List ℕ) → is_plain text ≡ true → list_all p text ≡ true) → (name : List ℕ) (config : Config)
+served_lacks : (p : ℕ → Bool) → p 58 ≡ true → p 44 ≡ true → ((text : List ℕ) → is_plain text ≡ true → list_all p text ≡ true)
+    → (name : List ℕ) (config : Config)
     → is_name name ≡ true → IsConfig config → list_all p (name ++ config_text (Some config)) ≡ true
 served_lacks p colon comma plain name config h k =
     list_all-append p name (behind_name (option_words config))
-    ∙ and_from _ _ (plain name (name_plain name h)) (behind_lacks p colon comma plain (option_words config) (options_plain (settings config) (settings_fit config k)))
+    ∙ and_from _ _ (plain name (name_plain name h))
+    (behind_lacks p colon comma plain (option_words config) (options_plain (settings config) (settings_fit config k)))
 
 -- ---- an entry is read back
 
@@ -248,9 +263,11 @@ served_lacks p colon comma plain name config h k =
 served_unmarked : (name : List ℕ) (config : Config) → is_name name ≡ true → IsConfig config
     → (before : List ℕ) → name ++ config_text (Some config) ≡ before ++ codes "!" → ⊥
 served_unmarked name config h k before e =
-    let lacks_mark : list_all is_no_mark (name ++ config_text (Some config)) ≡ true = served_lacks is_no_mark refl refl no_mark_in name config h k in
+    let lacks_mark : list_all is_no_mark (name ++ config_text (Some config)) ≡ true =
+    served_lacks is_no_mark refl refl no_mark_in name config h k in
     let at_end : list_all is_no_mark (before ++ codes "!") ≡ true = sym (ap (list_all is_no_mark) e) ∙ lacks_mark in
-    let last = and_parts (list_all is_no_mark before) (list_all is_no_mark (codes "!")) (sym (list_all-append is_no_mark before (codes "!")) ∙ at_end) in
+    let last = and_parts (list_all is_no_mark before) (list_all is_no_mark (codes "!"))
+    (sym (list_all-append is_no_mark before (codes "!")) ∙ at_end) in
     let no : false ≡ true = last.1 in
     cc no
 

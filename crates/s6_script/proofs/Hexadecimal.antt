@@ -20,7 +20,8 @@ hex_plain [] = refl
 hex_plain (b ∷ bytes) = rw (no_space_at lower_digits (b / 16) refl, no_space_at lower_digits (b % 16) refl) (hex_plain bytes)
 
 -- into room for so many bytes, their digits are read as these bytes
-pub bytes_back : (word bytes new : List ℕ) (room : ℕ) (read : Result Unit FromHexError) → word ≡ encode_lower bytes → IsBytes bytes → length bytes ≡ room
+pub bytes_back : (word bytes new : List ℕ) (room : ℕ) (read : Result Unit FromHexError) → word ≡ encode_lower bytes → IsBytes bytes
+    → length bytes ≡ room
     → MatchResult (decode_sized word room) (λ found. (read ≡ Ok tt) × (new ≡ found)) (λ e. read ≡ Err e) → (read ≡ Ok tt) × (new ≡ bytes)
 bytes_back word bytes new room read spelled fits same found =
     let whole : decode_sized word room ≡ Ok bytes = ap (λ w. decode_sized w room) spelled ∙ decode_sized-encode_lower bytes room same fits in

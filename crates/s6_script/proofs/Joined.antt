@@ -2,7 +2,8 @@
 use Rattle.std.proofs.Common.{◌≡◌, ℕ, ◌<◌, List, [], ◌∷◌, ◌++◌, length, map, refl, ap, sym, ◌∙◌, append-nil, append_assoc, arith}
 use Rattle.std.specs.Prelude.{All, Bool, ◌==◌, true, false, not}
 use Rattle.std.proofs.lemmas.List.Elements.{All-nil, All-cons}
-use Rattle.std.proofs.lemmas.List.Splits.{slice_split_none, slice_split_at, slice_split-cons_yes, slice_split-cons_no, length-slice_split, join_with_byte-slice_split}
+use Rattle.std.proofs.lemmas.List.Splits.{slice_split_none, slice_split_at, slice_split-cons_yes, slice_split-cons_no, length-slice_split}
+use Rattle.std.proofs.lemmas.List.Splits.{join_with_byte-slice_split}
 use Rattle.std.specs.List.{join_with_byte, flat_map, slice_split, onto_first, list_all}
 use Rattle.std.proofs.lemmas.Bool.{and_parts}
 use Rattle.death_tally.specs.declared.death_list.DeathItem.{DeathItem}
@@ -21,7 +22,8 @@ pub join_words : (word : List ℕ) (words : List (List ℕ)) → join_with_byte 
 join_words word [] = sym (append-nil word)
 join_words word (next ∷ words) = ap (λ rest. word ++ (32 ∷ rest)) (join_words next words)
 
-pub join_entries : (word : List ℕ) (entries : List Entry) → join_with_byte 32 (word ∷ map entry_text entries) ≡ word ++ flat_map (λ e. 32 ∷ entry_text e) entries
+pub join_entries : (word : List ℕ) (entries : List Entry)
+    → join_with_byte 32 (word ∷ map entry_text entries) ≡ word ++ flat_map (λ e. 32 ∷ entry_text e) entries
 join_entries word [] = sym (append-nil word)
 join_entries word (e ∷ entries) = ap (λ rest. word ++ (32 ∷ rest)) (join_entries (entry_text e) entries)
 
@@ -29,7 +31,8 @@ pub join_items : (item : DeathItem) (items : List DeathItem) → list_text (item
 join_items item [] = sym (append-nil (item_text item))
 join_items item (next ∷ items) = ap (λ rest. item_text item ++ (44 ∷ rest)) (join_items next items)
 
-pub join_act : {A : Type 0} (word : List ℕ) (act : Act A) → join_with_byte 32 (word ∷ act_words act) ≡ word ++ (32 ∷ join_with_byte 32 (act_words act))
+pub join_act : {A : Type 0} (word : List ℕ) (act : Act A)
+    → join_with_byte 32 (word ∷ act_words act) ≡ word ++ (32 ∷ join_with_byte 32 (act_words act))
 join_act word act = refl
 
 -- a word before the words of a text
@@ -72,7 +75,8 @@ split_joined p mark e word (next ∷ words) h =
     slice_split_at p word mark (join_with_byte mark (next ∷ words)) (lacking p word (and_parts _ _ h).0) e
     ∙ ap (λ rest. word ∷ rest) (split_joined p mark e next words (and_parts _ _ h).1)
 
-onto_lacks : (p : ℕ → Bool) (b : ℕ) (words : List (List ℕ)) → p b ≡ false → list_all (lacks p) words ≡ true → list_all (lacks p) (onto_first b words) ≡ true
+onto_lacks : (p : ℕ → Bool) (b : ℕ) (words : List (List ℕ)) → p b ≡ false → list_all (lacks p) words ≡ true
+    → list_all (lacks p) (onto_first b words) ≡ true
 onto_lacks p b [] e h = rw e refl
 onto_lacks p b (word ∷ words) e h =
     let both = and_parts (lacks p word) (list_all (lacks p) words) h in

@@ -10,8 +10,10 @@ unfolding letter_of_byte
 letter_back l = search rules
 
 -- one letter more is read
-pub one_letter_more : (word : List ℕ) (letters got new : List ControlLetter) (i : ℕ) → i < length word → word ≡ map byte_of letters → length letters ≤ 63
-    → got ≡ take i letters → ((l : ControlLetter) → length got < 63 → get_or word i 0 ≡ byte_of l → new ≡ got ++ l ∷ []) → new ≡ take (i + 1) letters
+pub one_letter_more : (word : List ℕ) (letters got new : List ControlLetter) (i : ℕ) → i < length word → word ≡ map byte_of letters
+    → length letters ≤ 63
+    → got ≡ take i letters → ((l : ControlLetter) → length got < 63 → get_or word i 0 ≡ byte_of l → new ≡ got ++ l ∷ [])
+    → new ≡ take (i + 1) letters
 one_letter_more word letters got new i here spelled few so_far adds =
     let long : length word ≡ length letters = ap length spelled ∙ length-map letters byte_of in
     let within : i < length letters = omega (arith, here, long) in

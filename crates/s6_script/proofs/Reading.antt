@@ -9,10 +9,11 @@ use Rattle.s6_events.specs.Name.{is_name}
 use Rattle.s6_events.specs.declared.exit.Exit.{Exit}
 use Rattle.s6_events.specs.declared.exit.Exit.TheVariants.{Code, Killed}
 use Rattle.tree_core.specs.declared.input.Act.{Act}
-use Rattle.tree_core.specs.declared.input.Act.TheVariants.{Scan, Scanctl, Svc, Started, StartFailed, Notify, Death, FinishEnded, Status, Tally, Permafailon, Wait, Cancel, Subscribe, Unsubscribe, Send, MakeDir, Tick}
+use Rattle.tree_core.specs.declared.input.Act.TheVariants.{Scan, Scanctl, Svc, Started, StartFailed, Notify, Death, FinishEnded, Status, Tally}
+use Rattle.tree_core.specs.declared.input.Act.TheVariants.{Permafailon, Wait, Cancel, Subscribe, Unsubscribe, Send, MakeDir, Tick}
 use Rattle.tree_core.specs.declared.input.Input.{Input}
 use Rattle.s6_script.specs.declared.parse.Verb.{Verb}
-use Rattle.s6_script.specs.declared.parse.Verb.TheVariants.{Permafailon as PermafailonVerb}
+use Rattle.s6_script.specs.declared.parse.Verb.TheVariants as verbs
 use Rattle.svscan_core.specs.declared.entry.ScanOrder.{ScanOrder}
 use Rattle.s6_script.specs.Spelling.{IsSpelt, IsExit, IsAct, act_words, input_words, spelling}
 use Rattle.s6_script.specs.Verb.{exit_words, order_word, verb_word, verb_of_act, details}
@@ -28,9 +29,10 @@ use Rattle.s6_script.proofs.Waits.{wait_no_space}
 
 -- a permafailon, where what is found is the one of these words
 pub permafailon_read : {A : Type 0} (texts : List (List ℕ)) (found : Act A)
-    → ((name : List ℕ) (seconds count : ℕ) (items : List DeathItem) → IsAct {A = A} (Permafailon name seconds count items) → texts ≡ details {A = A} (Permafailon name seconds count items)
+    → ((name : List ℕ) (seconds count : ℕ) (items : List DeathItem) → IsAct {A = A} (Permafailon name seconds count items)
+    → texts ≡ details {A = A} (Permafailon name seconds count items)
     → found ≡ Permafailon name seconds count items)
-    → (act : Act A) → IsAct act → PermafailonVerb ≡ verb_of_act act → texts ≡ details act → found ≡ act
+    → (act : Act A) → IsAct act → verbs.Permafailon ≡ verb_of_act act → texts ≡ details act → found ≡ act
 permafailon_read texts found reads (Scan entries) h v d = cc
 permafailon_read texts found reads (Scanctl order) h v d = cc
 permafailon_read texts found reads (Svc name letters) h v d = cc
@@ -57,19 +59,20 @@ pub permafailon_found : {A : Type 0} (texts : List (List ℕ)) (name : List ℕ)
     → ((n : ℕ) → n ≤ 4294967295 → w1 ≡ decimal n → seconds ≡ n)
     → ((n : ℕ) → n ≤ 4294967295 → w2 ≡ decimal n → count ≡ n)
     → Some items ≡ death_list w3
-    → (act : Act A) → IsAct act → PermafailonVerb ≡ verb_of_act act → texts ≡ details act → Permafailon name seconds count items ≡ act
+    → (act : Act A) → IsAct act → verbs.Permafailon ≡ verb_of_act act → texts ≡ details act → Permafailon name seconds count items ≡ act
 permafailon_found {A} texts name seconds count items w0 w1 w2 w3 e0 e1 e2 e3 reads_name reads_seconds reads_count reads_list =
     permafailon_read texts (Permafailon name seconds count items) (λ n s k ds fits spelled.
     let first : w0 ≡ n = e0 ∙ ap (λ ws. slice_index_or ws 0 []) spelled in
     let same_name : name ≡ n = reads_name (ap is_name first ∙ fits.0) ∙ first in
     let same_seconds : seconds ≡ s = reads_seconds s fits.1 (e1 ∙ ap (λ ws. slice_index_or ws 1 []) spelled) in
     let same_count : count ≡ k = reads_count k fits.2 (e2 ∙ ap (λ ws. slice_index_or ws 2 []) spelled) in
-    let same_list : items ≡ ds = same_Some items ds (reads_list ∙ (ap death_list (e3 ∙ ap (λ ws. slice_index_or ws 3 []) spelled) ∙ list_back ds fits.3)) in
+    let same_list : items ≡ ds = same_Some items ds
+    (reads_list ∙ (ap death_list (e3 ∙ ap (λ ws. slice_index_or ws 3 []) spelled) ∙ list_back ds fits.3)) in
     λ i. Permafailon (same_name i) (same_seconds i) (same_count i) (same_list i))
 
 -- where the fourth word is no list, the words are those of no permafailon
 pub permafailon_lost : {A : Type 0} (texts : List (List ℕ)) (found : Act A) (w3 : List ℕ) → w3 ≡ slice_index_or texts 3 [] → None ≡ death_list w3
-    → (act : Act A) → IsAct act → PermafailonVerb ≡ verb_of_act act → texts ≡ details act → found ≡ act
+    → (act : Act A) → IsAct act → verbs.Permafailon ≡ verb_of_act act → texts ≡ details act → found ≡ act
 permafailon_lost texts found w3 e3 none =
     permafailon_read texts found (λ n s k ds fits spelled.
     absurd (none-some ds (none ∙ (ap death_list (e3 ∙ ap (λ ws. slice_index_or ws 3 []) spelled) ∙ list_back ds fits.3))))
@@ -105,7 +108,13 @@ act_plain (Death sid generation exit) h = rw (digits_no_space sid h.0, digits_no
 act_plain (Status name) h = rw (no_space_in name (name_plain name h)) refl
 act_plain (Tally name) h = rw (no_space_in name (name_plain name h)) refl
 act_plain (Permafailon name seconds count items) h =
-    rw (no_space_in name (name_plain name h.0), digits_no_space seconds (omega arith), digits_no_space count (omega arith), list_no_space items h.3.fit) refl
+    rw (
+      no_space_in name (name_plain name h.0),
+      digits_no_space seconds (omega arith),
+      digits_no_space count
+          (omega arith),
+      list_no_space items h.3.fit,
+    ) refl
 act_plain (Wait condition mode timeout names) h = wait_no_space condition mode timeout names (digits_no_space timeout (omega (arith, h.0))) h.1
 act_plain (Cancel id) h = rw (digits_no_space id h) refl
 act_plain (Subscribe target pattern repeats) h = subscribe_no_space target pattern repeats h.0

@@ -13,9 +13,10 @@ use Rattle.event_directory.specs.Pattern.{is_pattern_text}
 use Rattle.s6_events.specs.Letter.{is_letter}
 use Rattle.s6_events.specs.Name.{is_name}
 use Rattle.tree_core.specs.declared.input.Act.{Act}
-use Rattle.tree_core.specs.declared.input.Act.TheVariants.{Scan, Scanctl, Svc, Started, StartFailed, Notify, Death, FinishEnded, Status, Tally, Permafailon, Wait, Cancel, Subscribe, Unsubscribe, Send, MakeDir, Tick}
+use Rattle.tree_core.specs.declared.input.Act.TheVariants.{Scan, Scanctl, Svc, Started, StartFailed, Notify, Death, FinishEnded, Status, Tally}
+use Rattle.tree_core.specs.declared.input.Act.TheVariants.{Permafailon, Wait, Cancel, Subscribe, Unsubscribe, Send, MakeDir, Tick}
 use Rattle.tree_core.specs.declared.input.Target.{Target}
-use Rattle.s6_script.specs.declared.parse.Verb.TheVariants.{Subscribe as SubscribeVerb, Send as SendVerb}
+use Rattle.s6_script.specs.declared.parse.Verb.TheVariants as verb
 use Rattle.s6_script.specs.Spelling.{IsAct}
 use Rattle.s6_script.specs.Verb.{target_word, target_name, how_word, text_words, verb_of_act, details}
 use Rattle.s6_script.proofs.Joined.{is_no_space, has_no_space, split_lacks}
@@ -25,7 +26,7 @@ use Rattle.s6_script.proofs.Plain.{name_plain, no_space_in}
 subscribe_read : {A : Type 0} (texts : List (List ℕ)) (found : Act A)
     → ((target : Target) (pattern : List ℕ) (repeats : Bool) → IsAct {A = A} (Subscribe target pattern repeats)
     → texts ≡ details {A = A} (Subscribe target pattern repeats) → found ≡ Subscribe target pattern repeats)
-    → (act : Act A) → IsAct act → SubscribeVerb ≡ verb_of_act act → texts ≡ details act → found ≡ act
+    → (act : Act A) → IsAct act → verb.Subscribe ≡ verb_of_act act → texts ≡ details act → found ≡ act
 subscribe_read texts found reads (Scan entries) h v d = cc
 subscribe_read texts found reads (Scanctl order) h v d = cc
 subscribe_read texts found reads (Svc name letters) h v d = cc
@@ -50,12 +51,14 @@ text_back : (text pattern : List ℕ) (words : List (List ℕ)) → text ≡ joi
 text_back text pattern words joined spelled = joined ∙ (ap (join_with_byte 32) spelled ∙ join_with_byte-slice_split 32 pattern)
 
 -- its parts are read, each from its words; the pattern is the rest of the line
-pub subscribe_found : {A : Type 0} (texts left : List (List ℕ)) (target : Target) (pattern : List ℕ) (repeats : Bool) (how : List ℕ) (rest : List (List ℕ)) (text : List ℕ)
-    → ((t : Target) → IsTrue (is_name (target_name t)) → slice_index_or texts 0 [] ≡ target_word t → slice_index_or texts 1 [] ≡ target_name t → target ≡ t)
+pub subscribe_found : {A : Type 0} (texts left : List (List ℕ)) (target : Target) (pattern : List ℕ) (repeats : Bool) (how : List ℕ)
+    (rest : List (List ℕ)) (text : List ℕ)
+    → ((t : Target) → IsTrue (is_name (target_name t)) → slice_index_or texts 0 [] ≡ target_word t → slice_index_or texts 1 [] ≡ target_name t
+    → target ≡ t)
     → left ≡ drop 2 texts → how ≡ slice_index_or left 0 [] → rest ≡ drop 1 left → text ≡ join_with_byte 32 rest
     → ((r : Bool) → how ≡ how_word r → repeats ≡ r)
     → (IsTrue (is_pattern_text text) → pattern ≡ text)
-    → (act : Act A) → IsAct act → SubscribeVerb ≡ verb_of_act act → texts ≡ details act → Subscribe target pattern repeats ≡ act
+    → (act : Act A) → IsAct act → verb.Subscribe ≡ verb_of_act act → texts ≡ details act → Subscribe target pattern repeats ≡ act
 subscribe_found {A} texts left target pattern repeats how rest text reads_target taken third behind joined reads_how reads_pattern =
     subscribe_read texts (Subscribe target pattern repeats) (λ t p r fits spelled.
     let same_target : target ≡ t = reads_target t fits.0 (ap (λ ws. slice_index_or ws 0 []) spelled) (ap (λ ws. slice_index_or ws 1 []) spelled) in
@@ -67,8 +70,9 @@ subscribe_found {A} texts left target pattern repeats how rest text reads_target
 
 -- a message, where what is found is the one of these words
 send_read : {A : Type 0} (texts : List (List ℕ)) (found : Act A)
-    → ((target : Target) (message : List ℕ) → IsAct {A = A} (Send target message) → texts ≡ details {A = A} (Send target message) → found ≡ Send target message)
-    → (act : Act A) → IsAct act → SendVerb ≡ verb_of_act act → texts ≡ details act → found ≡ act
+    → ((target : Target) (message : List ℕ) → IsAct {A = A} (Send target message) → texts ≡ details {A = A} (Send target message)
+    → found ≡ Send target message)
+    → (act : Act A) → IsAct act → verb.Send ≡ verb_of_act act → texts ≡ details act → found ≡ act
 send_read texts found reads (Scan entries) h v d = cc
 send_read texts found reads (Scanctl order) h v d = cc
 send_read texts found reads (Svc name letters) h v d = cc
@@ -88,17 +92,6 @@ send_read texts found reads (Send target message) h v d = reads target message h
 send_read texts found reads (MakeDir name) h v d = cc
 send_read texts found reads Tick h v d = cc
 
-pub send_found : {A : Type 0} (texts left : List (List ℕ)) (target : Target) (message word : List ℕ)
-    → ((t : Target) → IsTrue (is_name (target_name t)) → slice_index_or texts 0 [] ≡ target_word t → slice_index_or texts 1 [] ≡ target_name t → target ≡ t)
-    → left ≡ drop 2 texts → word ≡ slice_index_or left 0 [] → (is_message word ≡ true → message ≡ word)
-    → (act : Act A) → IsAct act → SendVerb ≡ verb_of_act act → texts ≡ details act → Send target message ≡ act
-send_found {A} texts left target message word reads_target taken third reads_message =
-    send_read texts (Send target message) (λ t m fits spelled.
-    let same_target : target ≡ t = reads_target t fits.0 (ap (λ ws. slice_index_or ws 0 []) spelled) (ap (λ ws. slice_index_or ws 1 []) spelled) in
-    let same_word : word ≡ m = third ∙ ap (λ ws. slice_index_or ws 0 []) (taken ∙ ap (drop 2) spelled) in
-    let same_message : message ≡ m = reads_message (ap is_message same_word ∙ fits.1) ∙ same_word in
-    λ i. Send (same_target i) (same_message i))
-
 -- none of their words has a space
 target_plain : (target : Target) → has_no_space (target_word target) ≡ true
 target_plain target = search rules
@@ -109,7 +102,8 @@ how_plain repeats = search rules
 pub subscribe_no_space : (target : Target) (pattern : List ℕ) (repeats : Bool) → IsTrue (is_name (target_name target))
     → list_all has_no_space (codes "subscribe" ∷ target_word target ∷ target_name target ∷ how_word repeats ∷ text_words pattern) ≡ true
 subscribe_no_space target pattern repeats named =
-    rw (target_plain target, no_space_in (target_name target) (name_plain (target_name target) named), how_plain repeats) (split_lacks (λ b. b == 32) pattern)
+    rw (target_plain target, no_space_in (target_name target) (name_plain (target_name target) named), how_plain repeats)
+    (split_lacks (λ b. b == 32) pattern)
 
 letter_no_space : (b : ℕ) → is_letter b ≡ true → is_no_space b ≡ true
 letter_no_space b h = grind (arith, nat_tests)

@@ -9,8 +9,9 @@ use Rattle.s6_events.specs.Name.{is_name}
 use Rattle.s6_events.specs.declared.condition.Condition.{Condition}
 use Rattle.s6_events.specs.declared.condition.Mode.{Mode}
 use Rattle.tree_core.specs.declared.input.Act.{Act}
-use Rattle.tree_core.specs.declared.input.Act.TheVariants.{Scan, Scanctl, Svc, Started, StartFailed, Notify, Death, FinishEnded, Status, Tally, Permafailon, Wait, Cancel, Subscribe, Unsubscribe, Send, MakeDir, Tick}
-use Rattle.s6_script.specs.declared.parse.Verb.TheVariants.{Wait as WaitVerb}
+use Rattle.tree_core.specs.declared.input.Act.TheVariants.{Scan, Scanctl, Svc, Started, StartFailed, Notify, Death, FinishEnded, Status, Tally}
+use Rattle.tree_core.specs.declared.input.Act.TheVariants.{Permafailon, Wait, Cancel, Subscribe, Unsubscribe, Send, MakeDir, Tick}
+use Rattle.s6_script.specs.declared.parse.Verb.TheVariants as verb
 use Rattle.s6_script.specs.Spelling.{IsAct}
 use Rattle.s6_script.specs.Verb.{condition_word, mode_word, verb_of_act, details}
 use Rattle.s6_script.proofs.Joined.{has_no_space}
@@ -23,7 +24,8 @@ pub record NamesSoFar (names got left : List (List ℕ)) : Type 0 where
 
 -- one name more
 pub one_name_more : (names got new left left' : List (List ℕ)) (word read : List ℕ) → NamesSoFar names got left → nat_lt 0 (length left) ≡ true
-    → word ≡ slice_index_or left 0 [] → left' ≡ drop 1 left → (is_name word ≡ true → read ≡ word) → new ≡ got ++ read ∷ [] → NamesSoFar names new left'
+    → word ≡ slice_index_or left 0 [] → left' ≡ drop 1 left → (is_name word ≡ true → read ≡ word) → new ≡ got ++ read ∷ []
+    → NamesSoFar names new left'
 one_name_more names got new [] left' word read so_far some first rest reads adds = absurd (false≢true some)
 one_name_more names got new (name ∷ left) left' word read so_far some first rest reads adds =
     let same : read ≡ name = reads (ap is_name first ∙ All-head (λ n. IsTrue (is_name n)) name left so_far.fits) ∙ first in
@@ -41,7 +43,7 @@ all_names_read names got (name ∷ left) so_far none = absurd (grind (arith, nat
 wait_read : {A : Type 0} (texts : List (List ℕ)) (found : Act A)
     → ((condition : Condition) (mode : Mode) (timeout : ℕ) (names : List (List ℕ)) → IsAct {A = A} (Wait condition mode timeout names)
     → texts ≡ details {A = A} (Wait condition mode timeout names) → found ≡ Wait condition mode timeout names)
-    → (act : Act A) → IsAct act → WaitVerb ≡ verb_of_act act → texts ≡ details act → found ≡ act
+    → (act : Act A) → IsAct act → verb.Wait ≡ verb_of_act act → texts ≡ details act → found ≡ act
 wait_read texts found reads (Scan entries) h v d = cc
 wait_read texts found reads (Scanctl order) h v d = cc
 wait_read texts found reads (Svc name letters) h v d = cc
@@ -62,13 +64,14 @@ wait_read texts found reads (MakeDir name) h v d = cc
 wait_read texts found reads Tick h v d = cc
 
 -- its parts are read, each from its word
-pub wait_found : {A : Type 0} (texts : List (List ℕ)) (condition : Condition) (mode : Mode) (timeout : ℕ) (names : List (List ℕ)) (w0 w1 w2 : List ℕ) (rest : List (List ℕ))
+pub wait_found : {A : Type 0} (texts : List (List ℕ)) (condition : Condition) (mode : Mode) (timeout : ℕ) (names : List (List ℕ))
+    (w0 w1 w2 : List ℕ) (rest : List (List ℕ))
     → w0 ≡ slice_index_or texts 0 [] → w1 ≡ slice_index_or texts 1 [] → w2 ≡ slice_index_or texts 2 [] → rest ≡ drop 3 texts
     → ((c : Condition) → w0 ≡ condition_word c → condition ≡ c)
     → ((m : Mode) → w1 ≡ mode_word m → mode ≡ m)
     → ((n : ℕ) → n ≤ 4294967295 → w2 ≡ decimal n → timeout ≡ n)
     → ((ns : List (List ℕ)) → All (λ name. IsTrue (is_name name)) ns → rest ≡ ns → names ≡ ns)
-    → (act : Act A) → IsAct act → WaitVerb ≡ verb_of_act act → texts ≡ details act → Wait condition mode timeout names ≡ act
+    → (act : Act A) → IsAct act → verb.Wait ≡ verb_of_act act → texts ≡ details act → Wait condition mode timeout names ≡ act
 wait_found {A} texts condition mode timeout names w0 w1 w2 rest e0 e1 e2 er reads_condition reads_mode reads_timeout reads_names =
     wait_read texts (Wait condition mode timeout names) (λ c m t ns fits spelled.
     let same_condition : condition ≡ c = reads_condition c (e0 ∙ ap (λ ws. slice_index_or ws 0 []) spelled) in
@@ -87,8 +90,10 @@ mode_plain m = search rules
 names_no_space : (names : List (List ℕ)) → All (λ name. IsTrue (is_name name)) names → list_all has_no_space names ≡ true
 names_no_space [] h = refl
 names_no_space (name ∷ names) h =
-    rw (no_space_in name (name_plain name (All-head (λ n. IsTrue (is_name n)) name names h))) (names_no_space names (All-tail (λ n. IsTrue (is_name n)) name names h))
+    rw (no_space_in name (name_plain name (All-head (λ n. IsTrue (is_name n)) name names h)))
+    (names_no_space names (All-tail (λ n. IsTrue (is_name n)) name names h))
 
-pub wait_no_space : (condition : Condition) (mode : Mode) (timeout : ℕ) (names : List (List ℕ)) → has_no_space (decimal timeout) ≡ true → All (λ name. IsTrue (is_name name)) names
+pub wait_no_space : (condition : Condition) (mode : Mode) (timeout : ℕ) (names : List (List ℕ)) → has_no_space (decimal timeout) ≡ true
+    → All (λ name. IsTrue (is_name name)) names
     → list_all has_no_space (codes "wait" ∷ condition_word condition ∷ mode_word mode ∷ decimal timeout ∷ names) ≡ true
 wait_no_space condition mode timeout names digits h = rw (condition_plain condition, mode_plain mode, digits) (names_no_space names h)

@@ -1,12 +1,14 @@
 -- How an entry of a listing is spelled: its name, and the options that its configuration has, or that its directory couldn't be read.
-use Rattle.std.specs.Prelude.{ℕ, ◌≤◌, List, [], ◌∷◌, ◌++◌, map, codes, decimal, Bool, true, not, ◌==◌, ◌||◌, if◌then◌else◌, IsTrue, Option, Some, None, IfSome}
+use Rattle.std.specs.Prelude.{ℕ, ◌≤◌, List, [], ◌∷◌, ◌++◌, map, codes, decimal, Bool, true, not, ◌==◌, ◌||◌}
+use Rattle.std.specs.Prelude.{if◌then◌else◌, IsTrue, Option, Some, None, IfSome}
 use Rattle.std.specs.List.{join_with_byte}
 use Rattle.s6_events.specs.Name.{is_name}
 use Rattle.servicedir.specs.Config.{plain_config, is_served}
 use Rattle.servicedir.specs.declared.config.Config.{Config}
 use Rattle.svscan_core.specs.declared.entry.Entry.{Entry}
 use Rattle.s6_script.specs.declared.entry_options.Setting.{Setting}
-use Rattle.s6_script.specs.declared.entry_options.Setting.TheVariants.{Down, Finish, Notify, Kill, FinishTime, Tally, Signal}
+use Rattle.s6_script.specs.declared.entry_options.Setting.TheVariants.{Down, Finish, Notify, Kill, FinishTime, Tally}
+use Rattle.s6_script.specs.declared.entry_options.Setting.TheVariants.{Signal}
 
 -- the setting, where it is so
 abbrev pub where_so : Bool → Setting → List Setting

@@ -9,7 +9,9 @@ use Rattle.s6_events.specs.declared.exit.Exit.TheVariants.{Code, Killed}
 use Rattle.s6_events.specs.At.{last_moment}
 use Rattle.s6_events.specs.Name.{is_name}
 use Rattle.tree_core.specs.declared.input.Act.{Act}
-use Rattle.tree_core.specs.declared.input.Act.TheVariants.{Scan, Scanctl, Svc, Started, StartFailed, Notify, Death, FinishEnded, Status, Tally, Permafailon, Wait, Cancel, Subscribe, Unsubscribe, Send, MakeDir, Tick}
+use Rattle.tree_core.specs.declared.input.Act.TheVariants.{Scan, Scanctl, Svc, Started, StartFailed, Notify, Death}
+use Rattle.tree_core.specs.declared.input.Act.TheVariants.{FinishEnded, Status, Tally, Permafailon, Wait, Cancel}
+use Rattle.tree_core.specs.declared.input.Act.TheVariants.{Subscribe, Unsubscribe, Send, MakeDir, Tick}
 use Rattle.tree_core.specs.declared.input.Input.{Input}
 use Rattle.s6_script.specs.DeathList.{IsDeathList}
 use Rattle.s6_script.specs.Options.{IsEntry}
@@ -47,7 +49,8 @@ IsAct (Death sid generation exit) = (sid < 2 ^ 64) × (generation < 2 ^ 64) × I
 IsAct (FinishEnded sid generation exit) = (sid < 2 ^ 64) × (generation < 2 ^ 64) × IsExit exit
 IsAct (Status name) = IsTrue (is_name name)
 IsAct (Tally name) = IsTrue (is_name name)
-IsAct (Permafailon name seconds count items) = IsTrue (is_name name) × (seconds ≤ 4294967295) × (count ≤ 4294967295) × IsDeathList items
+IsAct (Permafailon name seconds count items) =
+    IsTrue (is_name name) × (seconds ≤ 4294967295) × (count ≤ 4294967295) × IsDeathList items
 IsAct (Wait condition mode timeout names) = (timeout ≤ 4294967295) × All (λ name. IsTrue (is_name name)) names
 IsAct (Cancel id) = id < 2 ^ 64
 IsAct (Subscribe target pattern repeats) = IsTrue (is_name (target_name target)) × IsTrue (is_pattern_text pattern)

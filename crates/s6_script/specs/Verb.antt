@@ -12,55 +12,57 @@ use Rattle.svc_commands.specs.ControlLetter.{byte_of}
 use Rattle.tree_core.specs.declared.input.Act.{Act}
 use Rattle.svscan_core.specs.declared.entry.ScanOrder.{ScanOrder}
 use Rattle.svscan_core.specs.declared.entry.ScanOrder.TheVariants.{Nuke, Terminate}
-use Rattle.tree_core.specs.declared.input.Act.TheVariants.{Scan, Scanctl, Svc, Started, StartFailed, Notify, Death, FinishEnded, Status, Tally, Permafailon, Wait, Cancel, Subscribe, Unsubscribe, Send, MakeDir, Tick}
+use Rattle.tree_core.specs.declared.input.Act.TheVariants.{Scan, Scanctl, Svc, Started, StartFailed, Notify, Death}
+use Rattle.tree_core.specs.declared.input.Act.TheVariants.{FinishEnded, Status, Tally, Permafailon, Wait, Cancel}
+use Rattle.tree_core.specs.declared.input.Act.TheVariants.{Subscribe, Unsubscribe, Send, MakeDir, Tick}
 use Rattle.tree_core.specs.declared.input.Target.{Target}
 use Rattle.tree_core.specs.declared.input.Target.TheVariants as target
 use Rattle.s6_script.specs.declared.parse.Verb.{Verb}
-use Rattle.s6_script.specs.declared.parse.Verb.TheVariants.{Scan as ScanVerb, Scanctl as ScanctlVerb, Svc as SvcVerb, Started as StartedVerb, StartFailed as StartFailedVerb, Notify as NotifyVerb, Death as DeathVerb, Finished as FinishedVerb, Status as StatusVerb, Tally as TallyVerb, Permafailon as PermafailonVerb, Wait as WaitVerb, Cancel as CancelVerb, Subscribe as SubscribeVerb, Unsubscribe as UnsubscribeVerb, Send as SendVerb, Mkdir as MkdirVerb, Tick as TickVerb}
+use Rattle.s6_script.specs.declared.parse.Verb.TheVariants as verbs
 use Rattle.s6_script.specs.DeathList.{list_text}
 use Rattle.s6_script.specs.Options.{entry_text}
 
 -- the word of a verb
 abbrev pub verb_word : Verb → List ℕ
-verb_word ScanVerb = codes "scan"
-verb_word ScanctlVerb = codes "scanctl"
-verb_word SvcVerb = codes "svc"
-verb_word StartedVerb = codes "started"
-verb_word StartFailedVerb = codes "startfailed"
-verb_word NotifyVerb = codes "notify"
-verb_word DeathVerb = codes "death"
-verb_word FinishedVerb = codes "finished"
-verb_word StatusVerb = codes "status"
-verb_word TallyVerb = codes "tally"
-verb_word PermafailonVerb = codes "permafailon"
-verb_word WaitVerb = codes "wait"
-verb_word CancelVerb = codes "cancel"
-verb_word SubscribeVerb = codes "subscribe"
-verb_word UnsubscribeVerb = codes "unsubscribe"
-verb_word SendVerb = codes "send"
-verb_word MkdirVerb = codes "mkdir"
-verb_word TickVerb = codes "tick"
+verb_word verbs.Scan = codes "scan"
+verb_word verbs.Scanctl = codes "scanctl"
+verb_word verbs.Svc = codes "svc"
+verb_word verbs.Started = codes "started"
+verb_word verbs.StartFailed = codes "startfailed"
+verb_word verbs.Notify = codes "notify"
+verb_word verbs.Death = codes "death"
+verb_word verbs.Finished = codes "finished"
+verb_word verbs.Status = codes "status"
+verb_word verbs.Tally = codes "tally"
+verb_word verbs.Permafailon = codes "permafailon"
+verb_word verbs.Wait = codes "wait"
+verb_word verbs.Cancel = codes "cancel"
+verb_word verbs.Subscribe = codes "subscribe"
+verb_word verbs.Unsubscribe = codes "unsubscribe"
+verb_word verbs.Send = codes "send"
+verb_word verbs.Mkdir = codes "mkdir"
+verb_word verbs.Tick = codes "tick"
 
 -- the verb of an act
 abbrev pub verb_of_act : {A : Type 0} → Act A → Verb
-verb_of_act (Scan listing) = ScanVerb
-verb_of_act (Scanctl order) = ScanctlVerb
-verb_of_act (Svc name letters) = SvcVerb
-verb_of_act (Started sid generation pid) = StartedVerb
-verb_of_act (StartFailed sid generation) = StartFailedVerb
-verb_of_act (Notify sid generation bytes) = NotifyVerb
-verb_of_act (Death sid generation exit) = DeathVerb
-verb_of_act (FinishEnded sid generation exit) = FinishedVerb
-verb_of_act (Status name) = StatusVerb
-verb_of_act (Tally name) = TallyVerb
-verb_of_act (Permafailon name seconds count items) = PermafailonVerb
-verb_of_act (Wait condition mode timeout names) = WaitVerb
-verb_of_act (Cancel id) = CancelVerb
-verb_of_act (Subscribe target pattern repeats) = SubscribeVerb
-verb_of_act (Unsubscribe id) = UnsubscribeVerb
-verb_of_act (Send target message) = SendVerb
-verb_of_act (MakeDir name) = MkdirVerb
-verb_of_act Tick = TickVerb
+verb_of_act (Scan listing) = verbs.Scan
+verb_of_act (Scanctl order) = verbs.Scanctl
+verb_of_act (Svc name letters) = verbs.Svc
+verb_of_act (Started sid generation pid) = verbs.Started
+verb_of_act (StartFailed sid generation) = verbs.StartFailed
+verb_of_act (Notify sid generation bytes) = verbs.Notify
+verb_of_act (Death sid generation exit) = verbs.Death
+verb_of_act (FinishEnded sid generation exit) = verbs.Finished
+verb_of_act (Status name) = verbs.Status
+verb_of_act (Tally name) = verbs.Tally
+verb_of_act (Permafailon name seconds count items) = verbs.Permafailon
+verb_of_act (Wait condition mode timeout names) = verbs.Wait
+verb_of_act (Cancel id) = verbs.Cancel
+verb_of_act (Subscribe target pattern repeats) = verbs.Subscribe
+verb_of_act (Unsubscribe id) = verbs.Unsubscribe
+verb_of_act (Send target message) = verbs.Send
+verb_of_act (MakeDir name) = verbs.Mkdir
+verb_of_act Tick = verbs.Tick
 
 -- the words of an exit
 abbrev pub exit_words : Exit → List (List ℕ)
@@ -118,7 +120,8 @@ details (Tally name) = name ∷ []
 details (Permafailon name seconds count items) = name ∷ decimal seconds ∷ decimal count ∷ list_text items ∷ []
 details (Wait condition mode timeout names) = condition_word condition ∷ mode_word mode ∷ decimal timeout ∷ names
 details (Cancel id) = decimal id ∷ []
-details (Subscribe target pattern repeats) = target_word target ∷ target_name target ∷ how_word repeats ∷ text_words pattern
+details (Subscribe target pattern repeats) =
+    target_word target ∷ target_name target ∷ how_word repeats ∷ text_words pattern
 details (Unsubscribe id) = decimal id ∷ []
 details (Send target message) = target_word target ∷ target_name target ∷ message ∷ []
 details (MakeDir name) = name ∷ []

@@ -63,7 +63,8 @@ fn push_more_items<A: Allocator>(
     text: &mut Vec<u8, A>,
     items: &[DeathItem],
 ) -> Result<(), AllocError>
-    ensures { OnOk result (text.new.items ≡ text.old.items ++ flat_map (λ item. 44 ∷ item_text item) items.now) }
+    ensures { OnOk result (text.new.items
+        ≡ text.old.items ++ flat_map (λ item. 44 ∷ item_text item) items.now) }
 {
     for item in items {
         text.push(b',')?;

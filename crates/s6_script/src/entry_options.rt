@@ -122,7 +122,8 @@ fn push_option<A: Allocator>(text: &mut Vec<u8, A>, setting: Setting) -> Result<
 
 // Adds the options, a colon before the first and a comma before each further one.
 fn push_options<A: Allocator>(text: &mut Vec<u8, A>, settings: &[Setting]) -> Result<(), AllocError>
-    ensures { OnOk result (text.new.items ≡ text.old.items ++ behind_name (map option_word settings.now)) }
+    ensures { OnOk result (text.new.items
+        ≡ text.old.items ++ behind_name (map option_word settings.now)) }
 {
     let mut mark = b':';
     for setting in settings {
@@ -160,7 +161,8 @@ pub fn push_entries<A: Allocator>(
     text: &mut Vec<u8, A>,
     entries: &[Entry],
 ) -> Result<(), AllocError>
-    ensures { OnOk result (text.new.items ≡ text.old.items ++ flat_map (λ e. 32 ∷ entry_text e) entries.now) }
+    ensures { OnOk result (text.new.items
+        ≡ text.old.items ++ flat_map (λ e. 32 ∷ entry_text e) entries.now) }
 {
     for entry in entries {
         text.push(b' ')?;
@@ -171,7 +173,8 @@ pub fn push_entries<A: Allocator>(
 
 // What stands in the word behind the key, where it begins with the key.
 fn value_of<'a>(word: &'a [u8], key: &[u8]) -> Option<&'a [u8]>
-    ensures { MatchOption result ((value : List ℕ) → word.now ≢ key.now ++ value) (λ value. word.now ≡ key.now ++ value.now) }
+    ensures { MatchOption result ((value : List ℕ) → word.now ≢ key.now ++ value)
+        (λ value. word.now ≡ key.now ++ value.now) }
 {
     word.strip_prefix(key)
 }
@@ -227,7 +230,8 @@ fn setting_of(word: &[u8]) -> Setting
 
 // Reads the options of an entry.
 fn config_of(options: &[&[u8]]) -> Config
-    ensures spelled { (c : Config) → IsConfig c → map (λ w. w.now) options.now ≡ option_words c → result ≡ c }
+    ensures spelled { (c : Config) → IsConfig c → map (λ w. w.now) options.now ≡ option_words c
+        → result ≡ c }
     ensures fits { IsConfig result }
 {
     let mut config = Config::plain();
@@ -246,14 +250,16 @@ fn parts_of<A: Allocator + Copy>(alloc: A, word: &[u8]) -> Result<Vec<&[u8], A>,
 
 // The name of an entry whose directory couldn't be read: what stands before its `!`.
 fn unread_name(word: &[u8]) -> Option<&[u8]>
-    ensures { MatchOption result ((name : List ℕ) → word.now ≢ name ++ codes "!") (λ name. word.now ≡ name.now ++ codes "!") }
+    ensures { MatchOption result ((name : List ℕ) → word.now ≢ name ++ codes "!")
+        (λ name. word.now ≡ name.now ++ codes "!") }
 {
     word.strip_suffix(b"!")
 }
 
 // Reads an entry.
 fn entry_of<A: Allocator + Copy>(alloc: A, word: &[u8]) -> Result<Entry, AllocError>
-    ensures spelled { IfOk result (λ found. (e : Entry) → IsEntry e → word.now ≡ entry_text e → found ≡ e) }
+    ensures spelled { IfOk result
+        (λ found. (e : Entry) → IsEntry e → word.now ≡ entry_text e → found ≡ e) }
     ensures fits { IfOk result IsEntry }
 {
     if let Some(name) = unread_name(word) {

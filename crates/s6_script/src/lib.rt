@@ -1,4 +1,4 @@
-//! Scripts, which are inputs of the machine as text. Their format is this project's own.
+//! Scripts, which are inputs of the machine as text. Their format is chosen here.
 #![tactic(auto)]
 
 mod death_list;

@@ -169,7 +169,8 @@ fn serial_of(word: &[u8]) -> u64
 // Reads a service and its run.
 fn run_of(words: &mut Words<'_>) -> (Sid, u64)
     ensures sid { (n : ℕ) → n < 2 ^ 64 → slice_index_or words.old 0 [] ≡ decimal n → result.0 ≡ n }
-    ensures generation { (n : ℕ) → n < 2 ^ 64 → slice_index_or words.old 1 [] ≡ decimal n → result.1 ≡ n }
+    ensures generation { (n : ℕ) → n < 2 ^ 64 → slice_index_or words.old 1 [] ≡ decimal n
+        → result.1 ≡ n }
     ensures rest { words.new ≡ drop 2 words.old }
 {
     let sid = Sid(serial_of(words.take_next()));
@@ -180,7 +181,8 @@ fn run_of(words: &mut Words<'_>) -> (Sid, u64)
 // Adds the letter of this byte, where there is one; after 63 letters nothing.
 fn add_letter(letters: &mut Letters, byte: u8)
     requires { length letters.old.items ≤ 63 }
-    ensures spelled { (letter : ControlLetter) → length letters.old.items < 63 → byte ≡ byte_of letter → letters.new.items ≡ letters.old.items ++ letter ∷ [] }
+    ensures spelled { (letter : ControlLetter) → length letters.old.items < 63
+        → byte ≡ byte_of letter → letters.new.items ≡ letters.old.items ++ letter ∷ [] }
     ensures few { length letters.new.items ≤ 63 }
 {
     if letters.len() == 63 {
@@ -193,7 +195,8 @@ fn add_letter(letters: &mut Letters, byte: u8)
 
 // Reads letters; there is always one.
 fn letters_of(word: &[u8]) -> Letters
-    ensures spelled { (letters : List ControlLetter) → 1 ≤ length letters → length letters ≤ 63 → word.now ≡ map byte_of letters → result.items ≡ letters }
+    ensures spelled { (letters : List ControlLetter) → 1 ≤ length letters → length letters ≤ 63
+        → word.now ≡ map byte_of letters → result.items ≡ letters }
     ensures some { 1 ≤ length result.items }
     ensures few { length result.items ≤ 63 }
 {
@@ -209,7 +212,8 @@ fn letters_of(word: &[u8]) -> Letters
 
 // Reads bytes from their digits; there is always one.
 fn bytes_of(word: &[u8]) -> ArrayVec<u8, 64>
-    ensures spelled { (bytes : List ℕ) → 1 ≤ length bytes → length bytes ≤ 64 → IsBytes bytes → word.now ≡ encode_lower bytes → result.items ≡ bytes }
+    ensures spelled { (bytes : List ℕ) → 1 ≤ length bytes → length bytes ≤ 64 → IsBytes bytes
+        → word.now ≡ encode_lower bytes → result.items ≡ bytes }
     ensures some { 1 ≤ length result.items }
     ensures few { length result.items ≤ 64 }
     ensures fits { IsBytes result.items }
@@ -299,7 +303,8 @@ fn input_of<A: Allocator + Copy>(
     alloc: A,
     words: &mut Words<'_>,
 ) -> Result<UnbuiltInput<A>, NoMemory>
-    ensures spelled { IfOk result (λ found. (i : Input A) → IsSpelt i → words.old ≡ input_words i → input_read found ≡ i) }
+    ensures spelled { IfOk result
+        (λ found. (i : Input A) → IsSpelt i → words.old ≡ input_words i → input_read found ≡ i) }
     ensures at { IfOk result (λ found. found.at ≤ last_moment) }
     ensures actor { IfOk result (λ found. found.actor ≤ 15) }
     ensures act { IfOk result (λ found. FitsButText found.act) }

@@ -50,7 +50,8 @@ fn push_exit<A: Allocator>(text: &mut Vec<u8, A>, exit: Exit) -> Result<(), Allo
 
 // Adds the words of a scan.
 fn push_scan<A: Allocator>(text: &mut Vec<u8, A>, entries: &[Entry]) -> Result<(), AllocError>
-    ensures { OnOk result (text.new.items ≡ text.old.items ++ join_with_byte 32 (codes "scan" ∷ map entry_text entries.now)) }
+    ensures { OnOk result (text.new.items
+        ≡ text.old.items ++ join_with_byte 32 (codes "scan" ∷ map entry_text entries.now)) }
 {
     text.extend_from_slice(b"scan")?;
     push_entries(text, entries)?;
@@ -63,7 +64,9 @@ fn push_svc<A: Allocator>(
     name: &Name,
     letters: &[ControlLetter],
 ) -> Result<(), AllocError>
-    ensures { OnOk result (text.new.items ≡ text.old.items ++ join_with_byte 32 (codes "svc" ∷ name.now ∷ map byte_of letters.now ∷ [])) }
+    ensures { OnOk result (text.new.items
+        ≡ text.old.items ++ join_with_byte 32
+        (codes "svc" ∷ name.now ∷ map byte_of letters.now ∷ [])) }
 {
     push_named(text, "svc", name)?;
     text.push(b' ')?;
@@ -92,7 +95,8 @@ fn push_named<A: Allocator>(
     verb: &str,
     name: &Name,
 ) -> Result<(), AllocError>
-    ensures { OnOk result (text.new.items ≡ text.old.items ++ join_with_byte 32 (verb.now ∷ name.now ∷ [])) }
+    ensures { OnOk result (text.new.items
+        ≡ text.old.items ++ join_with_byte 32 (verb.now ∷ name.now ∷ [])) }
 {
     text.extend_from_slice(verb.as_bytes())?;
     push_word(text, name.as_bytes())
@@ -104,7 +108,8 @@ fn push_serial<A: Allocator>(
     verb: &str,
     serial: u64,
 ) -> Result<(), AllocError>
-    ensures { OnOk result (text.new.items ≡ text.old.items ++ join_with_byte 32 (verb.now ∷ decimal serial ∷ [])) }
+    ensures { OnOk result (text.new.items
+        ≡ text.old.items ++ join_with_byte 32 (verb.now ∷ decimal serial ∷ [])) }
 {
     text.extend_from_slice(verb.as_bytes())?;
     push_spaced(text, serial)
@@ -117,7 +122,8 @@ fn push_report<A: Allocator>(
     sid: Sid,
     generation: u64,
 ) -> Result<(), AllocError>
-    ensures { OnOk result (text.new.items ≡ text.old.items ++ join_with_byte 32 (verb.now ∷ decimal sid ∷ decimal generation ∷ [])) }
+    ensures { OnOk result (text.new.items
+        ≡ text.old.items ++ join_with_byte 32 (verb.now ∷ decimal sid ∷ decimal generation ∷ [])) }
 {
     push_serial(text, verb, sid.0)?;
     push_spaced(text, generation)
@@ -145,7 +151,9 @@ fn push_ended<A: Allocator>(
     generation: u64,
     exit: Exit,
 ) -> Result<(), AllocError>
-    ensures { OnOk result (text.new.items ≡ text.old.items ++ join_with_byte 32 (verb.now ∷ decimal sid ∷ decimal generation ∷ exit_words exit)) }
+    ensures { OnOk result (text.new.items
+        ≡ text.old.items ++ join_with_byte 32
+        (verb.now ∷ decimal sid ∷ decimal generation ∷ exit_words exit)) }
 {
     push_report(text, verb, sid, generation)?;
     text.push(b' ')?;
@@ -158,7 +166,8 @@ fn push_act<A: Allocator + Copy>(
     text: &mut Vec<u8, A>,
     act: &Act<A>,
 ) -> Result<(), AllocError>
-    ensures { OnOk result (text.new.items ≡ text.old.items ++ join_with_byte 32 (act_words act.now)) }
+    ensures { OnOk result (text.new.items
+        ≡ text.old.items ++ join_with_byte 32 (act_words act.now)) }
 {
     match act {
         Act::Scan(listing) => push_scan(text, listing.entries()),
@@ -199,7 +208,8 @@ fn push_read<A: Allocator + Copy>(
     text: &mut Vec<u8, A>,
     act: &UnbuiltAct<A>,
 ) -> Result<(), AllocError>
-    ensures { OnOk result (text.new.items ≡ text.old.items ++ join_with_byte 32 (act_words (act_read act.now))) }
+    ensures { OnOk result (text.new.items
+        ≡ text.old.items ++ join_with_byte 32 (act_words (act_read act.now))) }
 {
     match act {
         UnbuiltAct::Whole(act) => push_act(alloc, text, act),

@@ -43,7 +43,8 @@ fn repeats_of(word: &[u8]) -> bool
 
 // Reads the text of a pattern; none where the bytes are no text.
 fn pattern_text<A: Allocator + Copy>(alloc: A, bytes: &[u8]) -> Result<String<A>, AllocError>
-    ensures { IfOk result (λ found. IsTrue (is_pattern_text bytes.now) → string_bytes found ≡ bytes.now) }
+    ensures { IfOk result (λ found. IsTrue (is_pattern_text bytes.now)
+        → string_bytes found ≡ bytes.now) }
 {
     match String::from_utf8(bytes.to_vec(alloc)?) {
         Ok(text) => Ok(text),
@@ -79,7 +80,8 @@ fn message_of(word: &[u8]) -> Message
 
 /// Reads a message and whose event directory it is sent to from the words behind its verb.
 pub fn send_of<A: Allocator + Copy>(words: &mut Words<'_>) -> Act<A>
-    ensures spelled { (act : Act A) → IsAct act → Send ≡ verb_of_act act → words.old ≡ details act → result ≡ act }
+    ensures spelled { (act : Act A) → IsAct act → Send ≡ verb_of_act act → words.old ≡ details act
+        → result ≡ act }
     ensures fits { IsAct result × HasExpression result }
 {
     let target = target_of(words);
@@ -112,7 +114,8 @@ fn how_bytes(repeats: bool) -> &'static str
 
 // Adds the words of a target, each behind a space.
 fn push_target<A: Allocator>(text: &mut Vec<u8, A>, target: &Target) -> Result<(), AllocError>
-    ensures { OnOk result (text.new.items ≡ text.old.items ++ 32 ∷ (target_word target.now ++ 32 ∷ target_name target.now)) }
+    ensures { OnOk result (text.new.items
+        ≡ text.old.items ++ 32 ∷ (target_word target.now ++ 32 ∷ target_name target.now)) }
 {
     push_word(text, target_bytes(target).as_bytes())?;
     push_word(text, name_in(target).as_bytes())

@@ -69,7 +69,8 @@ fn build_act<A: Allocator>(patterns: Global, act: UnbuiltAct<A>) -> Result<Act<A
 pub fn build<A: Allocator>(patterns: Global, input: UnbuiltInput<A>) -> Result<Input<A>, LineFault>
     ensures ok { IfOk result (λ built. built ≡ input_read input) }
     ensures expression { FitsButText input.act → IfOk result (λ built. HasExpression built.act) }
-    ensures fits { result ≢ Err LineFault.Line → FitsButText input.act → IsAct (act_read input.act) }
+    ensures fits { result ≢ Err LineFault.Line → FitsButText input.act
+        → IsAct (act_read input.act) }
     ensures line { result ≡ Err LineFault.Line → IsAct (act_read input.act) → ⊥ }
     ensures pattern { result ≡ Err LineFault.Pattern → IsSubscription (act_read input.act) }
 {

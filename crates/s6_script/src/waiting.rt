@@ -97,7 +97,8 @@ fn mode_bytes(mode: Mode) -> &'static str
 
 // Adds names, each behind a space.
 fn push_names<A: Allocator>(text: &mut Vec<u8, A>, names: &[Name]) -> Result<(), AllocError>
-    ensures { OnOk result (text.new.items ≡ text.old.items ++ flat_map (λ name. 32 ∷ name) names.now) }
+    ensures { OnOk result (text.new.items
+        ≡ text.old.items ++ flat_map (λ name. 32 ∷ name) names.now) }
 {
     for name in names {
         push_word(text, name.as_bytes())?;

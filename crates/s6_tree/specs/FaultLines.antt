@@ -1,7 +1,8 @@
 -- What is told of a fault of replay.
 use Rattle.std.specs.Prelude.{ℕ, List, [], ◌∷◌, ◌++◌, codes, decimal}
 use Rattle.s6_replay.specs.declared.fault.ReplayFault.{ReplayFault}
-use Rattle.s6_replay.specs.declared.fault.ReplayFault.TheVariants.{Head, Line, Pattern, Truncated, Read, Write, NoMemory}
+use Rattle.s6_replay.specs.declared.fault.ReplayFault.TheVariants.{Head, Line, Pattern, Truncated, Read, Write}
+use Rattle.s6_replay.specs.declared.fault.ReplayFault.TheVariants.{NoMemory}
 
 -- the exit status: 100 where the input is no script, 111 where the system refused something
 abbrev pub status_of : ReplayFault → ℕ

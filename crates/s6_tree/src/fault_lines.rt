@@ -20,7 +20,8 @@ pub const NO_TOOL: &[u8] = b"s6_tree: unknown tool\n";
 pub const REPLAY_USAGE: &[u8] = b"replay: usage\n";
 
 fn write_line<W: Write>(fault: &ReplayFault, writer: &mut W) -> io::Result<()>
-    ensures { OnOk result (Appends (W.contents writer.old) (W.contents writer.new) (fault_line fault.now)) }
+    ensures { OnOk result (Appends (W.contents writer.old) (W.contents writer.new)
+        (fault_line fault.now)) }
 {
     match fault {
         ReplayFault::Head => writer.write_all(b"replay: no head line\n"),
@@ -44,7 +45,8 @@ fn line_of(fault: &ReplayFault) -> io::Result<ArrayVec<u8, 64>>
 
 // Writes the line of a fault, or as much of it as the writer takes.
 fn tell<W: Write>(fault: &ReplayFault, writer: &mut W)
-    ensures { (n : ℕ) × Appends (W.contents writer.old) (W.contents writer.new) (take n (fault_line fault.now)) }
+    ensures { (n : ℕ) × Appends (W.contents writer.old) (W.contents writer.new)
+        (take n (fault_line fault.now)) }
 {
     if let Ok(line) = line_of(fault) {
         let _ = write_whole(writer, line.as_slice());
@@ -53,10 +55,11 @@ fn tell<W: Write>(fault: &ReplayFault, writer: &mut W)
 
 /// Writes the line that tells of a fault of `replay`, and answers the exit status: 100 where the input is no script, 111 where the
 /// system refused something. Where the line cannot be written whole, its beginning may be, and the status is answered all the same.
-/// Takes no memory. The lines and statuses are this project's own, after the exit codes of s6's programs.
+/// Takes no memory. The lines and statuses are chosen here, after the exit codes of s6's programs.
 pub fn replay_fault<W: Write>(fault: &ReplayFault, writer: &mut W) -> u8
     ensures status { result ≡ status_of fault.now }
-    ensures line { (n : ℕ) × Appends (W.contents writer.old) (W.contents writer.new) (take n (fault_line fault.now)) }
+    ensures line { (n : ℕ) × Appends (W.contents writer.old) (W.contents writer.new)
+        (take n (fault_line fault.now)) }
 {
     tell(fault, writer);
     match fault {

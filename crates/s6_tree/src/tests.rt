@@ -1,3 +1,4 @@
+//! The program's command line, its help texts and the lines of its faults.
 ghost use Rattle.std.specs.Io.{WritesAtMost};
 
 mod replay;

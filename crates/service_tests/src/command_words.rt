@@ -1,3 +1,4 @@
+//! The words of the command-line tools, table by table.
 use arrayvec::ArrayVec;
 use s6_events::{Condition, Exit, Mode, Name};
 use std::alloc::Global;

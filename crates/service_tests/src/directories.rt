@@ -1,3 +1,4 @@
+//! Service directories, file by file, and which fault comes first.
 use crate::fake_files::FakeFiles;
 use linked_list_allocator::LocalHeap;
 use s6_events::Name;

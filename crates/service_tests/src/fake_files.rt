@@ -1,3 +1,4 @@
+//! A service directory in memory, whose files can fail.
 ghost use Rattle.std.specs.Prelude.{◌≡◌, ◌≤◌, IsTrue, false, length, IfOk, option_map, find, take};
 
 use s6_events::Name;
@@ -30,7 +31,9 @@ impl<'a> FakeFiles<'a> {
     }
 
     fn find(&self, file: ServiceFile) -> Option<&'a [u8]>
-        ensures { option_map (λ t. t.now) result ≡ option_map (λ e. e.1.now) (find (λ e. ⟦<ServiceFile as PartialEq>⟧.eq e.0 file) self.now.files.now) }
+        ensures { option_map (λ t. t.now) result
+            ≡ option_map (λ e. e.1.now)
+            (find (λ e. ⟦<ServiceFile as PartialEq>⟧.eq e.0 file) self.now.files.now) }
     {
         match self.files.iter().find(|entry| entry.0 == file) {
             Some(entry) => Some(entry.1),

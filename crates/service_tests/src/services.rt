@@ -1,3 +1,4 @@
+//! Services by their public calls, from their start to their supervisor's end.
 ghost use Rattle.std.specs.Prelude.{◌+◌, ◌<◌, ◌^◌};
 
 use arrayvec::ArrayVec;

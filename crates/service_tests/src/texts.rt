@@ -1,3 +1,4 @@
+//! Numbers, signal names and service names, text by text.
 use s6_events::Name;
 use servicedir::{
     Seen, ServiceFile, name_of, parse_digits, parse_number, parse_signal, signal_name, signal_named,

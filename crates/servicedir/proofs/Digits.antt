@@ -18,7 +18,8 @@ of_front k digits =
     subst P whole (grows (value_of_digits (take k digits)) (drop k digits))
 
 -- once the first digits say too much, all do
-pub too_much : (most k : ℕ) (digits : List ℕ) → k < length digits → most < with_digit (value_of_digits (take k digits)) (get_or digits k 0) → most < value_of_digits digits
+pub too_much : (most k : ℕ) (digits : List ℕ) → k < length digits → most < with_digit (value_of_digits (take k digits)) (get_or digits k 0)
+    → most < value_of_digits digits
 too_much most k digits within more =
     let next : value_of_digits (take (k + 1) digits) ≡ with_digit (value_of_digits (take k digits)) (get_or digits k 0) =
     fold_more with_digit 0 digits k 0 within in

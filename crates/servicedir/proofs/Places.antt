@@ -5,7 +5,8 @@ use Rattle.std.specs.List.{position_or_len}
 use Rattle.std.proofs.lemmas.List.{length-map}
 
 -- the first place, or the length
-pub place_or_len : (p : List ℕ → Bool) (names : List (Bor (List ℕ))) → position_or_len p (map (λ n. n.now) names) ≡ position_or_len (λ n. p n.now) names
+pub place_or_len : (p : List ℕ → Bool) (names : List (Bor (List ℕ)))
+    → position_or_len p (map (λ n. n.now) names) ≡ position_or_len (λ n. p n.now) names
 place_or_len p [] = refl
 place_or_len p (n ∷ names) = ap (λ k. cond (not (p n.now)) (1 + k) 0) (place_or_len p names)
 
@@ -18,5 +19,6 @@ place p names =
     ∙ ap (λ m. cond (nat_lt (position_or_len (λ n. p n.now) names) m) (Some (position_or_len (λ n. p n.now) names)) None) count
 
 -- the place of a name
-pub place_named : (name : List ℕ) (names : List (Bor (List ℕ))) → position (λ known. bytes_eq known.now name) names ≡ position (λ known. bytes_eq known name) (map (λ n. n.now) names)
+pub place_named : (name : List ℕ) (names : List (Bor (List ℕ)))
+    → position (λ known. bytes_eq known.now name) names ≡ position (λ known. bytes_eq known name) (map (λ n. n.now) names)
 place_named name names = sym (place (λ known. bytes_eq known name) names)

@@ -1,9 +1,11 @@
 -- What each file of a service directory means.
-use Rattle.std.specs.Prelude.{ℕ, List, Bool, false, Option, Some, None, is_some, unwrap_or, min, nat_le, length, ◌==◌, ◌&&◌, ◌||◌, if◌then◌else◌}
+use Rattle.std.specs.Prelude.{ℕ, List, Bool, false, Option, Some, None, is_some, unwrap_or, min, nat_le, length, ◌==◌}
+use Rattle.std.specs.Prelude.{◌&&◌, ◌||◌, if◌then◌else◌}
 use Rattle.servicedir.specs.Number.{number_of}
 use Rattle.servicedir.specs.SignalName.{signal_of}
 pub use Rattle.servicedir.specs.Files.{Directory}
-use Rattle.servicedir.specs.declared.files.ServiceFile.TheVariants.{Finish, Down, NotificationFd, TimeoutKill, TimeoutFinish, MaxDeathTally, DownSignal}
+use Rattle.servicedir.specs.declared.files.ServiceFile.TheVariants.{Finish, Down, NotificationFd, TimeoutKill}
+use Rattle.servicedir.specs.declared.files.ServiceFile.TheVariants.{TimeoutFinish, MaxDeathTally, DownSignal}
 use Rattle.servicedir.specs.declared.config.Config.{Config}
 use Rattle.servicedir.specs.declared.dir_fault.DirFault.{DirFault}
 use Rattle.servicedir.specs.declared.dir_fault.DirFault.TheVariants as fault
@@ -40,13 +42,13 @@ abbrev pub is_served : ℕ → Bool
 is_served number = (number == 1) || (nat_le 3 number && nat_le number 9)
 
 -- a number that is a served descriptor
-abbrev pub served : Option ℕ → Option ℕ
-served None = None
-served (Some number) = if is_served number then Some number else None
+abbrev pub served_number : Option ℕ → Option ℕ
+served_number None = None
+served_number (Some number) = if is_served number then Some number else None
 
 -- notification-fd: a served descriptor, else no readiness
 abbrev pub notification_fd_of : Option (List ℕ) → Option ℕ
-notification_fd_of content = served (number_in content)
+notification_fd_of content = served_number (number_in content)
 
 -- timeout-kill: milliseconds, else never
 abbrev pub timeout_kill_of : Option (List ℕ) → ℕ

@@ -1,7 +1,9 @@
 -- What a service directory gives, how often it failed, and how often a growth was refused.
 use Rattle.std.specs.Prelude.{◌≡◌, ℕ, ◌+◌, ◌%◌, ◌^◌, List, Option, Some, Result, Ok, Err, codes}
 use Rattle.servicedir.specs.declared.files.ServiceFile.{ServiceFile}
-use Rattle.servicedir.specs.declared.files.ServiceFile.TheVariants.{Run, Kind, Finish, Down, NotificationFd, TimeoutKill, TimeoutFinish, MaxDeathTally, DownSignal}
+use Rattle.servicedir.specs.declared.files.ServiceFile.TheVariants.{Run, Kind, Finish, Down, NotificationFd}
+use Rattle.servicedir.specs.declared.files.ServiceFile.TheVariants.{TimeoutKill, TimeoutFinish, MaxDeathTally}
+use Rattle.servicedir.specs.declared.files.ServiceFile.TheVariants.{DownSignal}
 use Rattle.servicedir.specs.declared.files.ReadFault.{ReadFault}
 use Rattle.servicedir.specs.declared.files.ReadFault.TheVariants as fault
 

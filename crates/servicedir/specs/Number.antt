@@ -1,5 +1,6 @@
 -- Which texts are numbers.
-use Rattle.std.specs.Prelude.{ℕ, List, Bool, Option, Some, None, ◌+◌, ◌-◌, ◌*◌, ◌&&◌, nat_le, length, fold, if◌then◌else◌}
+use Rattle.std.specs.Prelude.{ℕ, List, Bool, Option, Some, None, ◌+◌, ◌-◌, ◌*◌, ◌&&◌, nat_le, length, fold}
+use Rattle.std.specs.Prelude.{if◌then◌else◌}
 use Rattle.std.specs.List.{list_all}
 pub use Rattle.std.specs.Io.BufRead.{strip_last}
 
@@ -21,7 +22,8 @@ value_of_digits digits = fold with_digit 0 digits
 
 -- the number that a text of digits writes, where it is at most this
 unfoldable pub number_up_to : ℕ → List ℕ → Option ℕ
-number_up_to most text = if are_digits text && nat_le (value_of_digits text) most then Some (value_of_digits text) else None
+number_up_to most text = if are_digits text && nat_le (value_of_digits text) most then Some (value_of_digits text)
+    else None
 
 -- the text without the one newline that may end it
 abbrev pub line_of : List ℕ → List ℕ

@@ -1,5 +1,6 @@
 -- The names of signals, on Linux for x86-64.
-use Rattle.std.specs.Prelude.{ℕ, List, [], ◌∷◌, Option, Some, None, ◌+◌, ◌-◌, slice_get, take, drop, codes, position, option_map, nat_le, if◌then◌else◌}
+use Rattle.std.specs.Prelude.{ℕ, List, [], ◌∷◌, Option, Some, None, ◌+◌, ◌-◌, slice_get, take, drop, codes, position}
+use Rattle.std.specs.Prelude.{option_map, nat_le, if◌then◌else◌}
 use Rattle.std.specs.Str.{bytes_eq}
 use Rattle.servicedir.specs.Number.{number_up_to, line_of}
 

@@ -1,3 +1,4 @@
+//! What the files of a service directory say.
 ghost use Rattle.std.specs.Prelude.{◌≡◌};
 ghost use Rattle.servicedir.specs.Config.{plain_config};
 
@@ -9,7 +10,7 @@ pub struct Config {
     /// There is a `finish`, which runs after each death of `run`.
     pub finish: bool,
     /// The descriptor on which the daemon writes a newline when it is ready: 1, or 3 to 9. None: it has no readiness. Page
-    /// `notifywhenup`; that 0, 2 and descriptors over 9 are not served is this project's own rule.
+    /// `notifywhenup`; that 0, 2 and descriptors over 9 are not served is chosen here.
     pub notification_fd: Option<u8>,
     /// After so many milliseconds a service that was told to go down and is not dead gets SIGKILL; 0: never.
     pub timeout_kill: u32,

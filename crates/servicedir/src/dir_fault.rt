@@ -1,10 +1,11 @@
+//! Why a service directory was not read.
 ghost use Rattle.std.specs.Prelude.{◌≡◌};
 
 use crate::files::ReadFault;
 use thiserror::Error;
 
 /// Why a service directory was not read. `NotifyFd` is only ever a note beside a configuration, and `BadName` is for who lists
-/// a scan directory and meets a name that is none. `NotLongrun`, `NotifyFd` and `BadName` are this project's own rules.
+/// a scan directory and meets a name that is none. `NotLongrun`, `NotifyFd` and `BadName` are chosen here.
 #[derive(Clone, Copy, Debug, PartialEq, Eq, Error)]
 pub enum DirFault {
     /// There is no `run`. Page `servicedir`.

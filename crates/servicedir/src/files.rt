@@ -1,3 +1,4 @@
+//! The files of a service directory, and whoever reads them.
 ghost use Rattle.std.specs.Prelude.{◌≡◌, ◌≤◌, ℕ, List, Option, IfOk, IfSome, is_some, option_map, length};
 ghost use Rattle.servicedir.specs.Files.{Directory, reading_limit, file_name, Counts, CountsRefusal};
 
@@ -57,7 +58,7 @@ pub enum ReadFault {
 
 /// Service directories as they are read. What they give stays the same while they are read: over a real directory that may
 /// change meanwhile, an implementation takes its files first. A reading is bounded: of a file of over 4096 bytes it gives the
-/// first 4097, which tells that no text in it is valid. This project's own.
+/// first 4097, which tells that no text in it is valid.
 pub trait Files {
     ghost use Rattle.servicedir.specs.declared.files.ServiceFile.{ServiceFile};
 
@@ -78,7 +79,8 @@ pub trait Files {
     fn has(&mut self, name: Name, file: ServiceFile) -> Result<bool, ReadFault>
         ensures there { IfOk result (λ there. there ≡ is_some (gives self.old name file)) }
         ensures same { gives self.new ≡ gives self.old }
-        ensures count { Counts result file (failures self.old) (failures self.new) (failed self.new) }
+        ensures count { Counts result file (failures self.old) (failures self.new)
+            (failed self.new) }
         ensures memory { CountsRefusal result (refused self.old) (refused self.new) };
 
     /// The bytes of the file, of a longer one the first 4097; None where it is absent.
@@ -88,9 +90,11 @@ pub trait Files {
         name: Name,
         file: ServiceFile,
     ) -> Result<Option<Vec<u8, A>>, ReadFault>
-        ensures text { IfOk result (λ text. option_map (λ t. t.items) text ≡ gives self.old name file) }
+        ensures text { IfOk result (λ text. option_map (λ t. t.items) text
+            ≡ gives self.old name file) }
         ensures bound { IfOk result (λ text. IfSome text (λ t. length t.items ≤ reading_limit)) }
         ensures same { gives self.new ≡ gives self.old }
-        ensures count { Counts result file (failures self.old) (failures self.new) (failed self.new) }
+        ensures count { Counts result file (failures self.old) (failures self.new)
+            (failed self.new) }
         ensures memory { CountsRefusal result (refused self.old) (refused self.new) };
 }

@@ -1,7 +1,8 @@
+//! What the text of each file means.
 ghost use Rattle.std.specs.Prelude.{◌≡◌, Some, None, is_some, unwrap_or, min, if◌then◌else◌};
 ghost use Rattle.std.specs.Str.{bytes_eq};
 ghost use Rattle.servicedir.specs.Number.{line_of};
-ghost use Rattle.servicedir.specs.Config.{number_in, signal_in, served, note_beside};
+ghost use Rattle.servicedir.specs.Config.{number_in, signal_in, served_number, note_beside};
 ghost use Rattle.servicedir.specs.FirstFault.{is_longrun};
 
 use crate::dir_fault::DirFault;
@@ -43,7 +44,7 @@ pub(crate) fn is_longrun_text(text: &[u8]) -> bool
 
 // The descriptor of this number, where it is served.
 pub(crate) fn served_descriptor(number: Option<u32>) -> Option<u8>
-    ensures { result ≡ served number }
+    ensures { result ≡ served_number number }
 {
     match number {
         Some(number) if number == 1 || (3..=9).contains(&number) => Some(number as u8),

@@ -1,3 +1,4 @@
+//! Numbers, as files and command words spell them.
 ghost use Rattle.std.specs.Prelude.{◌≡◌, ◌≤◌, ◌<◌, ◌^◌, ℕ, IsTrue, IfSome, nat_le, Some, None, if◌then◌else◌};
 ghost use Rattle.std.specs.Fmt.{decimal};
 ghost use Rattle.std.specs.List.{list_all};
@@ -8,17 +9,18 @@ const GREATEST_NUMBER: u32 = 4_294_967_295;
 
 /// The number that the text of a number file says: one or more digits of ASCII, leading zeros among them, with at most one
 /// newline behind them, and at most 4294967295. So what is printed of a number is read as that number. None for any other
-/// text. Page `servicedir`; that a second newline, and whatever is no digit, make the text invalid is this project's own rule.
+/// text. Page `servicedir`; that a second newline, and whatever is no digit, make the text invalid is chosen here.
 #[tactic(auto, using(crate::proofs::Decimals::read_back))]
 pub fn parse_number(text: &[u8]) -> Option<u32>
     ensures value { result ≡ number_of text.now }
-    ensures printed { (number : ℕ) → number < 2 ^ 32 → line_of text.now ≡ decimal number → result ≡ Some number }
+    ensures printed { (number : ℕ) → number < 2 ^ 32 → line_of text.now ≡ decimal number
+        → result ≡ Some number }
 {
     parse_digits(without_newline(text), GREATEST_NUMBER)
 }
 
 /// The number that digits alone say, or None where the text has another byte, is empty, or says more than `most`. Takes no
-/// memory. This project's own rule.
+/// memory.
 #[tactic(auto, unfolding(crate::specs::Number::number_up_to))]
 pub fn parse_digits(text: &[u8], most: u32) -> Option<u32>
     ensures value { result ≡ number_up_to most text.now }
@@ -56,7 +58,8 @@ fn all_are_digits(text: &[u8]) -> bool
 // The number that digits say, or None as soon as it is over `most`: the digits that follow never make it less.
 fn value_up_to(digits: &[u8], most: u32) -> Option<u32>
     requires { IsTrue (are_digits digits.now) }
-    ensures { result ≡ (if nat_le (value_of_digits digits.now) most then Some (value_of_digits digits.now) else None) }
+    ensures { result ≡ (if nat_le (value_of_digits digits.now) most
+        then Some (value_of_digits digits.now) else None) }
 {
     let mut value = 0u64;
     for digit in digits {

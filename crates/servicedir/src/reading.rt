@@ -1,3 +1,4 @@
+//! Reading a service directory: its configuration, or the first fault.
 ghost use Rattle.std.specs.Prelude.{◌≡◌, IfOk, OnOk, IfErr, None, is_some, option_map};
 ghost use Rattle.servicedir.specs.Config.{number_in, signal_in, timeout_kill_of, timeout_finish_of, max_death_tally_of, down_signal_of, notification_fd_of, note_of, config_of, found_of};
 ghost use Rattle.servicedir.specs.FirstFault.{fault_of_run, first_fault, fault_before, Answers, refused_by};
@@ -25,7 +26,7 @@ pub struct Found {
 /// `notification-fd`, `timeout-kill`, `timeout-finish`, `max-death-tally`, `down-signal`. Of `run`, `finish` and `down` only
 /// the presence counts; an invalid text in a file after `type` gives what its absence gives. The first fault is answered, and
 /// no file after it is looked at: `NoRun` and `NotLongrun` as the files say, `Io` where a reading failed, `NoMemory` where a
-/// growth was refused. Page `servicedir`; the order, `NotLongrun` and what invalid texts give are this project's own rule.
+/// growth was refused. Page `servicedir`; the order, `NotLongrun` and what invalid texts give are chosen here.
 pub fn read<A: Allocator + Copy, F: Files>(
     alloc: A,
     files: &mut F,
@@ -35,9 +36,12 @@ pub fn read<A: Allocator + Copy, F: Files>(
     ensures sound { OnOk result (first_fault (F.gives files.old name) ≡ None) }
     ensures same { F.gives files.new ≡ F.gives files.old }
     ensures count { OnOk result (F.failures files.new ≡ F.failures files.old) }
-    ensures err { IfErr result (λ fault. Answers (F.gives files.old name) (F.failures files.old) (F.failures files.new) (F.failed files.new) fault) }
+    ensures err { IfErr result (λ fault.
+        Answers (F.gives files.old name) (F.failures files.old) (F.failures files.new)
+        (F.failed files.new) fault) }
     ensures granted { OnOk result (F.refused files.new ≡ F.refused files.old) }
-    ensures refused { IfErr result (λ fault. F.refused files.new ≡ refused_by fault (F.refused files.old)) }
+    ensures refused { IfErr result
+        (λ fault. F.refused files.new ≡ refused_by fault (F.refused files.old)) }
 {
     look_for_run(files, name)?;
     look_at_type(alloc, files, name)?;
@@ -48,9 +52,12 @@ fn look_for_run<F: Files>(files: &mut F, name: Name) -> Result<(), DirFault>
     ensures run { OnOk result (fault_of_run (F.gives files.old name ServiceFile.Run) ≡ None) }
     ensures same { F.gives files.new ≡ F.gives files.old }
     ensures count { OnOk result (F.failures files.new ≡ F.failures files.old) }
-    ensures err { IfErr result (λ fault. Answers (F.gives files.old name) (F.failures files.old) (F.failures files.new) (F.failed files.new) fault) }
+    ensures err { IfErr result (λ fault.
+        Answers (F.gives files.old name) (F.failures files.old) (F.failures files.new)
+        (F.failed files.new) fault) }
     ensures granted { OnOk result (F.refused files.new ≡ F.refused files.old) }
-    ensures refused { IfErr result (λ fault. F.refused files.new ≡ refused_by fault (F.refused files.old)) }
+    ensures refused { IfErr result
+        (λ fault. F.refused files.new ≡ refused_by fault (F.refused files.old)) }
 {
     if has(files, name, ServiceFile::Run)? {
         Ok(())
@@ -68,9 +75,12 @@ fn look_at_type<A: Allocator + Copy, F: Files>(
     ensures sound { OnOk result (first_fault (F.gives files.old name) ≡ None) }
     ensures same { F.gives files.new ≡ F.gives files.old }
     ensures count { OnOk result (F.failures files.new ≡ F.failures files.old) }
-    ensures err { IfErr result (λ fault. Answers (F.gives files.old name) (F.failures files.old) (F.failures files.new) (F.failed files.new) fault) }
+    ensures err { IfErr result (λ fault.
+        Answers (F.gives files.old name) (F.failures files.old) (F.failures files.new)
+        (F.failed files.new) fault) }
     ensures granted { OnOk result (F.refused files.new ≡ F.refused files.old) }
-    ensures refused { IfErr result (λ fault. F.refused files.new ≡ refused_by fault (F.refused files.old)) }
+    ensures refused { IfErr result
+        (λ fault. F.refused files.new ≡ refused_by fault (F.refused files.old)) }
 {
     match text(alloc, files, name, ServiceFile::Kind)? {
         Some(text) if !is_longrun_text(&text) => Err(DirFault::NotLongrun),
@@ -88,9 +98,12 @@ fn read_found<A: Allocator + Copy, F: Files>(
     ensures found { IfOk result (λ found. found ≡ found_of (F.gives files.old name)) }
     ensures same { F.gives files.new ≡ F.gives files.old }
     ensures count { OnOk result (F.failures files.new ≡ F.failures files.old) }
-    ensures err { IfErr result (λ fault. Answers (F.gives files.old name) (F.failures files.old) (F.failures files.new) (F.failed files.new) fault) }
+    ensures err { IfErr result (λ fault.
+        Answers (F.gives files.old name) (F.failures files.old) (F.failures files.new)
+        (F.failed files.new) fault) }
     ensures granted { OnOk result (F.refused files.new ≡ F.refused files.old) }
-    ensures refused { IfErr result (λ fault. F.refused files.new ≡ refused_by fault (F.refused files.old)) }
+    ensures refused { IfErr result
+        (λ fault. F.refused files.new ≡ refused_by fault (F.refused files.old)) }
 {
     let finish = has(files, name, ServiceFile::Finish)?;
     let down = has(files, name, ServiceFile::Down)?;
@@ -122,13 +135,18 @@ fn readiness<A: Allocator + Copy, F: Files>(
     name: Name,
 ) -> Result<(Option<u8>, Option<DirFault>), DirFault>
     requires { first_fault (F.gives files.old name) ≡ None }
-    ensures descriptor { IfOk result (λ pair. pair.0 ≡ notification_fd_of (F.gives files.old name ServiceFile.NotificationFd)) }
-    ensures note { IfOk result (λ pair. pair.1 ≡ note_of (F.gives files.old name ServiceFile.NotificationFd)) }
+    ensures descriptor { IfOk result
+        (λ pair. pair.0 ≡ notification_fd_of (F.gives files.old name ServiceFile.NotificationFd)) }
+    ensures note { IfOk result (λ pair. pair.1
+        ≡ note_of (F.gives files.old name ServiceFile.NotificationFd)) }
     ensures same { F.gives files.new ≡ F.gives files.old }
     ensures count { OnOk result (F.failures files.new ≡ F.failures files.old) }
-    ensures err { IfErr result (λ fault. Answers (F.gives files.old name) (F.failures files.old) (F.failures files.new) (F.failed files.new) fault) }
+    ensures err { IfErr result (λ fault.
+        Answers (F.gives files.old name) (F.failures files.old) (F.failures files.new)
+        (F.failed files.new) fault) }
     ensures granted { OnOk result (F.refused files.new ≡ F.refused files.old) }
-    ensures refused { IfErr result (λ fault. F.refused files.new ≡ refused_by fault (F.refused files.old)) }
+    ensures refused { IfErr result
+        (λ fault. F.refused files.new ≡ refused_by fault (F.refused files.old)) }
 {
     match text(alloc, files, name, ServiceFile::NotificationFd)? {
         Some(text) => {
@@ -150,9 +168,12 @@ fn number<A: Allocator + Copy, F: Files>(
     ensures number { IfOk result (λ number. number ≡ number_in (F.gives files.old name file)) }
     ensures same { F.gives files.new ≡ F.gives files.old }
     ensures count { OnOk result (F.failures files.new ≡ F.failures files.old) }
-    ensures err { IfErr result (λ fault. Answers (F.gives files.old name) (F.failures files.old) (F.failures files.new) (F.failed files.new) fault) }
+    ensures err { IfErr result (λ fault.
+        Answers (F.gives files.old name) (F.failures files.old) (F.failures files.new)
+        (F.failed files.new) fault) }
     ensures granted { OnOk result (F.refused files.new ≡ F.refused files.old) }
-    ensures refused { IfErr result (λ fault. F.refused files.new ≡ refused_by fault (F.refused files.old)) }
+    ensures refused { IfErr result
+        (λ fault. F.refused files.new ≡ refused_by fault (F.refused files.old)) }
 {
     match text(alloc, files, name, file)? {
         Some(text) => Ok(number_in_text(&text)),
@@ -167,12 +188,16 @@ fn signal<A: Allocator + Copy, F: Files>(
     name: Name,
 ) -> Result<Option<u8>, DirFault>
     requires { first_fault (F.gives files.old name) ≡ None }
-    ensures signal { IfOk result (λ signal. signal ≡ signal_in (F.gives files.old name ServiceFile.DownSignal)) }
+    ensures signal { IfOk result
+        (λ signal. signal ≡ signal_in (F.gives files.old name ServiceFile.DownSignal)) }
     ensures same { F.gives files.new ≡ F.gives files.old }
     ensures count { OnOk result (F.failures files.new ≡ F.failures files.old) }
-    ensures err { IfErr result (λ fault. Answers (F.gives files.old name) (F.failures files.old) (F.failures files.new) (F.failed files.new) fault) }
+    ensures err { IfErr result (λ fault.
+        Answers (F.gives files.old name) (F.failures files.old) (F.failures files.new)
+        (F.failed files.new) fault) }
     ensures granted { OnOk result (F.refused files.new ≡ F.refused files.old) }
-    ensures refused { IfErr result (λ fault. F.refused files.new ≡ refused_by fault (F.refused files.old)) }
+    ensures refused { IfErr result
+        (λ fault. F.refused files.new ≡ refused_by fault (F.refused files.old)) }
 {
     match text(alloc, files, name, ServiceFile::DownSignal)? {
         Some(text) => Ok(signal_in_text(&text)),
@@ -186,9 +211,12 @@ fn has<F: Files>(files: &mut F, name: Name, file: ServiceFile) -> Result<bool, D
     ensures there { IfOk result (λ there. there ≡ is_some (F.gives files.old name file)) }
     ensures same { F.gives files.new ≡ F.gives files.old }
     ensures count { OnOk result (F.failures files.new ≡ F.failures files.old) }
-    ensures err { IfErr result (λ fault. Answers (F.gives files.old name) (F.failures files.old) (F.failures files.new) (F.failed files.new) fault) }
+    ensures err { IfErr result (λ fault.
+        Answers (F.gives files.old name) (F.failures files.old) (F.failures files.new)
+        (F.failed files.new) fault) }
     ensures granted { OnOk result (F.refused files.new ≡ F.refused files.old) }
-    ensures refused { IfErr result (λ fault. F.refused files.new ≡ refused_by fault (F.refused files.old)) }
+    ensures refused { IfErr result
+        (λ fault. F.refused files.new ≡ refused_by fault (F.refused files.old)) }
 {
     Ok(files.has(name, file)?)
 }
@@ -201,12 +229,16 @@ fn text<A: Allocator + Copy, F: Files>(
     file: ServiceFile,
 ) -> Result<Option<Vec<u8, A>>, DirFault>
     requires { fault_before file (F.gives files.old name) ≡ None }
-    ensures text { IfOk result (λ text. option_map (λ t. t.items) text ≡ F.gives files.old name file) }
+    ensures text { IfOk result (λ text. option_map (λ t. t.items) text
+        ≡ F.gives files.old name file) }
     ensures same { F.gives files.new ≡ F.gives files.old }
     ensures count { OnOk result (F.failures files.new ≡ F.failures files.old) }
-    ensures err { IfErr result (λ fault. Answers (F.gives files.old name) (F.failures files.old) (F.failures files.new) (F.failed files.new) fault) }
+    ensures err { IfErr result (λ fault.
+        Answers (F.gives files.old name) (F.failures files.old) (F.failures files.new)
+        (F.failed files.new) fault) }
     ensures granted { OnOk result (F.refused files.new ≡ F.refused files.old) }
-    ensures refused { IfErr result (λ fault. F.refused files.new ≡ refused_by fault (F.refused files.old)) }
+    ensures refused { IfErr result
+        (λ fault. F.refused files.new ≡ refused_by fault (F.refused files.old)) }
 {
     Ok(files.text(alloc, name, file)?)
 }

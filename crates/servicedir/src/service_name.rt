@@ -1,3 +1,4 @@
+//! Which entries of a scan directory are services.
 ghost use Rattle.std.specs.Prelude.{◌≡◌};
 ghost use Rattle.servicedir.specs.ServiceName.{seen_of};
 
@@ -10,12 +11,12 @@ pub enum Seen {
     Service(Name),
     /// It begins with a dot, and is no service. Page `s6-svscan`.
     Hidden,
-    /// Any other text that is no name. This project's own rule.
+    /// Any other text that is no name.
     Bad,
 }
 
 /// What an entry of this name is. Page `s6-svscan` skips what begins with a dot; which other texts are names
-/// is this project's own rule.
+/// is chosen here.
 pub fn name_of(text: &str) -> Seen
     ensures { result ≡ seen_of text.now }
 {

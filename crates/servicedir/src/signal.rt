@@ -1,3 +1,4 @@
+//! Signals by name and by number.
 ghost use Rattle.std.specs.Prelude.{◌≡◌, ◌<◌, IfSome, length, map, position, option_map, slice_get};
 ghost use Rattle.std.specs.Str.{bytes_eq};
 ghost use Rattle.servicedir.specs.SignalName.{name_of_signal, signal_of_name, without_sig, signal_of_word, signal_number, signal_of};
@@ -17,7 +18,7 @@ const LAST_SIGNAL: u32 = 64;
 
 /// The signal that the text of a signal file says: a name in capitals, with or without `SIG`, or a number from 1 to 64, with
 /// at most one newline behind it. None for any other text. Page `servicedir`, `down-signal`; that lower case,
-/// 0 and numbers over 64 are invalid is this project's own rule.
+/// 0 and numbers over 64 are invalid is chosen here.
 pub fn parse_signal(text: &[u8]) -> Option<u8>
     ensures { result ≡ signal_of text.now }
 {
@@ -47,7 +48,8 @@ pub fn signal_name(number: u8) -> Option<&'static str>
 
 // The name at a place in a table of names.
 fn name_at(table: &[&'static str], place: usize) -> Option<&'static str>
-    ensures { option_map (λ name. name.now) result ≡ slice_get (map (λ name. name.now) table.now) place }
+    ensures { option_map (λ name. name.now) result
+        ≡ slice_get (map (λ name. name.now) table.now) place }
 {
     Some(*table.get(place)?)
 }

@@ -13,7 +13,8 @@ abbrev steps_shown : Option Shot → ℕ
 steps_shown None = 0
 steps_shown (Some shot) = shot.at
 
-steps_of_last : (other : Option Shot) (shots : List Shot) (shot : Shot) → last_or other shots ≡ Some shot → steps_or (steps_shown other) shots ≡ shot.at
+steps_of_last : (other : Option Shot) (shots : List Shot) (shot : Shot) → last_or other shots ≡ Some shot
+    → steps_or (steps_shown other) shots ≡ shot.at
 steps_of_last other [] shot is = ap steps_shown is
 steps_of_last other (first ∷ shots) shot is = steps_of_last (Some first) shots shot is
 
@@ -26,7 +27,8 @@ rises_on steps [] more rises = rises_to_last steps more rises
 rises_on steps (shot ∷ shots) more rises = rises_on shot.at shots more rises.1
 
 -- of two beginnings of a list that never falls, the longer's last shot was taken after no fewer steps
-pub never_falls : (known now : List Shot) (shot : Shot) → IsPrefix known now → last_shot now ≡ Some shot → NeverFalls now → last_steps known ≤ shot.at
+pub never_falls : (known now : List Shot) (shot : Shot) → IsPrefix known now → last_shot now ≡ Some shot → NeverFalls now
+    → last_steps known ≤ shot.at
 never_falls known now shot begins is rises =
     subst (λ (n : ℕ). last_steps known ≤ n) (steps_of_last None now shot is)
     (subst (λ (all : List Shot). last_steps known ≤ last_steps all) begins.1

@@ -62,7 +62,6 @@ pub type Count = Word<Shot, u64, CountedShots>;
 pub type Log = Seen<Shot, u64, CountedShots>;
 
 /// All that was published up to some moment, oldest first: a beginning of the board's one history. It takes the bytes of a number.
-/// This project's own.
 #[derive(Drop)]
 pub struct Published<C: Channels> {
     count: u64,
@@ -106,7 +105,7 @@ impl<C: Channels> Published<C> {
         log
     }
 
-    /// The same shots once more. Takes no memory.
+    /// The same shots once more.
     pub fn copied(&self) -> Published<C>
         ensures { result ≡ self.now }
     {

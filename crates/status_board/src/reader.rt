@@ -13,7 +13,7 @@ use std::alloc::{Allocator, Global};
 use std::marker::Model;
 
 /// The end of the board that reads. Contracts see it as the published shots that it has seen or was told of. It may move to a thread
-/// of its own. This project's own.
+/// of its own.
 #[derive(Drop)]
 pub struct BoardReader<C: Channels, A: Allocator = Global> {
     handle: ReadHandle<Shown<C>, A>,

@@ -1,10 +1,11 @@
+//! The status rows of all services after some number of steps.
 ghost use Rattle.std.specs.Prelude.{◌≡◌};
 
 use arrayvec::ArrayVec;
 use supervise_core::Row;
 
 /// The status rows of all services, at most 64, in rising serial, and the number of steps that the tree had made when they were
-/// taken. Page `s6-svstat` for the rows; that they are published together, and the number, are this project's own.
+/// taken. Page `s6-svstat` for the rows; that they are published together, and the number, are chosen here.
 #[derive(Drop)]
 pub struct Shot {
     pub at: u64,
@@ -12,7 +13,7 @@ pub struct Shot {
 }
 
 impl Shot {
-    /// The same shot once more. Takes no memory.
+    /// The same shot once more.
     pub fn copied(&self) -> Shot
         ensures { result ≡ self.now }
     {

@@ -10,7 +10,7 @@ use std::alloc::{AllocError, Allocator};
 use std::marker::Model;
 use std::sync::{Arc, OnceLock};
 
-/// The shot that was published last, and all that were published with it: contracts see these. This project's own.
+/// The shot that was published last, and all that were published with it: contracts see these.
 #[derive(Drop)]
 pub struct Shown<C: Channels> {
     shot: Option<Shot>,
@@ -38,7 +38,7 @@ impl<C: Channels> Shown<C> {
         Shown { shot, published }
     }
 
-    // The same once more. Takes no memory.
+    // The same once more.
     pub(crate) fn copied(&self) -> Shown<C>
         ensures { result ≡ self.now }
     {

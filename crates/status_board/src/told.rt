@@ -1,10 +1,11 @@
+//! Which shots a reader was told of.
 ghost use Rattle.std.specs.Prelude.{◌≡◌};
 
 use crate::history::Published;
 use channel_names::Channels;
 use std::marker::Model;
 
-/// All that was published up to the moment at which it was told. This project's own.
+/// All that was published up to the moment at which it was told.
 #[derive(Drop)]
 pub struct Told<C: Channels> {
     pub(crate) published: Published<C>,

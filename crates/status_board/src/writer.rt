@@ -96,7 +96,7 @@ impl NewBoard {
     }
 }
 
-/// The end of the board that publishes. Contracts see it as all that was published, oldest first. This project's own.
+/// The end of the board that publishes. Contracts see it as all that was published, oldest first.
 #[derive(Drop)]
 pub struct BoardWriter<C: Channels, R: Wait + Drop, A: Allocator + Copy = Global>
 where

@@ -13,8 +13,8 @@ use Rattle.s6_events.specs.CurrentLetter.{start_or, tells_state, is_up_or_down, 
 use Rattle.s6_events.proofs.Newest.{newest-push}
 use Rattle.supervise_core.specs.declared.status.Status.{Status}
 use Rattle.supervise_core.specs.declared.chart.ChartState.{ChartState}
-use Rattle.supervise_core.specs.Moves.{begin_supervisor}
-use Rattle.supervise_core.specs.Status.{Agrees, events_of, nothing_told, told_at, told_all}
+use Rattle.supervise_core.specs.Moves.{begin_move}
+use Rattle.supervise_core.specs.Status.{Agrees, mark_moments, no_marks, status_with, status_with_all}
 
 -- what the newest marks of the three kinds tell
 abbrev read_newest : Option Dated → Option Dated → Option Dated → Status
@@ -26,23 +26,27 @@ read_newest letter up_or_down ready_or_done = record {
 
 -- what is read of a service from a history
 abbrev read_from : ℕ → List Moment → Status
-read_from sid h = read_newest (newest (start_or tells_state) sid h) (newest (start_or is_up_or_down) sid h) (newest (start_or is_ready_or_done) sid h)
+read_from sid h = read_newest (newest (start_or tells_state) sid h) (newest (start_or is_up_or_down) sid h)
+    (newest (start_or is_ready_or_done) sid h)
 
 -- a mark is told at a moment, if there is one
 abbrev told_some : ℕ → Status → Option Mark → Status
 told_some now s None = s
-told_some now s (Some mark) = told_at now s mark
+told_some now s (Some mark) = status_with now s mark
 
 -- one more mark is read as it is told
 read_newer : (now : ℕ) (mark : Option Mark) (l u r : Option Dated)
-    → read_newest (newer (start_or tells_state) now mark l) (newer (start_or is_up_or_down) now mark u) (newer (start_or is_ready_or_done) now mark r)
+    → read_newest (newer (start_or tells_state) now mark l) (newer (start_or is_up_or_down) now mark u)
+    (newer (start_or is_ready_or_done) now mark r)
     ≡ told_some now (read_newest l u r) mark
 read_newer now mark l u r = search rules
 
 read_more : (sid : ℕ) (h : List Moment) (m : Moment) → read_from sid (h ++ m ∷ []) ≡ told_some (clock_of h) (read_from sid h) (mark_of sid m)
 read_more sid h m =
-    (λ i. read_newest (newest-push (start_or tells_state) sid h m i) (newest-push (start_or is_up_or_down) sid h m i) (newest-push (start_or is_ready_or_done) sid h m i))
-    ∙ read_newer (clock_of h) (mark_of sid m) (newest (start_or tells_state) sid h) (newest (start_or is_up_or_down) sid h) (newest (start_or is_ready_or_done) sid h)
+    (λ i. read_newest (newest-push (start_or tells_state) sid h m i) (newest-push (start_or is_up_or_down) sid h m i)
+    (newest-push (start_or is_ready_or_done) sid h m i))
+    ∙ read_newer (clock_of h) (mark_of sid m) (newest (start_or tells_state) sid h) (newest (start_or is_up_or_down) sid h)
+    (newest (start_or is_ready_or_done) sid h)
 
 -- a history agrees where what is stored is what is read from it
 from_agrees : (sid : ℕ) (s : Status) (h : List Moment) → Agrees sid s h → s ≡ read_from sid h
@@ -72,39 +76,41 @@ clock_stays sid mark h = fold-append clock_after 0 h (Event sid mark ∷ [])
 
 -- a history that agrees at this moment agrees once the marks have joined
 pub agrees_after : (sid now : ℕ) (marks : List Mark) (s : Status) (h : List Moment) → Agrees sid s h → clock_of h ≡ now
-    → Agrees sid (told_all now marks s) (h ++ events_of sid marks)
+    → Agrees sid (status_with_all now marks s) (h ++ mark_moments sid marks)
 agrees_after sid now [] s h a at = subst (λ x. Agrees sid s x) (sym (append-nil h)) a
 agrees_after sid now (mark ∷ rest) s h a at =
-    subst (λ x. Agrees sid (told_all now rest (told_at now s mark)) x) (append_assoc h (Event sid mark ∷ []) (events_of sid rest))
-    (agrees_after sid now rest (told_at now s mark) (h ++ Event sid mark ∷ [])
-    (subst (λ n. Agrees sid (told_at n s mark) (h ++ Event sid mark ∷ [])) at (agrees_more sid s h (Event sid mark) (Some mark) (own_mark sid mark) a))
+    subst (λ x. Agrees sid (status_with_all now rest (status_with now s mark)) x) (append_assoc h (Event sid mark ∷ []) (mark_moments sid rest))
+    (agrees_after sid now rest (status_with now s mark) (h ++ Event sid mark ∷ [])
+    (subst (λ n. Agrees sid (status_with n s mark) (h ++ Event sid mark ∷ [])) at
+    (agrees_more sid s h (Event sid mark) (Some mark) (own_mark sid mark) a))
     (clock_stays sid mark h ∙ at))
 
 -- a mark of another service, and a clock reading, leave what agrees
-pub agrees_other : (sid of : ℕ) (s : Status) (h : List Moment) (mark : Mark) → (of == sid) ≡ false → Agrees sid s h → Agrees sid s (h ++ Event of mark ∷ [])
+pub agrees_other : (sid of : ℕ) (s : Status) (h : List Moment) (mark : Mark) → (of == sid) ≡ false → Agrees sid s h
+    → Agrees sid s (h ++ Event of mark ∷ [])
 agrees_other sid of s h mark other a = agrees_more sid s h (Event of mark) None (ap (λ b. cond b (Some mark) None) other) a
 
 pub agrees_clock : (sid at : ℕ) (s : Status) (h : List Moment) → Agrees sid s h → Agrees sid s (h ++ Clock at ∷ [])
 agrees_clock sid at s h a = agrees_more sid s h (Clock at) None refl a
 
 -- with s every history agrees that nothing was told since
-pub agrees_begun : (sid : ℕ) (h : List Moment) → Agrees sid nothing_told (h ++ Event sid SupervisorStarted ∷ [])
+pub agrees_begun : (sid : ℕ) (h : List Moment) → Agrees sid no_marks (h ++ Event sid SupervisorStarted ∷ [])
 agrees_begun sid h =
     agrees_more sid (read_from sid h) h (Event sid SupervisorStarted) (Some SupervisorStarted) (own_mark sid SupervisorStarted)
     (to_agrees sid (read_from sid h) h refl)
 
 -- a supervisor that begins tells s and nothing more
-pub begins_with_start : (c : ChartState) → (begin_supervisor c).marks ≡ SupervisorStarted ∷ []
+pub begins_with_start : (c : ChartState) → (begin_move c).marks ≡ SupervisorStarted ∷ []
 begins_with_start c = search rules
 
-pub begins_same_service : (c : ChartState) → (begin_supervisor c).chart.sid ≡ c.sid
+pub begins_same_service : (c : ChartState) → (begin_move c).chart.sid ≡ c.sid
 begins_same_service c = search rules
 
 -- every history agrees with a service that has just begun
 pub agrees_beginning : (c after : ChartState) (status : Status) (marks : List Mark) (h : List Moment)
-    → after ≡ (begin_supervisor c).chart → status ≡ nothing_told → marks ≡ (begin_supervisor c).marks
-    → Agrees after.sid status (h ++ events_of c.sid marks)
+    → after ≡ (begin_move c).chart → status ≡ no_marks → marks ≡ (begin_move c).marks
+    → Agrees after.sid status (h ++ mark_moments c.sid marks)
 agrees_beginning c after status marks h same none told =
-    subst (λ n. Agrees n status (h ++ events_of c.sid marks)) (sym (ap (λ (x : ChartState). x.sid) same ∙ begins_same_service c))
-    (subst (λ (s : Status). Agrees c.sid s (h ++ events_of c.sid marks)) (sym none)
-    (subst (λ ms. Agrees c.sid nothing_told (h ++ events_of c.sid ms)) (sym (told ∙ begins_with_start c)) (agrees_begun c.sid h)))
+    subst (λ n. Agrees n status (h ++ mark_moments c.sid marks)) (sym (ap (λ (x : ChartState). x.sid) same ∙ begins_same_service c))
+    (subst (λ (s : Status). Agrees c.sid s (h ++ mark_moments c.sid marks)) (sym none)
+    (subst (λ ms. Agrees c.sid no_marks (h ++ mark_moments c.sid ms)) (sym (told ∙ begins_with_start c)) (agrees_begun c.sid h)))

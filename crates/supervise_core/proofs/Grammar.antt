@@ -4,49 +4,51 @@ use Rattle.std.proofs.lemmas.List.Sums.{fold-append}
 use Rattle.s6_events.specs.declared.exit.Exit.{Exit}
 use Rattle.svc_commands.specs.declared.control_letter.ControlLetter.{ControlLetter}
 use Rattle.supervise_core.specs.declared.change.Change.{Change}
-use Rattle.supervise_core.specs.declared.change.Change.TheVariants.{Started, StartFailed, Notify, Death, FinishEnded, Control, Fire, SetConfig, SetActive}
+use Rattle.supervise_core.specs.declared.change.Change.TheVariants.{Started, StartFailed, Notify, Death, FinishEnded, Control, Fire, SetConfig}
+use Rattle.supervise_core.specs.declared.change.Change.TheVariants.{SetActive}
 use Rattle.supervise_core.specs.declared.chart.ChartState.{ChartState}
-use Rattle.supervise_core.specs.ChartState.{Moved, still}
-use Rattle.supervise_core.specs.Chart.{started, start_failed, notified, death, finish_ended, control, take_letter, fire, changed_by}
-use Rattle.supervise_core.specs.ControlLetters.{followed_by}
+use Rattle.supervise_core.specs.ChartState.{Moved, no_move}
+use Rattle.supervise_core.specs.Chart.{started_move, start_failed_move, notify_move, death_move, finish_ended_move, control_move, letter_move}
+use Rattle.supervise_core.specs.Chart.{fire_move, changed_by}
+use Rattle.supervise_core.specs.ControlLetters.{then_move}
 use Rattle.supervise_core.specs.EventGrammar.{step_on, walk, place_of}
 
 -- the marks of a move lead from where the service stood to where it stands
 abbrev pub Walks : ChartState → Moved → Type 0
 Walks c moved = walk (place_of c) moved.marks ≡ Some (place_of moved.chart)
 
-walks_started : (generation pid now : ℕ) (c : ChartState) → Walks c (started generation pid now c)
+walks_started : (generation pid now : ℕ) (c : ChartState) → Walks c (started_move generation pid now c)
 walks_started generation pid now c = search rules
 
-walks_start_failed : (generation now : ℕ) (c : ChartState) → Walks c (start_failed generation now c)
+walks_start_failed : (generation now : ℕ) (c : ChartState) → Walks c (start_failed_move generation now c)
 walks_start_failed generation now c = search rules
 
-walks_notified : (generation : ℕ) (bytes : List ℕ) (now : ℕ) (c : ChartState) → Walks c (notified generation bytes now c)
+walks_notified : (generation : ℕ) (bytes : List ℕ) (now : ℕ) (c : ChartState) → Walks c (notify_move generation bytes now c)
 walks_notified generation bytes now c = search rules
 
-walks_death : (generation : ℕ) (exit : Exit) (now : ℕ) (c : ChartState) → Walks c (death generation exit now c)
+walks_death : (generation : ℕ) (exit : Exit) (now : ℕ) (c : ChartState) → Walks c (death_move generation exit now c)
 walks_death generation exit now c = search rules
 
-walks_finish_ended : (generation : ℕ) (exit : Exit) (now : ℕ) (c : ChartState) → Walks c (finish_ended generation exit now c)
+walks_finish_ended : (generation : ℕ) (exit : Exit) (now : ℕ) (c : ChartState) → Walks c (finish_ended_move generation exit now c)
 walks_finish_ended generation exit now c = search rules
 
-walks_fire : (now : ℕ) (c : ChartState) → Walks c (fire now c)
+walks_fire : (now : ℕ) (c : ChartState) → Walks c (fire_move now c)
 walks_fire now c = search rules
 
-walks_letter : (now : ℕ) (letter : ControlLetter) (c : ChartState) → Walks c (take_letter now letter c)
+walks_letter : (now : ℕ) (letter : ControlLetter) (c : ChartState) → Walks c (letter_move now letter c)
 walks_letter now letter c = search rules
 
 walks_rest : (now : ℕ) (letters : List ControlLetter) (c : ChartState) (m : Moved) → Walks c m
-    → Walks c (fold (λ so_far letter. followed_by (take_letter now letter) so_far) m letters)
+    → Walks c (fold (λ so_far letter. then_move (letter_move now letter) so_far) m letters)
 walks_rest now [] c m h = h
 walks_rest now (letter ∷ rest) c m h =
-    walks_rest now rest c (followed_by (take_letter now letter) m)
-    (fold-append step_on (Some (place_of c)) m.marks (take_letter now letter m.chart).marks
-    ∙ ap (λ p. fold step_on p (take_letter now letter m.chart).marks) h
+    walks_rest now rest c (then_move (letter_move now letter) m)
+    (fold-append step_on (Some (place_of c)) m.marks (letter_move now letter m.chart).marks
+    ∙ ap (λ p. fold step_on p (letter_move now letter m.chart).marks) h
     ∙ walks_letter now letter m.chart)
 
-walks_control : (letters : List ControlLetter) (now : ℕ) (c : ChartState) → Walks c (control letters now c)
-walks_control letters now c = walks_rest now letters c (still c) refl
+walks_control : (letters : List ControlLetter) (now : ℕ) (c : ChartState) → Walks c (control_move letters now c)
+walks_control letters now c = walks_rest now letters c (no_move c) refl
 
 pub walks_changed : (change : Change) (now : ℕ) (c : ChartState) → Walks c (changed_by change now c)
 walks_changed (Started generation pid) now c = walks_started generation pid now c

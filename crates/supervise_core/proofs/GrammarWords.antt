@@ -1,5 +1,5 @@
 -- Marks that each may come after the ones before them are the beginning of a word.
-use Rattle.std.proofs.Common.{◌≡◌, refl, sym, ap, ◌∙◌, List, [], ◌∷◌, ◌++◌, Bool, true, false, Option, None, Some, fold, rules, ℕ}
+use Rattle.std.proofs.Common.{subst, ◌≡◌, refl, sym, ap, ◌∙◌, List, [], ◌∷◌, ◌++◌, Bool, true, false, Option, None, Some, fold, rules, ℕ}
 use Rattle.std.proofs.lemmas.List.Sums.{fold-append}
 use Rattle.s6_events.specs.declared.mark.Mark.{Mark}
 use Rattle.s6_events.specs.declared.mark.Mark.TheVariants.{SupervisorStarted, Spawned, Ready, Died, FinishDone, PermanentFailure, SupervisorEnded}
@@ -8,7 +8,7 @@ use Rattle.supervise_core.specs.declared.change.Change.{Change}
 use Rattle.supervise_core.specs.declared.chart.ChartState.{ChartState}
 use Rattle.supervise_core.specs.declared.out.Out.{Out}
 use Rattle.supervise_core.specs.Chart.{changed_by}
-use Rattle.supervise_core.specs.Moves.{begin_supervisor}
+use Rattle.supervise_core.specs.Moves.{begin_move}
 use Rattle.supervise_core.specs.MatchesMove.{MatchesMove}
 use Rattle.supervise_core.proofs.Grammar.{walks_changed}
 
@@ -22,7 +22,8 @@ record GoesOn : Type 0 where
 -- the rest of a word from a place on
 abbrev rest_from : Mark → GoesOn → List Mark
 rest_from SupervisorStarted g = []
-rest_from Spawned g = perhaps g.became_ready Ready (Died ∷ perhaps g.failed_for_good PermanentFailure (FinishDone ∷ spell_runs g.runs (SupervisorEnded ∷ spell g.supervisors)))
+rest_from Spawned g = perhaps g.became_ready Ready
+    (Died ∷ perhaps g.failed_for_good PermanentFailure (FinishDone ∷ spell_runs g.runs (SupervisorEnded ∷ spell g.supervisors)))
 rest_from Ready g = Died ∷ perhaps g.failed_for_good PermanentFailure (FinishDone ∷ spell_runs g.runs (SupervisorEnded ∷ spell g.supervisors))
 rest_from Died g = perhaps g.failed_for_good PermanentFailure (FinishDone ∷ spell_runs g.runs (SupervisorEnded ∷ spell g.supervisors))
 rest_from PermanentFailure g = FinishDone ∷ spell_runs g.runs (SupervisorEnded ∷ spell g.supervisors)
@@ -81,21 +82,26 @@ begins_word marks q h =
     record { rest = word.rest; supervisors = word.goes_on.supervisors; spelled = word.spelled }
 
 -- the marks of a change lead on from where the service stood
+pub leads_on : (change : Change) (now : ℕ) (c after : ChartState) (marks : List Mark)
+    → after ≡ (changed_by change now c).chart → LeadsTo marks c → LeadsTo (marks ++ (changed_by change now c).marks) after
+leads_on change now c after marks chart leads =
+    let place : walk SupervisorEnded (marks ++ (changed_by change now c).marks) ≡ Some (place_of after) =
+    fold-append step_on (Some SupervisorEnded) marks (changed_by change now c).marks
+    ∙ (ap (λ p. fold step_on p (changed_by change now c).marks) leads.place
+    ∙ (walks_changed change now c ∙ ap (λ (x : ChartState). Some (place_of x)) (sym chart))) in
+    record { word = begins_word (marks ++ (changed_by change now c).marks) (place_of after) place; place = place }
+
+-- so do those that its answer has
 pub leads_after : (change : Change) (now : ℕ) (c after : ChartState) (out : Out) (marks : List Mark)
     → MatchesMove (changed_by change now c) after out → LeadsTo marks c → LeadsTo (marks ++ out.events.items) after
 leads_after change now c after out marks gives leads =
-    let place : walk SupervisorEnded (marks ++ out.events.items) ≡ Some (place_of after) =
-    fold-append step_on (Some SupervisorEnded) marks out.events.items
-    ∙ (ap (λ p. fold step_on p out.events.items) leads.place
-    ∙ (ap (λ ms. walk (place_of c) ms) gives.marks
-    ∙ (walks_changed change now c ∙ ap (λ (x : ChartState). Some (place_of x)) (sym gives.chart)))) in
-    record { word = begins_word (marks ++ out.events.items) (place_of after) place; place = place }
+    subst (λ ms. LeadsTo (marks ++ ms) after) (sym gives.marks) (leads_on change now c after marks gives.chart leads)
 
-walks_begin : (c : ChartState) → walk SupervisorEnded (begin_supervisor c).marks ≡ Some (place_of (begin_supervisor c).chart)
+walks_begin : (c : ChartState) → walk SupervisorEnded (begin_move c).marks ≡ Some (place_of (begin_move c).chart)
 walks_begin c = search rules
 
 -- the marks of a supervisor that begins lead to where its service stands
-pub leads_begun : (c after : ChartState) (out : Out) → MatchesMove (begin_supervisor c) after out → LeadsTo out.events.items after
+pub leads_begun : (c after : ChartState) (out : Out) → MatchesMove (begin_move c) after out → LeadsTo out.events.items after
 leads_begun c after out gives =
     let place : walk SupervisorEnded out.events.items ≡ Some (place_of after) =
     ap (λ ms. walk SupervisorEnded ms) gives.marks ∙ (walks_begin c ∙ ap (λ (x : ChartState). Some (place_of x)) (sym gives.chart)) in

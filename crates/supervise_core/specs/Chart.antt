@@ -1,22 +1,24 @@
 -- The chart: any of the changes of a service.
 use Rattle.std.specs.Prelude.{ℕ}
-pub use Rattle.supervise_core.specs.Reports.{is_awaiting, is_running, is_in_finish, started, start_failed, notified, dead, death, finish_ended}
-pub use Rattle.supervise_core.specs.ControlLetters.{take_letter, control}
-pub use Rattle.supervise_core.specs.Timer.{is_due, timer_rule, fire}
-pub use Rattle.supervise_core.specs.Listed.{set_active, set_config}
+pub use Rattle.supervise_core.specs.Reports.{is_awaiting, is_running, is_in_finish, started_move, start_failed_move}
+pub use Rattle.supervise_core.specs.Reports.{notify_move, with_last_exit, death_move, finish_ended_move}
+pub use Rattle.supervise_core.specs.ControlLetters.{letter_move, control_move}
+pub use Rattle.supervise_core.specs.Timer.{is_due, timer_rule, fire_move}
+pub use Rattle.supervise_core.specs.Listed.{with_activity, with_config}
 use Rattle.supervise_core.specs.declared.change.Change.{Change}
-use Rattle.supervise_core.specs.declared.change.Change.TheVariants.{Started, StartFailed, Notify, Death, FinishEnded, Control, Fire, SetConfig, SetActive}
+use Rattle.supervise_core.specs.declared.change.Change.TheVariants.{Started, StartFailed, Notify, Death, FinishEnded}
+use Rattle.supervise_core.specs.declared.change.Change.TheVariants.{Control, Fire, SetConfig, SetActive}
 use Rattle.supervise_core.specs.declared.chart.ChartState.{ChartState}
-use Rattle.supervise_core.specs.ChartState.{Moved, still}
+use Rattle.supervise_core.specs.ChartState.{Moved, no_move}
 
 -- the five reports, a call with letters, the timer, and what a look at the directory tells
 abbrev pub changed_by : Change → ℕ → ChartState → Moved
-changed_by (Started generation pid) now c = started generation pid now c
-changed_by (StartFailed generation) now c = start_failed generation now c
-changed_by (Notify generation bytes) now c = notified generation bytes.items now c
-changed_by (Death generation exit) now c = death generation exit now c
-changed_by (FinishEnded generation exit) now c = finish_ended generation exit now c
-changed_by (Control letters) now c = control letters.items now c
-changed_by Fire now c = fire now c
-changed_by (SetConfig config) now c = still (set_config config c)
-changed_by (SetActive active) now c = still (set_active active now c)
+changed_by (Started generation pid) now c = started_move generation pid now c
+changed_by (StartFailed generation) now c = start_failed_move generation now c
+changed_by (Notify generation bytes) now c = notify_move generation bytes.items now c
+changed_by (Death generation exit) now c = death_move generation exit now c
+changed_by (FinishEnded generation exit) now c = finish_ended_move generation exit now c
+changed_by (Control letters) now c = control_move letters.items now c
+changed_by Fire now c = fire_move now c
+changed_by (SetConfig config) now c = no_move (with_config config c)
+changed_by (SetActive active) now c = no_move (with_activity active now c)

@@ -38,20 +38,20 @@ pub record Moved : Type 0 where
   pub stale : Bool
 
 -- the state alone
-abbrev pub still : ChartState → Moved
-still c = record { chart = c; marks = []; orders = []; deaths = []; stale = false }
+abbrev pub no_move : ChartState → Moved
+no_move c = record { chart = c; marks = []; orders = []; deaths = []; stale = false }
 
 -- a stale report changes nothing
-abbrev pub refused : ChartState → Moved
-refused c = record { chart = c; marks = []; orders = []; deaths = []; stale = true }
+abbrev pub stale_move : ChartState → Moved
+stale_move c = record { chart = c; marks = []; orders = []; deaths = []; stale = true }
 
 -- a mark, and then the move
-abbrev pub marked : Mark → Moved → Moved
-marked mark m = record m { marks = mark ∷ m.marks }
+abbrev pub with_mark : Mark → Moved → Moved
+with_mark mark m = record m { marks = mark ∷ m.marks }
 
 -- a state with an order
-abbrev pub ordered : Order → ChartState → Moved
-ordered order c = record { chart = c; marks = []; orders = order ∷ []; deaths = []; stale = false }
+abbrev pub with_order : Order → ChartState → Moved
+with_order order c = record { chart = c; marks = []; orders = order ∷ []; deaths = []; stale = false }
 
 -- which phase it is
 abbrev pub is_down : Phase → Bool

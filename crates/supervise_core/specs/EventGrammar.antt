@@ -1,7 +1,8 @@
 -- The words that the marks of a service form: (s (u U? d O? D)* x)*, or the beginning of one.
 use Rattle.std.specs.Prelude.{◌≡◌, List, [], ◌∷◌, ◌++◌, Bool, if◌then◌else◌, fold, Option, None, Some, is_some}
 use Rattle.s6_events.specs.declared.mark.Mark.{Mark}
-use Rattle.s6_events.specs.declared.mark.Mark.TheVariants.{SupervisorStarted, Spawned, Ready, Died, FinishDone, PermanentFailure, SupervisorEnded}
+use Rattle.s6_events.specs.declared.mark.Mark.TheVariants.{SupervisorStarted, Spawned, Ready, Died, FinishDone}
+use Rattle.s6_events.specs.declared.mark.Mark.TheVariants.{PermanentFailure, SupervisorEnded}
 use Rattle.supervise_core.specs.declared.chart.ChartState.{ChartState}
 use Rattle.supervise_core.specs.declared.phase.Phase.{Phase}
 use Rattle.supervise_core.specs.declared.phase.Phase.TheVariants.{Down, Starting, Up, Finish, Gone}
@@ -17,7 +18,8 @@ perhaps there mark rest = if there then mark ∷ rest else rest
 
 -- u U? d O? D, and then the rest
 abbrev pub spell_run : Ran → List Mark → List Mark
-spell_run run rest = Spawned ∷ perhaps run.became_ready Ready (Died ∷ perhaps run.failed_for_good PermanentFailure (FinishDone ∷ rest))
+spell_run run rest = Spawned ∷ perhaps run.became_ready Ready
+    (Died ∷ perhaps run.failed_for_good PermanentFailure (FinishDone ∷ rest))
 
 -- any number of runs, and then the rest
 abbrev pub spell_runs : List Ran → List Mark → List Mark

@@ -5,12 +5,12 @@ use Rattle.supervise_core.specs.declared.chart.ChartState.{ChartState}
 use Rattle.supervise_core.specs.ChartState.{is_gone}
 
 -- the directory is listed, or no longer listed: an ended supervisor starts again a second after it came back, and not while away
-abbrev pub set_active : Bool → ℕ → ChartState → ChartState
-set_active active now c =
+abbrev pub with_activity : Bool → ℕ → ChartState → ChartState
+with_activity active now c =
     if is_gone c.phase then
     record c { active = active; timer = if active then (if c.active then c.timer else Some (now + 1000)) else None }
     else record c { active = active }
 
 -- it takes the configuration that was read, but keeps the number of deaths that its tally was opened with
-abbrev pub set_config : Config → ChartState → ChartState
-set_config config c = record c { config = record config { max_death_tally = c.config.max_death_tally } }
+abbrev pub with_config : Config → ChartState → ChartState
+with_config config c = record c { config = record config { max_death_tally = c.config.max_death_tally } }

@@ -1,7 +1,8 @@
 -- What a change of a service answers.
 use Rattle.std.specs.Prelude.{◌≡◌, ◌++◌, ◌||◌, ℕ}
 use Rattle.supervise_core.specs.declared.change.Change.{Change}
-use Rattle.supervise_core.specs.declared.change.Change.TheVariants.{Started, StartFailed, Notify, Death, FinishEnded, Control, Fire, SetConfig, SetActive}
+use Rattle.supervise_core.specs.declared.change.Change.TheVariants.{Started, StartFailed, Notify, Death, FinishEnded}
+use Rattle.supervise_core.specs.declared.change.Change.TheVariants.{Control, Fire, SetConfig, SetActive}
 use Rattle.supervise_core.specs.declared.chart.ChartState.{ChartState}
 use Rattle.supervise_core.specs.declared.out.Out.{Out}
 use Rattle.supervise_core.specs.ChartState.{Moved}

@@ -9,7 +9,7 @@ use Rattle.supervise_core.specs.declared.change.Change.{Change}
 use Rattle.supervise_core.specs.declared.change.Change.TheVariants.{Death}
 use Rattle.supervise_core.specs.declared.chart.ChartState.{ChartState}
 use Rattle.supervise_core.specs.declared.status.Status.{Status}
-use Rattle.supervise_core.specs.Status.{Agrees, events_of}
+use Rattle.supervise_core.specs.Status.{Agrees, mark_moments}
 
 -- its state, what it stores of its marks, and its tally
 pub record Supervised : Type 0 where
@@ -18,12 +18,12 @@ pub record Supervised : Type 0 where
   pub tally : Deaths
 
 -- what stands of it beside its tally
-pub record Stands : Type 0 where
+pub record ServiceView : Type 0 where
   pub chart : ChartState
   pub status : Status
 
-abbrev pub stands_of : Supervised → Stands
-stands_of s = record { chart = s.chart; status = s.status }
+abbrev pub service_view : Supervised → ServiceView
+service_view s = record { chart = s.chart; status = s.status }
 
 -- the death of a change that was not stale
 abbrev pub death_by : Change → Bool → ℕ → Option (ℕ × Exit)
@@ -31,22 +31,24 @@ death_by (Death generation exit) false now = Some (now, exit)
 death_by change stale now = None
 
 -- the tally, with a death more where there is one
-abbrev pub joined : Deaths → Option (ℕ × Exit) → Deaths
-joined tally None = tally
-joined tally (Some death) = with_death tally death
+abbrev pub tally_with : Deaths → Option (ℕ × Exit) → Deaths
+tally_with tally None = tally
+tally_with tally (Some death) = with_death tally death
 
 -- the service takes over this state and this status, and a death joins its tally
-abbrev pub adopted : Stands → Option (ℕ × Exit) → Supervised → Supervised
-adopted standing death s = record { chart = standing.chart; status = standing.status; tally = joined s.tally death }
+abbrev pub with_view : ServiceView → Option (ℕ × Exit) → Supervised → Supervised
+with_view standing death s = record
+    { chart = standing.chart; status = standing.status; tally = tally_with s.tally death }
 
 -- a history agrees with all that is stored of the marks
-abbrev pub AgreesAs : Stands → List Moment → Type 0
+abbrev pub AgreesAs : ServiceView → List Moment → Type 0
 AgreesAs s history = Agrees s.chart.sid s.status history
 
 abbrev pub AgreesWith : Supervised → List Moment → Type 0
-AgreesWith s history = AgreesAs (stands_of s) history
+AgreesWith s history = AgreesAs (service_view s) history
 
 -- whatever history agreed before, at this moment, agrees again once the marks have joined it
-abbrev pub KeepsAgreeing : ℕ → List Mark → Stands → Stands → Type 0
+abbrev pub KeepsAgreeing : ℕ → List Mark → ServiceView → ServiceView → Type 0
 KeepsAgreeing now marks old new =
-    (history : List Moment) → clock_of history ≡ now → AgreesAs old history → AgreesAs new (history ++ events_of old.chart.sid marks)
+    (history : List Moment) → clock_of history ≡ now → AgreesAs old history
+    → AgreesAs new (history ++ mark_moments old.chart.sid marks)

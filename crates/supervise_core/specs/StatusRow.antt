@@ -37,4 +37,5 @@ row_of letter up_or_down ready_or_done now c = record {
 
 -- the status row of a service, read from the history and its chart
 abbrev pub status_row : List Moment → ℕ → ChartState → Row
-status_row history now c = row_of (current_letter c.sid history) (up_or_down_since c.sid history) (ready_or_done_since c.sid history) now c
+status_row history now c = row_of (current_letter c.sid history) (up_or_down_since c.sid history)
+    (ready_or_done_since c.sid history) now c

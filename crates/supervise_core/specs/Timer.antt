@@ -4,8 +4,8 @@ use Rattle.s6_events.specs.declared.order.Order.TheVariants.{Signal, KillFinish}
 use Rattle.supervise_core.specs.declared.chart.ChartState.{ChartState}
 use Rattle.supervise_core.specs.declared.phase.Phase.{Phase}
 use Rattle.supervise_core.specs.declared.phase.Phase.TheVariants.{Down, Starting, Up, Finish, Gone}
-use Rattle.supervise_core.specs.ChartState.{Moved, still, ordered}
-use Rattle.supervise_core.specs.Moves.{start_run, begin_supervisor}
+use Rattle.supervise_core.specs.ChartState.{Moved, no_move, with_order}
+use Rattle.supervise_core.specs.Moves.{run_move, begin_move}
 
 -- the moment of a timer has come
 abbrev pub is_due : ℕ → Option ℕ → Bool
@@ -14,12 +14,12 @@ is_due now (Some due) = nat_le due now
 
 -- in Down a start, in Up and Finish a SIGKILL, in Gone a new supervisor
 abbrev pub timer_rule : Phase → ChartState → Moved
-timer_rule Down c = start_run c
-timer_rule Starting c = still c
-timer_rule Up c = ordered (Signal c.sid c.generation 9) (record c { timer = None })
-timer_rule Finish c = ordered (KillFinish c.sid c.generation) (record c { timer = None })
-timer_rule Gone c = begin_supervisor c
+timer_rule Down c = run_move c
+timer_rule Starting c = no_move c
+timer_rule Up c = with_order (Signal c.sid c.generation 9) (record c { timer = None })
+timer_rule Finish c = with_order (KillFinish c.sid c.generation) (record c { timer = None })
+timer_rule Gone c = begin_move c
 
 -- a service whose timer is due takes its rule, and another one stays
-abbrev pub fire : ℕ → ChartState → Moved
-fire now c = if is_due now c.timer then timer_rule c.phase c else still c
+abbrev pub fire_move : ℕ → ChartState → Moved
+fire_move now c = if is_due now c.timer then timer_rule c.phase c else no_move c

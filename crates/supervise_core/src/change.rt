@@ -1,3 +1,4 @@
+//! The changes of a service.
 ghost use Rattle.std.specs.Prelude.{◌≡◌};
 ghost use Rattle.supervise_core.specs.Service.{death_by};
 

@@ -1,7 +1,8 @@
+//! The state of a service without its tally.
 ghost use Rattle.std.specs.Prelude.{◌≡◌, ◌+◌, ◌<◌, ◌≤◌, ◌^◌, length};
 ghost use Rattle.supervise_core.specs.ChartState.{new_service};
-ghost use Rattle.supervise_core.specs.Moves.{begin_supervisor};
-ghost use Rattle.supervise_core.specs.Chart.{set_active as with_activity, set_config as with_config, changed_by};
+ghost use Rattle.supervise_core.specs.Moves.{begin_move};
+ghost use Rattle.supervise_core.specs.Chart.{with_activity, with_config, changed_by};
 ghost use Rattle.supervise_core.specs.MatchesMove.{MatchesMove, AppendsMove, most_marks, most_orders};
 
 use super::change::Change;
@@ -81,7 +82,7 @@ impl ChartState {
     /// A new active service, whose supervisor starts: mark `s`, and the first run is ordered unless the directory has `down`.
     /// Page `s6-supervise`, "Detailed operation".
     pub fn begin(sid: Sid, name: Name, config: Config) -> (ChartState, Out)
-        ensures gives { MatchesMove (begin_supervisor (new_service sid name config)) result.0 result.1 }
+        ensures gives { MatchesMove (begin_move (new_service sid name config)) result.0 result.1 }
         ensures few { length result.1.orders.items ≤ 1 }
     {
         let mut chart = ChartState::new(sid, name, config);
@@ -103,14 +104,15 @@ impl ChartState {
     }
 
     /// `change`, whose marks and orders are added to what is in `out`. For letters `out` has to hold no order, whatever their
-    /// number. This project's own.
+    /// number.
     pub fn change_onto(&mut self, change: &Change, now: At, out: &mut Out)
         requires marks { length out.old.events.items + most_marks change.now ≤ 4 }
         requires room { length out.old.orders.items + most_orders change.now ≤ 126 }
         requires next { self.old.generation + 1 < 2 ^ 64 }
         ensures gives { AppendsMove (changed_by change.now now self.old) self.new out.old out.new }
         ensures sid { self.new.sid ≡ self.old.sid }
-        ensures few { length out.new.orders.items ≤ length out.old.orders.items + most_orders change.now }
+        ensures few { length out.new.orders.items
+            ≤ length out.old.orders.items + most_orders change.now }
     {
         match change {
             Change::Started(generation, pid) => self.started_onto(*generation, *pid, now, out),
@@ -130,7 +132,7 @@ impl ChartState {
     }
 
     /// Its directory is listed, or no longer listed. That matters to an ended supervisor: it starts again 1000 ms after its
-    /// directory came back, and never while the directory is away. Page `s6-svscan`; the 1000 ms are this project's own rule.
+    /// directory came back, and never while the directory is away. Page `s6-svscan`; the 1000 ms are chosen here.
     pub fn set_active(&mut self, active: bool, now: At)
         ensures { self.new ≡ with_activity active now self.old }
     {

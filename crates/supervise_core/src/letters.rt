@@ -1,5 +1,6 @@
+//! The control letters: what each does in each phase.
 ghost use Rattle.std.specs.Prelude.{◌≡◌, ◌+◌, ◌<◌, ◌≤◌, ◌^◌, ◌*◌, length};
-ghost use Rattle.supervise_core.specs.ControlLetters.{take_letter as letter_move, told_up, told_down, told_signal, not_wanted, control as control_move};
+ghost use Rattle.supervise_core.specs.ControlLetters.{letter_move, up_move, down_move, signal_move, as_unwanted, control_move};
 ghost use Rattle.supervise_core.specs.MatchesMove.{MatchesMove, AppendsMove};
 ghost use Rattle.svc_commands.specs.ControlLetter.{signal_of};
 ghost use Rattle.supervise_core.specs.LetterBounds.{marks_left, runs_left};
@@ -13,7 +14,7 @@ use svc_commands::{ControlLetter, Letters};
 // The letters of a user.
 impl ChartState {
     /// A user sent these letters; they are done in the order written, all at one moment. Once the supervisor has ended no letter
-    /// does anything. Page `s6-svc`; that they are done in the order written is this project's own rule.
+    /// does anything. Page `s6-svc`; that they are done in the order written is chosen here.
     pub fn control(&mut self, letters: &Letters, now: At) -> Out
         requires { self.old.generation + 1 < 2 ^ 64 }
         ensures gives { MatchesMove (control_move letters.now.items now self.old) self.new result }
@@ -30,9 +31,11 @@ impl ChartState {
         requires marks { length out.old.events.items < 4 }
         requires room { length out.old.orders.items + 2 * length letters.now.items ≤ 126 }
         requires next { self.old.generation + 1 < 2 ^ 64 }
-        ensures gives { AppendsMove (control_move letters.now.items now self.old) self.new out.old out.new }
+        ensures gives { AppendsMove
+            (control_move letters.now.items now self.old) self.new out.old out.new }
         ensures sid { self.new.sid ≡ self.old.sid }
-        ensures few { length out.new.orders.items ≤ length out.old.orders.items + 2 * length letters.now.items }
+        ensures few { length out.new.orders.items
+            ≤ length out.old.orders.items + 2 * length letters.now.items }
     {
         self.take_letters(letters.as_slice(), now, out);
     }
@@ -42,9 +45,11 @@ impl ChartState {
         requires marks { length out.old.events.items < 4 }
         requires room { length out.old.orders.items + 2 * length letters.now ≤ 126 }
         requires next { self.old.generation + 1 < 2 ^ 64 }
-        ensures gives { AppendsMove (control_move letters.now now self.old) self.new out.old out.new }
+        ensures gives { AppendsMove
+            (control_move letters.now now self.old) self.new out.old out.new }
         ensures sid { self.new.sid ≡ self.old.sid }
-        ensures few { length out.new.orders.items ≤ length out.old.orders.items + 2 * length letters.now }
+        ensures few { length out.new.orders.items
+            ≤ length out.old.orders.items + 2 * length letters.now }
     {
         for letter in letters {
             self.take_letter(*letter, now, out);
@@ -59,8 +64,10 @@ impl ChartState {
         ensures gives { AppendsMove (letter_move now letter self.old) self.new out.old out.new }
         ensures sid { self.new.sid ≡ self.old.sid }
         ensures few { length out.new.orders.items ≤ length out.old.orders.items + 2 }
-        ensures marks { length out.new.events.items + marks_left self.new.phase ≤ length out.old.events.items + marks_left self.old.phase }
-        ensures runs { self.new.generation + runs_left self.new.phase ≤ self.old.generation + runs_left self.old.phase }
+        ensures marks { length out.new.events.items + marks_left self.new.phase
+            ≤ length out.old.events.items + marks_left self.old.phase }
+        ensures runs { self.new.generation + runs_left self.new.phase
+            ≤ self.old.generation + runs_left self.old.phase }
     {
         if self.phase == Phase::Gone {
             return;
@@ -93,7 +100,7 @@ impl ChartState {
     fn be_told_up(&mut self, out: &mut Out)
         requires room { length out.old.orders.items < 126 }
         requires next { self.old.generation + runs_left self.old.phase < 2 ^ 64 }
-        ensures { AppendsMove (told_up self.old) self.new out.old out.new }
+        ensures { AppendsMove (up_move self.old) self.new out.old out.new }
     {
         if self.exit_requested {
             return;
@@ -107,7 +114,8 @@ impl ChartState {
     // `d`: it is no longer wanted up, and gets its down signal now or once it is spawned.
     fn be_told_down(&mut self, now: At, out: &mut Out)
         requires { length out.old.orders.items < 125 }
-        ensures { AppendsMove (told_down self.old.phase now (not_wanted self.old)) self.new out.old out.new }
+        ensures { AppendsMove (down_move self.old.phase now (as_unwanted self.old)) self.new out.old
+            out.new }
     {
         self.wanted_up = false;
         match self.phase {
@@ -121,7 +129,8 @@ impl ChartState {
     // A letter that stands for a signal, which `run` gets where it is there.
     fn pass_signal(&mut self, letter: ControlLetter, out: &mut Out)
         requires { length out.old.orders.items < 126 }
-        ensures gives { AppendsMove (told_signal (signal_of letter) letter self.old) self.new out.old out.new }
+        ensures gives { AppendsMove
+            (signal_move (signal_of letter) letter self.old) self.new out.old out.new }
         ensures few { length out.new.orders.items ≤ length out.old.orders.items + 1 }
         ensures marks { out.new.events.items ≡ out.old.events.items }
         ensures phase { self.new.phase ≡ self.old.phase }

@@ -10,7 +10,7 @@ mod phase;
 mod reports;
 mod row;
 mod service;
-mod standing;
+mod service_state;
 mod status;
 mod timer;
 
@@ -20,5 +20,5 @@ pub use out::Out;
 pub use phase::Phase;
 pub use row::Row;
 pub use service::Service;
-pub use standing::Standing;
+pub use service_state::ServiceState;
 pub use status::Status;

@@ -1,5 +1,6 @@
+//! The moves that reports, letters and timers are made of.
 ghost use Rattle.std.specs.Prelude.{◌≡◌, ◌+◌, ◌<◌, ◌≤◌, ◌^◌, ◌++◌, length};
-ghost use Rattle.supervise_core.specs.Moves.{start_run as start_move, begin_supervisor as begin_move, send_down_signal as down_move, kill_timer, end_supervisor as end_move, settle as settle_move, start_finish as finish_move};
+ghost use Rattle.supervise_core.specs.Moves.{run_move, begin_move, down_signal_move, kill_timer, end_move, settle_move, finish_move};
 ghost use Rattle.supervise_core.specs.MatchesMove.{AppendsMove};
 
 use super::chart::ChartState;
@@ -23,7 +24,7 @@ impl ChartState {
     pub(crate) fn start_run(&mut self, out: &mut Out)
         requires room { length out.old.orders.items < 126 }
         requires next { self.old.generation + 1 < 2 ^ 64 }
-        ensures { AppendsMove (start_move self.old) self.new out.old out.new }
+        ensures { AppendsMove (run_move self.old) self.new out.old out.new }
     {
         self.generation += 1;
         self.phase = Phase::Starting;
@@ -57,7 +58,7 @@ impl ChartState {
     // `run` gets its down signal and SIGCONT.
     pub(crate) fn send_down_signal(&mut self, now: At, out: &mut Out)
         requires { length out.old.orders.items < 125 }
-        ensures { AppendsMove (down_move now self.old) self.new out.old out.new }
+        ensures { AppendsMove (down_signal_move now self.old) self.new out.old out.new }
     {
         out.orders.push(Order::Signal(self.sid, self.generation, self.config.down_signal));
         out.orders

@@ -1,3 +1,4 @@
+//! What a change of a service gives: marks and orders.
 ghost use Rattle.std.specs.Prelude.{◌≡◌, ◌<◌, ◌∷◌, ◌++◌, [], false, length};
 
 use arrayvec::ArrayVec;
@@ -26,7 +27,7 @@ impl Out {
         }
     }
 
-    /// Empties it: no mark, no order, not stale. This project's own.
+    /// Empties it: no mark, no order, not stale.
     pub fn clear(&mut self)
         ensures events { self.new.events.items ≡ [] }
         ensures orders { self.new.orders.items ≡ [] }

@@ -1,3 +1,4 @@
+//! The five phases of a service.
 /// Where a service stands. Page `s6-supervise`, "Detailed operation".
 #[derive(Clone, Copy, Debug, PartialEq, Eq)]
 pub enum Phase {

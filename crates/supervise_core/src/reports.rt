@@ -1,5 +1,6 @@
+//! The reports: what each does in the phase that it belongs to.
 ghost use Rattle.std.specs.Prelude.{◌≡◌, ◌+◌, ◌<◌, ◌≤◌, ◌^◌, ◌++◌, length};
-ghost use Rattle.supervise_core.specs.Reports.{started as started_move, start_failed as start_failed_move, notified as notified_move, death as death_move, finish_ended as finish_ended_move, finish_done, not_spawned, is_awaiting, is_running, is_in_finish, says_ready};
+ghost use Rattle.supervise_core.specs.Reports.{started_move, start_failed_move, notify_move, death_move, finish_ended_move, finish_done_move, failed_spawn_move, is_awaiting, is_running, is_in_finish, says_ready};
 ghost use Rattle.finish_core.specs.ExitVerdict.{verdict_of};
 ghost use Rattle.supervise_core.specs.MatchesMove.{MatchesMove, AppendsMove};
 
@@ -54,11 +55,12 @@ impl ChartState {
         out
     }
 
-    /// `started`, whose mark and whose orders, two at most, are added to what is in `out`. This project's own.
+    /// `started`, whose mark and whose orders, two at most, are added to what is in `out`.
     pub fn started_onto(&mut self, generation: u64, pid: u32, now: At, out: &mut Out)
         requires marks { length out.old.events.items < 4 }
         requires room { length out.old.orders.items + 2 ≤ 126 }
-        ensures gives { AppendsMove (started_move generation pid now self.old) self.new out.old out.new }
+        ensures gives { AppendsMove
+            (started_move generation pid now self.old) self.new out.old out.new }
         ensures sid { self.new.sid ≡ self.old.sid }
         ensures few { length out.new.orders.items ≤ length out.old.orders.items + 2 }
     {
@@ -80,7 +82,7 @@ impl ChartState {
     /// A spawn failed. Of `run`: it is tried again after 60000 ms, unless it is no longer wanted up; where its supervisor was
     /// told to end, it ends. Of `finish`: it counts as done, mark `D` and what comes next. Stale unless that spawn was under
     /// way or `finish` was there. Page `s6-supervise`, "Detailed operation"; that a `finish` that can't be spawned counts as
-    /// none is this project's own rule.
+    /// none is chosen here.
     pub fn start_failed(&mut self, generation: u64, now: At) -> Out
         requires { self.old.generation + 1 < 2 ^ 64 }
         ensures gives { MatchesMove (start_failed_move generation now self.old) self.new result }
@@ -92,12 +94,13 @@ impl ChartState {
         out
     }
 
-    /// `start_failed`, whose marks, two at most, and whose order are added to what is in `out`. This project's own.
+    /// `start_failed`, whose marks, two at most, and whose order are added to what is in `out`.
     pub fn start_failed_onto(&mut self, generation: u64, now: At, out: &mut Out)
         requires marks { length out.old.events.items + 2 ≤ 4 }
         requires room { length out.old.orders.items < 126 }
         requires next { self.old.generation + 1 < 2 ^ 64 }
-        ensures gives { AppendsMove (start_failed_move generation now self.old) self.new out.old out.new }
+        ensures gives { AppendsMove
+            (start_failed_move generation now self.old) self.new out.old out.new }
         ensures sid { self.new.sid ≡ self.old.sid }
         ensures few { length out.new.orders.items ≤ length out.old.orders.items + 1 }
     {
@@ -114,7 +117,7 @@ impl ChartState {
     // The run could not be spawned.
     fn miss_spawn(&mut self, now: At, out: &mut Out)
         requires { length out.old.events.items < 4 }
-        ensures gives { AppendsMove (not_spawned now self.old) self.new out.old out.new }
+        ensures gives { AppendsMove (failed_spawn_move now self.old) self.new out.old out.new }
         ensures quiet { out.new.orders.items ≡ out.old.orders.items }
     {
         self.phase = Phase::Down;
@@ -129,7 +132,8 @@ impl ChartState {
     /// `run` wrote these bytes to its notification descriptor: mark `U` at the first newline of this run, and else nothing.
     /// Stale unless it was up. Page `notifywhenup`.
     pub fn notify(&mut self, generation: u64, bytes: &[u8], now: At) -> Out
-        ensures gives { MatchesMove (notified_move generation bytes.now now self.old) self.new result }
+        ensures gives { MatchesMove
+            (notify_move generation bytes.now now self.old) self.new result }
         ensures sid { self.new.sid ≡ self.old.sid }
         ensures few { length result.orders.items ≤ 0 }
     {
@@ -138,10 +142,11 @@ impl ChartState {
         out
     }
 
-    /// `notify`, whose mark is added to what is in `out`. It gives no order. This project's own.
+    /// `notify`, whose mark is added to what is in `out`. It gives no order.
     pub fn notify_onto(&mut self, generation: u64, bytes: &[u8], now: At, out: &mut Out)
         requires { length out.old.events.items < 4 }
-        ensures gives { AppendsMove (notified_move generation bytes.now now self.old) self.new out.old out.new }
+        ensures gives { AppendsMove
+            (notify_move generation bytes.now now self.old) self.new out.old out.new }
         ensures sid { self.new.sid ≡ self.old.sid }
         ensures few { length out.new.orders.items ≤ length out.old.orders.items }
     {
@@ -157,7 +162,7 @@ impl ChartState {
 
     /// `run` died: mark `d`, and `finish` is ordered where there is one. Else mark `D` and what comes next: the end of the
     /// supervisor, rest, a start at once after more than 1000 ms of readiness, else 1000 ms after the death. Stale unless it was
-    /// up. Pages `s6-supervise`, "Detailed operation", and `servicedir`, "finish"; the length of the pause is this project's own.
+    /// up. Pages `s6-supervise`, "Detailed operation", and `servicedir`, "finish"; the length of the pause is chosen here.
     pub fn death(&mut self, generation: u64, exit: Exit, now: At) -> Out
         requires { self.old.generation + 1 < 2 ^ 64 }
         ensures gives { MatchesMove (death_move generation exit now self.old) self.new result }
@@ -169,12 +174,13 @@ impl ChartState {
         out
     }
 
-    /// `death`, whose marks, three at most, and whose order are added to what is in `out`. This project's own.
+    /// `death`, whose marks, three at most, and whose order are added to what is in `out`.
     pub fn death_onto(&mut self, generation: u64, exit: Exit, now: At, out: &mut Out)
         requires marks { length out.old.events.items + 3 ≤ 4 }
         requires room { length out.old.orders.items < 126 }
         requires next { self.old.generation + 1 < 2 ^ 64 }
-        ensures gives { AppendsMove (death_move generation exit now self.old) self.new out.old out.new }
+        ensures gives { AppendsMove
+            (death_move generation exit now self.old) self.new out.old out.new }
         ensures sid { self.new.sid ≡ self.old.sid }
         ensures few { length out.new.orders.items ≤ length out.old.orders.items + 1 }
     {
@@ -200,7 +206,8 @@ impl ChartState {
     /// "finish", and `s6-supervise`, "Events".
     pub fn finish_ended(&mut self, generation: u64, exit: Exit, now: At) -> Out
         requires { self.old.generation + 1 < 2 ^ 64 }
-        ensures gives { MatchesMove (finish_ended_move generation exit now self.old) self.new result }
+        ensures gives { MatchesMove
+            (finish_ended_move generation exit now self.old) self.new result }
         ensures sid { self.new.sid ≡ self.old.sid }
         ensures few { length result.orders.items ≤ 1 }
     {
@@ -209,12 +216,13 @@ impl ChartState {
         out
     }
 
-    /// `finish_ended`, whose marks, three at most, and whose order are added to what is in `out`. This project's own.
+    /// `finish_ended`, whose marks, three at most, and whose order are added to what is in `out`.
     pub fn finish_ended_onto(&mut self, generation: u64, exit: Exit, now: At, out: &mut Out)
         requires marks { length out.old.events.items + 3 ≤ 4 }
         requires room { length out.old.orders.items < 126 }
         requires next { self.old.generation + 1 < 2 ^ 64 }
-        ensures gives { AppendsMove (finish_ended_move generation exit now self.old) self.new out.old out.new }
+        ensures gives { AppendsMove
+            (finish_ended_move generation exit now self.old) self.new out.old out.new }
         ensures sid { self.new.sid ≡ self.old.sid }
         ensures few { length out.new.orders.items ≤ length out.old.orders.items + 1 }
     {

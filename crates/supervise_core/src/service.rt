@@ -1,22 +1,23 @@
+//! A service with its tally, as whoever embeds it drives it.
 ghost use Rattle.std.specs.Prelude.{◌≡◌, ◌+◌, ◌<◌, ◌^◌, ◌++◌, List, IfOk};
 ghost use Rattle.s6_events.specs.declared.moment.Moment.{Moment};
-ghost use Rattle.supervise_core.specs.ChartState.{new_service, still};
-ghost use Rattle.supervise_core.specs.Moves.{begin_supervisor};
-ghost use Rattle.supervise_core.specs.Chart.{started as started_move, start_failed as start_failed_move, notified as notified_move, death as death_move, finish_ended as finish_ended_move, control as control_move, fire as fire_move, set_active as with_activity, set_config as with_config, changed_by};
+ghost use Rattle.supervise_core.specs.ChartState.{new_service, no_move};
+ghost use Rattle.supervise_core.specs.Moves.{begin_move};
+ghost use Rattle.supervise_core.specs.Chart.{started_move, start_failed_move, notify_move, death_move, finish_ended_move, control_move, fire_move, with_activity, with_config, changed_by};
 ghost use Rattle.supervise_core.specs.MatchesMove.{MatchesMove};
 ghost use Rattle.supervise_core.specs.EventGrammar.{LeadsTo};
 ghost use Rattle.s6_events.specs.declared.mark.Mark.{Mark};
-ghost use Rattle.supervise_core.specs.Status.{events_of};
+ghost use Rattle.supervise_core.specs.Status.{mark_moments};
 ghost use Rattle.death_tally.specs.LastDeaths.{new_tally};
 ghost use Rattle.supervise_core.specs.declared.change.Change.TheVariants.{Death};
-ghost use Rattle.supervise_core.specs.Service.{AgreesWith, KeepsAgreeing, adopted, death_by, joined, stands_of};
+ghost use Rattle.supervise_core.specs.Service.{AgreesWith, KeepsAgreeing, with_view, death_by, tally_with, service_view};
 ghost use Rattle.supervise_core.specs.StatusRow.{status_row};
 
 use super::change::Change;
 use super::chart::ChartState;
 use super::out::Out;
 use super::row::Row;
-use super::standing::Standing;
+use super::service_state::ServiceState;
 use super::status::Status;
 use death_tally::Tally;
 use s6_events::{At, Exit, Name, NoMemory, Sid};
@@ -52,10 +53,13 @@ impl<A: Allocator + Copy> Service<A> {
         config: Config,
         _now: At,
     ) -> Result<(Service<A>, Out), NoMemory>
-        ensures gives { IfOk result (λ made. MatchesMove (begin_supervisor (new_service sid name config)) made.0.chart made.1) }
+        ensures gives { IfOk result
+            (λ made. MatchesMove (begin_move (new_service sid name config)) made.0.chart made.1) }
         ensures tally { IfOk result (λ made. made.0.tally ≡ new_tally config.max_death_tally) }
         ensures grammar { IfOk result (λ made. LeadsTo made.1.events.items made.0.chart) }
-        ensures agrees { (history : List Moment) → IfOk result (λ made. AgreesWith made.0 (history ++ events_of sid made.1.events.items)) }
+        ensures agrees { (history : List Moment)
+            → IfOk result (λ made. AgreesWith made.0
+            (history ++ mark_moments sid made.1.events.items)) }
     {
         let tally = Tally::new(alloc, config.max_death_tally)?;
         let (chart, out) = ChartState::begin(sid, name, config);
@@ -108,15 +112,15 @@ impl<A: Allocator + Copy> Service<A> {
     }
 
     /// Its state and what it stores of its marks, in a copy that takes the same changes.
-    pub fn standing(&self) -> Standing
-        ensures { result ≡ stands_of self.now }
+    pub fn standing(&self) -> ServiceState
+        ensures { result ≡ service_view self.now }
     {
-        Standing::new(self.chart, self.status)
+        ServiceState::new(self.chart, self.status)
     }
 
     // A death joins the tally, where there is one.
     fn join(&mut self, death: Option<(At, Exit)>)
-        ensures { self.new ≡ record self.old { tally = joined self.old.tally death } }
+        ensures { self.new ≡ record self.old { tally = tally_with self.old.tally death } }
     {
         if let Some((at, exit)) = death {
             self.tally.add(at, exit);
@@ -124,8 +128,8 @@ impl<A: Allocator + Copy> Service<A> {
     }
 
     /// Takes this state and this status, which were made from its own by changes, and the death that these reported, if they did.
-    pub fn adopt(&mut self, standing: Standing, death: Option<(At, Exit)>)
-        ensures { self.new ≡ adopted standing death self.old }
+    pub fn adopt(&mut self, standing: ServiceState, death: Option<(At, Exit)>)
+        ensures { self.new ≡ with_view standing death self.old }
     {
         self.chart = standing.chart();
         self.status = standing.status();
@@ -134,16 +138,19 @@ impl<A: Allocator + Copy> Service<A> {
 
     /// Its status row: that of each history which agrees with what it stores. Page `s6-svstat`.
     pub fn row(&self, now: At) -> Row
-        ensures { (history : List Moment) → AgreesWith self.now history → result ≡ status_row history now self.now.chart }
+        ensures { (history : List Moment) → AgreesWith self.now history
+            → result ≡ status_row history now self.now.chart }
     {
         self.status.row(&self.chart, now)
     }
 
     /// `run` of this generation was spawned: mark `u`. Stale unless its start was under way. Page `s6-supervise`, "Events".
     pub fn started(&mut self, generation: u64, pid: u32, now: At) -> Out
-        ensures gives { MatchesMove (started_move generation pid now self.old.chart) self.new.chart result }
+        ensures gives { MatchesMove
+            (started_move generation pid now self.old.chart) self.new.chart result }
         ensures tally { self.new.tally ≡ self.old.tally }
-        ensures agrees { KeepsAgreeing now result.events.items (stands_of self.old) (stands_of self.new) }
+        ensures agrees { KeepsAgreeing now result.events.items (service_view self.old)
+            (service_view self.new) }
     {
         let out = self.chart.started(generation, pid, now);
         self.status.record_marks(out.events.as_slice(), now);
@@ -152,12 +159,14 @@ impl<A: Allocator + Copy> Service<A> {
 
     /// `run` or `finish` of this generation could not be spawned: `run` is tried again after 60000 ms, and `finish` counts as done.
     /// Stale unless one of them was being spawned. Page `s6-supervise`, "Detailed operation"; what a failed spawn of `finish` means
-    /// is this project's own rule.
+    /// is chosen here.
     pub fn start_failed(&mut self, generation: u64, now: At) -> Out
         requires { self.old.chart.generation + 1 < 2 ^ 64 }
-        ensures gives { MatchesMove (start_failed_move generation now self.old.chart) self.new.chart result }
+        ensures gives { MatchesMove
+            (start_failed_move generation now self.old.chart) self.new.chart result }
         ensures tally { self.new.tally ≡ self.old.tally }
-        ensures agrees { KeepsAgreeing now result.events.items (stands_of self.old) (stands_of self.new) }
+        ensures agrees { KeepsAgreeing now result.events.items (service_view self.old)
+            (service_view self.new) }
     {
         let out = self.chart.start_failed(generation, now);
         self.status.record_marks(out.events.as_slice(), now);
@@ -167,9 +176,11 @@ impl<A: Allocator + Copy> Service<A> {
     /// `run` of this generation wrote these bytes to its notification descriptor: mark `U` at its first newline. Stale unless it was
     /// up. Page `notifywhenup`.
     pub fn notify(&mut self, generation: u64, bytes: &[u8], now: At) -> Out
-        ensures gives { MatchesMove (notified_move generation bytes.now now self.old.chart) self.new.chart result }
+        ensures gives { MatchesMove
+            (notify_move generation bytes.now now self.old.chart) self.new.chart result }
         ensures tally { self.new.tally ≡ self.old.tally }
-        ensures agrees { KeepsAgreeing now result.events.items (stands_of self.old) (stands_of self.new) }
+        ensures agrees { KeepsAgreeing now result.events.items (service_view self.old)
+            (service_view self.new) }
     {
         let out = self.chart.notify(generation, bytes, now);
         self.status.record_marks(out.events.as_slice(), now);
@@ -180,9 +191,12 @@ impl<A: Allocator + Copy> Service<A> {
     /// `s6-supervise`, "Detailed operation".
     pub fn death(&mut self, generation: u64, exit: Exit, now: At) -> Out
         requires { self.old.chart.generation + 1 < 2 ^ 64 }
-        ensures gives { MatchesMove (death_move generation exit now self.old.chart) self.new.chart result }
-        ensures tally { self.new.tally ≡ joined self.old.tally (death_by (Death generation exit) result.stale now) }
-        ensures agrees { KeepsAgreeing now result.events.items (stands_of self.old) (stands_of self.new) }
+        ensures gives { MatchesMove
+            (death_move generation exit now self.old.chart) self.new.chart result }
+        ensures tally { self.new.tally
+            ≡ tally_with self.old.tally (death_by (Death generation exit) result.stale now) }
+        ensures agrees { KeepsAgreeing now result.events.items (service_view self.old)
+            (service_view self.new) }
     {
         let out = self.chart.death(generation, exit, now);
         self.status.record_marks(out.events.as_slice(), now);
@@ -194,9 +208,11 @@ impl<A: Allocator + Copy> Service<A> {
     /// there. Pages `servicedir`, "finish", and `s6-supervise`, "Events".
     pub fn finish_ended(&mut self, generation: u64, exit: Exit, now: At) -> Out
         requires { self.old.chart.generation + 1 < 2 ^ 64 }
-        ensures gives { MatchesMove (finish_ended_move generation exit now self.old.chart) self.new.chart result }
+        ensures gives { MatchesMove
+            (finish_ended_move generation exit now self.old.chart) self.new.chart result }
         ensures tally { self.new.tally ≡ self.old.tally }
-        ensures agrees { KeepsAgreeing now result.events.items (stands_of self.old) (stands_of self.new) }
+        ensures agrees { KeepsAgreeing now result.events.items (service_view self.old)
+            (service_view self.new) }
     {
         let out = self.chart.finish_ended(generation, exit, now);
         self.status.record_marks(out.events.as_slice(), now);
@@ -207,9 +223,11 @@ impl<A: Allocator + Copy> Service<A> {
     /// `s6-svc`.
     pub fn control(&mut self, letters: &Letters, now: At) -> Out
         requires { self.old.chart.generation + 1 < 2 ^ 64 }
-        ensures gives { MatchesMove (control_move letters.now.items now self.old.chart) self.new.chart result }
+        ensures gives { MatchesMove
+            (control_move letters.now.items now self.old.chart) self.new.chart result }
         ensures tally { self.new.tally ≡ self.old.tally }
-        ensures agrees { KeepsAgreeing now result.events.items (stands_of self.old) (stands_of self.new) }
+        ensures agrees { KeepsAgreeing now result.events.items (service_view self.old)
+            (service_view self.new) }
     {
         let out = self.chart.control(letters, now);
         self.status.record_marks(out.events.as_slice(), now);
@@ -221,7 +239,8 @@ impl<A: Allocator + Copy> Service<A> {
         requires { self.old.chart.generation + 1 < 2 ^ 64 }
         ensures gives { MatchesMove (fire_move now self.old.chart) self.new.chart result }
         ensures tally { self.new.tally ≡ self.old.tally }
-        ensures agrees { KeepsAgreeing now result.events.items (stands_of self.old) (stands_of self.new) }
+        ensures agrees { KeepsAgreeing now result.events.items (service_view self.old)
+            (service_view self.new) }
     {
         let out = self.chart.fire(now);
         self.status.record_marks(out.events.as_slice(), now);
@@ -232,10 +251,14 @@ impl<A: Allocator + Copy> Service<A> {
     /// are the beginning of a word of (`s` (`u` `U`? `d` `O`? `D`)* `x`)*. Page `s6-supervise`, "Events".
     pub fn change(&mut self, change: &Change, now: At) -> Out
         requires { self.old.chart.generation + 1 < 2 ^ 64 }
-        ensures gives { MatchesMove (changed_by change.now now self.old.chart) self.new.chart result }
-        ensures tally { self.new.tally ≡ joined self.old.tally (death_by change.now result.stale now) }
-        ensures grammar { (marks : List Mark) → LeadsTo marks self.old.chart → LeadsTo (marks ++ result.events.items) self.new.chart }
-        ensures agrees { KeepsAgreeing now result.events.items (stands_of self.old) (stands_of self.new) }
+        ensures gives { MatchesMove
+            (changed_by change.now now self.old.chart) self.new.chart result }
+        ensures tally { self.new.tally
+            ≡ tally_with self.old.tally (death_by change.now result.stale now) }
+        ensures grammar { (marks : List Mark) → LeadsTo marks self.old.chart
+            → LeadsTo (marks ++ result.events.items) self.new.chart }
+        ensures agrees { KeepsAgreeing now result.events.items (service_view self.old)
+            (service_view self.new) }
     {
         let out = self.chart.change(change, now);
         self.status.record_marks(out.events.as_slice(), now);
@@ -245,9 +268,11 @@ impl<A: Allocator + Copy> Service<A> {
 
     /// Its directory is listed, or no longer listed. Page `s6-svscan`.
     pub fn set_active(&mut self, active: bool, now: At) -> Out
-        ensures gives { MatchesMove (still (with_activity active now self.old.chart)) self.new.chart result }
+        ensures gives { MatchesMove
+            (no_move (with_activity active now self.old.chart)) self.new.chart result }
         ensures tally { self.new.tally ≡ self.old.tally }
-        ensures agrees { (history : List Moment) → AgreesWith self.old history → AgreesWith self.new history }
+        ensures agrees { (history : List Moment) → AgreesWith self.old history
+            → AgreesWith self.new history }
     {
         self.chart.set_active(active, now);
         Out::new()
@@ -255,9 +280,11 @@ impl<A: Allocator + Copy> Service<A> {
 
     /// Its directory was read again, and says this now; the number of deaths that are kept stays as it was. Page `servicedir`.
     pub fn set_config(&mut self, config: Config) -> Out
-        ensures gives { MatchesMove (still (with_config config self.old.chart)) self.new.chart result }
+        ensures gives { MatchesMove
+            (no_move (with_config config self.old.chart)) self.new.chart result }
         ensures tally { self.new.tally ≡ self.old.tally }
-        ensures agrees { (history : List Moment) → AgreesWith self.old history → AgreesWith self.new history }
+        ensures agrees { (history : List Moment) → AgreesWith self.old history
+            → AgreesWith self.new history }
     {
         self.chart.set_config(config);
         Out::new()

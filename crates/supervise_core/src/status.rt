@@ -1,8 +1,9 @@
+//! What a service stores of its marks, for its status row.
 ghost use Rattle.std.specs.Prelude.{◌≡◌, ℕ, ◌++◌, List};
 ghost use Rattle.s6_events.specs.declared.moment.Moment.{Moment};
 ghost use Rattle.s6_events.specs.Clock.{clock_of};
 ghost use Rattle.s6_events.specs.CurrentLetter.{is_ready_or_done};
-ghost use Rattle.supervise_core.specs.Status.{Agrees, nothing_told, told_at, told_all, events_of};
+ghost use Rattle.supervise_core.specs.Status.{Agrees, no_marks, status_with, status_with_all, mark_moments};
 ghost use Rattle.supervise_core.specs.StatusRow.{row_of, seconds_since, shows_up};
 
 use super::chart::ChartState;
@@ -14,7 +15,7 @@ use s6_events::{At, Mark};
 const SECOND: u64 = 1000;
 
 /// What a service stores of its marks, for its status row. It is copyable, so that the row of a service in the middle of a step is
-/// known before the step is made. This project's own.
+/// known before the step is made.
 #[derive(Clone, Copy, Debug, PartialEq, Eq)]
 pub struct Status {
     /// The last of `u`, `U`, `d` and `D` since the last `s`, or `D`.
@@ -35,7 +36,7 @@ fn seconds_since(now: At, since: Option<At>) -> Option<u64>
 impl Status {
     /// Nothing was told since the supervisor started.
     pub fn new() -> Status
-        ensures { result ≡ nothing_told }
+        ensures { result ≡ no_marks }
     {
         Status {
             letter: Mark::FinishDone,
@@ -46,7 +47,7 @@ impl Status {
 
     /// A mark of the service is told, at a moment.
     pub fn record_mark(&mut self, mark: Mark, now: At)
-        ensures { self.new ≡ told_at now self.old mark }
+        ensures { self.new ≡ status_with now self.old mark }
     {
         match mark {
             Mark::SupervisorStarted => *self = Status::new(),
@@ -64,8 +65,9 @@ impl Status {
 
     /// The marks of a change are told, all at one moment.
     pub fn record_marks(&mut self, marks: &[Mark], now: At)
-        ensures told { self.new ≡ told_all now marks.now self.old }
-        ensures agrees { (sid : ℕ) → (history : List Moment) → Agrees sid self.old history → clock_of history ≡ now → Agrees sid self.new (history ++ events_of sid marks.now) }
+        ensures told { self.new ≡ status_with_all now marks.now self.old }
+        ensures agrees { (sid : ℕ) → (history : List Moment) → Agrees sid self.old history
+            → clock_of history ≡ now → Agrees sid self.new (history ++ mark_moments sid marks.now) }
     {
         for mark in marks {
             self.record_mark(*mark, now);
@@ -74,7 +76,8 @@ impl Status {
 
     /// The row of a service with this chart.
     pub fn row(&self, chart: &ChartState, now: At) -> Row
-        ensures { result ≡ row_of self.now.letter self.now.up_or_down_since self.now.ready_or_done_since now chart.now }
+        ensures { result ≡ row_of self.now.letter self.now.up_or_down_since
+            self.now.ready_or_done_since now chart.now }
     {
         let up = matches!(self.letter, Mark::Spawned | Mark::Ready);
         let ready = matches!(self.letter, Mark::Ready | Mark::FinishDone);

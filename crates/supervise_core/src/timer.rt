@@ -1,5 +1,6 @@
+//! The timer of a service: what it does in each phase.
 ghost use Rattle.std.specs.Prelude.{◌≡◌, ◌+◌, ◌<◌, ◌≤◌, ◌^◌, false, length};
-ghost use Rattle.supervise_core.specs.Timer.{fire as fire_move, timer_rule, is_due};
+ghost use Rattle.supervise_core.specs.Timer.{fire_move, timer_rule, is_due};
 ghost use Rattle.supervise_core.specs.MatchesMove.{MatchesMove, AppendsMove};
 
 use super::chart::ChartState;
@@ -31,7 +32,7 @@ impl ChartState {
         out
     }
 
-    /// `fire`, whose mark and whose order are added to what is in `out`. This project's own.
+    /// `fire`, whose mark and whose order are added to what is in `out`.
     pub fn fire_onto(&mut self, now: At, out: &mut Out)
         requires marks { length out.old.events.items < 4 }
         requires room { length out.old.orders.items < 126 }

@@ -1,5 +1,6 @@
 -- Where the words of svlisten are cut, and what stands on either side.
-use Rattle.std.proofs.Common.{◌≡◌, ◌≤◌, ◌+◌, ◌-◌, ◌∙◌, ℕ, List, [], ◌∷◌, Bool, Some, None, Bor, length, take, drop, ap, ap₂, refl, sym, arith, codes, cond, not, nat_lt}
+use Rattle.std.proofs.Common.{◌≡◌, ◌≤◌, ◌+◌, ◌-◌, ◌∙◌, ℕ, List, [], ◌∷◌, Bool, Some, None, Bor, length, take, drop, ap, ap₂, refl, sym, arith}
+use Rattle.std.proofs.Common.{codes, cond, not, nat_lt}
 use Rattle.std.proofs.lemmas.List.{take-map, drop-map, take_all, drop_all, length-drop}
 use Rattle.std.specs.Option.{unwrap_or}
 use Rattle.std.specs.List.{position, prefix_len}

@@ -1,5 +1,6 @@
 -- One more item of a list of fields.
-use Rattle.std.proofs.Common.{◌≡◌, ◌+◌, ◌++◌, ◌∷◌, [], ◌||◌, ◌∙◌, ℕ, List, Option, Some, None, Bool, true, false, Bor, take, filter_map, is_none, ap, ap₂, sym, refl}
+use Rattle.std.proofs.Common.{◌≡◌, ◌+◌, ◌++◌, ◌∷◌, [], ◌||◌, ◌∙◌, ℕ, List, Option, Some, None, Bool, true, false, Bor, take, filter_map, is_none}
+use Rattle.std.proofs.Common.{ap, ap₂, sym, refl}
 use Rattle.std.proofs.lemmas.List.Elements.{filter_map-append}
 use Rattle.std.proofs.lemmas.List.Folds.{list_any_at, list_any-append}
 use Rattle.std.specs.List.{list_any}

@@ -1,11 +1,13 @@
 -- The first fault of some words, and what they have to be.
-use Rattle.std.proofs.Common.{rules, ◌≡◌, ◌≤◌, ◌+◌, ◌++◌, ◌&&◌, ◌||◌, ◌==◌, ℕ, List, [], ◌∷◌, Bool, true, false, not, cond, Option, Some, None, is_none, length, drop, filter, flat_map, nat_lt, ap, refl, arith}
+use Rattle.std.proofs.Common.{rules, ◌≡◌, ◌≤◌, ◌+◌, ◌++◌, ◌&&◌, ◌||◌, ◌==◌, ℕ, List, [], ◌∷◌, Bool, true, false, not, cond, Option, Some, None}
+use Rattle.std.proofs.Common.{is_none, length, drop, filter, flat_map, nat_lt, ap, refl, arith}
 use Rattle.std.proofs.lemmas.List.{length-append}
 use Rattle.std.specs.List.{list_all}
 use Rattle.std.specs.Prelude.{if◌then◌else◌}
 use Rattle.s6_events.specs.Name.{is_name}
 use Rattle.svc_commands.specs.LetterLaw.{has_some, is_known, IsTakenBySvc, IsTakenBySvscanctl}
-use Rattle.svc_commands.specs.LetterWords.{is_run, names_in, first_told, letter_fault, letters_fault, run_fault, words_fault, svc_letters, scan_letters, name_fault, no_name}
+use Rattle.svc_commands.specs.LetterWords.{is_run, names_in, first_told, letter_fault, letters_fault, run_fault, words_fault, svc_letters}
+use Rattle.svc_commands.specs.LetterWords.{scan_letters, name_fault, no_name}
 use Rattle.svc_commands.specs.declared.usage_fault.UsageFault.{UsageFault}
 use Rattle.svc_commands.specs.declared.usage_fault.UsageFault.TheVariants.{Missing}
 

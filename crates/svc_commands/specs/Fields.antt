@@ -2,7 +2,8 @@
 use Rattle.std.specs.Prelude.{ℕ, List, [], ◌∷◌, Option, codes, find}
 use Rattle.std.specs.Str.{bytes_eq}
 use Rattle.s6_events.specs.declared.field.Field.{Field}
-use Rattle.s6_events.specs.declared.field.Field.TheVariants.{Up, WantedUp, NormallyUp, Ready, Paused, Pid, ExitCode, Signal, UpDownFor, ReadyFor}
+use Rattle.s6_events.specs.declared.field.Field.TheVariants.{Up, WantedUp, NormallyUp, Ready, Paused, Pid, ExitCode}
+use Rattle.s6_events.specs.declared.field.Field.TheVariants.{Signal, UpDownFor, ReadyFor}
 
 -- the name that a field is asked for by
 abbrev pub field_name : Field → List ℕ

@@ -1,11 +1,15 @@
 -- Which fault is told where there are several.
-use Rattle.std.specs.Prelude.{◌≡◌, ◌≢◌, ◌⊎◌, ℕ, List, [], ◌∷◌, ◌||◌, Bool, not, Option, Some, None, length, nat_lt, if◌then◌else◌, is_none, option_to_list}
+use Rattle.std.specs.Prelude.{◌≡◌, ◌≢◌, ◌⊎◌, ℕ, List, [], ◌∷◌, ◌||◌, Bool, not, Option, Some, None, length, nat_lt}
+use Rattle.std.specs.Prelude.{if◌then◌else◌, is_none, option_to_list}
 use Rattle.std.specs.List.{list_all}
 use Rattle.clap.specs.Words.{Kinds, Row}
 use Rattle.s6_events.specs.Name.{is_name}
-use Rattle.svc_commands.specs.Matches.{condition_count, mode_count, is_empty, is_bad_list, is_bad_number, are_bad_exits, list_given, name_given, names_of, timeout_given, secs_given, count_given, exits_given}
+use Rattle.svc_commands.specs.Matches.{condition_count, mode_count, is_empty, is_bad_list, is_bad_number}
+use Rattle.svc_commands.specs.Matches.{are_bad_exits, list_given, name_given, names_of, timeout_given, secs_given}
+use Rattle.svc_commands.specs.Matches.{count_given, exits_given}
 use Rattle.svc_commands.specs.declared.usage_fault.UsageFault.{UsageFault}
-use Rattle.svc_commands.specs.declared.usage_fault.UsageFault.TheVariants.{Unknown, Missing, TooMany, BadNumber, BadList, BadName, NoMemory}
+use Rattle.svc_commands.specs.declared.usage_fault.UsageFault.TheVariants.{Unknown, Missing, TooMany, BadNumber}
+use Rattle.svc_commands.specs.declared.usage_fault.UsageFault.TheVariants.{BadList, BadName, NoMemory}
 
 -- the first fault of the table whose test holds
 abbrev pub first_that_holds : List (Bool × UsageFault) → Option UsageFault
@@ -14,7 +18,8 @@ first_that_holds (row ∷ rows) = if row.0 then Some row.1 else first_that_holds
 
 -- the fault of some names
 abbrev pub names_fault : List (List ℕ) → Option UsageFault
-names_fault names = first_that_holds ((not (list_all is_name names), BadName) ∷ (nat_lt 16 (length names), TooMany) ∷ [])
+names_fault names = first_that_holds
+    ((not (list_all is_name names), BadName) ∷ (nat_lt 16 (length names), TooMany) ∷ [])
 
 -- the fault of what svwait or svlisten was told, where clap took it; a program may be missing
 abbrev pub wait_fault : Bool → List Row → Option UsageFault
@@ -39,7 +44,11 @@ abbrev pub permafail_fault : List Row → Option UsageFault
 permafail_fault rows = first_that_holds (
     (is_bad_number (secs_given rows) || is_bad_number (count_given rows), BadNumber)
     ∷ (are_bad_exits (exits_given rows), BadList)
-    ∷ (is_none (name_given rows) || is_none (secs_given rows) || is_none (count_given rows) || is_none (exits_given rows), Missing)
+    ∷ (
+      is_none (name_given rows) || is_none (secs_given rows) || is_none (count_given rows)
+          || is_none (exits_given rows),
+      Missing,
+    )
     ∷ (not (list_all is_name (option_to_list (name_given rows))), BadName)
     ∷ [])
 

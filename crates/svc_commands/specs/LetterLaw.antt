@@ -2,7 +2,8 @@
 use Rattle.std.specs.Prelude.{◌≡◌, ◌≤◌, ◌↔◌, ◌&&◌, ℕ, List, [], ◌∷◌, Bool, true, false, None, length, drop, filter}
 use Rattle.std.specs.List.{list_all}
 use Rattle.s6_events.specs.Name.{is_name}
-use Rattle.svc_commands.specs.LetterWords.{is_run, letters_in, names_in, svc_letters, svc_fault, scan_letters, scan_fault}
+use Rattle.svc_commands.specs.LetterWords.{is_run, letters_in, names_in, svc_letters, svc_fault, scan_letters}
+use Rattle.svc_commands.specs.LetterWords.{scan_fault}
 
 -- there is something in the list
 abbrev pub has_some : {A : Type 0} → List A → Bool

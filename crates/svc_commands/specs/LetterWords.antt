@@ -1,5 +1,7 @@
 -- The words of svc and svscanctl: runs of letters, and names.
-use Rattle.std.specs.Prelude.{ℕ, List, [], ◌∷◌, ◌+◌, ◌==◌, ◌&&◌, ◌||◌, Bool, true, false, not, Option, Some, None, length, drop, filter, flat_map, option_to_list, slice_index, nat_le, nat_lt, if◌then◌else◌}
+use Rattle.std.specs.Prelude.{ℕ, List, [], ◌∷◌, ◌+◌, ◌==◌, ◌&&◌, ◌||◌, Bool, true, false, not, Option, Some, None}
+use Rattle.std.specs.Prelude.{length, drop, filter, flat_map, option_to_list, slice_index, nat_le, nat_lt}
+use Rattle.std.specs.Prelude.{if◌then◌else◌}
 use Rattle.s6_events.specs.Name.{is_name}
 use Rattle.svc_commands.specs.ControlLetter.{letter_of_byte}
 use Rattle.svc_commands.specs.declared.control_letter.ControlLetter.{ControlLetter}

@@ -1,8 +1,10 @@
 -- The command lines of svwait, svlisten, svstat and permafailon: what clap is told of them, and what is read from its matches.
-use Rattle.std.specs.Prelude.{ℕ, List, [], ◌+◌, ◌==◌, ◌&&◌, Bool, true, false, Option, Some, None, codes, length, drop, take, position, filter_map, nat_lt, is_none, option_and_then, unwrap_or, if◌then◌else◌}
+use Rattle.std.specs.Prelude.{ℕ, List, [], ◌+◌, ◌==◌, ◌&&◌, Bool, true, false, Option, Some, None, codes, length, drop}
+use Rattle.std.specs.Prelude.{take, position, filter_map, nat_lt, is_none, option_and_then, unwrap_or, if◌then◌else◌}
 use Rattle.std.specs.List.{list_any, slice_split}
 use Rattle.std.specs.Str.{bytes_eq}
-use Rattle.clap.specs.Words.{App, Rule, Row, Text, Kinds, new_app, new_rule, with_rule, count_of, first_of, all_of, matches_of, fault_of, is_simple, is_simple_and_free}
+use Rattle.clap.specs.Words.{App, Rule, Row, Text, Kinds, new_app, new_rule, with_rule, count_of, first_of, all_of}
+use Rattle.clap.specs.Words.{matches_of, fault_of, is_simple, is_simple_and_free}
 use Rattle.clap.specs.Simple.{on_top}
 use Rattle.clap.specs.declared.builder.action.ArgAction.TheVariants.{Count, Set, Append}
 use Rattle.s6_events.specs.declared.condition.Condition.{Condition}
@@ -47,7 +49,8 @@ wait_app = with_rule (with_wait_rules (plain_app (codes "svwait"))) names_rule
 
 -- svlisten has -r and -R too
 unfoldable pub listen_app : App
-listen_app = with_rule (with_rule (with_rule (with_wait_rules (plain_app (codes "svlisten"))) (flag_rule (codes "r") 114)) (flag_rule (codes "R") 82)) names_rule
+listen_app = with_rule (with_rule (with_rule (with_wait_rules (plain_app (codes "svlisten")))
+    (flag_rule (codes "r") 114)) (flag_rule (codes "R") 82)) names_rule
 
 -- svstat -o fields name
 unfoldable pub stat_app : App

@@ -1,3 +1,4 @@
+//! The letters of `s6-svc`, and the signals that they stand for.
 ghost use Rattle.std.specs.Prelude.{◌≡◌, ◌==◌, find};
 ghost use Rattle.svc_commands.specs.ControlLetter.{byte_of, letter_of_byte, signal_of};
 
@@ -44,7 +45,7 @@ pub enum ControlLetter {
     Exit,
 }
 
-/// The letters of one call, in the order written: at most 63. Page `s6-svc`; the number is this project's own rule.
+/// The letters of one call, in the order written: at most 63. Page `s6-svc`; the number is chosen here.
 pub type Letters = ArrayVec<ControlLetter, 63>;
 
 /// All control letters.

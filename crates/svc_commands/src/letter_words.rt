@@ -4,7 +4,8 @@ ghost use Rattle.svc_commands.specs.LetterWords.{is_run};
 
 // The letters behind the dash of a run, or None where the word is no run.
 pub fn run_of(word: &[u8]) -> Option<&[u8]>
-    ensures { MatchOption result (is_run word.now ≡ false) (λ run. (is_run word.now ≡ true) × (run.now ≡ drop 1 word.now)) }
+    ensures { MatchOption result (is_run word.now ≡ false)
+        (λ run. (is_run word.now ≡ true) × (run.now ≡ drop 1 word.now)) }
 {
     if word.first() == Some(&b'-') {
         Some(&word[1..])

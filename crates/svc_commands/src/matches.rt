@@ -27,7 +27,8 @@ pub fn with_flag<'a>(
     id: &'a str,
     letter: char,
 ) -> Result<Command<'a>, AllocError>
-    ensures { IfOk result (λ r. app_of r ≡ with_rule (app_of command.entry) (flag_rule id.entry.now letter)) }
+    ensures { IfOk result (λ r. app_of r
+        ≡ with_rule (app_of command.entry) (flag_rule id.entry.now letter)) }
 {
     let flag = Arg::new(alloc, id).short(letter).action(ArgAction::Count);
     command.arg(flag)
@@ -40,7 +41,8 @@ pub fn with_option<'a>(
     id: &'a str,
     letter: char,
 ) -> Result<Command<'a>, AllocError>
-    ensures { IfOk result (λ r. app_of r ≡ with_rule (app_of command.entry) (option_rule id.entry.now letter)) }
+    ensures { IfOk result (λ r. app_of r
+        ≡ with_rule (app_of command.entry) (option_rule id.entry.now letter)) }
 {
     let option = Arg::new(alloc, id).short(letter).action(ArgAction::Set);
     command.arg(option)
@@ -60,7 +62,8 @@ pub fn with_word<'a>(
     command: Command<'a>,
     id: &'a str,
 ) -> Result<Command<'a>, AllocError>
-    ensures { IfOk result (λ r. app_of r ≡ with_rule (app_of command.entry) (word_rule id.entry.now)) }
+    ensures { IfOk result (λ r. app_of r
+        ≡ with_rule (app_of command.entry) (word_rule id.entry.now)) }
 {
     let word = Arg::new(alloc, id).action(ArgAction::Set);
     command.arg(word)
@@ -95,7 +98,8 @@ pub fn matches_in<'a>(
     words: &'a [&'a str],
 ) -> Result<ArgMatches<'a>, UsageFault>
     requires { is_simple_app (app_of command) ≡ true }
-    ensures rows { IfOk result (λ m. rows_of (found_of m) ≡ rows_for (app_of command.entry) (map (λ w. w.now) words.entry.now)) }
+    ensures rows { IfOk result (λ m. rows_of (found_of m)
+        ≡ rows_for (app_of command.entry) (map (λ w. w.now) words.entry.now)) }
     ensures kinds { MatchResult result (λ _. kinds_for (app_of command.entry) (map (λ w. w.now) words.entry.now) ≡ [])
         (IsUsageFault (kinds_for (app_of command.entry) (map (λ w. w.now) words.entry.now))) }
 {
@@ -133,7 +137,8 @@ fn number_written(text: &[u8]) -> Result<u32, UsageFault>
 
 // The names.
 pub fn name_words<'m, 'a>(matches: &'m ArgMatches<'a>) -> Option<&'m [&'a str]>
-    ensures { option_map (λ s. map (λ v. v.now) s.now) result ≡ all_of (codes "names") (rows_of (found_of matches.entry.now)) }
+    ensures { option_map (λ s. map (λ v. v.now) s.now) result
+        ≡ all_of (codes "names") (rows_of (found_of matches.entry.now)) }
 {
     matches.get_strs("names")
 }

@@ -8,7 +8,7 @@ use crate::usage_fault::UsageFault;
 use arrayvec::ArrayVec;
 use s6_events::Name;
 
-/// The names of one wait: at most 16. This project's own rule.
+/// The names of one wait: at most 16.
 pub type Names = ArrayVec<Name, 16>;
 
 // The name that a word is.

@@ -1,3 +1,4 @@
+//! The words of `s6-permafailon`.
 ghost use Rattle.std.specs.Prelude.{◌≡◌, ◌⊎◌, true, false, None, Some, IfOk, MatchResult, map, option_and_then};
 ghost use Rattle.clap.specs.Words.{app_of, rows_of, found_of};
 ghost use Rattle.death_tally.specs.DeathList.{death_list};
@@ -26,7 +27,7 @@ pub struct PermafailCommand {
 /// Reads the words behind `permafailon`: a name, seconds, a count and a list of exits, each told by its place. Unknown where `clap`
 /// refuses the words, as it does a fifth one. Then the first of these is told: BadNumber for seconds or a count that are no
 /// number, BadList for a list that `DeathList::parse` does not take, Missing for fewer than four words, and BadName. NoMemory
-/// where a growth was refused. Page `s6-permafailon`; the name in front and the order of the faults are this project's own rule.
+/// where a growth was refused. Page `s6-permafailon`; the name in front and the order of the faults are chosen here.
 #[tactic(auto, using(crate::proofs::Parses::permafail_is_simple))]
 pub fn compile_permafailon<'a>(
     alloc: Global,

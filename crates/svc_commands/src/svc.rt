@@ -1,3 +1,4 @@
+//! The words of `s6-svc`, letter by letter.
 ghost use Rattle.std.specs.Prelude.{◌≡◌, ◌<◌, ◌≤◌, ◌++◌, ◌∷◌, [], None, Some, length, map, flat_map, is_some, MatchResult};
 ghost use Rattle.svc_commands.specs.LetterWords.{letter_fault, run_fault, name_fault, svc_letters, svc_fault};
 ghost use Rattle.svc_commands.specs.LetterCommands.{IsSvcCommand};
@@ -19,9 +20,10 @@ pub struct SvcCommand {
 /// Reads the words behind `svc`: runs of letters, each behind a dash, and one name, in any order; `o` is `u` and `O`. The first
 /// fault in the order of writing is told: Unknown for a dash alone or a letter that is none, TooMany for a 64th letter or a
 /// second name, BadName for another word that is no name; after all words Missing, where no letter or no name was there. Page
-/// `s6-svc`; the limit and the faults are this project's own rule.
+/// `s6-svc`; the limit and the faults are chosen here.
 pub fn compile_svc(words: &[&str]) -> Result<SvcCommand, UsageFault>
-    ensures { MatchResult result (IsSvcCommand (map (λ w. w.now) words.now)) (λ fault. svc_fault (map (λ w. w.now) words.now) ≡ Some fault) }
+    ensures { MatchResult result (IsSvcCommand (map (λ w. w.now) words.now))
+        (λ fault. svc_fault (map (λ w. w.now) words.now) ≡ Some fault) }
 {
     let mut letters = Letters::new();
     let mut name = None;
@@ -37,7 +39,8 @@ pub fn compile_svc(words: &[&str]) -> Result<SvcCommand, UsageFault>
 // Adds the letters of a run, or takes the name.
 fn read_word(letters: &mut Letters, name: &mut Option<Name>, word: &[u8]) -> Result<(), UsageFault>
     ensures { MatchResult result (λ _. AddsName word.now name.old name.new
-        × IsRead svc_letters name_fault word.now letters.old.items (is_some name.old) letters.new.items (is_some name.new))
+        × IsRead svc_letters name_fault word.now letters.old.items
+        (is_some name.old) letters.new.items (is_some name.new))
         (λ fault. IsRefused svc_letters name_fault word.now letters.old.items (is_some name.old) fault) }
 {
     if let Some(run) = run_of(word) {

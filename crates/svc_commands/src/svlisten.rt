@@ -1,3 +1,4 @@
+//! The words of `s6-svlisten`, up to its program.
 ghost use Rattle.std.specs.Prelude.{◌≡◌, ◌<◌, ◌≤◌, Some, IfOk, IfSome, MatchResult, codes, length, map, position, unwrap_or};
 ghost use Rattle.std.specs.Str.{bytes_eq};
 ghost use Rattle.clap.specs.Words.{app_of};
@@ -20,7 +21,7 @@ pub struct ListenCommand<'a> {
 
 /// Reads the words behind `svlisten`, which are cut at the first `--`: those before it as `compile_svwait` does, with `-r` and
 /// `-R` too, and those after it as a program. The faults are those of `compile_svwait`, in its order; Missing too where there is
-/// no program. Page `s6-svlisten`; the cut, `-r` and `-R` are this project's own rule.
+/// no program. Page `s6-svlisten`; the cut, `-r` and `-R` are chosen here.
 #[tactic(auto, using(crate::proofs::Parses::listen_is_simple))]
 pub fn compile_svlisten<'a>(
     alloc: Global,
@@ -82,7 +83,8 @@ fn after_dashes<'a>(words: &'a [&'a str]) -> &'a [&'a str]
 
 // The place of the first `--`, or the end.
 fn cut_at(words: &[&str]) -> usize
-    ensures place { result ≡ unwrap_or (position (λ w. bytes_eq w.now (codes "--")) words.now) (length words.now) }
+    ensures place { result ≡ unwrap_or (position (λ w. bytes_eq w.now (codes "--")) words.now)
+        (length words.now) }
     ensures bound { result ≤ length words.now }
 {
     match first_dashes(words) {

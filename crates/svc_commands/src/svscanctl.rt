@@ -1,3 +1,4 @@
+//! The words of `s6-svscanctl`, letter by letter.
 ghost use Rattle.std.specs.Prelude.{◌≡◌, ◌<◌, ◌≤◌, ◌++◌, ◌∷◌, [], true, None, Some, length, map, flat_map, MatchResult};
 ghost use Rattle.svc_commands.specs.LetterWords.{letter_fault, run_fault, no_name, scan_letters, scan_fault};
 ghost use Rattle.svc_commands.specs.ReadWords.{IsRead, IsRefused};
@@ -19,7 +20,7 @@ pub enum ScanLetter {
     Terminate,
 }
 
-/// The letters of one call, in the order written: at most 63, as for a service. This project's own rule.
+/// The letters of one call, in the order written: at most 63, as for a service.
 pub type ScanLetters = ArrayVec<ScanLetter, 63>;
 
 /// What the supervisor of a scan directory is told: `letters`, in their order.
@@ -31,9 +32,10 @@ pub struct ScanCommand {
 /// Reads the words behind `svscanctl`: runs of the letters a n h t q, each behind a dash; `h` is `a` and `n`, and `q` is `t`.
 /// The first fault in the order of writing is told: Unknown for a dash alone or another letter, TooMany for a 64th letter or a
 /// word that is no run; after all words Missing, where no letter was there. Page `s6-svscanctl`; the limit, the faults
-/// and what `h` and `q` become are this project's own rule.
+/// and what `h` and `q` become are chosen here.
 pub fn compile_svscanctl(words: &[&str]) -> Result<ScanCommand, UsageFault>
-    ensures { MatchResult result (IsScanCommand (map (λ w. w.now) words.now)) (λ fault. scan_fault (map (λ w. w.now) words.now) ≡ Some fault) }
+    ensures { MatchResult result (IsScanCommand (map (λ w. w.now) words.now))
+        (λ fault. scan_fault (map (λ w. w.now) words.now) ≡ Some fault) }
 {
     let mut letters = ScanLetters::new();
     for word in words {

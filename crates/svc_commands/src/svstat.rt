@@ -1,3 +1,4 @@
+//! The words of `s6-svstat`.
 ghost use Rattle.std.specs.Prelude.{◌≡◌, ◌⊎◌, ◌++◌, ◌∷◌, [], true, false, None, Some, IfOk, MatchResult, find, map};
 ghost use Rattle.std.specs.Str.{bytes_eq};
 ghost use Rattle.clap.specs.Words.{app_of, rows_of, found_of};
@@ -37,7 +38,7 @@ pub struct StatCommand {
 /// Reads the words behind `svstat`: `-o` with a list of fields, one comma between two, and one name. Unknown where `clap`
 /// refuses the words, as it does a second name. Then the first of these is told: BadList for an item that is no field, Missing
 /// for no list or no name, and BadName. NoMemory where a growth was refused. Page `s6-svstat`; the ten fields and the order of
-/// the faults are this project's own rule.
+/// the faults are chosen here.
 #[tactic(auto, using(crate::proofs::Parses::stat_is_simple))]
 pub fn compile_svstat<'a>(alloc: Global, words: &'a [&'a str]) -> Result<StatCommand, UsageFault>
     ensures { let texts = map (λ w. w.now) words.entry.now in
@@ -98,13 +99,15 @@ fn fields_of(alloc: Global, list: &[u8]) -> Result<Vec<Field>, UsageFault>
 
 // The field that an item of a list is.
 fn listed(item: &[u8]) -> Result<Field, UsageFault>
-    ensures { MatchResult result (λ field. field_named item.now ≡ Some field) (λ fault. (field_named item.now ≡ None) × (fault ≡ UsageFault.BadList)) }
+    ensures { MatchResult result (λ field. field_named item.now ≡ Some field)
+        (λ fault. (field_named item.now ≡ None) × (fault ≡ UsageFault.BadList)) }
 {
     field_of(item).ok_or(UsageFault::BadList)
 }
 
 fn add_field(fields: &mut Vec<Field>, field: Field) -> Result<(), UsageFault>
-    ensures { MatchResult result (λ _. fields.new.items ≡ fields.old.items ++ field ∷ []) (λ fault. fault ≡ UsageFault.NoMemory) }
+    ensures { MatchResult result (λ _. fields.new.items ≡ fields.old.items ++ field ∷ [])
+        (λ fault. fault ≡ UsageFault.NoMemory) }
 {
     fields.push(field).map_err(|_| UsageFault::NoMemory)
 }

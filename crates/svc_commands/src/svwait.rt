@@ -1,3 +1,4 @@
+//! The words of `s6-svwait`.
 ghost use Rattle.std.specs.Prelude.{◌≡◌, true, false, None, Some, IfOk, MatchResult, map};
 ghost use Rattle.clap.specs.Words.{app_of, rows_of, found_of};
 ghost use Rattle.svc_commands.specs.FirstFault.{wait_fault, IsTaken, IsRefusal};
@@ -24,7 +25,7 @@ pub struct WaitCommand {
 /// Reads the words behind `svwait`: `-u`, `-U`, `-d` or `-D`, `-a` or `-o`, `-t` with milliseconds, and 1 to 16 names; by default
 /// up, all and no timeout. Unknown where `clap` refuses the words. Then the first of these is told: TooMany for two conditions
 /// or two modes, BadNumber, Missing for no name, BadName, and TooMany for a 17th name. NoMemory where a growth was refused.
-/// Page `s6-svwait`; the order of the faults is this project's own rule.
+/// Page `s6-svwait`; the order of the faults is chosen here.
 #[tactic(auto, using(crate::proofs::Parses::wait_is_simple))]
 pub fn compile_svwait<'a>(alloc: Global, words: &'a [&'a str]) -> Result<WaitCommand, UsageFault>
     ensures { let texts = map (λ w. w.now) words.entry.now in

@@ -1,7 +1,8 @@
+//! Why words make no command.
 use thiserror::Error;
 
 /// Why the words of a command were not read, the first cause that is met. What a command was told then does not happen at all.
-/// The seven and their order are this project's own rule.
+/// The seven and their order are chosen here.
 #[derive(Clone, Copy, Debug, PartialEq, Eq, Error)]
 pub enum UsageFault {
     /// An option or a letter that the command has not, an option without its value or given twice, a dash with no letter, or a

@@ -10,7 +10,7 @@ use Rattle.std.specs.Cmp.Lexicographic.{slice_cmp, texts_ties}
 use Rattle.std.proofs.lemmas.Cmp.{nat_list_cmp_total}
 use Rattle.std.specs.BTreeSet.{insert_key}
 use Rattle.svscan_core.specs.Listing.{in_byte_order}
-use Rattle.svscan_core.specs.Names.{lists, repeats}
+use Rattle.svscan_core.specs.Names.{lists, repeats_name}
 use Rattle.svscan_core.proofs.Truth.{neither_of}
 
 -- the name comes before each of these
@@ -21,17 +21,20 @@ before_more : (k x : List ℕ) (xs : List (List ℕ)) → slice_cmp nat_cmp k x 
 before_more k x [] e h = h
 before_more k x (y ∷ ys) e h = (nat_list_cmp_total.trans k x y e h.0, before_more k x ys e h.1)
 
-before_inserted : (x k : List ℕ) (xs : List (List ℕ)) → slice_cmp nat_cmp x k ≡ Less → IsBefore x xs → IsBefore x (insert_key (slice_cmp nat_cmp) xs k)
+before_inserted : (x k : List ℕ) (xs : List (List ℕ)) → slice_cmp nat_cmp x k ≡ Less → IsBefore x xs
+    → IsBefore x (insert_key (slice_cmp nat_cmp) xs k)
 before_inserted x k [] e h = (e, h)
 before_inserted x k (y ∷ ys) e h = by (slice_cmp nat_cmp k y) (before_inserted x k ys e h.1)
   where
-    by : (o : Ordering) → IsBefore x (insert_key (slice_cmp nat_cmp) ys k) → IsBefore x (match_ordering o (k ∷ y ∷ ys) (y ∷ ys) (y ∷ insert_key (slice_cmp nat_cmp) ys k))
+    by : (o : Ordering) → IsBefore x (insert_key (slice_cmp nat_cmp) ys k)
+        → IsBefore x (match_ordering o (k ∷ y ∷ ys) (y ∷ ys) (y ∷ insert_key (slice_cmp nat_cmp) ys k))
     by Less rest = (e, h)
     by Equal rest = h
     by Greater rest = (h.0, rest)
 
 -- one more name in order keeps the order
-insert_rises : (k : List ℕ) (xs : List (List ℕ)) → IsStrictlySortedBy (slice_cmp nat_cmp) xs → IsStrictlySortedBy (slice_cmp nat_cmp) (insert_key (slice_cmp nat_cmp) xs k)
+insert_rises : (k : List ℕ) (xs : List (List ℕ)) → IsStrictlySortedBy (slice_cmp nat_cmp) xs
+    → IsStrictlySortedBy (slice_cmp nat_cmp) (insert_key (slice_cmp nat_cmp) xs k)
 unfolding IsStrictlySortedBy
 insert_rises k [] s = (s, s)
 insert_rises k (x ∷ xs) s = by (slice_cmp nat_cmp k x) refl (insert_rises k xs s.1)
@@ -42,7 +45,8 @@ insert_rises k (x ∷ xs) s = by (slice_cmp nat_cmp k x) refl (insert_rises k xs
     by Equal e rest = s
     by Greater e rest = (before_inserted x k xs (nat_list_cmp_total.antisymm x k ∙ ap ordering_reverse e) s.0, rest)
 
-all_rise : (names before : List (List ℕ)) → IsStrictlySortedBy (slice_cmp nat_cmp) before → IsStrictlySortedBy (slice_cmp nat_cmp) (fold (insert_key (slice_cmp nat_cmp)) before names)
+all_rise : (names before : List (List ℕ)) → IsStrictlySortedBy (slice_cmp nat_cmp) before
+    → IsStrictlySortedBy (slice_cmp nat_cmp) (fold (insert_key (slice_cmp nat_cmp)) before names)
 all_rise [] before s = s
 all_rise (name ∷ names) before s = all_rise names (insert_key (slice_cmp nat_cmp) before name) (insert_rises name before s)
 
@@ -58,10 +62,10 @@ unlisted : (name : List ℕ) (names : List (List ℕ)) → IsBefore name names �
 unlisted name [] h = refl
 unlisted name (x ∷ names) h = neither_of (bytes_eq name x) _ (apart_of name x h.0) (unlisted name names h.1)
 
-once_rising : (names : List (List ℕ)) → IsStrictlySortedBy (slice_cmp nat_cmp) names → repeats names ≡ false
+once_rising : (names : List (List ℕ)) → IsStrictlySortedBy (slice_cmp nat_cmp) names → repeats_name names ≡ false
 unfolding IsStrictlySortedBy
 once_rising [] s = refl
 once_rising (x ∷ names) s = neither_of (lists names x) _ (unlisted x names s.0) (once_rising names s.1)
 
-pub order_once : (names : List (List ℕ)) → repeats (in_byte_order names) ≡ false
+pub order_once : (names : List (List ℕ)) → repeats_name (in_byte_order names) ≡ false
 order_once names = once_rising (in_byte_order names) (order_rises names)

@@ -1,5 +1,6 @@
 -- A change in place.
-use Rattle.std.proofs.Common.{◌≡◌, ◌≢◌, ◌∙◌, ℕ, zero, suc, false, List, [], ◌∷◌, ◌++◌, slice_get, slice_set, Option, Some, IsSomeAnd, bytes_eq, refl, sym, ap, ap₂, subst}
+use Rattle.std.proofs.Common.{◌≡◌, ◌≢◌, ◌∙◌, ℕ, zero, suc, false, List, [], ◌∷◌, ◌++◌, slice_get, slice_set, Option, Some, IsSomeAnd, bytes_eq}
+use Rattle.std.proofs.Common.{refl, sym, ap, ap₂, subst}
 use Rattle.std.proofs.lemmas.Option.{none-some, same_Some}
 use Rattle.std.proofs.lemmas.Map.Keys.{IsDistinct-head, IsDistinct-tail}
 use Rattle.std.specs.List.{IsDistinct, AllByRecursion}
@@ -29,7 +30,8 @@ slot_at slots (q ∷ ps) (suc i) p h at = slot_at slots ps i p h.1 at
 other_slot : (slots : Slab Supervised) (p : List ℕ × ℕ) (key : ℕ) (s : Supervised) (name : List ℕ) → get slots key ≡ Some s → s.chart.name ≡ name
     → (g : Supervised) × (get slots p.1 ≡ Some g) × (g.chart.name ≡ p.0) → bytes_eq name p.0 ≡ false → key ≢ p.1
 other_slot slots p key s name is named there differs = λ same.
-    apart_of slots p key s name is named (subst (λ (o : Option Supervised). IsSomeAnd o (λ g. g.chart.name ≡ p.0)) (sym there.1) there.2) differs (sym same)
+    apart_of slots p key s name is named (subst (λ (o : Option Supervised). IsSomeAnd o (λ g. g.chart.name ≡ p.0)) (sym there.1) there.2) differs
+    (sym same)
 
 -- a service that takes another state in its slot has it at its place, and every other one stays
 pub changes : (v : Supervised) (old new : Slab Supervised) (ps : Pairs) (i : ℕ) (p : List ℕ × ℕ)

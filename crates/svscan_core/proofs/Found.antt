@@ -12,15 +12,15 @@ use Rattle.supervise_core.specs.declared.change.Change.{Change}
 use Rattle.supervise_core.specs.declared.out.Out.{Out}
 use Rattle.supervise_core.specs.Chart.{changed_by}
 use Rattle.supervise_core.specs.MatchesMove.{MatchesMove}
-use Rattle.supervise_core.specs.Service.{Supervised, Stands, stands_of, adopted, death_by, AgreesWith, KeepsAgreeing}
+use Rattle.supervise_core.specs.Service.{Supervised, ServiceView, service_view, with_view, death_by, AgreesWith, KeepsAgreeing}
 use Rattle.s6_events.specs.declared.exit.Exit.{Exit}
 use Rattle.s6_events.specs.Clock.{clock_of}
 use Rattle.s6_events.specs.declared.moment.Moment.{Moment}
-use Rattle.s6_events.specs.declared.moment.Moment.TheVariants.{Event as EventOf}
+use Rattle.s6_events.specs.declared.moment.Moment.TheVariants as moment
 use Rattle.svscan_core.specs.Deaths.{DeathOf, deaths_after, AllTallied}
-use Rattle.svscan_core.specs.Moves.{event, moment_of, services_after, events_after, orders_after}
+use Rattle.svscan_core.specs.Moves.{service_mark, moment_of, services_after, events_after, orders_after}
 use Rattle.svscan_core.specs.Sound.{AllAgree}
-use Rattle.svscan_core.specs.Work.{changed_at}
+use Rattle.svscan_core.specs.Work.{change_move_at}
 use Rattle.svscan_core.specs.Table.{charts_of, serials_of}
 use Rattle.svscan_core.proofs.Truth.{both_left, both_right, neither_of, neither_left, neither_right}
 use Rattle.svscan_core.proofs.Places.{get_map}
@@ -55,12 +55,14 @@ rises_behind (x ∷ ns) (suc i) zero m n r a b lt = absurd (omega (arith, lt))
 rises_behind (x ∷ ns) (suc i) (suc j) m n r a b lt = rises_behind ns i j m n (both_right _ (is_rising ns) r) a b (omega (arith, lt))
 
 -- the serial of the service at a place
-pub serial_there : (services : List Supervised) (p : ℕ) (s : Supervised) → slice_get services p ≡ Some s → slice_get (serials_of (charts_of services)) p ≡ Some s.chart.sid
+pub serial_there : (services : List Supervised) (p : ℕ) (s : Supervised) → slice_get services p ≡ Some s
+    → slice_get (serials_of (charts_of services)) p ≡ Some s.chart.sid
 serial_there services p s e =
     get_map (λ (c : ChartState). c.sid) (charts_of services) p s.chart (get_map (λ (t : Supervised). t.chart) services p s e)
 
 -- the same, as it is read
-pub serial_read : (services : List Supervised) (p sid : ℕ) (s : Supervised) → Some s ≡ slice_get services p → sid ≡ s.chart.sid → slice_get (serials_of (charts_of services)) p ≡ Some sid
+pub serial_read : (services : List Supervised) (p sid : ℕ) (s : Supervised) → Some s ≡ slice_get services p → sid ≡ s.chart.sid
+    → slice_get (serials_of (charts_of services)) p ≡ Some sid
 serial_read services p sid s e own = serial_there services p s (sym e) ∙ ap Some (sym own)
 
 -- up to a place whose serial is lower, all are; from a place whose serial is higher, all are
@@ -88,53 +90,63 @@ in_the_middle low high lt =
     omega (arith, lt, half)
 
 -- no place has the serial
-pub none_there : (services : List Supervised) (sid : ℕ) → ((p n : ℕ) → slice_get (serials_of (charts_of services)) p ≡ Some n → n ≢ sid) → list_any (λ s. s.chart.sid == sid) services ≡ false
+pub none_there : (services : List Supervised) (sid : ℕ) → ((p n : ℕ) → slice_get (serials_of (charts_of services)) p ≡ Some n → n ≢ sid)
+    → list_any (λ s. s.chart.sid == sid) services ≡ false
 none_there [] sid h = refl
 none_there (s ∷ services) sid h =
     neither_of (s.chart.sid == sid) _ (other s.chart.sid sid (h zero s.chart.sid refl)) (none_there services sid (λ p n e. h (suc p) n e))
 
 -- the place of a serial is not empty
-pub not_empty : (services : List Supervised) (p sid : ℕ) → slice_get (serials_of (charts_of services)) p ≡ Some sid → None ≡ slice_get services p → ⊥
+pub not_empty : (services : List Supervised) (p sid : ℕ) → slice_get (serials_of (charts_of services)) p ≡ Some sid → None ≡ slice_get services p
+    → ⊥
 not_empty [] p sid e none = search rules
 not_empty (s ∷ services) zero sid e none = search rules
 not_empty (s ∷ services) (suc p) sid e none = not_empty services p sid e none
 
 -- the service there has the serial
-pub own_serial : (services : List Supervised) (p sid : ℕ) (s : Supervised) → slice_get (serials_of (charts_of services)) p ≡ Some sid → slice_get services p ≡ Some s → s.chart.sid ≡ sid
+pub own_serial : (services : List Supervised) (p sid : ℕ) (s : Supervised) → slice_get (serials_of (charts_of services)) p ≡ Some sid
+    → slice_get services p ≡ Some s → s.chart.sid ≡ sid
 own_serial services p sid s e there = unsome s.chart.sid sid (sym (serial_there services p s there) ∙ e)
 
 -- the same of the states alone
-pub any_chart : (services : List Supervised) (sid : ℕ) → list_any (λ c. c.sid == sid) (charts_of services) ≡ list_any (λ s. s.chart.sid == sid) services
+pub any_chart : (services : List Supervised) (sid : ℕ)
+    → list_any (λ c. c.sid == sid) (charts_of services) ≡ list_any (λ s. s.chart.sid == sid) services
 any_chart [] sid = refl
 any_chart (s ∷ services) sid = ap (λ b. (s.chart.sid == sid) || b) (any_chart services sid)
 
 -- the first service of a name, by its state
 pub find_chart : (name : List ℕ) (services : List Supervised)
-    → option_map (λ c. c.sid) (find (λ c. bytes_eq name c.name) (charts_of services)) ≡ option_map (λ s. s.chart.sid) (find (λ s. bytes_eq name s.chart.name) services)
+    → option_map (λ c. c.sid) (find (λ c. bytes_eq name c.name) (charts_of services))
+    ≡ option_map (λ s. s.chart.sid) (find (λ s. bytes_eq name s.chart.name) services)
 find_chart name [] = refl
 find_chart name (s ∷ services) = step (bytes_eq name s.chart.name) (find_chart name services)
   where
-    step : (b : Bool) → option_map (λ c. c.sid) (find (λ c. bytes_eq name c.name) (charts_of services)) ≡ option_map (λ t. t.chart.sid) (find (λ t. bytes_eq name t.chart.name) services)
+    step : (b : Bool) → option_map (λ c. c.sid) (find (λ c. bytes_eq name c.name) (charts_of services))
+        ≡ option_map (λ t. t.chart.sid) (find (λ t. bytes_eq name t.chart.name) services)
         → option_map (λ c. c.sid) (cond b (Some s.chart) (find (λ c. bytes_eq name c.name) (charts_of services)))
         ≡ option_map (λ t. t.chart.sid) (cond b (Some s) (find (λ t. bytes_eq name t.chart.name) services))
     step true rest = refl
     step false rest = rest
 
 -- the service of a serial is that at its place
-pub find_there : (services : List Supervised) (p sid : ℕ) → is_rising (serials_of (charts_of services)) ≡ true → slice_get (serials_of (charts_of services)) p ≡ Some sid
+pub find_there : (services : List Supervised) (p sid : ℕ) → is_rising (serials_of (charts_of services)) ≡ true
+    → slice_get (serials_of (charts_of services)) p ≡ Some sid
     → find (λ s. s.chart.sid == sid) services ≡ slice_get services p
 find_there [] p sid r e = search rules
 find_there (s ∷ services) zero sid r e =
     ap (λ b. cond b (Some s) (find (λ t. t.chart.sid == sid) services)) (ap (λ n. n == sid) (unsome s.chart.sid sid e) ∙ itself sid)
 find_there (s ∷ services) (suc p) sid r e =
     ap (λ b. cond b (Some s) (find (λ t. t.chart.sid == sid) services))
-    (earlier_other s.chart.sid sid (above_place s.chart.sid (serials_of (charts_of services)) p sid (both_left _ (is_rising (serials_of (charts_of services))) r) e))
+    (earlier_other s.chart.sid sid (above_place s.chart.sid (serials_of (charts_of services)) p sid
+    (both_left _ (is_rising (serials_of (charts_of services))) r) e))
     ∙ find_there services p sid (both_right _ (is_rising (serials_of (charts_of services))) r) e
 
-pub find_none : (services : List Supervised) (sid : ℕ) → list_any (λ s. s.chart.sid == sid) services ≡ false → find (λ s. s.chart.sid == sid) services ≡ None
+pub find_none : (services : List Supervised) (sid : ℕ) → list_any (λ s. s.chart.sid == sid) services ≡ false
+    → find (λ s. s.chart.sid == sid) services ≡ None
 find_none [] sid h = refl
 find_none (s ∷ services) sid h =
-    ap (λ b. cond b (Some s) (find (λ t. t.chart.sid == sid) services)) (neither_left (s.chart.sid == sid) _ h) ∙ find_none services sid (neither_right (s.chart.sid == sid) _ h)
+    ap (λ b. cond b (Some s) (find (λ t. t.chart.sid == sid) services)) (neither_left (s.chart.sid == sid) _ h)
+    ∙ find_none services sid (neither_right (s.chart.sid == sid) _ h)
 
 -- what is true of all is true at a place
 pub all_at : {X : Type 0} (P : X → Type 0) (xs : List X) (p : ℕ) (x : X) → All P xs → slice_get xs p ≡ Some x → P x
@@ -144,40 +156,53 @@ all_at P (y ∷ xs) (suc p) x h e = all_at P xs p x (all_later P y xs h) e
 
 -- the service of a serial took a change
 pub record IsChanged (sid now : ℕ) (change : Change) (old new : List Supervised) (out : Out) : Type 0 where
-  pub services : charts_of new ≡ services_after (changed_at sid change now) (charts_of old)
-  pub events : map (event sid) out.events.items ≡ events_after (changed_at sid change now) (charts_of old)
-  pub orders : out.orders.items ≡ orders_after (changed_at sid change now) (charts_of old)
-  pub stale : out.stale ≡ list_any (λ c. (changed_at sid change now c).stale) (charts_of old)
-  pub agrees : (history : List Moment) → clock_of history ≡ now → AllAgree old history → AllAgree new (history ++ map moment_of (map (event sid) out.events.items))
-  pub tallies : (deaths : List DeathOf) → AllTallied old deaths → AllTallied new (deaths ++ deaths_after (changed_at sid change now) (charts_of old))
+  pub services : charts_of new ≡ services_after (change_move_at sid change now) (charts_of old)
+  pub events : map (service_mark sid) out.events.items ≡ events_after (change_move_at sid change now) (charts_of old)
+  pub orders : out.orders.items ≡ orders_after (change_move_at sid change now) (charts_of old)
+  pub stale : out.stale ≡ list_any (λ c. (change_move_at sid change now c).stale) (charts_of old)
+  pub agrees : (history : List Moment) → clock_of history ≡ now → AllAgree old history
+      → AllAgree new (history ++ map moment_of (map (service_mark sid) out.events.items))
+  pub tallies : (deaths : List DeathOf) → AllTallied old deaths
+      → AllTallied new (deaths ++ deaths_after (change_move_at sid change now) (charts_of old))
 
-set_there : (sid now : ℕ) (change : Change) (services : List Supervised) (p : ℕ) (before : Supervised) (after : Stands) (death : Option (ℕ × Exit)) (out : Out)
-    → is_rising (serials_of (charts_of services)) ≡ true → slice_get (serials_of (charts_of services)) p ≡ Some sid → slice_get services p ≡ Some before
-    → MatchesMove (changed_by change now before.chart) after.chart out → KeepsAgreeing now out.events.items (stands_of before) after → after.chart.sid ≡ before.chart.sid
-    → death ≡ death_by change out.stale now → IsChanged sid now change services (slice_set services p (adopted after death before)) out
+set_there : (sid now : ℕ) (change : Change) (services : List Supervised) (p : ℕ) (before : Supervised) (after : ServiceView)
+    (death : Option (ℕ × Exit)) (out : Out)
+    → is_rising (serials_of (charts_of services)) ≡ true → slice_get (serials_of (charts_of services)) p ≡ Some sid
+    → slice_get services p ≡ Some before
+    → MatchesMove (changed_by change now before.chart) after.chart out → KeepsAgreeing now out.events.items (service_view before) after
+    → after.chart.sid ≡ before.chart.sid
+    → death ≡ death_by change out.stale now → IsChanged sid now change services (slice_set services p (with_view after death before)) out
 set_there sid now change services p before after death out r e there gives keeps same told =
-    let now_there = adopted after death before in
+    let now_there = with_view after death before in
     let own : before.chart.sid ≡ sid = own_serial services p sid before e there in
-    let one = one_reported sid change now (charts_of services) p before.chart r (get_map (λ (s : Supervised). s.chart) services p before there) own in
+    let one = one_reported sid change now (charts_of services) p before.chart r
+    (get_map (λ (s : Supervised). s.chart) services p before there) own in
     let marks = out.events.items in
     record {
-      services = map-set (λ (s : Supervised). s.chart) services p now_there ∙ (ap (λ c. slice_set (charts_of services) p c) gives.chart ∙ sym one.services);
-      events = ap (λ ms. map (event sid) ms) gives.marks
-          ∙ (ap (λ n. map (event n) (changed_by change now before.chart).marks) (sym own) ∙ sym one.events);
+      services = map-set (λ (s : Supervised). s.chart) services p now_there
+          ∙ (ap (λ c. slice_set (charts_of services) p c) gives.chart ∙ sym one.services);
+      events = ap (λ ms. map (service_mark sid) ms) gives.marks
+          ∙ (ap (λ n. map (service_mark n) (changed_by change now before.chart).marks) (sym own) ∙ sym one.events);
       orders = gives.orders ∙ sym one.orders;
       stale = gives.stale ∙ sym one.stale;
       agrees = λ h at all.
           subst (λ (ms : List Moment). AllAgree (slice_set services p now_there) (h ++ ms))
-          (ap (λ n. map (λ mark. EventOf n mark) marks) own ∙ sym (moments_of_marks sid marks))
-          (place_agrees now p services before now_there marks h there same r (keeps h at (all_at (λ (s : Supervised). AgreesWith s h) services p before all there)) all);
+          (ap (λ n. map (λ mark. moment.Event n mark) marks) own ∙ sym (moments_of_marks sid marks))
+          (place_agrees now p services before now_there marks h there same r
+          (keeps h at (all_at (λ (s : Supervised). AgreesWith s h) services p before all there)) all);
       tallies = λ deaths all.
           subst (λ (ds : List DeathOf). AllTallied (slice_set services p now_there) (deaths ++ ds)) (sym one.deaths)
-          (place_tallied p services before after (changed_by change now before.chart) death deaths there gives.chart same (change_joins change now before.chart out.stale death gives.stale told) r all);
+          (place_tallied p services before after (changed_by change now before.chart) death deaths there gives.chart same
+          (change_joins change now before.chart out.stale death gives.stale told) r all);
     }
 
-pub changed_there : (sid now : ℕ) (change : Change) (services new : List Supervised) (p : ℕ) (before : Supervised) (after : Stands) (death : Option (ℕ × Exit)) (out : Out)
-    → is_rising (serials_of (charts_of services)) ≡ true → slice_get (serials_of (charts_of services)) p ≡ Some sid → slice_get services p ≡ Some before
-    → MatchesMove (changed_by change now before.chart) after.chart out → KeepsAgreeing now out.events.items (stands_of before) after → after.chart.sid ≡ before.chart.sid
-    → death ≡ death_by change out.stale now → new ≡ slice_set services p (adopted after death before) → IsChanged sid now change services new out
+pub changed_there : (sid now : ℕ) (change : Change) (services new : List Supervised) (p : ℕ) (before : Supervised) (after : ServiceView)
+    (death : Option (ℕ × Exit)) (out : Out)
+    → is_rising (serials_of (charts_of services)) ≡ true → slice_get (serials_of (charts_of services)) p ≡ Some sid
+    → slice_get services p ≡ Some before
+    → MatchesMove (changed_by change now before.chart) after.chart out → KeepsAgreeing now out.events.items (service_view before) after
+    → after.chart.sid ≡ before.chart.sid
+    → death ≡ death_by change out.stale now → new ≡ slice_set services p (with_view after death before) → IsChanged sid now change services new out
 changed_there sid now change services new p before after death out r e there gives keeps same told is =
-    subst (λ (x : List Supervised). IsChanged sid now change services x out) (sym is) (set_there sid now change services p before after death out r e there gives keeps same told)
+    subst (λ (x : List Supervised). IsChanged sid now change services x out) (sym is)
+    (set_there sid now change services p before after death out r e there gives keeps same told)

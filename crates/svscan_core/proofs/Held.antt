@@ -1,5 +1,7 @@
 -- The services in the slots that an index names.
-use Rattle.std.proofs.Common.{◌≡◌, ◌≢◌, ◌∙◌, ℕ, zero, suc, Bool, true, false, cond, ◌||◌, List, [], ◌∷◌, ◌++◌, length, find, slice_get, Option, None, Some, is_some, IsSomeAnd, option_and_then, bytes_eq, refl, sym, ap, ap₂, subst, arith, append_assoc, true≢false}
+use Rattle.std.proofs.Common.{◌≡◌, ◌≢◌, ◌∙◌, ℕ, zero, suc, Bool, true, false, cond, ◌||◌, List, [], ◌∷◌, ◌++◌, length, find, slice_get, Option}
+use Rattle.std.proofs.Common.{None, Some, is_some, IsSomeAnd, option_and_then, bytes_eq, refl, sym, ap, ap₂, subst, arith, append_assoc}
+use Rattle.std.proofs.Common.{true≢false}
 use Rattle.std.proofs.lemmas.Option.{none-some}
 use Rattle.std.proofs.lemmas.Map.Keys.{IsDistinct-head, IsDistinct-tail}
 use Rattle.std.specs.List.{IsDistinct, AllByRecursion, list_any}
@@ -7,7 +9,7 @@ use Rattle.std.specs.Option.{option_to_list}
 use Rattle.std.specs.Map.{lookup, keys_of}
 use Rattle.slab.specs.Slab.{Slab, get, Updates}
 use Rattle.supervise_core.specs.Service.{Supervised}
-use Rattle.svscan_core.specs.Names.{lists, repeats}
+use Rattle.svscan_core.specs.Names.{lists, repeats_name}
 use Rattle.svscan_core.specs.Table.{charts_of, names_of}
 use Rattle.svscan_core.specs.SlotFields.{services_in, AreHeld}
 
@@ -41,7 +43,7 @@ unlisted : (name : List ℕ) (names : List (List ℕ)) → AllByRecursion (λ y.
 unlisted name [] all = refl
 unlisted name (x ∷ names) all = ap₂ (λ a b. a || b) all.0 (unlisted name names all.1)
 
-pub distinct_names : (names : List (List ℕ)) → IsDistinct bytes_eq names → repeats names ≡ false
+pub distinct_names : (names : List (List ℕ)) → IsDistinct bytes_eq names → repeats_name names ≡ false
 distinct_names [] d = refl
 distinct_names (x ∷ names) d =
     ap₂ (λ a b. a || b) (unlisted x names (IsDistinct-head bytes_eq x names d)) (distinct_names names (IsDistinct-tail bytes_eq x names d))
@@ -88,7 +90,8 @@ absent slots ps name h none = by (lookup (bytes_eq name) ps) (sym (any_named slo
     by (Some k) e = absurd (true≢false e)
 
 -- a service in a slot that was vacant leaves the others
-services_in-kept : (old new : Slab Supervised) (key : ℕ) (v : Supervised) (ps : Pairs) → Updates old new key (Some v) → get old key ≡ None → AreHeld old ps
+services_in-kept : (old new : Slab Supervised) (key : ℕ) (v : Supervised) (ps : Pairs) → Updates old new key (Some v) → get old key ≡ None
+    → AreHeld old ps
     → (services_in new ps ≡ services_in old ps) × AreHeld new ps
 services_in-kept old new key v [] u none h = (refl, tt)
 services_in-kept old new key v (p ∷ ps) u none h =
@@ -113,7 +116,8 @@ AreHeld-push slots [] name key s is named h =
 AreHeld-push slots (p ∷ ps) name key s is named h = (h.0, AreHeld-push slots ps name key s is named h.1)
 
 -- one more under a new name goes last
-pub adds : (old new : Slab Supervised) (ps qs : Pairs) (key : ℕ) (s : Supervised) → Updates old new key (Some s) → get old key ≡ None → AreHeld old ps
+pub adds : (old new : Slab Supervised) (ps qs : Pairs) (key : ℕ) (s : Supervised) → Updates old new key (Some s) → get old key ≡ None
+    → AreHeld old ps
     → qs ≡ ps ++ (s.chart.name, key) ∷ [] → (services_in new qs ≡ services_in old ps ++ s ∷ []) × AreHeld new qs
 adds old new ps qs key s u vacant held q =
     let kept = services_in-kept old new key s ps u vacant held in (

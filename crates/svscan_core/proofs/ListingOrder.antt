@@ -10,7 +10,7 @@ use Rattle.std.specs.declared.cmp.Ordering.TheVariants.{Less, Equal, Greater}
 use Rattle.std.specs.Cmp.Lexicographic.{slice_cmp, texts_ties, bytes_decides, nat_list_eq_equiv}
 use Rattle.std.specs.BTreeSet.{insert_key}
 use Rattle.svscan_core.specs.Listing.{in_byte_order}
-use Rattle.svscan_core.specs.Names.{lists, repeats}
+use Rattle.svscan_core.specs.Names.{lists, repeats_name}
 
 or_twice : (a b : Bool) → (b || a) ≡ (b || (b || a))
 or_twice a true = refl
@@ -30,17 +30,22 @@ same_name : (k x : List ℕ) → slice_cmp nat_cmp k x ≡ Equal → k ≡ x
 same_name k x e = (bytes_decides k x).0 (texts_ties k x ∙ ap is_eq e)
 
 -- a name is among the names where another one was put in order, where it is that one or was there
-in_order-found : (q k : List ℕ) (ks : List (List ℕ)) → list_any (bytes_eq q) (insert_key (slice_cmp nat_cmp) ks k) ≡ (bytes_eq q k || list_any (bytes_eq q) ks)
+in_order-found : (q k : List ℕ) (ks : List (List ℕ))
+    → list_any (bytes_eq q) (insert_key (slice_cmp nat_cmp) ks k) ≡ (bytes_eq q k || list_any (bytes_eq q) ks)
 in_order-found q k [] = refl
 in_order-found q k (x ∷ xs) = by_order (slice_cmp nat_cmp k x) refl (in_order-found q k xs)
   where
-    by_order : (o : Ordering) → slice_cmp nat_cmp k x ≡ o → list_any (bytes_eq q) (insert_key (slice_cmp nat_cmp) xs k) ≡ (bytes_eq q k || list_any (bytes_eq q) xs)
-        → list_any (bytes_eq q) (match_ordering o (k ∷ x ∷ xs) (x ∷ xs) (x ∷ insert_key (slice_cmp nat_cmp) xs k)) ≡ (bytes_eq q k || (bytes_eq q x || list_any (bytes_eq q) xs))
+    by_order : (o : Ordering) → slice_cmp nat_cmp k x ≡ o
+        → list_any (bytes_eq q) (insert_key (slice_cmp nat_cmp) xs k) ≡ (bytes_eq q k || list_any (bytes_eq q) xs)
+        → list_any (bytes_eq q) (match_ordering o (k ∷ x ∷ xs) (x ∷ xs) (x ∷ insert_key (slice_cmp nat_cmp) xs k))
+        ≡ (bytes_eq q k || (bytes_eq q x || list_any (bytes_eq q) xs))
     by_order Less e rest = refl
-    by_order Equal e rest = or_twice (list_any (bytes_eq q) xs) (bytes_eq q x) ∙ ap (λ n. bytes_eq q n || (bytes_eq q x || list_any (bytes_eq q) xs)) (sym (same_name k x e))
+    by_order Equal e rest = or_twice (list_any (bytes_eq q) xs) (bytes_eq q x)
+        ∙ ap (λ n. bytes_eq q n || (bytes_eq q x || list_any (bytes_eq q) xs)) (sym (same_name k x e))
     by_order Greater e rest = ap (λ b. bytes_eq q x || b) rest ∙ or_swap (bytes_eq q x) (bytes_eq q k) (list_any (bytes_eq q) xs)
 
-pub all_found : (q : List ℕ) (ks names : List (List ℕ)) → list_any (bytes_eq q) (fold (insert_key (slice_cmp nat_cmp)) ks names) ≡ (list_any (bytes_eq q) ks || list_any (bytes_eq q) names)
+pub all_found : (q : List ℕ) (ks names : List (List ℕ))
+    → list_any (bytes_eq q) (fold (insert_key (slice_cmp nat_cmp)) ks names) ≡ (list_any (bytes_eq q) ks || list_any (bytes_eq q) names)
 all_found q ks [] = or_none (list_any (bytes_eq q) ks)
   where
     or_none : (a : Bool) → a ≡ (a || false)
@@ -68,12 +73,12 @@ listed_last [] x q = or_false (bytes_eq q x)
 listed_last (n ∷ names) x q = ap (λ b. bytes_eq q n || b) (listed_last names x q) ∙ sym (or_joined (bytes_eq q n) (lists names q) (bytes_eq q x))
 
 -- one more name is there twice where it was listed before
-pub repeats_last : (names : List (List ℕ)) (x : List ℕ) → repeats (names ++ x ∷ []) ≡ (repeats names || lists names x)
+pub repeats_last : (names : List (List ℕ)) (x : List ℕ) → repeats_name (names ++ x ∷ []) ≡ (repeats_name names || lists names x)
 repeats_last [] x = refl
 repeats_last (n ∷ names) x =
     (λ i. listed_last names x n i || repeats_last names x i)
-    ∙ (ap (λ b. (lists names n || b) || (repeats names || lists names x)) (same_both_ways n x)
-    ∙ regrouped (lists names n) (bytes_eq x n) (repeats names) (lists names x))
+    ∙ (ap (λ b. (lists names n || b) || (repeats_name names || lists names x)) (same_both_ways n x)
+    ∙ regrouped (lists names n) (bytes_eq x n) (repeats_name names) (lists names x))
   where
     regrouped : (a b c d : Bool) → ((a || b) || (c || d)) ≡ ((a || c) || (b || d))
     regrouped true b c d = refl
@@ -82,11 +87,13 @@ repeats_last (n ∷ names) x =
     regrouped false false c d = refl
 
 -- the first i + 1 names are the first i and the name at i
-more_names : (listing : List (List ℕ)) (i : ℕ) (name : List ℕ) → i < length listing → name ≡ get_or listing i name → take (i + 1) listing ≡ take i listing ++ name ∷ []
+more_names : (listing : List (List ℕ)) (i : ℕ) (name : List ℕ) → i < length listing → name ≡ get_or listing i name
+    → take (i + 1) listing ≡ take i listing ++ name ∷ []
 more_names listing i name lt at = take_more listing i name lt ∙ ap (λ n. take i listing ++ n ∷ []) (sym at)
 
 -- one more name in order
-pub order_more : (listing : List (List ℕ)) (i : ℕ) (name : List ℕ) (before : List (List ℕ)) → i < length listing → name ≡ get_or listing i name → before ≡ in_byte_order (take i listing)
+pub order_more : (listing : List (List ℕ)) (i : ℕ) (name : List ℕ) (before : List (List ℕ)) → i < length listing → name ≡ get_or listing i name
+    → before ≡ in_byte_order (take i listing)
     → insert_key (slice_cmp nat_cmp) before name ≡ in_byte_order (take (i + 1) listing)
 order_more listing i name before lt at was =
     ap (λ b. insert_key (slice_cmp nat_cmp) b name) was
@@ -98,13 +105,15 @@ twice true = refl
 twice false = refl
 
 -- one more name, and whether it was there before
-pub repeats_more : (listing : List (List ℕ)) (i : ℕ) (name : List ℕ) (before : List (List ℕ)) (was added : Bool) → i < length listing → name ≡ get_or listing i name
-    → before ≡ in_byte_order (take i listing) → was ≡ repeats (take i listing) → added ≡ not (list_any (λ k. is_eq (slice_cmp nat_cmp name k)) before)
-    → (was || not added) ≡ repeats (take (i + 1) listing)
+pub repeats_more : (listing : List (List ℕ)) (i : ℕ) (name : List ℕ) (before : List (List ℕ)) (was added : Bool) → i < length listing
+    → name ≡ get_or listing i name
+    → before ≡ in_byte_order (take i listing) → was ≡ repeats_name (take i listing)
+    → added ≡ not (list_any (λ k. is_eq (slice_cmp nat_cmp name k)) before)
+    → (was || not added) ≡ repeats_name (take (i + 1) listing)
 repeats_more listing i name before was added lt at names seen new =
     (λ j. seen j || not (new j))
-    ∙ (ap (λ b. repeats (take i listing) || b) (twice (list_any (λ k. is_eq (slice_cmp nat_cmp name k)) before))
-    ∙ (ap (λ b. repeats (take i listing) || list_any (λ k. is_eq (slice_cmp nat_cmp name k)) b) names
-    ∙ (ap (λ b. repeats (take i listing) || b) (listed_before (take i listing) name)
+    ∙ (ap (λ b. repeats_name (take i listing) || b) (twice (list_any (λ k. is_eq (slice_cmp nat_cmp name k)) before))
+    ∙ (ap (λ b. repeats_name (take i listing) || list_any (λ k. is_eq (slice_cmp nat_cmp name k)) b) names
+    ∙ (ap (λ b. repeats_name (take i listing) || b) (listed_before (take i listing) name)
     ∙ (sym (repeats_last (take i listing) name)
-    ∙ ap repeats (sym (more_names listing i name lt at))))))
+    ∙ ap repeats_name (sym (more_names listing i name lt at))))))

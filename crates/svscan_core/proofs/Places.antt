@@ -1,5 +1,6 @@
 -- What stands at a place of a list.
-use Rattle.std.proofs.Common.{◌≡◌, ◌≢◌, ℕ, zero, suc, ◌<◌, List, [], ◌∷◌, refl, sym, ◌∙◌, ap, rules, arith, map, flat_map, take, drop, length, ◌++◌, append-nil, append_assoc}
+use Rattle.std.proofs.Common.{◌≡◌, ◌≢◌, ℕ, zero, suc, ◌<◌, List, [], ◌∷◌, refl, sym, ◌∙◌, ap, rules, arith, map, flat_map, take, drop, length}
+use Rattle.std.proofs.Common.{◌++◌, append-nil, append_assoc}
 use Rattle.std.specs.Prelude.{Option, Some, None, slice_get, slice_set, unwrap_or}
 
 pub get_map : {X Y : Type 0} (f : X → Y) (xs : List X) (p : ℕ) (x : X) → slice_get xs p ≡ Some x → slice_get (map f xs) p ≡ Some (f x)
@@ -39,7 +40,8 @@ half_get f zero (x ∷ xs) = refl
 half_get f (suc p) [] = refl
 half_get f (suc p) (x ∷ xs) = half_get f p xs
 
-pub half_set : {X : Type 0} (f : X → X) (p : ℕ) (xs : List X) (x : X) → slice_get xs p ≡ Some x → slice_set (half f p xs) p (f x) ≡ half f (suc p) xs
+pub half_set : {X : Type 0} (f : X → X) (p : ℕ) (xs : List X) (x : X) → slice_get xs p ≡ Some x
+    → slice_set (half f p xs) p (f x) ≡ half f (suc p) xs
 half_set f zero [] x e = search rules
 half_set f zero (y ∷ xs) x e = ap (λ z. f z ∷ xs) (sym (ap (λ o. unwrap_or o y) e))
 half_set f (suc p) [] x e = search rules
@@ -50,7 +52,8 @@ half_all f [] = refl
 half_all f (x ∷ xs) = ap (λ zs. f x ∷ zs) (half_all f xs)
 
 -- one more element of a list of lists
-pub flat_more : {X Y : Type 0} (f : X → List Y) (p : ℕ) (xs : List X) (x : X) → slice_get xs p ≡ Some x → flat_map f (take (suc p) xs) ≡ flat_map f (take p xs) ++ f x
+pub flat_more : {X Y : Type 0} (f : X → List Y) (p : ℕ) (xs : List X) (x : X) → slice_get xs p ≡ Some x
+    → flat_map f (take (suc p) xs) ≡ flat_map f (take p xs) ++ f x
 flat_more f zero [] x e = search rules
 flat_more f zero (y ∷ xs) x e = append-nil (f y) ∙ ap f (ap (λ o. unwrap_or o y) e)
 flat_more f (suc p) [] x e = search rules

@@ -3,17 +3,17 @@ use Rattle.std.proofs.Common.{rules, ◌≡◌, ◌∙◌, ◌≤◌, ℕ, List,
 use Rattle.std.specs.Prelude.{Result, Ok, Err, OnOk, IsOk}
 use Rattle.supervise_core.specs.Service.{Supervised}
 use Rattle.svscan_core.specs.declared.pending.Pending.{Pending}
-use Rattle.svscan_core.specs.declared.moves.Touched.{Touched}
-use Rattle.svscan_core.specs.Moving.{KeepNames, with_touched}
-use Rattle.svscan_core.specs.Pending.{prepared_of, IsBlank}
-use Rattle.svscan_core.specs.Registry.{Prepared, worked_of}
+use Rattle.svscan_core.specs.declared.moves.ChangedService.{ChangedService}
+use Rattle.svscan_core.specs.Moving.{KeepNames, with_changes}
+use Rattle.svscan_core.specs.Pending.{registry_prepared, IsBlank}
+use Rattle.svscan_core.specs.Registry.{RegistryPrepared, result_of}
 use Rattle.svscan_core.specs.RegistryFields.{IsSoundTable}
 use Rattle.svscan_core.specs.Sound.{IsSound}
 use Rattle.svscan_core.specs.Table.{charts_of}
 use Rattle.supervise_core.specs.declared.change.Change.{Change}
 use Rattle.supervise_core.specs.declared.chart.ChartState.{ChartState}
 use Rattle.svscan_core.specs.Moves.{services_after}
-use Rattle.svscan_core.specs.Work.{Work, Worked, changed_at, stepped, worked}
+use Rattle.svscan_core.specs.Work.{Work, WorkResult, change_move_at, step_result, work_result}
 use Rattle.svscan_core.specs.Work.Work.{change_one}
 use Rattle.svscan_core.proofs.Few.{step_few, work_few}
 use Rattle.svscan_core.proofs.Names.{step_names, work_names}
@@ -25,20 +25,20 @@ on_ok (Ok x) P h ok = h
 on_ok (Err e) P h ok = search rules
 
 -- a step leaves a sound table
-pub sound_step : (p : Prepared) (work : Work) (now next : ℕ) (services : List Supervised) → IsSound next (charts_of services)
-    → worked_of p ≡ stepped work now (charts_of services) next → IsSoundTable p
+pub sound_step : (p : RegistryPrepared) (work : Work) (now next : ℕ) (services : List Supervised) → IsSound next (charts_of services)
+    → result_of p ≡ step_result work now (charts_of services) next → IsSoundTable p
 sound_step p work now next services s e =
-    subst (λ (w : Worked). IsSound w.next_sid w.services) (sym e)
+    subst (λ (w : WorkResult). IsSound w.next_sid w.services) (sym e)
     (record {
       few = step_few work now (charts_of services) next s.few;
       names = step_names work now (charts_of services) next s.names;
       order = step_numbers work now (charts_of services) next s.order;
     })
 
-pub sound_work : (p : Prepared) (work : Work) (now next : ℕ) (services : List Supervised) → IsSound next (charts_of services)
-    → worked_of p ≡ worked work now (charts_of services) next → IsSoundTable p
+pub sound_work : (p : RegistryPrepared) (work : Work) (now next : ℕ) (services : List Supervised) → IsSound next (charts_of services)
+    → result_of p ≡ work_result work now (charts_of services) next → IsSoundTable p
 sound_work p work now next services s e =
-    subst (λ (w : Worked). IsSound w.next_sid w.services) (sym e)
+    subst (λ (w : WorkResult). IsSound w.next_sid w.services) (sym e)
     (record {
       few = work_few work now (charts_of services) next s.few;
       names = work_names work now (charts_of services) next s.names;
@@ -46,22 +46,25 @@ sound_work p work now next services s e =
     })
 
 -- where nothing is prepared, a commit leaves the table
-pub blank_services : {A : Type 0} (services : List Supervised) (next : ℕ) (p : Pending A) → IsBlank next p → (prepared_of services p).services ≡ services
+pub blank_services : {A : Type 0} (services : List Supervised) (next : ℕ) (p : Pending A) → IsBlank next p
+    → (registry_prepared services p).services ≡ services
 blank_services services next p b =
-    nothing_dropped _ p.scan.dropped.items p.scan.added.items b.dropped b.added ∙ ap (λ ts. with_touched services ts) b.touched
+    nothing_dropped _ p.scan.dropped.items p.scan.added.items b.dropped b.added ∙ ap (λ ts. with_changes services ts) b.touched
 
-pub blank_sound : {A : Type 0} (services : List Supervised) (next : ℕ) (p : Pending A) → IsBlank next p → IsSound next (charts_of services) → IsSoundTable (prepared_of services p)
+pub blank_sound : {A : Type 0} (services : List Supervised) (next : ℕ) (p : Pending A) → IsBlank next p → IsSound next (charts_of services)
+    → IsSoundTable (registry_prepared services p)
 blank_sound services next p b s =
-    subst (λ (n : ℕ). IsSound n (charts_of (prepared_of services p).services)) (sym b.next_sid)
+    subst (λ (n : ℕ). IsSound n (charts_of (registry_prepared services p).services)) (sym b.next_sid)
     (subst (λ (ss : List Supervised). IsSound next (charts_of ss)) (sym (blank_services services next p b)) s)
 
 pub blank_places : {A : Type 0} (services : List Supervised) (next : ℕ) (p : Pending A) → IsBlank next p → KeepNames services p.moves.touched.items
-blank_places services next p b = subst (λ (ts : List Touched). KeepNames services ts) (sym b.touched) tt
+blank_places services next p b = subst (λ (ts : List ChangedService). KeepNames services ts) (sym b.touched) tt
 
 pub blank_room : {A : Type 0} (room next : ℕ) (p : Pending A) → IsBlank next p → length p.scan.added.items ≤ room
 blank_room room next p b = let none : length p.scan.added.items ≡ 0 = ap length b.added in omega (arith, none)
 
-pub sound_change : (sid : ℕ) (change : Change) (now next : ℕ) (cs : List ChartState) → IsSound next cs → IsSound next (services_after (changed_at sid change now) cs)
+pub sound_change : (sid : ℕ) (change : Change) (now next : ℕ) (cs : List ChartState) → IsSound next cs
+    → IsSound next (services_after (change_move_at sid change now) cs)
 sound_change sid change now next cs s = record {
   few = work_few (change_one sid change) now cs next s.few;
   names = work_names (change_one sid change) now cs next s.names;

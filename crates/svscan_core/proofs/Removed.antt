@@ -1,5 +1,6 @@
 -- What a removal leaves.
-use Rattle.std.proofs.Common.{◌≡◌, ◌≢◌, ◌∙◌, ℕ, Bool, true, false, cond, List, [], ◌∷◌, ◌++◌, Option, None, Some, IsSomeAnd, bytes_eq, refl, sym, ap, ap₂, subst, true≢false}
+use Rattle.std.proofs.Common.{◌≡◌, ◌≢◌, ◌∙◌, ℕ, Bool, true, false, cond, List, [], ◌∷◌, ◌++◌, Option, None, Some, IsSomeAnd, bytes_eq, refl, sym}
+use Rattle.std.proofs.Common.{ap, ap₂, subst, true≢false}
 use Rattle.std.proofs.lemmas.Option.{none-some, same_Some}
 use Rattle.std.proofs.lemmas.Map.Keys.{IsDistinct-head, IsDistinct-tail}
 use Rattle.std.specs.List.{IsDistinct, AllByRecursion}
@@ -36,7 +37,8 @@ apart_of slots p key s name is named h differs = λ same.
     true≢false (sym (nat_list_eq_equiv.refl name) ∙ ap (bytes_eq name) names ∙ differs)
 
 -- slots of other names keep their services
-pub kept_others : (old new : Slab Supervised) (key : ℕ) (slot : Option Supervised) (s : Supervised) (name : List ℕ) (ps : Pairs) → Updates old new key slot
+pub kept_others : (old new : Slab Supervised) (key : ℕ) (slot : Option Supervised) (s : Supervised) (name : List ℕ) (ps : Pairs)
+    → Updates old new key slot
     → get old key ≡ Some s → s.chart.name ≡ name → AllByRecursion (λ y. bytes_eq name y ≡ false) (keys_of ps) → AreHeld old ps
     → (services_in new ps ≡ services_in old ps) × AreHeld new ps
 kept_others old new key slot s name [] u is named all h = (refl, tt)
@@ -58,13 +60,15 @@ removes old new key s name (p ∷ ps) u is named at d h =
   where
     by : (b : Bool) → bytes_eq name p.0 ≡ b → cond b (Some p.1) (lookup (bytes_eq name) ps) ≡ Some key
         → (lookup (bytes_eq name) ps ≡ Some key
-        → (services_in new (remove_entry (bytes_eq name) ps) ≡ without_name (services_in old ps) name) × AreHeld new (remove_entry (bytes_eq name) ps))
+        → (services_in new (remove_entry (bytes_eq name) ps) ≡ without_name (services_in old ps) name)
+        × AreHeld new (remove_entry (bytes_eq name) ps))
         → (services_in new (cond b ps (p ∷ remove_entry (bytes_eq name) ps))
         ≡ cond b (services_in old ps) ((held_first old p h.0).0 ∷ without_name (services_in old ps) name))
         × AreHeld new (cond b ps (p ∷ remove_entry (bytes_eq name) ps))
     by true t found later =
         let P : List ℕ → Type 0 = λ n. AllByRecursion (λ y. bytes_eq n y ≡ false) (keys_of ps) in
-        kept_others old new key None s name ps u is named (subst P (sym (same_text name p.0 (sym t))) (IsDistinct-head bytes_eq p.0 (keys_of ps) d)) h.1
+        kept_others old new key None s name ps u is named
+        (subst P (sym (same_text name p.0 (sym t))) (IsDistinct-head bytes_eq p.0 (keys_of ps) d)) h.1
     by false t found later =
         let same = u.others p.1 (apart_of old p key s name is named h.0 t) in
         let rest = later found in

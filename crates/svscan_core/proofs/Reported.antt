@@ -6,10 +6,10 @@ use Rattle.deadlines.specs.Timers.{is_rising}
 use Rattle.supervise_core.specs.declared.chart.ChartState.{ChartState}
 use Rattle.supervise_core.specs.declared.change.Change.{Change}
 use Rattle.supervise_core.specs.Service.{Supervised}
-use Rattle.svscan_core.specs.Moving.{Moving, Takes, TakesAt}
+use Rattle.svscan_core.specs.Moving.{StepSoFar, Takes, TakesAt}
 use Rattle.supervise_core.specs.Chart.{changed_by}
 use Rattle.svscan_core.specs.Deaths.{DeathOf, AllTallied}
-use Rattle.svscan_core.specs.Work.{changed_at}
+use Rattle.svscan_core.specs.Work.{change_move_at}
 use Rattle.svscan_core.specs.Table.{charts_of, serials_of}
 use Rattle.svscan_core.proofs.OnePlace.{IsOne, one_reported, none_reported}
 use Rattle.svscan_core.proofs.Serials.{itself}
@@ -30,7 +30,7 @@ state_found (c ∷ cs) (suc p) sid e = let rest = state_found cs p sid e in reco
 
 -- it takes the report
 pub one_at : (sid : ℕ) (change : Change) (now : ℕ) (cs : List ChartState) (p : ℕ) (at : IsAt cs p sid) → is_rising (serials_of cs) ≡ true
-    → IsOne (changed_at sid change now) cs p at.state.sid (changed_by change now at.state)
+    → IsOne (change_move_at sid change now) cs p at.state.sid (changed_by change now at.state)
 one_at sid change now cs p at r = one_reported sid change now cs p at.state r at.there at.own
 
 -- and there is one
@@ -48,18 +48,21 @@ any_serial : (cs : List ChartState) (sid : ℕ) → list_any (λ c. c.sid == sid
 any_serial [] sid = refl
 any_serial (c ∷ cs) sid = ap (λ b. (c.sid == sid) || b) (any_serial cs sid)
 
-any_supervised : (services : List Supervised) (sid : ℕ) → list_any (λ s. s.chart.sid == sid) services ≡ list_any (λ c. c.sid == sid) (charts_of services)
+any_supervised : (services : List Supervised) (sid : ℕ)
+    → list_any (λ s. s.chart.sid == sid) services ≡ list_any (λ c. c.sid == sid) (charts_of services)
 any_supervised [] sid = refl
 any_supervised (s ∷ services) sid = ap (λ b. (s.chart.sid == sid) || b) (any_supervised services sid)
 
 pub none_so_far : (services : List Supervised) (cs : List ChartState) (sid : ℕ) → serials_of cs ≡ serials_of (charts_of services)
     → list_any (λ s. s.chart.sid == sid) services ≡ false → list_any (λ c. c.sid == sid) cs ≡ false
 none_so_far services cs sid kept none =
-    any_serial cs sid ∙ (ap (λ ns. list_any (λ n. n == sid) ns) kept ∙ (sym (any_serial (charts_of services) sid) ∙ (sym (any_supervised services sid) ∙ none)))
+    any_serial cs sid ∙ (ap (λ ns. list_any (λ n. n == sid) ns) kept
+    ∙ (sym (any_serial (charts_of services) sid) ∙ (sym (any_supervised services sid) ∙ none)))
 
 -- one took the change, so all took it
-pub one_takes : (now sid : ℕ) (change : Change) (p : ℕ) (old new : Moving) (at : IsAt (charts_of old.services) p sid) → is_rising (serials_of (charts_of old.services)) ≡ true
-    → TakesAt now p at.state (changed_by change now at.state) old new → Takes now (changed_at sid change now) old new
+pub one_takes : (now sid : ℕ) (change : Change) (p : ℕ) (old new : StepSoFar) (at : IsAt (charts_of old.services) p sid)
+    → is_rising (serials_of (charts_of old.services)) ≡ true
+    → TakesAt now p at.state (changed_by change now at.state) old new → Takes now (change_move_at sid change now) old new
 one_takes now sid change p old new at r t =
     let one = one_at sid change now (charts_of old.services) p at r in
     record {
@@ -72,7 +75,8 @@ one_takes now sid change p old new at r t =
     }
 
 -- none has the serial, so all stay
-pub none_takes : (now sid : ℕ) (change : Change) (m : Moving) → list_any (λ c. c.sid == sid) (charts_of m.services) ≡ false → Takes now (changed_at sid change now) m m
+pub none_takes : (now sid : ℕ) (change : Change) (m : StepSoFar) → list_any (λ c. c.sid == sid) (charts_of m.services) ≡ false
+    → Takes now (change_move_at sid change now) m m
 none_takes now sid change m none =
     let rest = none_reported sid change now (charts_of m.services) none in
     record {
@@ -81,5 +85,6 @@ none_takes now sid change m none =
       orders = sym (ap (λ os. m.orders ++ os) rest.orders ∙ append-nil m.orders);
       agrees = λ history at all. all;
       timers = λ ts a. a;
-      tallies = λ deaths all. subst (λ (ds : List DeathOf). AllTallied m.services ds) (sym (ap (λ ds. deaths ++ ds) rest.deaths ∙ append-nil deaths)) all;
+      tallies = λ deaths all. subst (λ (ds : List DeathOf). AllTallied m.services ds)
+          (sym (ap (λ ds. deaths ++ ds) rest.deaths ∙ append-nil deaths)) all;
     }

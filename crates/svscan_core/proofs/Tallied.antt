@@ -1,5 +1,6 @@
 -- Tallies go on having the last deaths.
-use Rattle.std.proofs.Common.{◌≡◌, ℕ, zero, suc, ◌+◌, ◌-◌, ◌<◌, ◌≤◌, drop, length, List, [], ◌∷◌, ◌++◌, Bool, true, false, ◌==◌, cond, fold, map, filter, refl, sym, ap, subst, ◌∙◌, append-nil, rules, arith}
+use Rattle.std.proofs.Common.{◌≡◌, ℕ, zero, suc, ◌+◌, ◌-◌, ◌<◌, ◌≤◌, drop, length, List, [], ◌∷◌, ◌++◌, Bool, true, false, ◌==◌, cond, fold, map}
+use Rattle.std.proofs.Common.{filter, refl, sym, ap, subst, ◌∙◌, append-nil, rules, arith}
 use Rattle.std.specs.Prelude.{Option, None, Some, slice_get, slice_set, nat_lt}
 use Rattle.std.specs.Option.{option_to_list}
 use Rattle.std.proofs.Math.ListN.{drop_of_length-le}
@@ -11,22 +12,22 @@ use Rattle.s6_events.specs.declared.exit.Exit.{Exit}
 use Rattle.servicedir.specs.declared.config.Config.{Config}
 use Rattle.supervise_core.specs.declared.change.Change.{Change}
 use Rattle.supervise_core.specs.declared.chart.ChartState.{ChartState}
-use Rattle.supervise_core.specs.declared.change.Change.TheVariants.{Started, StartFailed, Notify, Death, FinishEnded, Control, Fire as FireChange, SetConfig, SetActive}
-use Rattle.supervise_core.specs.ChartState.{Moved, still}
-use Rattle.supervise_core.specs.ControlLetters.{followed_by}
-use Rattle.supervise_core.specs.Chart.{changed_by, control, fire, set_active, take_letter}
-use Rattle.supervise_core.specs.Service.{Supervised, Stands, adopted, joined, death_by}
+use Rattle.supervise_core.specs.declared.change.Change.TheVariants as changes
+use Rattle.supervise_core.specs.ChartState.{Moved, no_move}
+use Rattle.supervise_core.specs.ControlLetters.{then_move}
+use Rattle.supervise_core.specs.Chart.{changed_by, control_move, fire_move, with_activity, letter_move}
+use Rattle.supervise_core.specs.Service.{Supervised, ServiceView, with_view, tally_with, death_by}
 use Rattle.supervise_core.proofs.Identity.{KeepsIdentity, keeps_fire, keeps_changed}
 use Rattle.svc_commands.specs.declared.control_letter.ControlLetter.{ControlLetter}
 use Rattle.svscan_core.specs.declared.entry.ScanOrder.TheVariants.{Nuke, Terminate}
 use Rattle.svscan_core.specs.declared.visit.Visit.{Visit}
 use Rattle.svscan_core.specs.declared.visit.Visit.TheVariants.{Fire, Command, Look}
-use Rattle.svscan_core.specs.Visit.{visited}
+use Rattle.svscan_core.specs.Visit.{visit_move}
 use Rattle.svscan_core.specs.Deaths.{DeathOf, death_of, deaths_of, deaths_after, deaths_given, IsTallied, AllTallied, AllBefore}
 use Rattle.svscan_core.specs.Table.{charts_of, serials_of}
 use Rattle.svscan_core.specs.Sound.{IsNumbered}
-use Rattle.svscan_core.specs.Work.{Work, leaving, changed_at, worked}
-use Rattle.svscan_core.specs.Work.Work.{leave, change_one, apply_listing, command}
+use Rattle.svscan_core.specs.Work.{Work, leave_letters, change_move_at, work_result}
+use Rattle.svscan_core.specs.Work.Work.{do_nothing, change_one, apply_listing, command}
 use Rattle.svscan_core.proofs.Agreeing.{all_later, all_of, above_at, Lack, lacks_lower}
 use Rattle.svscan_core.proofs.Few.{work_later}
 use Rattle.svscan_core.proofs.Names.{keeps_commanded, keeps_look}
@@ -42,7 +43,8 @@ tallies_more t all d h =
     let long : length (t.kept ++ d ∷ []) ≡ length (all ++ d ∷ []) - k = ap length front ∙ length-drop k (all ++ d ∷ []) in
     let whole : length (all ++ d ∷ []) ≡ length all + 1 = length-append all (d ∷ []) in
     let count : k + (length (t.kept ++ d ∷ []) - t.most) ≡ length (all ++ d ∷ []) - t.most = omega (arith, long, whole) in
-    ap (drop (length (t.kept ++ d ∷ []) - t.most)) front ∙ (drop-drop (length (t.kept ++ d ∷ []) - t.most) k (all ++ d ∷ []) ∙ ap (λ n. drop n (all ++ d ∷ [])) count)
+    ap (drop (length (t.kept ++ d ∷ []) - t.most)) front
+    ∙ (drop-drop (length (t.kept ++ d ∷ []) - t.most) k (all ++ d ∷ []) ∙ ap (λ n. drop n (all ++ d ∷ [])) count)
 
 -- deaths, one list behind another
 pub deaths_behind : (sid : ℕ) (a b : List DeathOf) → deaths_of sid (a ++ b) ≡ deaths_of sid a ++ deaths_of sid b
@@ -59,29 +61,35 @@ deaths_behind sid (d ∷ a) b = by (d.sid == sid) (deaths_behind sid a b)
 own_deaths : (sid : ℕ) (ds : List (ℕ × Exit)) → deaths_of sid (map (death_of sid) ds) ≡ ds
 own_deaths sid [] = refl
 own_deaths sid (d ∷ ds) =
-    ap (λ b. map (λ (x : DeathOf). (x.at, x.exit)) (cond b (death_of sid d ∷ filter (λ x. x.sid == sid) (map (death_of sid) ds)) (filter (λ x. x.sid == sid) (map (death_of sid) ds)))) (itself sid)
+    ap (λ b. map (λ (x : DeathOf). (x.at, x.exit))
+    (cond b (death_of sid d ∷ filter (λ x. x.sid == sid) (map (death_of sid) ds)) (filter (λ x. x.sid == sid) (map (death_of sid) ds))))
+    (itself sid)
     ∙ ap (λ xs. d ∷ xs) (own_deaths sid ds)
 
 other_deaths : (sid of : ℕ) (ds : List (ℕ × Exit)) → (of == sid) ≡ false → deaths_of sid (map (death_of of) ds) ≡ []
 other_deaths sid of [] h = refl
 other_deaths sid of (d ∷ ds) h =
-    ap (λ b. map (λ (x : DeathOf). (x.at, x.exit)) (cond b (death_of of d ∷ filter (λ x. x.sid == sid) (map (death_of of) ds)) (filter (λ x. x.sid == sid) (map (death_of of) ds)))) h
+    ap (λ b. map (λ (x : DeathOf). (x.at, x.exit))
+    (cond b (death_of of d ∷ filter (λ x. x.sid == sid) (map (death_of of) ds)) (filter (λ x. x.sid == sid) (map (death_of of) ds)))) h
     ∙ other_deaths sid of ds h
 
 -- the deaths of another service leave what one is tallied with
-others_tallied : (s : Supervised) (of : ℕ) (deaths : List DeathOf) (ds : List (ℕ × Exit)) → (of == s.chart.sid) ≡ false → IsTallied s deaths → IsTallied s (deaths ++ map (death_of of) ds)
+others_tallied : (s : Supervised) (of : ℕ) (deaths : List DeathOf) (ds : List (ℕ × Exit)) → (of == s.chart.sid) ≡ false → IsTallied s deaths
+    → IsTallied s (deaths ++ map (death_of of) ds)
 others_tallied s of deaths ds h t = record {
   most = t.most;
   kept = subst (λ (xs : List (ℕ × Exit)). Tallies s.tally xs)
-      (sym (deaths_behind s.chart.sid deaths (map (death_of of) ds) ∙ (ap (λ xs. deaths_of s.chart.sid deaths ++ xs) (other_deaths s.chart.sid of ds h) ∙ append-nil (deaths_of s.chart.sid deaths)))) t.kept;
+      (sym (deaths_behind s.chart.sid deaths (map (death_of of) ds)
+      ∙ (ap (λ xs. deaths_of s.chart.sid deaths ++ xs) (other_deaths s.chart.sid of ds h) ∙ append-nil (deaths_of s.chart.sid deaths)))) t.kept;
 }
 
 -- its own death joins its tally
-own_joins : (t : Deaths) (all : List (ℕ × Exit)) (death : Option (ℕ × Exit)) → Tallies t all → Tallies (joined t death) (all ++ option_to_list death)
+own_joins : (t : Deaths) (all : List (ℕ × Exit)) (death : Option (ℕ × Exit)) → Tallies t all
+    → Tallies (tally_with t death) (all ++ option_to_list death)
 own_joins t all None h = subst (λ (xs : List (ℕ × Exit)). Tallies t xs) (sym (append-nil all)) h
 own_joins t all (Some d) h = tallies_more t all d h
 
-same_most : (t : Deaths) (death : Option (ℕ × Exit)) → (joined t death).most ≡ t.most
+same_most : (t : Deaths) (death : Option (ℕ × Exit)) → (tally_with t death).most ≡ t.most
 same_most t None = refl
 same_most t (Some d) = refl
 
@@ -90,18 +98,20 @@ pub record Joins (c : ChartState) (moved : Moved) (death : Option (ℕ × Exit))
   pub deaths : moved.deaths ≡ option_to_list death
   pub most : moved.chart.config.max_death_tally ≡ c.config.max_death_tally
 
-own_tallied : (s : Supervised) (after : Stands) (moved : Moved) (death : Option (ℕ × Exit)) (deaths : List DeathOf) → after.chart ≡ moved.chart → after.chart.sid ≡ s.chart.sid → Joins s.chart moved death
-    → IsTallied s deaths → IsTallied (adopted after death s) (deaths ++ map (death_of s.chart.sid) moved.deaths)
+own_tallied : (s : Supervised) (after : ServiceView) (moved : Moved) (death : Option (ℕ × Exit)) (deaths : List DeathOf) → after.chart ≡ moved.chart
+    → after.chart.sid ≡ s.chart.sid → Joins s.chart moved death
+    → IsTallied s deaths → IsTallied (with_view after death s) (deaths ++ map (death_of s.chart.sid) moved.deaths)
 own_tallied s after moved death deaths is same j t = record {
   most = same_most s.tally death ∙ (t.most ∙ (sym j.most ∙ sym (ap (λ (c : ChartState). c.config.max_death_tally) is)));
-  kept = subst (λ (xs : List (ℕ × Exit)). Tallies (joined s.tally death) xs)
+  kept = subst (λ (xs : List (ℕ × Exit)). Tallies (tally_with s.tally death) xs)
       (sym (ap (λ n. deaths_of n (deaths ++ map (death_of s.chart.sid) moved.deaths)) same
       ∙ (deaths_behind s.chart.sid deaths (map (death_of s.chart.sid) moved.deaths)
       ∙ ap (λ xs. deaths_of s.chart.sid deaths ++ xs) (own_deaths s.chart.sid moved.deaths ∙ j.deaths))))
       (own_joins s.tally (deaths_of s.chart.sid deaths) death t.kept);
 }
 
-all_others_tallied : (of : ℕ) (services : List Supervised) (deaths : List DeathOf) (ds : List (ℕ × Exit)) → Lack of services → AllTallied services deaths
+all_others_tallied : (of : ℕ) (services : List Supervised) (deaths : List DeathOf) (ds : List (ℕ × Exit)) → Lack of services
+    → AllTallied services deaths
     → AllTallied services (deaths ++ map (death_of of) ds)
 all_others_tallied of [] deaths ds lack all = λ k d lt. absurd (omega (arith, lt))
 all_others_tallied of (s ∷ services) deaths ds lack all =
@@ -110,72 +120,80 @@ all_others_tallied of (s ∷ services) deaths ds lack all =
     (all_others_tallied of services deaths ds lack.1 (all_later (λ (x : Supervised). IsTallied x deaths) s services all))
 
 -- the service at a place is touched, and its death joins its tally
-pub place_tallied : (p : ℕ) (services : List Supervised) (s : Supervised) (after : Stands) (moved : Moved) (death : Option (ℕ × Exit)) (deaths : List DeathOf)
-    → slice_get services p ≡ Some s → after.chart ≡ moved.chart → after.chart.sid ≡ s.chart.sid → Joins s.chart moved death → is_rising (serials_of (charts_of services)) ≡ true
-    → AllTallied services deaths → AllTallied (slice_set services p (adopted after death s)) (deaths ++ map (death_of s.chart.sid) moved.deaths)
+pub place_tallied : (p : ℕ) (services : List Supervised) (s : Supervised) (after : ServiceView) (moved : Moved) (death : Option (ℕ × Exit))
+    (deaths : List DeathOf)
+    → slice_get services p ≡ Some s → after.chart ≡ moved.chart → after.chart.sid ≡ s.chart.sid → Joins s.chart moved death
+    → is_rising (serials_of (charts_of services)) ≡ true
+    → AllTallied services deaths → AllTallied (slice_set services p (with_view after death s)) (deaths ++ map (death_of s.chart.sid) moved.deaths)
 place_tallied p [] s after moved death deaths there is same j rising all = search rules
 place_tallied zero (y ∷ services) s after moved death deaths there is same j rising all =
     let own : y ≡ s = same_Some y s there in
-    all_of (λ (z : Supervised). IsTallied z (deaths ++ map (death_of s.chart.sid) moved.deaths)) (adopted after death s) services
+    all_of (λ (z : Supervised). IsTallied z (deaths ++ map (death_of s.chart.sid) moved.deaths)) (with_view after death s) services
     (own_tallied s after moved death deaths is same j (subst (λ (z : Supervised). IsTallied z deaths) own (all 0 y (omega arith))))
     (all_others_tallied s.chart.sid services deaths moved.deaths
-    (subst (λ (z : Supervised). Lack z.chart.sid services) own (lacks_lower y.chart.sid services (both_left _ (is_rising (serials_of (charts_of services))) rising)))
+    (subst (λ (z : Supervised). Lack z.chart.sid services) own
+    (lacks_lower y.chart.sid services (both_left _ (is_rising (serials_of (charts_of services))) rising)))
     (all_later (λ (z : Supervised). IsTallied z deaths) y services all))
 place_tallied (suc p) (y ∷ services) s after moved death deaths there is same j rising all =
     let other : (s.chart.sid == y.chart.sid) ≡ false =
-    later_other y.chart.sid s.chart.sid (above_at y.chart.sid services p s (both_left _ (is_rising (serials_of (charts_of services))) rising) there) in
-    all_of (λ (z : Supervised). IsTallied z (deaths ++ map (death_of s.chart.sid) moved.deaths)) y (slice_set services p (adopted after death s))
+    later_other y.chart.sid s.chart.sid (above_at y.chart.sid services p s (both_left _ (is_rising (serials_of (charts_of services))) rising) there)
+    in
+    all_of (λ (z : Supervised). IsTallied z (deaths ++ map (death_of s.chart.sid) moved.deaths)) y (slice_set services p (with_view after death s))
     (others_tallied y s.chart.sid deaths moved.deaths other (all 0 y (omega arith)))
     (place_tallied p services s after moved death deaths there is same j (both_right _ (is_rising (serials_of (charts_of services))) rising)
     (all_later (λ (z : Supervised). IsTallied z deaths) y services all))
 
 -- letters report no death
-letter_gives_none : (now : ℕ) (letter : ControlLetter) (c : ChartState) → (take_letter now letter c).deaths ≡ []
+letter_gives_none : (now : ℕ) (letter : ControlLetter) (c : ChartState) → (letter_move now letter c).deaths ≡ []
 letter_gives_none now letter c = search rules
 
-letters_give_none : (now : ℕ) (letters : List ControlLetter) (m : Moved) → m.deaths ≡ [] → (fold (λ x letter. followed_by (take_letter now letter) x) m letters).deaths ≡ []
+letters_give_none : (now : ℕ) (letters : List ControlLetter) (m : Moved) → m.deaths ≡ []
+    → (fold (λ x letter. then_move (letter_move now letter) x) m letters).deaths ≡ []
 letters_give_none now [] m h = h
 letters_give_none now (letter ∷ letters) m h =
-    letters_give_none now letters (followed_by (take_letter now letter) m) (ap (λ ds. ds ++ (take_letter now letter m.chart).deaths) h ∙ letter_gives_none now letter m.chart)
+    letters_give_none now letters (then_move (letter_move now letter) m)
+    (ap (λ ds. ds ++ (letter_move now letter m.chart).deaths) h ∙ letter_gives_none now letter m.chart)
 
 -- a timer, an order of all services and a look at a directory report no death
-no_fire_deaths : (now : ℕ) (c : ChartState) → (fire now c).deaths ≡ []
+no_fire_deaths : (now : ℕ) (c : ChartState) → (fire_move now c).deaths ≡ []
 no_fire_deaths now c = search rules
 
-no_letters_deaths : (now : ℕ) (c : ChartState) → (control leaving now c).deaths ≡ []
-no_letters_deaths now c = letters_give_none now leaving (still c) refl
+no_letters_deaths : (now : ℕ) (c : ChartState) → (control_move leave_letters now c).deaths ≡ []
+no_letters_deaths now c = letters_give_none now leave_letters (no_move c) refl
 
 either_none : (b : Bool) (x y : Moved) → x.deaths ≡ [] → y.deaths ≡ [] → (cond b x y).deaths ≡ []
 either_none true x y hx hy = hx
 either_none false x y hx hy = hy
 
-no_deaths : (visit : Visit) (now : ℕ) (c : ChartState) → (visited visit now c).deaths ≡ []
+no_deaths : (visit : Visit) (now : ℕ) (c : ChartState) → (visit_move visit now c).deaths ≡ []
 no_deaths Fire now c = no_fire_deaths now c
-no_deaths (Command Nuke) now c = either_none c.active (still c) (control leaving now c) refl (no_letters_deaths now c)
-no_deaths (Command Terminate) now c = no_letters_deaths now (set_active false now c)
+no_deaths (Command Nuke) now c = either_none c.active (no_move c) (control_move leave_letters now c) refl (no_letters_deaths now c)
+no_deaths (Command Terminate) now c = no_letters_deaths now (with_activity false now c)
 no_deaths (Look listing) now c = refl
 
-keeps_visited : (visit : Visit) (now : ℕ) (c : ChartState) → KeepsIdentity c (visited visit now c)
+keeps_visited : (visit : Visit) (now : ℕ) (c : ChartState) → KeepsIdentity c (visit_move visit now c)
 keeps_visited Fire now c = keeps_fire now c
 keeps_visited (Command order) now c = keeps_commanded order now c
 keeps_visited (Look listing) now c = keeps_look listing.now now c
 
-pub visit_joins : (visit : Visit) (now : ℕ) (c : ChartState) → Joins c (visited visit now c) None
+pub visit_joins : (visit : Visit) (now : ℕ) (c : ChartState) → Joins c (visit_move visit now c) None
 visit_joins visit now c = record { deaths = no_deaths visit now c; most = (keeps_visited visit now c).most }
 
 -- the death of a change is the one that its move reports
-gives_death : (change : Change) (now : ℕ) (c : ChartState) → (changed_by change now c).deaths ≡ option_to_list (death_by change (changed_by change now c).stale now)
-gives_death (Started generation pid) now c = search rules
-gives_death (StartFailed generation) now c = search rules
-gives_death (Notify generation bytes) now c = search rules
-gives_death (Death generation exit) now c = search rules
-gives_death (FinishEnded generation exit) now c = search rules
-gives_death (Control letters) now c = letters_give_none now letters.items (still c) refl
-gives_death FireChange now c = no_fire_deaths now c
-gives_death (SetConfig config) now c = refl
-gives_death (SetActive active) now c = refl
+gives_death : (change : Change) (now : ℕ) (c : ChartState)
+    → (changed_by change now c).deaths ≡ option_to_list (death_by change (changed_by change now c).stale now)
+gives_death (changes.Started generation pid) now c = search rules
+gives_death (changes.StartFailed generation) now c = search rules
+gives_death (changes.Notify generation bytes) now c = search rules
+gives_death (changes.Death generation exit) now c = search rules
+gives_death (changes.FinishEnded generation exit) now c = search rules
+gives_death (changes.Control letters) now c = letters_give_none now letters.items (no_move c) refl
+gives_death changes.Fire now c = no_fire_deaths now c
+gives_death (changes.SetConfig config) now c = refl
+gives_death (changes.SetActive active) now c = refl
 
-pub change_joins : (change : Change) (now : ℕ) (c : ChartState) (stale : Bool) (death : Option (ℕ × Exit)) → stale ≡ (changed_by change now c).stale → death ≡ death_by change stale now
+pub change_joins : (change : Change) (now : ℕ) (c : ChartState) (stale : Bool) (death : Option (ℕ × Exit)) → stale ≡ (changed_by change now c).stale
+    → death ≡ death_by change stale now
     → Joins c (changed_by change now c) death
 change_joins change now c stale death told gives = record {
   deaths = gives_death change now c ∙ sym (ap option_to_list (gives ∙ ap (λ b. death_by change b now) told));
@@ -187,8 +205,8 @@ pub none_of_all : (move : ChartState → Moved) → ((c : ChartState) → (move 
 none_of_all move none [] = refl
 none_of_all move none (c ∷ cs) = ap (λ ds. map (death_of c.sid) ds ++ deaths_after move cs) (none c) ∙ none_of_all move none cs
 
-pub no_visit_deaths : (visit : Visit) (now : ℕ) (cs : List ChartState) → deaths_after (visited visit now) cs ≡ []
-no_visit_deaths visit now cs = none_of_all (visited visit now) (no_deaths visit now) cs
+pub no_visit_deaths : (visit : Visit) (now : ℕ) (cs : List ChartState) → deaths_after (visit_move visit now) cs ≡ []
+no_visit_deaths visit now cs = none_of_all (visit_move visit now) (no_deaths visit now) cs
 
 -- a service of the next serial has had no death, and its tally none
 pub none_before : (next : ℕ) (deaths : List DeathOf) → AllBefore next deaths → deaths_of next deaths ≡ []
@@ -205,13 +223,15 @@ none_before next (d ∷ deaths) h =
 new_tallied : (m : ℕ) → Tallies (new_tally m) []
 new_tallied m = sym (drop_of_length-le [] {i = 0 - m} (omega arith))
 
-pub begins_tallied : (s : Supervised) (next : ℕ) (config : Config) (deaths : List DeathOf) → AllBefore next deaths → s.chart.sid ≡ next → s.chart.config.max_death_tally ≡ config.max_death_tally
+pub begins_tallied : (s : Supervised) (next : ℕ) (config : Config) (deaths : List DeathOf) → AllBefore next deaths → s.chart.sid ≡ next
+    → s.chart.config.max_death_tally ≡ config.max_death_tally
     → s.tally ≡ new_tally config.max_death_tally → IsTallied s deaths
 begins_tallied s next config deaths before sid most begun = record {
   most = ap (λ (t : Deaths). t.most) begun ∙ sym most;
   kept =
       subst (λ (t : Deaths). Tallies t (deaths_of s.chart.sid deaths)) (sym begun)
-      (subst (λ (xs : List (ℕ × Exit)). Tallies (new_tally config.max_death_tally) xs) (sym (ap (λ n. deaths_of n deaths) sid ∙ none_before next deaths before))
+      (subst (λ (xs : List (ℕ × Exit)). Tallies (new_tally config.max_death_tally) xs)
+      (sym (ap (λ n. deaths_of n deaths) sid ∙ none_before next deaths before))
       (new_tallied config.max_death_tally));
 }
 
@@ -219,7 +239,8 @@ begins_tallied s next config deaths before sid most begun = record {
 all_before : (next : ℕ) (a b : List DeathOf) → AllBefore next a → AllBefore next b → AllBefore next (a ++ b)
 all_before next [] b ha hb = hb
 all_before next (d ∷ a) b ha hb =
-    all_of (λ (x : DeathOf). x.sid < next) d (a ++ b) (ha 0 d (omega arith)) (all_before next a b (all_later (λ (x : DeathOf). x.sid < next) d a ha) hb)
+    all_of (λ (x : DeathOf). x.sid < next) d (a ++ b) (ha 0 d (omega arith))
+    (all_before next a b (all_later (λ (x : DeathOf). x.sid < next) d a ha) hb)
 
 own_before : (next sid : ℕ) (ds : List (ℕ × Exit)) → sid < next → AllBefore next (map (death_of sid) ds)
 own_before next sid [] lt = λ k d h. absurd (omega (arith, h))
@@ -237,13 +258,14 @@ moves_before move next (c ∷ cs) h =
     below m n h = search rules
 
 work_before : (work : Work) (now next : ℕ) (cs : List ChartState) → IsNumbered next cs → AllBefore next (deaths_given work now cs)
-work_before leave now next cs h = λ k d lt. absurd (omega (arith, lt))
-work_before (change_one sid change) now next cs h = moves_before (changed_at sid change now) next cs h
+work_before do_nothing now next cs h = λ k d lt. absurd (omega (arith, lt))
+work_before (change_one sid change) now next cs h = moves_before (change_move_at sid change now) next cs h
 work_before (command order) now next cs h = λ k d lt. absurd (omega (arith, lt))
 work_before (apply_listing listing) now next cs h = λ k d lt. absurd (omega (arith, lt))
 
-pub joined_before : (work : Work) (now next : ℕ) (cs : List ChartState) (deaths : List DeathOf) → length cs ≤ 64 → IsNumbered next cs → AllBefore next deaths
-    → AllBefore (worked work now cs next).next_sid (deaths ++ deaths_given work now cs)
+pub joined_before : (work : Work) (now next : ℕ) (cs : List ChartState) (deaths : List DeathOf) → length cs ≤ 64 → IsNumbered next cs
+    → AllBefore next deaths
+    → AllBefore (work_result work now cs next).next_sid (deaths ++ deaths_given work now cs)
 joined_before work now next cs deaths few numbered before =
     let all = all_before next deaths (deaths_given work now cs) before (work_before work now next cs numbered) in
     let later = work_later work now cs next few in

@@ -7,25 +7,38 @@ use Rattle.supervise_core.specs.ChartState.{Moved}
 use Rattle.supervise_core.specs.Service.{Supervised}
 use Rattle.svscan_core.specs.declared.entry.Listed.{Listed}
 use Rattle.svscan_core.specs.declared.event.Event.{Event}
-use Rattle.svscan_core.specs.Moving.{Moving, Takes}
-use Rattle.svscan_core.specs.Registry.{Prepared, worked_of}
+use Rattle.svscan_core.specs.Moving.{StepSoFar, Takes}
+use Rattle.svscan_core.specs.Registry.{RegistryPrepared, result_of}
 use Rattle.svscan_core.specs.Scanning.{without_names}
 use Rattle.svscan_core.specs.Table.{charts_of}
-use Rattle.svscan_core.specs.Work.{given_before, moved_all}
+use Rattle.svscan_core.specs.Work.{with_earlier, move_result}
 
 -- a step that drops and adds nothing has these services
-pub nothing_dropped : (ss : List Supervised) (dropped : List (List ℕ)) (added : List Supervised) → dropped ≡ [] → added ≡ [] → without_names ss dropped ++ added ≡ ss
+pub nothing_dropped : (ss : List Supervised) (dropped : List (List ℕ)) (added : List Supervised) → dropped ≡ [] → added ≡ []
+    → without_names ss dropped ++ added ≡ ss
 nothing_dropped ss dropped added d a = (λ i. without_names ss (d i) ++ a i) ∙ append-nil ss
 
 -- what a step has, from its parts
-abbrev pub made : List Supervised → ℕ → List Event → List Order → Bool → List ℕ → List Listed → List TimerChange → Prepared
+abbrev pub made : List Supervised → ℕ → List Event → List Order → Bool → List ℕ → List Listed → List TimerChange → RegistryPrepared
 made services next_sid events orders stale dropped listed timers =
-    record { services = services; next_sid = next_sid; events = events; orders = orders; stale = stale; dropped = dropped; listed = listed; timers = timers }
+    record {
+      services = services;
+      next_sid = next_sid;
+      events = events;
+      orders = orders;
+      stale = stale;
+      dropped = dropped;
+      listed = listed;
+      timers =
+          timers;
+    }
 
 -- every service took a move
-pub moves_work : (ss : List Supervised) (next : ℕ) (stale told : Bool) (sids : List ℕ) (listed : List Listed) (timers : List TimerChange) (now : ℕ) (move : ChartState → Moved) (old new : Moving)
+pub moves_work : (ss : List Supervised) (next : ℕ) (stale told : Bool) (sids : List ℕ) (listed : List Listed) (timers : List TimerChange) (now : ℕ)
+    (move : ChartState → Moved) (old new : StepSoFar)
     → ss ≡ new.services → stale ≡ told → sids ≡ [] → listed ≡ [] → Takes now move old new
-    → worked_of (made ss next new.events new.orders stale sids listed timers) ≡ given_before old.events old.orders (record (moved_all move (charts_of old.services) next) { stale = told })
+    → result_of (made ss next new.events new.orders stale sids listed timers)
+    ≡ with_earlier old.events old.orders (record (move_result move (charts_of old.services) next) { stale = told })
 moves_work ss next stale told sids listed timers now move old new s t d l takes = λ i. record {
   services = (ap charts_of s ∙ takes.services) i;
   next_sid = next;

@@ -24,20 +24,36 @@ pub record Adding : Type 0 where
 
 abbrev pub adding_of : {A : Type 0} → Scanning A → Moves A → Adding
 adding_of scan moves =
-    record { added = scan.added.items; next_sid = scan.next_sid; listed = scan.listed.items; events = moves.events.items; orders = moves.orders.items }
+    record {
+      added = scan.added.items;
+      next_sid = scan.next_sid;
+      listed = scan.listed.items;
+      events =
+          moves.events.items;
+      orders = moves.orders.items;
+    }
 
 -- the state of the scan, where these services stay
 abbrev pub state_behind : List ChartState → Adding → ScanState
 state_behind retained a =
-    record { services = retained ++ charts_of a.added; next_sid = a.next_sid; listed = a.listed; events = a.events; orders = a.orders }
+    record {
+      services = retained ++ charts_of a.added;
+      next_sid = a.next_sid;
+      listed = a.listed;
+      events =
+          a.events;
+      orders = a.orders;
+    }
 
 -- behind these services the serials are in order, a history that agreed agrees again, once the events have joined it, and each
 -- service has the last of its deaths
 pub record GoesOn (services : List Supervised) (old new : Adding) : Type 0 where
   pub order : IsNumbered new.next_sid (charts_of (services ++ new.added))
-  pub agrees : (history : List Moment) → AllAgree (services ++ old.added) (history ++ map moment_of old.events) → AllAgree (services ++ new.added) (history ++ map moment_of new.events)
+  pub agrees : (history : List Moment) → AllAgree (services ++ old.added) (history ++ map moment_of old.events)
+      → AllAgree (services ++ new.added) (history ++ map moment_of new.events)
   pub later : old.next_sid ≤ new.next_sid
-  pub tallies : (deaths : List DeathOf) → AllBefore old.next_sid deaths → AllTallied (services ++ old.added) deaths → AllTallied (services ++ new.added) deaths
+  pub tallies : (deaths : List DeathOf) → AllBefore old.next_sid deaths → AllTallied (services ++ old.added) deaths
+      → AllTallied (services ++ new.added) deaths
 
 -- the limit holds, and each new service has a serial and at most one order
 pub record Grows (retained : ℕ) (old new : Adding) : Type 0 where

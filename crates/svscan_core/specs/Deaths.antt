@@ -6,7 +6,7 @@ use Rattle.s6_events.specs.declared.exit.Exit.{Exit}
 use Rattle.supervise_core.specs.declared.chart.ChartState.{ChartState}
 use Rattle.supervise_core.specs.ChartState.{Moved}
 use Rattle.supervise_core.specs.Service.{Supervised}
-use Rattle.svscan_core.specs.Work.{Work, changed_at}
+use Rattle.svscan_core.specs.Work.{Work, change_move_at}
 use Rattle.svscan_core.specs.Work.Work.{change_one}
 
 -- a death of a service: whose, when and how
@@ -28,7 +28,7 @@ deaths_after move services = flat_map (λ c. map (death_of c.sid) (move c).death
 
 -- the deaths that work reports, done at a moment on these services
 abbrev pub deaths_given : Work → ℕ → List ChartState → List DeathOf
-deaths_given (change_one sid change) now services = deaths_after (changed_at sid change now) services
+deaths_given (change_one sid change) now services = deaths_after (change_move_at sid change now) services
 deaths_given work now services = []
 
 -- a service has the last of its deaths, as many as it was added with
@@ -46,4 +46,5 @@ AllBefore next deaths = All (λ d. d.sid < next) deaths
 
 -- whatever deaths before the next serial the services had the last of, they have the last of them and of these
 abbrev pub KeepTallied : ℕ → List Supervised → List Supervised → List DeathOf → Type 0
-KeepTallied next old new more = (deaths : List DeathOf) → AllBefore next deaths → AllTallied old deaths → AllTallied new (deaths ++ more)
+KeepTallied next old new more = (deaths : List DeathOf) → AllBefore next deaths → AllTallied old deaths
+    → AllTallied new (deaths ++ more)

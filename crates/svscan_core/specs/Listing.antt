@@ -12,12 +12,12 @@ abbrev pub names_in : List Entry → List (List ℕ)
 names_in listing = map (λ e. e.name) listing
 
 -- a listing has an entry of the name
-abbrev pub is_listed : List Entry → List ℕ → Bool
-is_listed listing name = list_any (λ e. bytes_eq name e.name) listing
+abbrev pub has_entry : List Entry → List ℕ → Bool
+has_entry listing name = list_any (λ e. bytes_eq name e.name) listing
 
 -- the configuration that was read of the directory of a name
-abbrev pub config_in : List Entry → List ℕ → Option Config
-config_in listing name = option_and_then (λ e. e.config) (find (λ e. bytes_eq name e.name) listing)
+abbrev pub listed_config : List Entry → List ℕ → Option Config
+listed_config listing name = option_and_then (λ e. e.config) (find (λ e. bytes_eq name e.name) listing)
 
 -- the names in the order of their bytes
 abbrev pub in_byte_order : List (List ℕ) → List (List ℕ)

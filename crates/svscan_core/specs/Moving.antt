@@ -1,79 +1,91 @@
 -- A step under way: the services as it has them so far, and what it has given.
-use Rattle.std.specs.Prelude.{◌≡◌, ℕ, List, [], ◌∷◌, ◌++◌, map, fold, take, drop, slice_get, slice_set, IsSomeAnd, Option, None, Some}
+use Rattle.std.specs.Prelude.{◌≡◌, ℕ, List, [], ◌∷◌, ◌++◌, map, fold, take, drop, slice_get, slice_set, IsSomeAnd}
+use Rattle.std.specs.Prelude.{Option, None, Some}
 use Rattle.deadlines.specs.declared.timer.Timer.{Timer}
 use Rattle.deadlines.specs.declared.timer.TimerChange.{TimerChange}
-use Rattle.deadlines.specs.Timers.{changed_all}
+use Rattle.deadlines.specs.Timers.{with_timer_changes}
 use Rattle.s6_events.specs.Clock.{clock_of}
 use Rattle.s6_events.specs.declared.moment.Moment.{Moment}
 use Rattle.s6_events.specs.declared.order.Order.{Order}
 use Rattle.supervise_core.specs.declared.chart.ChartState.{ChartState}
 use Rattle.supervise_core.specs.ChartState.{Moved}
-use Rattle.supervise_core.specs.Service.{Supervised, adopted}
+use Rattle.supervise_core.specs.Service.{Supervised, with_view}
 use Rattle.svscan_core.specs.declared.event.Event.{Event}
 use Rattle.svscan_core.specs.declared.moves.Moves.{Moves}
-use Rattle.svscan_core.specs.declared.moves.Touched.{Touched}
-use Rattle.svscan_core.specs.Moves.{moment_of, events_of, services_after, events_after, orders_after}
+use Rattle.svscan_core.specs.declared.moves.ChangedService.{ChangedService}
+use Rattle.svscan_core.specs.Moves.{moment_of, events_of_move, services_after, events_after, orders_after}
 use Rattle.svscan_core.specs.Deaths.{DeathOf, death_of, deaths_after, AllTallied}
 use Rattle.svscan_core.specs.Sound.{AllAgree}
 use Rattle.svscan_core.specs.Table.{charts_of}
-use Rattle.svscan_core.specs.Timers.{timer_change, TimersAgree}
+use Rattle.svscan_core.specs.Timers.{timer_change_of, TimersAgree}
 
 -- the service that was found at a place takes over what it became
-abbrev pub taken_over : Touched → Option Supervised → List Supervised → List Supervised
-taken_over t None services = services
-taken_over t (Some s) services = slice_set services t.place (adopted t.standing t.death s)
+abbrev pub with_view_at : ChangedService → Option Supervised → List Supervised → List Supervised
+with_view_at t None services = services
+with_view_at t (Some s) services = slice_set services t.place (with_view t.standing t.death s)
 
-abbrev pub with_one : List Supervised → Touched → List Supervised
-with_one services t = taken_over t (slice_get services t.place) services
+abbrev pub with_change : List Supervised → ChangedService → List Supervised
+with_change services t = with_view_at t (slice_get services t.place) services
 
 -- one after the other
-abbrev pub with_touched : List Supervised → List Touched → List Supervised
-with_touched services touched = fold with_one services touched
+abbrev pub with_changes : List Supervised → List ChangedService → List Supervised
+with_changes services touched = fold with_change services touched
 
 -- each of them keeps the name at its place
-abbrev pub KeepNames : List Supervised → List Touched → Type 0
+abbrev pub KeepNames : List Supervised → List ChangedService → Type 0
 KeepNames services [] = Unit {0}
-KeepNames services (t ∷ touched) = IsSomeAnd (slice_get services t.place) (λ s. s.chart.name ≡ t.standing.chart.name) × KeepNames (with_one services t) touched
+KeepNames services (t ∷ touched) = IsSomeAnd (slice_get services t.place) (λ s. s.chart.name ≡ t.standing.chart.name)
+    × KeepNames (with_change services t) touched
 
 -- what the touched services do to the timers
-abbrev pub timers_of : List Touched → List TimerChange
-timers_of touched = map (λ t. timer_change t.standing.chart) touched
+abbrev pub timers_of : List ChangedService → List TimerChange
+timers_of touched = map (λ t. timer_change_of t.standing.chart) touched
 
-pub record Moving : Type 0 where
+pub record StepSoFar : Type 0 where
   pub services : List Supervised
   pub events : List Event
   pub orders : List Order
   pub timers : List TimerChange
 
-abbrev pub moving_of : {A : Type 0} → List Supervised → Moves A → Moving
-moving_of services m = record { services = with_touched services m.touched.items; events = m.events.items; orders = m.orders.items; timers = timers_of m.touched.items }
+abbrev pub step_so_far : {A : Type 0} → List Supervised → Moves A → StepSoFar
+step_so_far services m = record {
+  services = with_changes services m.touched.items;
+  events = m.events.items;
+  orders =
+      m.orders.items;
+  timers = timers_of m.touched.items;
+}
 
 -- a history that agreed at this moment agrees again, once the events have joined it
-abbrev pub GoOnAgreeing : ℕ → Moving → Moving → Type 0
+abbrev pub GoOnAgreeing : ℕ → StepSoFar → StepSoFar → Type 0
 GoOnAgreeing now old new =
-    (history : List Moment) → clock_of history ≡ now → AllAgree old.services (history ++ map moment_of old.events) → AllAgree new.services (history ++ map moment_of new.events)
+    (history : List Moment) → clock_of history ≡ now → AllAgree old.services (history ++ map moment_of old.events)
+    → AllAgree new.services (history ++ map moment_of new.events)
 
 -- timers that agreed agree again, once the changes are made
-abbrev pub TimersGoOn : Moving → Moving → Type 0
+abbrev pub TimersGoOn : StepSoFar → StepSoFar → Type 0
 TimersGoOn old new =
-    (timers : List Timer) → TimersAgree (changed_all old.timers timers) (charts_of old.services) → TimersAgree (changed_all new.timers timers) (charts_of new.services)
+    (timers : List Timer) → TimersAgree (with_timer_changes old.timers timers) (charts_of old.services)
+    → TimersAgree (with_timer_changes new.timers timers) (charts_of new.services)
 
 -- whatever deaths the services had the last of, they have the last of them and of these
-abbrev pub TalliesGoOn : Moving → Moving → List DeathOf → Type 0
-TalliesGoOn old new more = (deaths : List DeathOf) → AllTallied old.services deaths → AllTallied new.services (deaths ++ more)
+abbrev pub TalliesGoOn : StepSoFar → StepSoFar → List DeathOf → Type 0
+TalliesGoOn old new more = (deaths : List DeathOf) → AllTallied old.services deaths
+    → AllTallied new.services (deaths ++ more)
 
 -- the service at a place, which stood so, took a move
-pub record TakesAt (now place : ℕ) (c : ChartState) (moved : Moved) (old new : Moving) : Type 0 where
+pub record TakesAt (now place : ℕ) (c : ChartState) (moved : Moved) (old new : StepSoFar) : Type 0 where
   pub services : charts_of new.services ≡ slice_set (charts_of old.services) place moved.chart
-  pub events : new.events ≡ old.events ++ events_of c.sid moved
+  pub events : new.events ≡ old.events ++ events_of_move c.sid moved
   pub orders : new.orders ≡ old.orders ++ moved.orders
   pub agrees : GoOnAgreeing now old new
   pub timers : TimersGoOn old new
   pub tallies : TalliesGoOn old new (map (death_of c.sid) moved.deaths)
 
 -- each of the first services took the move
-pub record TakesUpTo (now : ℕ) (move : ChartState → Moved) (place : ℕ) (old new : Moving) : Type 0 where
-  pub services : charts_of new.services ≡ services_after move (take place (charts_of old.services)) ++ drop place (charts_of old.services)
+pub record TakesUpTo (now : ℕ) (move : ChartState → Moved) (place : ℕ) (old new : StepSoFar) : Type 0 where
+  pub services : charts_of new.services
+      ≡ services_after move (take place (charts_of old.services)) ++ drop place (charts_of old.services)
   pub events : new.events ≡ old.events ++ events_after move (take place (charts_of old.services))
   pub orders : new.orders ≡ old.orders ++ orders_after move (take place (charts_of old.services))
   pub agrees : GoOnAgreeing now old new
@@ -81,7 +93,7 @@ pub record TakesUpTo (now : ℕ) (move : ChartState → Moved) (place : ℕ) (ol
   pub tallies : TalliesGoOn old new (deaths_after move (take place (charts_of old.services)))
 
 -- each service took the move
-pub record Takes (now : ℕ) (move : ChartState → Moved) (old new : Moving) : Type 0 where
+pub record Takes (now : ℕ) (move : ChartState → Moved) (old new : StepSoFar) : Type 0 where
   pub services : charts_of new.services ≡ services_after move (charts_of old.services)
   pub events : new.events ≡ old.events ++ events_after move (charts_of old.services)
   pub orders : new.orders ≡ old.orders ++ orders_after move (charts_of old.services)

@@ -7,6 +7,6 @@ abbrev pub lists : List (List ℕ) → List ℕ → Bool
 lists names name = list_any (bytes_eq name) names
 
 -- a name is in the list twice
-abbrev pub repeats : List (List ℕ) → Bool
-repeats [] = false
-repeats (name ∷ names) = lists names name || repeats names
+abbrev pub repeats_name : List (List ℕ) → Bool
+repeats_name [] = false
+repeats_name (name ∷ names) = lists names name || repeats_name names

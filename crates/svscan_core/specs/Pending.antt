@@ -5,12 +5,12 @@ use Rattle.svscan_core.specs.declared.pending.Pending.{Pending}
 use Rattle.deadlines.specs.declared.timer.TimerChange.TheVariants.{Clear}
 use Rattle.svscan_core.specs.Moving.{timers_of}
 use Rattle.svscan_core.specs.Table.{charts_of}
-use Rattle.svscan_core.specs.Timers.{timer_change}
-use Rattle.svscan_core.specs.Registry.{Prepared}
+use Rattle.svscan_core.specs.Timers.{timer_change_of}
+use Rattle.svscan_core.specs.Registry.{RegistryPrepared}
 use Rattle.svscan_core.specs.Scanning.{prepared_services}
 
-abbrev pub prepared_of : {A : Type 0} → List Supervised → Pending A → Prepared
-prepared_of services p = record {
+abbrev pub registry_prepared : {A : Type 0} → List Supervised → Pending A → RegistryPrepared
+registry_prepared services p = record {
   services = prepared_services services p.moves.touched.items p.scan.dropped.items p.scan.added.items;
   next_sid = p.scan.next_sid;
   events = p.moves.events.items;
@@ -18,7 +18,8 @@ prepared_of services p = record {
   stale = p.stale;
   dropped = p.scan.dropped_sids.items;
   listed = p.scan.listed.items;
-  timers = timers_of p.moves.touched.items ++ (map (λ sid. Clear sid) p.scan.dropped_sids.items ++ map timer_change (charts_of p.scan.added.items));
+  timers = timers_of p.moves.touched.items
+      ++ (map (λ sid. Clear sid) p.scan.dropped_sids.items ++ map timer_change_of (charts_of p.scan.added.items));
 }
 
 -- nothing is worked out yet, where this is the next serial

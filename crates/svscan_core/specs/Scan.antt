@@ -1,35 +1,37 @@
 -- What a listing of the scan directory does to the services.
-use Rattle.std.specs.Prelude.{ℕ, ◌+◌, List, [], ◌∷◌, ◌++◌, map, fold, filter, length, Bool, ◌||◌, not, nat_lt, if◌then◌else◌, bytes_eq, Option, Some, None}
+use Rattle.std.specs.Prelude.{ℕ, ◌+◌, List, [], ◌∷◌, ◌++◌, map, fold, filter, length, Bool, ◌||◌, not, nat_lt}
+use Rattle.std.specs.Prelude.{if◌then◌else◌, bytes_eq, Option, Some, None}
 use Rattle.std.specs.List.{list_any}
 use Rattle.s6_events.specs.declared.order.Order.{Order}
 use Rattle.servicedir.specs.declared.config.Config.{Config}
 use Rattle.supervise_core.specs.declared.chart.ChartState.{ChartState}
 use Rattle.supervise_core.specs.ChartState.{new_service, is_gone}
-use Rattle.supervise_core.specs.Moves.{begin_supervisor}
-use Rattle.supervise_core.specs.Chart.{set_active, set_config}
+use Rattle.supervise_core.specs.Moves.{begin_move}
+use Rattle.supervise_core.specs.Chart.{with_activity, with_config}
 use Rattle.svscan_core.specs.declared.entry.Entry.{Entry}
 use Rattle.svscan_core.specs.declared.event.Event.{Event}
 use Rattle.svscan_core.specs.declared.entry.Listed.{Listed}
 use Rattle.svscan_core.specs.declared.entry.Listed.TheVariants.{Added, Full, Unread}
-use Rattle.svscan_core.specs.Listing.{is_listed, config_in, names_in, in_byte_order}
-use Rattle.svscan_core.specs.Moves.{events_of}
+use Rattle.svscan_core.specs.Listing.{has_entry, listed_config, names_in, in_byte_order}
+use Rattle.svscan_core.specs.Moves.{events_of_move}
 
 -- the most services that stand
 abbrev pub service_limit : ℕ
 service_limit = 64
 
 -- a service takes a configuration, where there is one
-abbrev pub configured : Option Config → ChartState → ChartState
-configured None c = c
-configured (Some config) c = set_config config c
+abbrev pub with_read_config : Option Config → ChartState → ChartState
+with_read_config None c = c
+with_read_config (Some config) c = with_config config c
 
 -- a look at the directory of a service: it is active where it is listed, and takes the configuration that was read
-abbrev pub looked_at : List Entry → ℕ → ChartState → ChartState
-looked_at listing now c = configured (config_in listing c.name) (set_active (is_listed listing c.name) now c)
+abbrev pub after_look : List Entry → ℕ → ChartState → ChartState
+after_look listing now c = with_read_config (listed_config listing c.name)
+    (with_activity (has_entry listing c.name) now c)
 
 -- activity: each standing service is looked at
-abbrev pub looked_up : List Entry → ℕ → List ChartState → List ChartState
-looked_up listing now services = map (looked_at listing now) services
+abbrev pub after_looks : List Entry → ℕ → List ChartState → List ChartState
+after_looks listing now services = map (after_look listing now) services
 
 -- drops: a service leaves whose directory and whose supervisor are both gone
 abbrev pub stays : ChartState → Bool
@@ -53,11 +55,11 @@ stands name services = list_any (λ c. bytes_eq name c.name) services
 -- the name gets a service of the next serial, whose supervisor starts with this configuration
 abbrev pub with_service : Config → ScanState → List ℕ → ScanState
 with_service config g name = record {
-  services = g.services ++ (begin_supervisor (new_service g.next_sid name config)).chart ∷ [];
+  services = g.services ++ (begin_move (new_service g.next_sid name config)).chart ∷ [];
   next_sid = g.next_sid + 1;
   listed = g.listed ++ Added g.next_sid name ∷ [];
-  events = g.events ++ events_of g.next_sid (begin_supervisor (new_service g.next_sid name config));
-  orders = g.orders ++ (begin_supervisor (new_service g.next_sid name config)).orders;
+  events = g.events ++ events_of_move g.next_sid (begin_move (new_service g.next_sid name config));
+  orders = g.orders ++ (begin_move (new_service g.next_sid name config)).orders;
 }
 
 -- a name for which no service stands gets none where its directory couldn't be read, and none where the limit is reached
@@ -69,7 +71,7 @@ with_new_name (Some config) g name =
 
 -- a name that stands is passed over
 abbrev pub with_name : List Entry → ScanState → List ℕ → ScanState
-with_name listing g name = if stands name g.services then g else with_new_name (config_in listing name) g name
+with_name listing g name = if stands name g.services then g else with_new_name (listed_config listing name) g name
 
 -- one name after the other
 abbrev pub with_names : List Entry → ScanState → List (List ℕ) → ScanState
@@ -77,13 +79,15 @@ with_names listing g names = fold (with_name listing) g names
 
 -- from the services that stayed on
 abbrev pub scan_state_from : List ChartState → ℕ → ScanState
-scan_state_from services next_sid = record { services = services; next_sid = next_sid; listed = []; events = []; orders = [] }
+scan_state_from services next_sid =
+    record { services = services; next_sid = next_sid; listed = []; events = []; orders = [] }
 
 -- a scan: activity, drops, and additions in the order of the names' bytes
-abbrev pub scanned : List Entry → ℕ → List ChartState → ℕ → ScanState
-scanned listing now services next_sid =
-    with_names listing (scan_state_from (filter stays (looked_up listing now services)) next_sid) (in_byte_order (names_in listing))
+abbrev pub after_scan : List Entry → ℕ → List ChartState → ℕ → ScanState
+after_scan listing now services next_sid =
+    with_names listing (scan_state_from (filter stays (after_looks listing now services)) next_sid)
+    (in_byte_order (names_in listing))
 
 -- the serials of the services that a scan drops
 abbrev pub dropped_by : List Entry → ℕ → List ChartState → List ℕ
-dropped_by listing now services = map (λ c. c.sid) (filter leaves (looked_up listing now services))
+dropped_by listing now services = map (λ c. c.sid) (filter leaves (after_looks listing now services))

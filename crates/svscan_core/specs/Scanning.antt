@@ -1,8 +1,8 @@
 -- What a listing drops and adds, before anything is changed.
 use Rattle.std.specs.Prelude.{ℕ, List, ◌++◌, fold}
 use Rattle.supervise_core.specs.Service.{Supervised}
-use Rattle.svscan_core.specs.declared.moves.Touched.{Touched}
-use Rattle.svscan_core.specs.Moving.{with_touched}
+use Rattle.svscan_core.specs.declared.moves.ChangedService.{ChangedService}
+use Rattle.svscan_core.specs.Moving.{with_changes}
 use Rattle.svscan_core.specs.Table.{without_name}
 
 -- without the first service of each of these names
@@ -10,5 +10,5 @@ abbrev pub without_names : List Supervised → List (List ℕ) → List Supervis
 without_names services names = fold without_name services names
 
 -- the services once they are changed, dropped and added
-abbrev pub prepared_services : List Supervised → List Touched → List (List ℕ) → List Supervised → List Supervised
-prepared_services services touched dropped added = without_names (with_touched services touched) dropped ++ added
+abbrev pub prepared_services : List Supervised → List ChangedService → List (List ℕ) → List Supervised → List Supervised
+prepared_services services touched dropped added = without_names (with_changes services touched) dropped ++ added

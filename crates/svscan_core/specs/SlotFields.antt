@@ -4,7 +4,7 @@ use Rattle.std.specs.Option.{option_to_list}
 use Rattle.slab.specs.Slab.{Slab, get, slab_len}
 use Rattle.indexmap.specs.IndexMap.{spare}
 use Rattle.supervise_core.specs.Service.{Supervised}
-use Rattle.svscan_core.specs.Held.{Held}
+use Rattle.svscan_core.specs.Held.{SlotsView}
 use Rattle.svscan_core.specs.declared.slots.Slots.TheInside.{Inside}
 
 -- the services in the slots of the index, in its order
@@ -18,8 +18,8 @@ AreHeld slots [] = Unit {0}
 AreHeld slots (p ∷ ps) = IsSomeAnd (get slots p.1) (λ s. s.chart.name ≡ p.0) × AreHeld slots ps
 
 -- the services, and the room that both the slots and the index have
-abbrev pub held : {A : Type 0} → Inside A → Held
-held s = record {
+abbrev pub slots_view : {A : Type 0} → Inside A → SlotsView
+slots_view s = record {
   services = services_in s.slots s.index.entries;
   room = min (s.slots.capacity - slab_len s.slots) (spare s.index);
 }

@@ -4,7 +4,7 @@ use Rattle.deadlines.specs.Timers.{is_rising}
 use Rattle.s6_events.specs.declared.moment.Moment.{Moment}
 use Rattle.supervise_core.specs.declared.chart.ChartState.{ChartState}
 use Rattle.supervise_core.specs.Service.{Supervised, AgreesWith}
-use Rattle.svscan_core.specs.Names.{repeats}
+use Rattle.svscan_core.specs.Names.{repeats_name}
 use Rattle.svscan_core.specs.Table.{names_of, serials_of}
 
 -- the serials of the services rise, and the next one is above them all
@@ -14,7 +14,7 @@ IsNumbered next services = is_rising (serials_of services ++ next ∷ []) ≡ tr
 -- few services, no name twice, and the serials in order
 pub record IsSound (next : ℕ) (services : List ChartState) : Type 0 where
   pub few : length services ≤ 64
-  pub names : repeats (names_of services) ≡ false
+  pub names : repeats_name (names_of services) ≡ false
   pub order : IsNumbered next services
 
 -- a history agrees with all that the services store of their marks

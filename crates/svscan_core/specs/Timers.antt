@@ -33,5 +33,5 @@ change_to sid None = Clear sid
 change_to sid (Some at) = Set sid at
 
 -- the timer of a service becomes what its state says
-abbrev pub timer_change : ChartState → TimerChange
-timer_change c = change_to c.sid (in_reach c.timer)
+abbrev pub timer_change_of : ChartState → TimerChange
+timer_change_of c = change_to c.sid (in_reach c.timer)

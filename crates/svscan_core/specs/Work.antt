@@ -4,8 +4,8 @@ use Rattle.std.specs.List.{list_any}
 use Rattle.s6_events.specs.declared.order.Order.{Order}
 use Rattle.supervise_core.specs.declared.chart.ChartState.{ChartState}
 use Rattle.supervise_core.specs.declared.change.Change.{Change}
-use Rattle.supervise_core.specs.ChartState.{Moved, still}
-use Rattle.supervise_core.specs.Chart.{changed_by, control, fire, is_due, set_active}
+use Rattle.supervise_core.specs.ChartState.{Moved, no_move}
+use Rattle.supervise_core.specs.Chart.{changed_by, control_move, fire_move, is_due, with_activity}
 use Rattle.svc_commands.specs.declared.control_letter.ControlLetter.{ControlLetter}
 use Rattle.svc_commands.specs.declared.control_letter.ControlLetter.TheVariants.{Exit, Down}
 use Rattle.svscan_core.specs.declared.entry.Entry.{Entry}
@@ -14,18 +14,18 @@ use Rattle.svscan_core.specs.declared.entry.ScanOrder.{ScanOrder}
 use Rattle.svscan_core.specs.declared.entry.ScanOrder.TheVariants.{Nuke, Terminate}
 use Rattle.svscan_core.specs.declared.event.Event.{Event}
 use Rattle.svscan_core.specs.Moves.{services_after, events_after, orders_after}
-use Rattle.svscan_core.specs.Scan.{scanned, dropped_by}
+use Rattle.svscan_core.specs.Scan.{after_scan, dropped_by}
 
 -- what is asked of the services
 pub data Work : Type 0 where
-  leave : Work
+  do_nothing : Work
   change_one : ℕ → Change → Work
   apply_listing : List Entry → Work
   command : ScanOrder → Work
 
 -- what is left of the services, and what they give: the events and orders, whether a report was stale, the serials that were
 -- dropped, and what became of the listed names for which no service stood
-pub record Worked : Type 0 where
+pub record WorkResult : Type 0 where
   pub services : List ChartState
   pub next_sid : ℕ
   pub events : List Event
@@ -35,24 +35,24 @@ pub record Worked : Type 0 where
   pub listed : List Listed
 
 -- the service of the serial takes the change, and every other one stays
-abbrev pub changed_at : ℕ → Change → ℕ → ChartState → Moved
-changed_at sid change now c = if c.sid == sid then changed_by change now c else still c
+abbrev pub change_move_at : ℕ → Change → ℕ → ChartState → Moved
+change_move_at sid change now c = if c.sid == sid then changed_by change now c else no_move c
 
 -- the letters of a service that leaves: its supervisor is to end, and it is to go down
-abbrev pub leaving : List ControlLetter
-leaving = Exit ∷ Down ∷ []
+abbrev pub leave_letters : List ControlLetter
+leave_letters = Exit ∷ Down ∷ []
 
 -- nuke: each inactive service gets these letters
-abbrev pub nuked : ℕ → ChartState → Moved
-nuked now c = if c.active then still c else control leaving now c
+abbrev pub nuke_move : ℕ → ChartState → Moved
+nuke_move now c = if c.active then no_move c else control_move leave_letters now c
 
 -- terminate: each service becomes inactive, and gets these letters
-abbrev pub terminated : ℕ → ChartState → Moved
-terminated now c = control leaving now (set_active false now c)
+abbrev pub terminate_move : ℕ → ChartState → Moved
+terminate_move now c = control_move leave_letters now (with_activity false now c)
 
-abbrev pub commanded : ScanOrder → ℕ → ChartState → Moved
-commanded Nuke now c = nuked now c
-commanded Terminate now c = terminated now c
+abbrev pub command_move : ScanOrder → ℕ → ChartState → Moved
+command_move Nuke now c = nuke_move now c
+command_move Terminate now c = terminate_move now c
 
 -- after a terminate the tree is closing, and stays so
 abbrev pub closing_after : Work → Bool → Bool
@@ -60,13 +60,22 @@ closing_after (command Terminate) closing = true
 closing_after work closing = closing
 
 -- every service stays
-abbrev pub left_alone : List ChartState → ℕ → Worked
-left_alone services next_sid =
-    record { services = services; next_sid = next_sid; events = []; orders = []; stale = false; dropped = []; listed = [] }
+abbrev pub no_work_result : List ChartState → ℕ → WorkResult
+no_work_result services next_sid =
+    record {
+      services = services;
+      next_sid = next_sid;
+      events = [];
+      orders = [];
+      stale = false;
+      dropped = [];
+      listed =
+          [];
+    }
 
 -- every service takes a move
-abbrev pub moved_all : (ChartState → Moved) → List ChartState → ℕ → Worked
-moved_all move services next_sid = record {
+abbrev pub move_result : (ChartState → Moved) → List ChartState → ℕ → WorkResult
+move_result move services next_sid = record {
   services = services_after move services;
   next_sid = next_sid;
   events = events_after move services;
@@ -77,28 +86,31 @@ moved_all move services next_sid = record {
 }
 
 -- the work, done at a moment on the services
-abbrev pub worked : Work → ℕ → List ChartState → ℕ → Worked
-worked leave now services next_sid = left_alone services next_sid
-worked (change_one sid change) now services next_sid = moved_all (changed_at sid change now) services next_sid
-worked (command order) now services next_sid = record (moved_all (commanded order now) services next_sid) { stale = false }
-worked (apply_listing listing) now services next_sid = record {
-  services = (scanned listing now services next_sid).services;
-  next_sid = (scanned listing now services next_sid).next_sid;
-  events = (scanned listing now services next_sid).events;
-  orders = (scanned listing now services next_sid).orders;
+abbrev pub work_result : Work → ℕ → List ChartState → ℕ → WorkResult
+work_result do_nothing now services next_sid = no_work_result services next_sid
+work_result (change_one sid change) now services next_sid =
+    move_result (change_move_at sid change now) services next_sid
+work_result (command order) now services next_sid =
+    record (move_result (command_move order now) services next_sid) { stale = false }
+work_result (apply_listing listing) now services next_sid = record {
+  services = (after_scan listing now services next_sid).services;
+  next_sid = (after_scan listing now services next_sid).next_sid;
+  events = (after_scan listing now services next_sid).events;
+  orders = (after_scan listing now services next_sid).orders;
   stale = false;
   dropped = dropped_by listing now services;
-  listed = (scanned listing now services next_sid).listed;
+  listed = (after_scan listing now services next_sid).listed;
 }
 
 -- what was given before comes first
-abbrev pub given_before : List Event → List Order → Worked → Worked
-given_before events orders w = record w { events = events ++ w.events; orders = orders ++ w.orders }
+abbrev pub with_earlier : List Event → List Order → WorkResult → WorkResult
+with_earlier events orders w = record w { events = events ++ w.events; orders = orders ++ w.orders }
 
 -- each service whose timer is due takes its rule, and then the work is done
-abbrev pub stepped : Work → ℕ → List ChartState → ℕ → Worked
-stepped work now services next_sid =
-    given_before (events_after (fire now) services) (orders_after (fire now) services) (worked work now (services_after (fire now) services) next_sid)
+abbrev pub step_result : Work → ℕ → List ChartState → ℕ → WorkResult
+step_result work now services next_sid =
+    with_earlier (events_after (fire_move now) services) (orders_after (fire_move now) services)
+    (work_result work now (services_after (fire_move now) services) next_sid)
 
 -- these are the serials of the services whose timers are due
 abbrev pub AreDue : List ℕ → ℕ → List ChartState → Type 0

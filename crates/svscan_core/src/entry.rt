@@ -1,15 +1,16 @@
+//! An entry of the scan directory, what becomes of it, and the orders to all services.
 use s6_events::{Name, Sid};
 use servicedir::Config;
 
 /// A name that a look at the scan directory found, and what the files of its directory said; None where the directory is there and
-/// couldn't be read. Page `s6-svscan`; that a directory may be there and not be read is this project's own.
+/// couldn't be read. Page `s6-svscan`; that a directory may be there and not be read is chosen here.
 #[derive(Clone, Copy, PartialEq, Eq, Debug)]
 pub struct Entry {
     pub name: Name,
     pub config: Option<Config>,
 }
 
-/// What became of a listed name for which no service stood. This project's own.
+/// What became of a listed name for which no service stood.
 #[derive(Clone, Copy, Debug, PartialEq, Eq)]
 pub enum Listed {
     /// It has a new service, of this serial.

@@ -1,3 +1,4 @@
+//! A mark with the service that told it.
 use s6_events::{Mark, Sid};
 
 /// A mark of a service.

@@ -21,4 +21,4 @@ pub use entry::{Entry, Listed, ScanOrder};
 pub use event::Event;
 pub use listing::has_repeats;
 pub use registry::{Answer, Registry};
-pub use work::Work;
+pub use work::ServiceWork;

@@ -1,6 +1,7 @@
+//! A listing of the scan directory in the order of its names' bytes.
 ghost use Rattle.std.specs.Prelude.{◌≡◌, IfOk, find, bytes_eq, option_copied};
-ghost use Rattle.svscan_core.specs.Listing.{names_in, is_listed as has_entry, config_in as config_of, in_byte_order};
-ghost use Rattle.svscan_core.specs.Names.{repeats as name_repeats};
+ghost use Rattle.svscan_core.specs.Listing.{names_in, has_entry, listed_config, in_byte_order};
+ghost use Rattle.svscan_core.specs.Names.{repeats_name};
 
 use super::entry::Entry;
 use s6_events::{Name, NoMemory};
@@ -31,7 +32,7 @@ fn find_name<'a>(listing: &'a [Entry], name: &Name) -> Option<&'a Entry>
 
 /// The configuration that was read of the directory of the name.
 pub fn config_in(listing: &[Entry], name: &Name) -> Option<Config>
-    ensures { result ≡ config_of listing.now name.now }
+    ensures { result ≡ listed_config listing.now name.now }
 {
     match find_name(listing, name) {
         Some(entry) => entry.config,
@@ -44,8 +45,9 @@ pub fn sort_listing<A: Allocator + Copy>(
     alloc: A,
     listing: &[Entry],
 ) -> Result<SortedListing<A>, NoMemory>
-    ensures names { IfOk result (λ sorted. sorted.names.items ≡ in_byte_order (names_in listing.now)) }
-    ensures repeats { IfOk result (λ sorted. sorted.repeats ≡ name_repeats (names_in listing.now)) }
+    ensures names { IfOk result (λ sorted. sorted.names.items
+        ≡ in_byte_order (names_in listing.now)) }
+    ensures repeats { IfOk result (λ sorted. sorted.repeats ≡ repeats_name (names_in listing.now)) }
 {
     let mut set = BTreeSet::new(alloc);
     let mut repeats = false;
@@ -60,7 +62,7 @@ pub fn sort_listing<A: Allocator + Copy>(
 
 /// Whether a name stands twice in the listing.
 pub fn has_repeats<A: Allocator + Copy>(alloc: A, listing: &[Entry]) -> Result<bool, NoMemory>
-    ensures { IfOk result (λ repeats. repeats ≡ name_repeats (names_in listing.now)) }
+    ensures { IfOk result (λ repeats. repeats ≡ repeats_name (names_in listing.now)) }
 {
     Ok(sort_listing(alloc, listing)?.repeats)
 }

@@ -1,15 +1,16 @@
+//! The services that a step has changed so far, and what it has given.
 ghost use Rattle.std.specs.Prelude.{◌≡◌, ◌+◌, ◌<◌, ◌≤◌, ◌^◌, ◌*◌, ◌++◌, ◌∷◌, [], map, length, All, IfOk, OnOk, Some, slice_get, option_map, true};
-ghost use Rattle.supervise_core.specs.Service.{stands_of};
+ghost use Rattle.supervise_core.specs.Service.{service_view};
 ghost use Rattle.deadlines.specs.Timers.{is_rising};
 ghost use Rattle.supervise_core.specs.declared.chart.ChartState.{ChartState};
 ghost use Rattle.supervise_core.specs.Chart.{changed_by};
 ghost use Rattle.supervise_core.specs.MatchesMove.{most_orders};
 ghost use Rattle.std.specs.List.{list_any};
-ghost use Rattle.svscan_core.specs.Moves.{event};
-ghost use Rattle.svscan_core.specs.Work.{changed_at};
-ghost use Rattle.svscan_core.specs.Moving.{with_touched, moving_of, KeepNames, TakesAt, Takes};
+ghost use Rattle.svscan_core.specs.Moves.{service_mark};
+ghost use Rattle.svscan_core.specs.Work.{change_move_at};
+ghost use Rattle.svscan_core.specs.Moving.{with_changes, step_so_far, KeepNames, TakesAt, Takes};
 ghost use Rattle.svscan_core.specs.Table.{charts_of, serials_of};
-ghost use Rattle.svscan_core.specs.Visit.{visited};
+ghost use Rattle.svscan_core.specs.Visit.{visit_move};
 ghost use Rattle.svscan_core.specs.declared.visit.Visit.TheVariants.{Fire};
 
 use super::event::Event;
@@ -19,13 +20,13 @@ use super::visit::{Visit, take};
 use arrayvec::ArrayVec;
 use s6_events::{At, Exit, Mark, NoMemory, Order, Sid};
 use std::alloc::Allocator;
-use supervise_core::{Change, Out, Standing};
+use supervise_core::{Change, Out, ServiceState};
 
 /// What a step gives the service at a place.
 #[derive(Clone, Copy)]
-pub struct Touched {
+pub struct ChangedService {
     pub place: usize,
-    pub standing: Standing,
+    pub standing: ServiceState,
     /// A death that joins its tally.
     pub death: Option<(At, Exit)>,
 }
@@ -33,7 +34,7 @@ pub struct Touched {
 /// The services that a step changes, and what it gives. The lists keep their memory from step to step.
 #[derive(Drop)]
 pub struct Moves<A: Allocator> {
-    pub touched: Vec<Touched, A>,
+    pub touched: Vec<ChangedService, A>,
     pub events: Vec<Event, A>,
     pub orders: ArrayVec<Order, 256>,
     // What the last change of a service gave.
@@ -43,10 +44,11 @@ pub struct Moves<A: Allocator> {
 /// The service at a place, as the step has it so far.
 pub fn standing_at<A: Allocator + Copy>(
     slots: &Slots<A>,
-    touched: &[Touched],
+    touched: &[ChangedService],
     place: usize,
-) -> Option<Standing>
-    ensures { result ≡ option_map stands_of (slice_get (with_touched slots.now.services touched.now) place) }
+) -> Option<ServiceState>
+    ensures { result ≡ option_map service_view
+        (slice_get (with_changes slots.now.services touched.now) place) }
 {
     let mut standing = slots.nth(place)?.standing();
     for other in touched {
@@ -63,7 +65,8 @@ fn add_events<A: Allocator>(
     sid: Sid,
     marks: &[Mark],
 ) -> Result<(), NoMemory>
-    ensures events { OnOk result (events.new.items ≡ events.old.items ++ map (event sid) marks.now) }
+    ensures events { OnOk result
+        (events.new.items ≡ events.old.items ++ map (service_mark sid) marks.now) }
 {
     for mark in marks {
         events.push(Event { sid, mark: *mark })?;
@@ -82,7 +85,7 @@ fn add_orders(orders: &mut ArrayVec<Order, 256>, more: &[Order])
 }
 
 impl<A: Allocator + Copy> Moves<A> {
-    /// Nothing yet. Takes no memory.
+    /// Nothing yet.
     pub fn new(alloc: A) -> Moves<A>
         ensures touched { result.touched.items ≡ [] }
         ensures events { result.events.items ≡ [] }
@@ -111,8 +114,11 @@ impl<A: Allocator + Copy> Moves<A> {
     pub fn give(&mut self, sid: Sid, out: &Out) -> Result<(), NoMemory>
         requires { length self.old.orders.items + length out.now.orders.items ≤ 256 }
         ensures touched { self.new.touched.items ≡ self.old.touched.items }
-        ensures events { OnOk result (self.new.events.items ≡ self.old.events.items ++ map (event sid) out.now.events.items) }
-        ensures orders { OnOk result (self.new.orders.items ≡ self.old.orders.items ++ out.now.orders.items) }
+        ensures events { OnOk result
+            (self.new.events.items ≡ self.old.events.items
+            ++ map (service_mark sid) out.now.events.items) }
+        ensures orders { OnOk result
+            (self.new.orders.items ≡ self.old.orders.items ++ out.now.orders.items) }
     {
         add_orders(&mut self.orders, out.orders.as_slice());
         add_events(&mut self.events, sid, out.events.as_slice())
@@ -122,18 +128,23 @@ impl<A: Allocator + Copy> Moves<A> {
     fn touch(
         &mut self,
         place: usize,
-        standing: Standing,
+        standing: ServiceState,
         death: Option<(At, Exit)>,
     ) -> Result<(), NoMemory>
         requires { length self.old.orders.items + length self.old.out.orders.items ≤ 256 }
-        ensures touched { OnOk result (self.new.touched.items ≡ self.old.touched.items ++ (record { place = place; standing = standing; death = death }) ∷ []) }
-        ensures events { OnOk result (self.new.events.items ≡ self.old.events.items ++ map (event standing.chart.sid) self.old.out.events.items) }
-        ensures orders { OnOk result (self.new.orders.items ≡ self.old.orders.items ++ self.old.out.orders.items) }
+        ensures touched { OnOk result
+            (self.new.touched.items ≡ self.old.touched.items
+            ++ (record { place = place; standing = standing; death = death }) ∷ []) }
+        ensures events { OnOk result
+            (self.new.events.items ≡ self.old.events.items
+            ++ map (service_mark standing.chart.sid) self.old.out.events.items) }
+        ensures orders { OnOk result
+            (self.new.orders.items ≡ self.old.orders.items ++ self.old.out.orders.items) }
     {
         add_orders(&mut self.orders, self.out.orders.as_slice());
         let marks = self.out.events.as_slice();
         add_events(&mut self.events, standing.sid(), marks)?;
-        self.touched.push(Touched {
+        self.touched.push(ChangedService {
             place,
             standing,
             death,
@@ -150,14 +161,23 @@ impl<A: Allocator + Copy> Moves<A> {
         now: At,
     ) -> Result<(), NoMemory>
         requires orders { length self.old.orders.items + 2 ≤ 256 }
-        requires next { (c : ChartState) → slice_get (charts_of (with_touched slots.now.services self.old.touched.items)) place ≡ Some c → c.generation + 1 < 2 ^ 64 }
-        requires order { is_rising (serials_of (charts_of (with_touched slots.now.services self.old.touched.items))) ≡ true }
-        ensures takes { OnOk result ((c : ChartState) → slice_get (charts_of (with_touched slots.now.services self.old.touched.items)) place ≡ Some c
-            → TakesAt now place c (visited visit.entry now c) (moving_of slots.now.services self.old) (moving_of slots.now.services self.new)) }
-        ensures serials { OnOk result (serials_of (charts_of (with_touched slots.now.services self.new.touched.items)) ≡ serials_of (charts_of (with_touched slots.now.services self.old.touched.items))) }
-        ensures names { KeepNames slots.now.services self.old.touched.items → OnOk result (KeepNames slots.now.services self.new.touched.items) }
-        ensures few { OnOk result (length self.new.orders.items ≤ length self.old.orders.items + 2) }
-        ensures fires { visit.entry ≡ Fire → OnOk result (length self.new.orders.items ≤ length self.old.orders.items + 1) }
+        requires next { (c : ChartState)
+            → slice_get (charts_of (with_changes slots.now.services self.old.touched.items)) place
+            ≡ Some c → c.generation + 1 < 2 ^ 64 }
+        requires order { is_rising (serials_of
+            (charts_of (with_changes slots.now.services self.old.touched.items))) ≡ true }
+        ensures takes { OnOk result ((c : ChartState) → slice_get (charts_of (with_changes slots.now.services self.old.touched.items)) place ≡ Some c
+            → TakesAt now place c (visit_move visit.entry now c)
+            (step_so_far slots.now.services self.old) (step_so_far slots.now.services self.new)) }
+        ensures serials { OnOk result
+            (serials_of (charts_of (with_changes slots.now.services self.new.touched.items))
+            ≡ serials_of (charts_of (with_changes slots.now.services self.old.touched.items))) }
+        ensures names { KeepNames slots.now.services self.old.touched.items
+            → OnOk result (KeepNames slots.now.services self.new.touched.items) }
+        ensures few { OnOk result (length self.new.orders.items
+            ≤ length self.old.orders.items + 2) }
+        ensures fires { visit.entry ≡ Fire
+            → OnOk result (length self.new.orders.items ≤ length self.old.orders.items + 1) }
     {
         let Some(before) = standing_at(slots, self.touched.as_slice(), place) else {
             return Ok(());
@@ -174,12 +194,20 @@ impl<A: Allocator + Copy> Moves<A> {
     /// Each service in turn takes it.
     pub fn visit_all(&mut self, slots: &Slots<A>, visit: Visit, now: At) -> Result<(), NoMemory>
         requires orders { length self.old.orders.items + 2 * length slots.now.services ≤ 256 }
-        requires generations { All (λ c. c.generation + 1 < 2 ^ 64) (charts_of (with_touched slots.now.services self.old.touched.items)) }
-        requires order { is_rising (serials_of (charts_of (with_touched slots.now.services self.old.touched.items))) ≡ true }
-        ensures takes { OnOk result (Takes now (visited visit.entry now) (moving_of slots.now.services self.old) (moving_of slots.now.services self.new)) }
-        ensures names { KeepNames slots.now.services self.old.touched.items → OnOk result (KeepNames slots.now.services self.new.touched.items) }
-        ensures few { OnOk result (length self.new.orders.items ≤ length self.old.orders.items + 2 * length slots.now.services) }
-        ensures fires { visit.entry ≡ Fire → OnOk result (length self.new.orders.items ≤ length self.old.orders.items + length slots.now.services) }
+        requires generations { All (λ c. c.generation + 1 < 2 ^ 64)
+            (charts_of (with_changes slots.now.services self.old.touched.items)) }
+        requires order { is_rising (serials_of
+            (charts_of (with_changes slots.now.services self.old.touched.items))) ≡ true }
+        ensures takes { OnOk result
+            (Takes now (visit_move visit.entry now) (step_so_far slots.now.services self.old)
+            (step_so_far slots.now.services self.new)) }
+        ensures names { KeepNames slots.now.services self.old.touched.items
+            → OnOk result (KeepNames slots.now.services self.new.touched.items) }
+        ensures few { OnOk result (length self.new.orders.items
+            ≤ length self.old.orders.items + 2 * length slots.now.services) }
+        ensures fires { visit.entry ≡ Fire
+            → OnOk result (length self.new.orders.items
+            ≤ length self.old.orders.items + length slots.now.services) }
     {
         for place in 0..slots.len() {
             self.visit_at(slots, visit, place, now)?;
@@ -196,13 +224,22 @@ impl<A: Allocator + Copy> Moves<A> {
         now: At,
     ) -> Result<bool, NoMemory>
         requires orders { length self.old.orders.items + most_orders change.now ≤ 256 }
-        requires next { (c : ChartState) → slice_get (charts_of (with_touched slots.now.services self.old.touched.items)) place ≡ Some c → c.generation + 1 < 2 ^ 64 }
-        requires order { is_rising (serials_of (charts_of (with_touched slots.now.services self.old.touched.items))) ≡ true }
-        ensures takes { OnOk result ((c : ChartState) → slice_get (charts_of (with_touched slots.now.services self.old.touched.items)) place ≡ Some c
-            → TakesAt now place c (changed_by change.now now c) (moving_of slots.now.services self.old) (moving_of slots.now.services self.new)) }
-        ensures stale { IfOk result (λ stale. (c : ChartState) → slice_get (charts_of (with_touched slots.now.services self.old.touched.items)) place ≡ Some c → stale ≡ (changed_by change.now now c).stale) }
-        ensures names { KeepNames slots.now.services self.old.touched.items → OnOk result (KeepNames slots.now.services self.new.touched.items) }
-        ensures few { OnOk result (length self.new.orders.items ≤ length self.old.orders.items + most_orders change.now) }
+        requires next { (c : ChartState)
+            → slice_get (charts_of (with_changes slots.now.services self.old.touched.items)) place
+            ≡ Some c → c.generation + 1 < 2 ^ 64 }
+        requires order { is_rising (serials_of
+            (charts_of (with_changes slots.now.services self.old.touched.items))) ≡ true }
+        ensures takes { OnOk result ((c : ChartState) → slice_get (charts_of (with_changes slots.now.services self.old.touched.items)) place ≡ Some c
+            → TakesAt now place c (changed_by change.now now c)
+            (step_so_far slots.now.services self.old) (step_so_far slots.now.services self.new)) }
+        ensures stale { IfOk result
+            (λ stale. (c : ChartState)
+            → slice_get (charts_of (with_changes slots.now.services self.old.touched.items)) place
+            ≡ Some c → stale ≡ (changed_by change.now now c).stale) }
+        ensures names { KeepNames slots.now.services self.old.touched.items
+            → OnOk result (KeepNames slots.now.services self.new.touched.items) }
+        ensures few { OnOk result (length self.new.orders.items
+            ≤ length self.old.orders.items + most_orders change.now) }
     {
         let Some(before) = standing_at(slots, self.touched.as_slice(), place) else {
             return Ok(false);
@@ -223,13 +260,22 @@ impl<A: Allocator + Copy> Moves<A> {
         now: At,
     ) -> Result<bool, NoMemory>
         requires orders { length self.old.orders.items + most_orders change.now ≤ 256 }
-        requires generations { All (λ c. c.generation + 1 < 2 ^ 64) (charts_of (with_touched slots.now.services self.old.touched.items)) }
+        requires generations { All (λ c. c.generation + 1 < 2 ^ 64)
+            (charts_of (with_changes slots.now.services self.old.touched.items)) }
         requires order { is_rising (serials_of (charts_of slots.now.services)) ≡ true }
-        requires serials { serials_of (charts_of (with_touched slots.now.services self.old.touched.items)) ≡ serials_of (charts_of slots.now.services) }
-        ensures takes { OnOk result (Takes now (changed_at sid change.now now) (moving_of slots.now.services self.old) (moving_of slots.now.services self.new)) }
-        ensures stale { IfOk result (λ stale. stale ≡ list_any (λ c. (changed_at sid change.now now c).stale) (charts_of (with_touched slots.now.services self.old.touched.items))) }
-        ensures names { KeepNames slots.now.services self.old.touched.items → OnOk result (KeepNames slots.now.services self.new.touched.items) }
-        ensures few { OnOk result (length self.new.orders.items ≤ length self.old.orders.items + most_orders change.now) }
+        requires serials { serials_of
+            (charts_of (with_changes slots.now.services self.old.touched.items))
+            ≡ serials_of (charts_of slots.now.services) }
+        ensures takes { OnOk result
+            (Takes now (change_move_at sid change.now now) (step_so_far slots.now.services self.old)
+            (step_so_far slots.now.services self.new)) }
+        ensures stale { IfOk result
+            (λ stale. stale ≡ list_any (λ c. (change_move_at sid change.now now c).stale)
+            (charts_of (with_changes slots.now.services self.old.touched.items))) }
+        ensures names { KeepNames slots.now.services self.old.touched.items
+            → OnOk result (KeepNames slots.now.services self.new.touched.items) }
+        ensures few { OnOk result (length self.new.orders.items
+            ≤ length self.old.orders.items + most_orders change.now) }
     {
         let Some(place) = place_of(slots, sid) else {
             return Ok(false);

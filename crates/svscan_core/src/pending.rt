@@ -1,30 +1,31 @@
+//! A step that is worked out before anything is changed.
 ghost use Rattle.std.specs.Prelude.{◌≡◌, ◌+◌, ◌*◌, ◌<◌, ◌≤◌, ◌^◌, ◌++◌, [], List, map, length, All, IfOk, IsOk, OnOk, false, true};
 ghost use Rattle.std.specs.List.{list_any};
 ghost use Rattle.deadlines.specs.declared.timer.Timer.{Timer};
-ghost use Rattle.deadlines.specs.Timers.{changed_all, is_rising};
+ghost use Rattle.deadlines.specs.Timers.{with_timer_changes, is_rising};
 ghost use Rattle.s6_events.specs.Clock.{clock_of};
 ghost use Rattle.s6_events.specs.declared.moment.Moment.{Moment};
-ghost use Rattle.supervise_core.specs.Chart.{fire};
+ghost use Rattle.supervise_core.specs.Chart.{fire_move};
 ghost use Rattle.supervise_core.specs.MatchesMove.{most_orders};
-ghost use Rattle.svscan_core.specs.Asked.{asked_by, IsOrderly};
+ghost use Rattle.svscan_core.specs.Asked.{work_asked, IsOrderly};
 ghost use Rattle.svscan_core.specs.Deaths.{deaths_given, KeepTallied};
 ghost use Rattle.svscan_core.specs.Moves.{moment_of, services_after};
-ghost use Rattle.svscan_core.specs.Moving.{with_touched, timers_of, moving_of, KeepNames, Takes};
-ghost use Rattle.svscan_core.specs.Names.{repeats};
-ghost use Rattle.svscan_core.specs.Pending.{prepared_of, IsBlank};
-ghost use Rattle.svscan_core.specs.Registry.{worked_of};
+ghost use Rattle.svscan_core.specs.Moving.{with_changes, timers_of, step_so_far, KeepNames, Takes};
+ghost use Rattle.svscan_core.specs.Names.{repeats_name};
+ghost use Rattle.svscan_core.specs.Pending.{registry_prepared, IsBlank};
+ghost use Rattle.svscan_core.specs.Registry.{result_of};
 ghost use Rattle.svscan_core.specs.Sound.{AllAgree, IsNumbered};
 ghost use Rattle.svscan_core.specs.Table.{charts_of, names_of, serials_of};
 ghost use Rattle.deadlines.specs.declared.timer.TimerChange.TheVariants.{Clear};
-ghost use Rattle.svscan_core.specs.Timers.{in_reach, timer_change as change_of, TimersAgree};
-ghost use Rattle.svscan_core.specs.Work.{AreDue, worked, given_before, stepped};
-ghost use Rattle.svscan_core.specs.Work.Work.{leave};
+ghost use Rattle.svscan_core.specs.Timers.{in_reach, timer_change_of, TimersAgree};
+ghost use Rattle.svscan_core.specs.Work.{AreDue, work_result, with_earlier, step_result};
+ghost use Rattle.svscan_core.specs.Work.Work.{do_nothing};
 
 use super::moves::Moves;
 use super::scan::{Scanning, plan_scan};
 use super::slots::Slots;
 use super::visit::Visit;
-use super::work::Work;
+use super::work::ServiceWork;
 use deadlines::TimerChange;
 use s6_events::{At, NoMemory, Sid};
 use std::alloc::Allocator;
@@ -51,7 +52,7 @@ fn reachable(timer: Option<u64>) -> Option<At>
 
 // The timer of a service becomes what its state says.
 fn timer_change(chart: &ChartState) -> TimerChange
-    ensures { result ≡ change_of chart.now }
+    ensures { result ≡ timer_change_of chart.now }
 {
     match reachable(chart.timer) {
         Some(at) => TimerChange::Set(chart.sid, at),
@@ -60,7 +61,7 @@ fn timer_change(chart: &ChartState) -> TimerChange
 }
 
 impl<A: Allocator + Copy> Pending<A> {
-    /// Nothing yet. Takes no memory.
+    /// Nothing yet.
     pub fn new(alloc: A, next_sid: u64) -> Pending<A>
         ensures { IsBlank next_sid result }
     {
@@ -85,7 +86,8 @@ impl<A: Allocator + Copy> Pending<A> {
         ensures touched { result ≡ true → self.now.moves.touched.items ≡ [] }
         ensures dropped { result ≡ true → self.now.scan.dropped_sids.items ≡ [] }
         ensures added { result ≡ true → self.now.scan.added.items ≡ [] }
-        ensures blank { self.now.moves.touched.items ≡ [] → self.now.scan.dropped_sids.items ≡ [] → self.now.scan.added.items ≡ [] → result ≡ true }
+        ensures blank { self.now.moves.touched.items ≡ [] → self.now.scan.dropped_sids.items ≡ []
+            → self.now.scan.added.items ≡ [] → result ≡ true }
     {
         self.moves.touched.is_empty()
             && self.scan.dropped_sids.is_empty()
@@ -95,8 +97,9 @@ impl<A: Allocator + Copy> Pending<A> {
     /// What the step does to the timers: of the services that it gives something, of those that leave, and of those that come.
     pub fn timers(&self, alloc: A) -> Result<Vec<TimerChange, A>, NoMemory>
         ensures changes { IfOk result (λ changes. changes.items ≡ timers_of self.now.moves.touched.items
-            ++ (map (λ sid. Clear sid) self.now.scan.dropped_sids.items ++ map change_of (charts_of self.now.scan.added.items))) }
-        ensures quiet { self.now.moves.touched.items ≡ [] → self.now.scan.dropped_sids.items ≡ [] → self.now.scan.added.items ≡ [] → IsOk result }
+            ++ (map (λ sid. Clear sid) self.now.scan.dropped_sids.items ++ map timer_change_of (charts_of self.now.scan.added.items))) }
+        ensures quiet { self.now.moves.touched.items ≡ [] → self.now.scan.dropped_sids.items ≡ []
+            → self.now.scan.added.items ≡ [] → IsOk result }
     {
         if self.is_blank() {
             return Ok(Vec::new(alloc));
@@ -115,7 +118,7 @@ impl<A: Allocator + Copy> Pending<A> {
     }
 
     // The work is done on the services as the step has them so far.
-    fn do_work(&mut self, slots: &Slots<A>, work: &Work, now: At) -> Result<(), NoMemory>
+    fn do_work(&mut self, slots: &Slots<A>, work: &ServiceWork, now: At) -> Result<(), NoMemory>
         requires dropped { self.old.scan.dropped.items ≡ [] }
         requires dropped_sids { self.old.scan.dropped_sids.items ≡ [] }
         requires added { self.old.scan.added.items ≡ [] }
@@ -123,38 +126,51 @@ impl<A: Allocator + Copy> Pending<A> {
         requires stale { self.old.stale ≡ false }
         requires few { length slots.now.services ≤ 64 }
         requires room { length self.old.moves.orders.items ≤ 64 }
-        requires generations { All (λ c. c.generation + 1 < 2 ^ 64) (charts_of (with_touched slots.now.services self.old.moves.touched.items)) }
-        requires order { IsNumbered self.old.scan.next_sid (charts_of (with_touched slots.now.services self.old.moves.touched.items)) }
-        requires names { repeats (names_of (charts_of (with_touched slots.now.services self.old.moves.touched.items))) ≡ false }
+        requires generations { All (λ c. c.generation + 1 < 2 ^ 64)
+            (charts_of (with_changes slots.now.services self.old.moves.touched.items)) }
+        requires order { IsNumbered self.old.scan.next_sid
+            (charts_of (with_changes slots.now.services self.old.moves.touched.items)) }
+        requires names { repeats_name
+            (names_of (charts_of (with_changes slots.now.services self.old.moves.touched.items)))
+            ≡ false }
         requires rising { is_rising (serials_of (charts_of slots.now.services)) ≡ true }
-        requires serials { serials_of (charts_of (with_touched slots.now.services self.old.moves.touched.items)) ≡ serials_of (charts_of slots.now.services) }
-        requires stand { names_of (charts_of (with_touched slots.now.services self.old.moves.touched.items)) ≡ names_of (charts_of slots.now.services) }
-        requires listing { IsOrderly self.old.scan.next_sid (asked_by work.now) }
-        ensures worked { OnOk result (worked_of (prepared_of slots.now.services self.new) ≡ given_before self.old.moves.events.items self.old.moves.orders.items
-            (worked (asked_by work.now) now (charts_of (with_touched slots.now.services self.old.moves.touched.items)) self.old.scan.next_sid)) }
+        requires serials { serials_of
+            (charts_of (with_changes slots.now.services self.old.moves.touched.items))
+            ≡ serials_of (charts_of slots.now.services) }
+        requires stand { names_of (charts_of
+            (with_changes slots.now.services self.old.moves.touched.items))
+            ≡ names_of (charts_of slots.now.services) }
+        requires listing { IsOrderly self.old.scan.next_sid (work_asked work.now) }
+        ensures worked { OnOk result (result_of (registry_prepared slots.now.services self.new) ≡ with_earlier self.old.moves.events.items self.old.moves.orders.items
+            (work_result (work_asked work.now) now (charts_of (with_changes slots.now.services self.old.moves.touched.items)) self.old.scan.next_sid)) }
         ensures agrees { OnOk result ((history : List Moment) → clock_of history ≡ now
-            → AllAgree (with_touched slots.now.services self.old.moves.touched.items) (history ++ map moment_of self.old.moves.events.items)
-            → AllAgree (prepared_of slots.now.services self.new).services (history ++ map moment_of self.new.moves.events.items)) }
-        ensures tallies { OnOk result (KeepTallied self.old.scan.next_sid (with_touched slots.now.services self.old.moves.touched.items) (prepared_of slots.now.services self.new).services
-            (deaths_given (asked_by work.now) now (charts_of (with_touched slots.now.services self.old.moves.touched.items)))) }
-        ensures timers { OnOk result ((timers : List Timer) → TimersAgree (changed_all (timers_of self.old.moves.touched.items) timers) (charts_of (with_touched slots.now.services self.old.moves.touched.items))
-            → TimersAgree (changed_all (prepared_of slots.now.services self.new).timers timers) (charts_of (prepared_of slots.now.services self.new).services)) }
-        ensures touched { KeepNames slots.now.services self.old.moves.touched.items → OnOk result (KeepNames slots.now.services self.new.moves.touched.items) }
+            → AllAgree (with_changes slots.now.services self.old.moves.touched.items)
+            (history ++ map moment_of self.old.moves.events.items)
+            → AllAgree (registry_prepared slots.now.services self.new).services
+            (history ++ map moment_of self.new.moves.events.items)) }
+        ensures tallies { OnOk result (KeepTallied self.old.scan.next_sid (with_changes slots.now.services self.old.moves.touched.items) (registry_prepared slots.now.services self.new).services
+            (deaths_given (work_asked work.now) now (charts_of (with_changes slots.now.services self.old.moves.touched.items)))) }
+        ensures timers { OnOk result ((timers : List Timer) → TimersAgree (with_timer_changes (timers_of self.old.moves.touched.items) timers) (charts_of (with_changes slots.now.services self.old.moves.touched.items))
+            → TimersAgree (with_timer_changes
+            (registry_prepared slots.now.services self.new).timers timers)
+            (charts_of (registry_prepared slots.now.services self.new).services)) }
+        ensures touched { KeepNames slots.now.services self.old.moves.touched.items
+            → OnOk result (KeepNames slots.now.services self.new.moves.touched.items) }
         ensures added { OnOk result (length self.new.scan.added.items ≤ 64) }
-        ensures quiet { asked_by work.now ≡ leave → IsOk result }
-        ensures still { asked_by work.now ≡ leave → self.new ≡ self.old }
+        ensures quiet { work_asked work.now ≡ do_nothing → IsOk result }
+        ensures still { work_asked work.now ≡ do_nothing → self.new ≡ self.old }
     {
         match work {
-            Work::Leave => Ok(()),
-            Work::Change(sid, change) => {
+            ServiceWork::Nothing => Ok(()),
+            ServiceWork::Change(sid, change) => {
                 self.stale = self.moves.change_one(slots, *sid, change, now)?;
                 Ok(())
             }
-            Work::Command(order) => {
+            ServiceWork::Command(order) => {
                 self.moves.visit_all(slots, Visit::Command(*order), now)?;
                 Ok(())
             }
-            Work::Listing(listing) => {
+            ServiceWork::Listing(listing) => {
                 plan_scan(slots, &mut self.moves, &mut self.scan, listing, now)?;
                 Ok(())
             }
@@ -166,20 +182,28 @@ impl<A: Allocator + Copy> Pending<A> {
         &mut self,
         slots: &Slots<A>,
         next_sid: u64,
-        work: &Work,
+        work: &ServiceWork,
         now: At,
     ) -> Result<(), NoMemory>
         requires few { length slots.now.services ≤ 64 }
         requires generations { All (λ c. c.generation + 1 < 2 ^ 64) (charts_of slots.now.services) }
         requires order { IsNumbered next_sid (charts_of slots.now.services) }
-        requires names { repeats (names_of (charts_of slots.now.services)) ≡ false }
-        requires listing { IsOrderly next_sid (asked_by work.now) }
-        ensures worked { OnOk result (worked_of (prepared_of slots.now.services self.new) ≡ worked (asked_by work.now) now (charts_of slots.now.services) next_sid) }
+        requires names { repeats_name (names_of (charts_of slots.now.services)) ≡ false }
+        requires listing { IsOrderly next_sid (work_asked work.now) }
+        ensures worked { OnOk result
+            (result_of (registry_prepared slots.now.services self.new)
+            ≡ work_result (work_asked work.now) now (charts_of slots.now.services) next_sid) }
         ensures agrees { OnOk result ((history : List Moment) → clock_of history ≡ now → AllAgree slots.now.services history
-            → AllAgree (prepared_of slots.now.services self.new).services (history ++ map moment_of self.new.moves.events.items)) }
-        ensures tallies { OnOk result (KeepTallied next_sid slots.now.services (prepared_of slots.now.services self.new).services (deaths_given (asked_by work.now) now (charts_of slots.now.services))) }
+            → AllAgree (registry_prepared slots.now.services self.new).services
+            (history ++ map moment_of self.new.moves.events.items)) }
+        ensures tallies { OnOk result
+            (KeepTallied next_sid slots.now.services
+            (registry_prepared slots.now.services self.new).services
+            (deaths_given (work_asked work.now) now (charts_of slots.now.services))) }
         ensures timers { OnOk result ((timers : List Timer) → TimersAgree timers (charts_of slots.now.services)
-            → TimersAgree (changed_all (prepared_of slots.now.services self.new).timers timers) (charts_of (prepared_of slots.now.services self.new).services)) }
+            → TimersAgree (with_timer_changes
+            (registry_prepared slots.now.services self.new).timers timers)
+            (charts_of (registry_prepared slots.now.services self.new).services)) }
         ensures touched { OnOk result (KeepNames slots.now.services self.new.moves.touched.items) }
         ensures added { OnOk result (length self.new.scan.added.items ≤ 64) }
     {
@@ -194,26 +218,32 @@ impl<A: Allocator + Copy> Pending<A> {
         slots: &Slots<A>,
         next_sid: u64,
         due: &[Sid],
-        work: &Work,
+        work: &ServiceWork,
         now: At,
     ) -> Result<(), NoMemory>
         requires few { length slots.now.services ≤ 64 }
         requires generations { All (λ c. c.generation + 2 < 2 ^ 64) (charts_of slots.now.services) }
         requires order { IsNumbered next_sid (charts_of slots.now.services) }
-        requires names { repeats (names_of (charts_of slots.now.services)) ≡ false }
+        requires names { repeats_name (names_of (charts_of slots.now.services)) ≡ false }
         requires due { AreDue due.now now (charts_of slots.now.services) }
-        requires listing { IsOrderly next_sid (asked_by work.now) }
-        ensures worked { OnOk result (worked_of (prepared_of slots.now.services self.new) ≡ stepped (asked_by work.now) now (charts_of slots.now.services) next_sid) }
+        requires listing { IsOrderly next_sid (work_asked work.now) }
+        ensures worked { OnOk result
+            (result_of (registry_prepared slots.now.services self.new)
+            ≡ step_result (work_asked work.now) now (charts_of slots.now.services) next_sid) }
         ensures agrees { OnOk result ((history : List Moment) → clock_of history ≡ now → AllAgree slots.now.services history
-            → AllAgree (prepared_of slots.now.services self.new).services (history ++ map moment_of self.new.moves.events.items)) }
-        ensures tallies { OnOk result (KeepTallied next_sid slots.now.services (prepared_of slots.now.services self.new).services
-            (deaths_given (asked_by work.now) now (services_after (fire now) (charts_of slots.now.services)))) }
+            → AllAgree (registry_prepared slots.now.services self.new).services
+            (history ++ map moment_of self.new.moves.events.items)) }
+        ensures tallies { OnOk result (KeepTallied next_sid slots.now.services (registry_prepared slots.now.services self.new).services
+            (deaths_given (work_asked work.now) now (services_after (fire_move now) (charts_of slots.now.services)))) }
         ensures timers { OnOk result ((timers : List Timer) → TimersAgree timers (charts_of slots.now.services)
-            → TimersAgree (changed_all (prepared_of slots.now.services self.new).timers timers) (charts_of (prepared_of slots.now.services self.new).services)) }
+            → TimersAgree (with_timer_changes
+            (registry_prepared slots.now.services self.new).timers timers)
+            (charts_of (registry_prepared slots.now.services self.new).services)) }
         ensures touched { OnOk result (KeepNames slots.now.services self.new.moves.touched.items) }
         ensures added { OnOk result (length self.new.scan.added.items ≤ 64) }
-        ensures quiet { due.now ≡ [] → asked_by work.now ≡ leave → IsOk result }
-        ensures blank { due.now ≡ [] → asked_by work.now ≡ leave → OnOk result (IsBlank next_sid self.new) }
+        ensures quiet { due.now ≡ [] → work_asked work.now ≡ do_nothing → IsOk result }
+        ensures blank { due.now ≡ [] → work_asked work.now ≡ do_nothing
+            → OnOk result (IsBlank next_sid self.new) }
     {
         self.clear(next_sid);
         fire_due(slots, &mut self.moves, due, now)?;
@@ -229,13 +259,19 @@ fn fire_due<A: Allocator + Copy>(
     due: &[Sid],
     now: At,
 ) -> Result<(), NoMemory>
-    requires due { AreDue due.now now (charts_of (with_touched slots.now.services moves.old.touched.items)) }
+    requires due { AreDue due.now now
+        (charts_of (with_changes slots.now.services moves.old.touched.items)) }
     requires orders { length moves.old.orders.items + 2 * length slots.now.services ≤ 256 }
-    requires generations { All (λ c. c.generation + 1 < 2 ^ 64) (charts_of (with_touched slots.now.services moves.old.touched.items)) }
-    requires order { is_rising (serials_of (charts_of (with_touched slots.now.services moves.old.touched.items))) ≡ true }
-    ensures takes { OnOk result (Takes now (fire now) (moving_of slots.now.services moves.old) (moving_of slots.now.services moves.new)) }
-    ensures names { KeepNames slots.now.services moves.old.touched.items → OnOk result (KeepNames slots.now.services moves.new.touched.items) }
-    ensures few { OnOk result (length moves.new.orders.items ≤ length moves.old.orders.items + length slots.now.services) }
+    requires generations { All (λ c. c.generation + 1 < 2 ^ 64)
+        (charts_of (with_changes slots.now.services moves.old.touched.items)) }
+    requires order { is_rising (serials_of
+        (charts_of (with_changes slots.now.services moves.old.touched.items))) ≡ true }
+    ensures takes { OnOk result (Takes now (fire_move now)
+        (step_so_far slots.now.services moves.old) (step_so_far slots.now.services moves.new)) }
+    ensures names { KeepNames slots.now.services moves.old.touched.items
+        → OnOk result (KeepNames slots.now.services moves.new.touched.items) }
+    ensures few { OnOk result (length moves.new.orders.items
+        ≤ length moves.old.orders.items + length slots.now.services) }
     ensures quiet { due.now ≡ [] → IsOk result }
     ensures still { due.now ≡ [] → moves.new ≡ moves.old }
 {

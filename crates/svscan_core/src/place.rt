@@ -1,3 +1,4 @@
+//! The place of the service of a serial.
 ghost use Rattle.std.specs.Prelude.{◌≡◌, ◌<◌, ◌==◌, length, false, true, Some, IfSome, IfNone, slice_get};
 ghost use Rattle.std.specs.List.{list_any};
 ghost use Rattle.deadlines.specs.Timers.{is_rising};
@@ -8,11 +9,12 @@ use s6_events::Sid;
 use std::alloc::Allocator;
 
 /// The place of the service of this serial, and None where none has it. Serials rise with the places, so that at most seven of 64 are
-/// looked at. This project's own.
+/// looked at.
 pub fn place_of<A: Allocator + Copy>(slots: &Slots<A>, sid: Sid) -> Option<usize>
     requires order { is_rising (serials_of (charts_of slots.now.services)) ≡ true }
     ensures bound { IfSome result (λ p. p < length slots.now.services) }
-    ensures found { IfSome result (λ p. slice_get (serials_of (charts_of slots.now.services)) p ≡ Some sid) }
+    ensures found { IfSome result
+        (λ p. slice_get (serials_of (charts_of slots.now.services)) p ≡ Some sid) }
     ensures none { IfNone result (list_any (λ s. s.chart.sid == sid) slots.now.services ≡ false) }
 {
     let mut low = 0;

@@ -1,24 +1,25 @@
+//! The table of services: a step is prepared, then committed.
 ghost use Rattle.std.specs.Prelude.{◌≡◌, ◌==◌, ◌+◌, ◌<◌, ◌≤◌, ◌^◌, ◌++◌, ◌∷◌, [], List, map, find, length, slice_get, bytes_eq, is_some, option_map, All, IfSome, IfNone, IfOk, IsOk, OnOk, OnErr, false, true};
 ghost use Rattle.std.specs.List.{list_any};
 ghost use Rattle.deadlines.specs.declared.timer.Timer.{Timer};
-ghost use Rattle.deadlines.specs.Timers.{changed_all};
+ghost use Rattle.deadlines.specs.Timers.{with_timer_changes};
 ghost use Rattle.s6_events.specs.Clock.{clock_of};
 ghost use Rattle.s6_events.specs.declared.moment.Moment.{Moment};
-ghost use Rattle.supervise_core.specs.Chart.{fire};
+ghost use Rattle.supervise_core.specs.Chart.{fire_move};
 ghost use Rattle.supervise_core.specs.Service.{AgreesAs};
-ghost use Rattle.svscan_core.specs.Asked.{asked_by, IsOrderly};
+ghost use Rattle.svscan_core.specs.Asked.{work_asked, IsOrderly};
 ghost use Rattle.svscan_core.specs.Deaths.{deaths_after, deaths_given, KeepTallied};
-ghost use Rattle.svscan_core.specs.Moves.{event, moment_of, services_after, events_after, orders_after};
+ghost use Rattle.svscan_core.specs.Moves.{service_mark, moment_of, services_after, events_after, orders_after};
 ghost use Rattle.svscan_core.specs.Listing.{names_in};
-ghost use Rattle.svscan_core.specs.Names.{repeats};
-ghost use Rattle.svscan_core.specs.Scan.{scanned, dropped_by};
+ghost use Rattle.svscan_core.specs.Names.{repeats_name};
+ghost use Rattle.svscan_core.specs.Scan.{after_scan, dropped_by};
 ghost use Rattle.svscan_core.specs.Pending.{IsBlank};
-ghost use Rattle.svscan_core.specs.Registry.{table_of, worked_of, IsIdle};
+ghost use Rattle.svscan_core.specs.Registry.{table_of, result_of, IsIdle};
 ghost use Rattle.svscan_core.specs.Sound.{AllAgree, IsSound};
 ghost use Rattle.svscan_core.specs.Table.{new_table, charts_of};
 ghost use Rattle.svscan_core.specs.Timers.{TimersAgree};
-ghost use Rattle.svscan_core.specs.Work.{AreDue, changed_at, commanded, stepped, worked};
-ghost use Rattle.svscan_core.specs.Work.Work.{leave};
+ghost use Rattle.svscan_core.specs.Work.{AreDue, change_move_at, command_move, step_result, work_result};
+ghost use Rattle.svscan_core.specs.Work.Work.{do_nothing};
 
 use super::commit::commit_changes;
 use super::entry::{Entry, Listed, ScanOrder};
@@ -26,12 +27,12 @@ use super::event::Event;
 use super::pending::Pending;
 use super::slots::Slots;
 use super::table::{self, find_sid, nth_sid};
-use super::work::Work;
+use super::work::ServiceWork;
 use deadlines::TimerChange;
 use s6_events::{At, Name, NoMemory, Order, Sid};
 use std::alloc::Allocator;
 use std::marker::Model;
-use supervise_core::{Change, Out, Service, Standing};
+use supervise_core::{Change, Out, Service, ServiceState};
 
 #[cfg(test)]
 mod tests;
@@ -47,19 +48,19 @@ pub struct Registry<A: Allocator> {
 }
 
 impl<A: Allocator> Model for Registry<A> {
-    ghost use Rattle.svscan_core.specs.Registry.{Kept};
+    ghost use Rattle.svscan_core.specs.Registry.{RegistryView};
 
-    ghost Value = { Kept };
+    ghost Value = { RegistryView };
 
-    ghost use Rattle.svscan_core.specs.RegistryFields.{kept, IsKept};
+    ghost use Rattle.svscan_core.specs.RegistryFields.{registry_view, IsSoundRegistry};
 
-    ghost view = { kept };
+    ghost view = { registry_view };
 
-    ghost invariant = { IsKept };
+    ghost invariant = { IsSoundRegistry };
 }
 
 /// What a scan, or an order of all services, gives: the marks and orders of each service in the order made, the serials that were
-/// dropped, and what became of each listed name for which no service stood. This project's own.
+/// dropped, and what became of each listed name for which no service stood.
 #[derive(Drop)]
 pub struct Answer<A: Allocator> {
     pub events: Vec<Event, A>,
@@ -73,16 +74,16 @@ fn settle<A: Allocator + Copy>(
     slots: &mut Slots<A>,
     pending: &mut Pending<A>,
     next_sid: u64,
-    worked: Result<(), NoMemory>,
+    attempt: Result<(), NoMemory>,
 ) -> Result<(), NoMemory>
     ensures services { slots.new.services ≡ slots.old.services }
-    ensures ok { OnOk result (IsOk worked) }
+    ensures ok { OnOk result (IsOk attempt) }
     ensures same { OnOk result (pending.new ≡ pending.old) }
     ensures room { OnOk result (length pending.old.scan.added.items ≤ slots.new.room) }
     ensures blank { OnErr result (IsBlank next_sid pending.new) }
-    ensures quiet { IsOk worked → pending.old.scan.added.items ≡ [] → IsOk result }
+    ensures quiet { IsOk attempt → pending.old.scan.added.items ≡ [] → IsOk result }
 {
-    let settled = match worked {
+    let settled = match attempt {
         Ok(()) => slots.reserve(pending.scan.added.len()),
         Err(refused) => Err(refused),
     };
@@ -93,7 +94,7 @@ fn settle<A: Allocator + Copy>(
 }
 
 impl<A: Allocator + Copy> Registry<A> {
-    /// No service; the first one gets the serial 1. Takes no memory yet.
+    /// No service; the first one gets the serial 1.
     pub fn new(alloc: A) -> Registry<A>
         ensures shown { result.shown ≡ new_table }
         ensures idle { IsIdle result }
@@ -118,66 +119,87 @@ impl<A: Allocator + Copy> Registry<A> {
         self.slots.allocator()
     }
 
-    /// The serial of the service of this name. Takes no memory.
+    /// The serial of the service of this name.
     pub fn find(&self, name: Name) -> Option<Sid>
-        ensures { result ≡ option_map (λ c. c.sid) (find (λ c. bytes_eq name c.name) (charts_of self.now.shown.services)) }
+        ensures { result ≡ option_map (λ c. c.sid)
+            (find (λ c. bytes_eq name c.name) (charts_of self.now.shown.services)) }
     {
         find_sid(&self.slots, &name)
     }
 
-    /// The serial of the service at this place, in rising serial from 0. Takes no memory.
+    /// The serial of the service at this place, in rising serial from 0.
     pub fn nth(&self, place: usize) -> Option<Sid>
-        ensures { result ≡ option_map (λ c. c.sid) (slice_get (charts_of self.now.shown.services) place) }
+        ensures { result ≡ option_map (λ c. c.sid)
+            (slice_get (charts_of self.now.shown.services) place) }
     {
         nth_sid(&self.slots, place)
     }
 
-    /// The service of this serial. Takes no memory.
+    /// The service of this serial.
     pub fn get(&self, sid: Sid) -> Option<&Service<A>>
-        ensures { option_map (λ s. s.now) result ≡ find (λ s. s.chart.sid == sid) self.now.shown.services }
+        ensures { option_map (λ s. s.now) result
+            ≡ find (λ s. s.chart.sid == sid) self.now.shown.services }
     {
         table::get(&self.slots, sid)
     }
 
-    /// The service at this place, in rising serial from 0. Takes no memory.
+    /// The service at this place, in rising serial from 0.
     pub fn at(&self, place: usize) -> Option<&Service<A>>
         ensures { option_map (λ s. s.now) result ≡ slice_get self.now.shown.services place }
     {
         self.slots.nth(place)
     }
 
-    /// The service of this name. Takes no memory.
+    /// The service of this name.
     pub fn named(&self, name: Name) -> Option<&Service<A>>
-        ensures { option_map (λ s. s.now) result ≡ find (λ s. bytes_eq name s.chart.name) self.now.shown.services }
+        ensures { option_map (λ s. s.now) result
+            ≡ find (λ s. bytes_eq name s.chart.name) self.now.shown.services }
     {
         self.slots.find(&name)
     }
 
     /// What the service of this name is once all due timers went off, where that is not done yet; None where none has the name. Every
-    /// history that agrees with all services agrees with it once the marks of all these timers have joined. Takes no memory.
-    pub fn after_timers(&self, name: Name, now: At) -> Option<Standing>
+    /// history that agrees with all services agrees with it once the marks of all these timers have joined.
+    pub fn after_timers(&self, name: Name, now: At) -> Option<ServiceState>
         requires { All (λ c. c.generation + 1 < 2 ^ 64) (charts_of self.now.shown.services) }
-        ensures chart { option_map (λ s. s.chart) result ≡ find (λ c. bytes_eq name c.name) (services_after (fire now) (charts_of self.now.shown.services)) }
+        ensures chart { option_map (λ s. s.chart) result
+            ≡ find (λ c. bytes_eq name c.name)
+            (services_after (fire_move now) (charts_of self.now.shown.services)) }
         ensures agrees { (history : List Moment) → clock_of history ≡ now → AllAgree self.now.shown.services history
-            → IfSome result (λ s. AgreesAs s (history ++ map moment_of (events_after (fire now) (charts_of self.now.shown.services)))) }
+            → IfSome result (λ s. AgreesAs s
+            (history ++ map moment_of (events_after (fire_move now)
+            (charts_of self.now.shown.services)))) }
     {
         table::after_timers(&self.slots, &name, now)
     }
 
     /// The service of this serial takes a change, at once, and no other one does; None where none has the serial, and then nothing
-    /// changes. What was prepared is prepared no more. Takes no memory.
+    /// changes. What was prepared is prepared no more.
     pub fn change(&mut self, sid: Sid, change: &Change, now: At) -> Option<Out>
         requires { All (λ c. c.generation + 1 < 2 ^ 64) (charts_of self.old.shown.services) }
-        ensures services { charts_of self.new.shown.services ≡ services_after (changed_at sid change.now now) (charts_of self.old.shown.services) }
+        ensures services { charts_of self.new.shown.services
+            ≡ services_after (change_move_at sid change.now now)
+            (charts_of self.old.shown.services) }
         ensures next_sid { self.new.shown.next_sid ≡ self.old.shown.next_sid }
-        ensures known { is_some result ≡ list_any (λ c. c.sid == sid) (charts_of self.old.shown.services) }
+        ensures known { is_some result
+            ≡ list_any (λ c. c.sid == sid) (charts_of self.old.shown.services) }
         ensures unknown { IfNone result (self.new.shown ≡ self.old.shown) }
-        ensures events { IfSome result (λ out. map (event sid) out.events.items ≡ events_after (changed_at sid change.now now) (charts_of self.old.shown.services)) }
-        ensures orders { IfSome result (λ out. out.orders.items ≡ orders_after (changed_at sid change.now now) (charts_of self.old.shown.services)) }
-        ensures stale { IfSome result (λ out. out.stale ≡ list_any (λ c. (changed_at sid change.now now c).stale) (charts_of self.old.shown.services)) }
+        ensures events { IfSome result
+            (λ out. map (service_mark sid) out.events.items
+            ≡ events_after (change_move_at sid change.now now)
+            (charts_of self.old.shown.services)) }
+        ensures orders { IfSome result
+            (λ out. out.orders.items ≡ orders_after (change_move_at sid change.now now)
+            (charts_of self.old.shown.services)) }
+        ensures stale { IfSome result
+            (λ out. out.stale ≡ list_any (λ c. (change_move_at sid change.now now c).stale)
+            (charts_of self.old.shown.services)) }
         ensures agrees { (history : List Moment) → clock_of history ≡ now → AllAgree self.old.shown.services history
-            → IfSome result (λ out. AllAgree self.new.shown.services (history ++ map moment_of (map (event sid) out.events.items))) }
-        ensures tallies { KeepTallied self.old.shown.next_sid self.old.shown.services self.new.shown.services (deaths_after (changed_at sid change.now now) (charts_of self.old.shown.services)) }
+            → IfSome result (λ out. AllAgree self.new.shown.services
+            (history ++ map moment_of (map (service_mark sid) out.events.items))) }
+        ensures tallies { KeepTallied self.old.shown.next_sid self.old.shown.services
+            self.new.shown.services (deaths_after (change_move_at sid change.now now)
+            (charts_of self.old.shown.services)) }
         ensures idle { IsIdle self.new }
     {
         let out = table::change(&mut self.slots, sid, change, now);
@@ -187,21 +209,28 @@ impl<A: Allocator + Copy> Registry<A> {
 
     /// Works out a step: each service whose timer is due takes its rule, and then the work is done. These are the serials of the
     /// services whose timers are due. Nothing that is shown changes. `NoMemory` where a growth was refused; then nothing is prepared.
-    pub fn prepare(&mut self, due: &[Sid], work: &Work, now: At) -> Result<(), NoMemory>
+    pub fn prepare(&mut self, due: &[Sid], work: &ServiceWork, now: At) -> Result<(), NoMemory>
         requires due { AreDue due.now now (charts_of self.old.shown.services) }
-        requires listing { IsOrderly self.old.shown.next_sid (asked_by work.now) }
-        requires generations { All (λ c. c.generation + 2 < 2 ^ 64) (charts_of self.old.shown.services) }
+        requires listing { IsOrderly self.old.shown.next_sid (work_asked work.now) }
+        requires generations { All (λ c. c.generation + 2 < 2 ^ 64)
+            (charts_of self.old.shown.services) }
         ensures shown { self.new.shown ≡ self.old.shown }
-        ensures prepared { OnOk result (worked_of self.new.prepared ≡ stepped (asked_by work.now) now (charts_of self.old.shown.services) self.old.shown.next_sid) }
+        ensures prepared { OnOk result
+            (result_of self.new.prepared
+            ≡ step_result (work_asked work.now) now
+            (charts_of self.old.shown.services) self.old.shown.next_sid) }
         ensures agrees { OnOk result ((history : List Moment) → clock_of history ≡ now → AllAgree self.old.shown.services history
-            → AllAgree self.new.prepared.services (history ++ map moment_of self.new.prepared.events)) }
+            → AllAgree self.new.prepared.services
+            (history ++ map moment_of self.new.prepared.events)) }
         ensures tallies { OnOk result (KeepTallied self.old.shown.next_sid self.old.shown.services self.new.prepared.services
-            (deaths_given (asked_by work.now) now (services_after (fire now) (charts_of self.old.shown.services)))) }
+            (deaths_given (work_asked work.now) now (services_after (fire_move now) (charts_of self.old.shown.services)))) }
         ensures timers { OnOk result ((timers : List Timer) → TimersAgree timers (charts_of self.old.shown.services)
-            → TimersAgree (changed_all self.new.prepared.timers timers) (charts_of self.new.prepared.services)) }
+            → TimersAgree (with_timer_changes self.new.prepared.timers timers)
+            (charts_of self.new.prepared.services)) }
         ensures idle { OnErr result (IsIdle self.new) }
-        ensures quiet { due.now ≡ [] → asked_by work.now ≡ leave → IsOk result }
-        ensures still { due.now ≡ [] → asked_by work.now ≡ leave → (IsIdle self.new) × (self.new.prepared.timers ≡ []) }
+        ensures quiet { due.now ≡ [] → work_asked work.now ≡ do_nothing → IsOk result }
+        ensures still { due.now ≡ [] → work_asked work.now ≡ do_nothing
+            → (IsIdle self.new) × (self.new.prepared.timers ≡ []) }
     {
         let worked = self
             .pending
@@ -210,7 +239,7 @@ impl<A: Allocator + Copy> Registry<A> {
         Ok(())
     }
 
-    /// Makes the step that was prepared; what it gives has to be read before. Takes no memory.
+    /// Makes the step that was prepared; what it gives has to be read before.
     pub fn commit(&mut self)
         ensures shown { self.new.shown ≡ table_of self.old.prepared }
         ensures idle { IsIdle self.new }
@@ -272,14 +301,22 @@ impl<A: Allocator + Copy> Registry<A> {
     }
 
     // Works out the work alone, with no timers.
-    fn prepare_alone(&mut self, work: &Work, now: At) -> Result<(), NoMemory>
-        requires listing { IsOrderly self.old.shown.next_sid (asked_by work.now) }
-        requires generations { All (λ c. c.generation + 1 < 2 ^ 64) (charts_of self.old.shown.services) }
+    fn prepare_alone(&mut self, work: &ServiceWork, now: At) -> Result<(), NoMemory>
+        requires listing { IsOrderly self.old.shown.next_sid (work_asked work.now) }
+        requires generations { All (λ c. c.generation + 1 < 2 ^ 64)
+            (charts_of self.old.shown.services) }
         ensures shown { self.new.shown ≡ self.old.shown }
-        ensures prepared { OnOk result (worked_of self.new.prepared ≡ worked (asked_by work.now) now (charts_of self.old.shown.services) self.old.shown.next_sid) }
+        ensures prepared { OnOk result
+            (result_of self.new.prepared
+            ≡ work_result (work_asked work.now) now
+            (charts_of self.old.shown.services) self.old.shown.next_sid) }
         ensures agrees { OnOk result ((history : List Moment) → clock_of history ≡ now → AllAgree self.old.shown.services history
-            → AllAgree self.new.prepared.services (history ++ map moment_of self.new.prepared.events)) }
-        ensures tallies { OnOk result (KeepTallied self.old.shown.next_sid self.old.shown.services self.new.prepared.services (deaths_given (asked_by work.now) now (charts_of self.old.shown.services))) }
+            → AllAgree self.new.prepared.services
+            (history ++ map moment_of self.new.prepared.events)) }
+        ensures tallies { OnOk result
+            (KeepTallied self.old.shown.next_sid self.old.shown.services self.new.prepared.services
+            (deaths_given (work_asked work.now) now (charts_of self.old.shown.services))) }
+        ensures idle { OnErr result (IsIdle self.new) }
     {
         let worked = self
             .pending
@@ -305,64 +342,129 @@ impl<A: Allocator + Copy> Registry<A> {
     }
 
     // The work is done at once.
-    fn make(&mut self, work: &Work, now: At) -> Result<Answer<A>, NoMemory>
-        requires listing { IsOrderly self.old.shown.next_sid (asked_by work.now) }
-        requires generations { All (λ c. c.generation + 1 < 2 ^ 64) (charts_of self.old.shown.services) }
-        ensures services { OnOk result (charts_of self.new.shown.services ≡ (worked (asked_by work.now) now (charts_of self.old.shown.services) self.old.shown.next_sid).services) }
-        ensures next_sid { OnOk result (self.new.shown.next_sid ≡ (worked (asked_by work.now) now (charts_of self.old.shown.services) self.old.shown.next_sid).next_sid) }
-        ensures events { IfOk result (λ answer. answer.events.items ≡ (worked (asked_by work.now) now (charts_of self.old.shown.services) self.old.shown.next_sid).events) }
-        ensures orders { IfOk result (λ answer. answer.orders.items ≡ (worked (asked_by work.now) now (charts_of self.old.shown.services) self.old.shown.next_sid).orders) }
-        ensures dropped { IfOk result (λ answer. answer.dropped.items ≡ (worked (asked_by work.now) now (charts_of self.old.shown.services) self.old.shown.next_sid).dropped) }
-        ensures listed { IfOk result (λ answer. answer.listed.items ≡ (worked (asked_by work.now) now (charts_of self.old.shown.services) self.old.shown.next_sid).listed) }
+    fn make(&mut self, work: &ServiceWork, now: At) -> Result<Answer<A>, NoMemory>
+        requires listing { IsOrderly self.old.shown.next_sid (work_asked work.now) }
+        requires generations { All (λ c. c.generation + 1 < 2 ^ 64)
+            (charts_of self.old.shown.services) }
+        ensures services { OnOk result
+            (charts_of self.new.shown.services
+            ≡ (work_result (work_asked work.now) now
+            (charts_of self.old.shown.services) self.old.shown.next_sid).services) }
+        ensures next_sid { OnOk result
+            (self.new.shown.next_sid ≡
+            (work_result (work_asked work.now) now
+            (charts_of self.old.shown.services) self.old.shown.next_sid).next_sid) }
+        ensures events { IfOk result
+            (λ answer. answer.events.items
+            ≡ (work_result (work_asked work.now) now
+            (charts_of self.old.shown.services) self.old.shown.next_sid).events) }
+        ensures orders { IfOk result
+            (λ answer. answer.orders.items
+            ≡ (work_result (work_asked work.now) now
+            (charts_of self.old.shown.services) self.old.shown.next_sid).orders) }
+        ensures dropped { IfOk result
+            (λ answer. answer.dropped.items
+            ≡ (work_result (work_asked work.now) now
+            (charts_of self.old.shown.services) self.old.shown.next_sid).dropped) }
+        ensures listed { IfOk result
+            (λ answer. answer.listed.items
+            ≡ (work_result (work_asked work.now) now
+            (charts_of self.old.shown.services) self.old.shown.next_sid).listed) }
         ensures agrees { (history : List Moment) → clock_of history ≡ now → AllAgree self.old.shown.services history
-            → IfOk result (λ answer. AllAgree self.new.shown.services (history ++ map moment_of answer.events.items)) }
-        ensures tallies { OnOk result (KeepTallied self.old.shown.next_sid self.old.shown.services self.new.shown.services (deaths_given (asked_by work.now) now (charts_of self.old.shown.services))) }
+            → IfOk result (λ answer. AllAgree self.new.shown.services
+            (history ++ map moment_of answer.events.items)) }
+        ensures tallies { OnOk result
+            (KeepTallied self.old.shown.next_sid self.old.shown.services self.new.shown.services
+            (deaths_given (work_asked work.now) now (charts_of self.old.shown.services))) }
         ensures unchanged { OnErr result (self.new.shown ≡ self.old.shown) }
+        ensures idle { IsIdle self.new }
     {
         self.prepare_alone(work, now)?;
-        let answer = self.answer()?;
-        self.commit();
-        Ok(answer)
+        let answer = self.answer();
+        match answer {
+            Ok(answer) => {
+                self.commit();
+                Ok(answer)
+            }
+            Err(refused) => {
+                self.pending.clear(self.next_sid);
+                Err(refused)
+            }
+        }
     }
 
     /// Takes a listing of the scan directory, at once: each service whose name is listed becomes active and takes the configuration
     /// that was read, each other one becomes inactive; an inactive one whose supervisor has ended is dropped; and each name for which
     /// no service stands gets one, in the order of the names' bytes. No name stands in the listing twice. `NoMemory` where a growth was
-    /// refused; then nothing that is shown changes. Page `s6-svscan`.
+    /// refused; then nothing that is shown changes. Either way nothing is prepared afterwards. Page `s6-svscan`.
     pub fn scan(&mut self, listing: &[Entry], now: At) -> Result<Answer<A>, NoMemory>
-        requires listing { repeats (names_in listing.now) ≡ false }
-        requires generations { All (λ c. c.generation + 1 < 2 ^ 64) (charts_of self.old.shown.services) }
+        requires listing { repeats_name (names_in listing.now) ≡ false }
+        requires generations { All (λ c. c.generation + 1 < 2 ^ 64)
+            (charts_of self.old.shown.services) }
         requires next { self.old.shown.next_sid + 65 < 2 ^ 64 }
-        ensures services { OnOk result (charts_of self.new.shown.services ≡ (scanned listing.now now (charts_of self.old.shown.services) self.old.shown.next_sid).services) }
-        ensures next_sid { OnOk result (self.new.shown.next_sid ≡ (scanned listing.now now (charts_of self.old.shown.services) self.old.shown.next_sid).next_sid) }
-        ensures events { IfOk result (λ answer. answer.events.items ≡ (scanned listing.now now (charts_of self.old.shown.services) self.old.shown.next_sid).events) }
-        ensures orders { IfOk result (λ answer. answer.orders.items ≡ (scanned listing.now now (charts_of self.old.shown.services) self.old.shown.next_sid).orders) }
-        ensures dropped { IfOk result (λ answer. answer.dropped.items ≡ dropped_by listing.now now (charts_of self.old.shown.services)) }
-        ensures listed { IfOk result (λ answer. answer.listed.items ≡ (scanned listing.now now (charts_of self.old.shown.services) self.old.shown.next_sid).listed) }
+        ensures services { OnOk result
+            (charts_of self.new.shown.services
+            ≡ (after_scan listing.now now
+            (charts_of self.old.shown.services) self.old.shown.next_sid).services) }
+        ensures next_sid { OnOk result
+            (self.new.shown.next_sid ≡
+            (after_scan listing.now now
+            (charts_of self.old.shown.services) self.old.shown.next_sid).next_sid) }
+        ensures events { IfOk result
+            (λ answer. answer.events.items
+            ≡ (after_scan listing.now now
+            (charts_of self.old.shown.services) self.old.shown.next_sid).events) }
+        ensures orders { IfOk result
+            (λ answer. answer.orders.items
+            ≡ (after_scan listing.now now
+            (charts_of self.old.shown.services) self.old.shown.next_sid).orders) }
+        ensures dropped { IfOk result
+            (λ answer. answer.dropped.items
+            ≡ dropped_by listing.now now (charts_of self.old.shown.services)) }
+        ensures listed { IfOk result
+            (λ answer. answer.listed.items
+            ≡ (after_scan listing.now now
+            (charts_of self.old.shown.services) self.old.shown.next_sid).listed) }
         ensures agrees { (history : List Moment) → clock_of history ≡ now → AllAgree self.old.shown.services history
-            → IfOk result (λ answer. AllAgree self.new.shown.services (history ++ map moment_of answer.events.items)) }
-        ensures tallies { OnOk result (KeepTallied self.old.shown.next_sid self.old.shown.services self.new.shown.services []) }
+            → IfOk result (λ answer. AllAgree self.new.shown.services
+            (history ++ map moment_of answer.events.items)) }
+        ensures tallies { OnOk result
+            (KeepTallied self.old.shown.next_sid self.old.shown.services self.new.shown.services
+            []) }
         ensures unchanged { OnErr result (self.new.shown ≡ self.old.shown) }
+        ensures idle { IsIdle self.new }
     {
-        let work = Work::Listing(listing);
+        let work = ServiceWork::Listing(listing);
         self.make(&work, now)
     }
 
     /// Takes an order of all services, at once: nuke gives each inactive service the letters `x` and `d`; terminate makes each
-    /// service inactive and gives it both. `NoMemory` where a growth was refused; then nothing that is shown changes. Page
-    /// `s6-svscanctl`; which letters they get is this project's own rule.
+    /// service inactive and gives it both. `NoMemory` where a growth was refused; then nothing that is shown changes. Either way nothing is prepared afterwards. Page
+    /// `s6-svscanctl`; which letters they get is chosen here.
     pub fn control(&mut self, order: ScanOrder, now: At) -> Result<Answer<A>, NoMemory>
-        requires generations { All (λ c. c.generation + 1 < 2 ^ 64) (charts_of self.old.shown.services) }
-        ensures services { OnOk result (charts_of self.new.shown.services ≡ services_after (commanded order now) (charts_of self.old.shown.services)) }
+        requires generations { All (λ c. c.generation + 1 < 2 ^ 64)
+            (charts_of self.old.shown.services) }
+        ensures services { OnOk result
+            (charts_of self.new.shown.services
+            ≡ services_after (command_move order now) (charts_of self.old.shown.services)) }
         ensures next_sid { OnOk result (self.new.shown.next_sid ≡ self.old.shown.next_sid) }
-        ensures events { IfOk result (λ answer. answer.events.items ≡ events_after (commanded order now) (charts_of self.old.shown.services)) }
-        ensures orders { IfOk result (λ answer. answer.orders.items ≡ orders_after (commanded order now) (charts_of self.old.shown.services)) }
-        ensures none { IfOk result (λ answer. (answer.dropped.items ≡ []) × (answer.listed.items ≡ [])) }
+        ensures events { IfOk result
+            (λ answer. answer.events.items
+            ≡ events_after (command_move order now) (charts_of self.old.shown.services)) }
+        ensures orders { IfOk result
+            (λ answer. answer.orders.items
+            ≡ orders_after (command_move order now) (charts_of self.old.shown.services)) }
+        ensures none { IfOk result (λ answer. (answer.dropped.items ≡ [])
+            × (answer.listed.items ≡ [])) }
         ensures agrees { (history : List Moment) → clock_of history ≡ now → AllAgree self.old.shown.services history
-            → IfOk result (λ answer. AllAgree self.new.shown.services (history ++ map moment_of answer.events.items)) }
-        ensures tallies { OnOk result (KeepTallied self.old.shown.next_sid self.old.shown.services self.new.shown.services []) }
+            → IfOk result (λ answer. AllAgree self.new.shown.services
+            (history ++ map moment_of answer.events.items)) }
+        ensures tallies { OnOk result
+            (KeepTallied self.old.shown.next_sid self.old.shown.services self.new.shown.services
+            []) }
         ensures unchanged { OnErr result (self.new.shown ≡ self.old.shown) }
+        ensures idle { IsIdle self.new }
     {
-        self.make(&Work::Command(order), now)
+        self.make(&ServiceWork::Command(order), now)
     }
 }

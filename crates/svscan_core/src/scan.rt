@@ -1,3 +1,4 @@
+//! A scan before anything is changed: which services are dropped, which names are added.
 ghost use Rattle.std.specs.Prelude.{◌≡◌, ℕ, ◌+◌, ◌*◌, ◌<◌, ◌≤◌, ◌^◌, ◌++◌, ◌∷◌, [], List, map, filter, length, bytes_eq, All, IfOk, OnOk, true, false};
 ghost use Rattle.std.specs.List.{list_any};
 ghost use Rattle.s6_events.specs.Clock.{clock_of};
@@ -8,20 +9,20 @@ ghost use Rattle.svscan_core.specs.Adding.{adding_of, state_behind, GoesOn, Grow
 ghost use Rattle.svscan_core.specs.Deaths.{KeepTallied};
 ghost use Rattle.svscan_core.specs.Listing.{names_in};
 ghost use Rattle.svscan_core.specs.Moves.{moment_of};
-ghost use Rattle.svscan_core.specs.Moving.{with_touched, timers_of, KeepNames};
-ghost use Rattle.svscan_core.specs.Names.{lists, repeats};
-ghost use Rattle.svscan_core.specs.Scan.{scanned, dropped_by, stays, leaves, stands, with_service, with_new_name, with_name, with_names};
+ghost use Rattle.svscan_core.specs.Moving.{with_changes, timers_of, KeepNames};
+ghost use Rattle.svscan_core.specs.Names.{lists, repeats_name};
+ghost use Rattle.svscan_core.specs.Scan.{after_scan, dropped_by, stays, leaves, stands, with_service, with_new_name, with_name, with_names};
 ghost use Rattle.deadlines.specs.declared.timer.Timer.{Timer};
 ghost use Rattle.deadlines.specs.declared.timer.TimerChange.TheVariants.{Clear};
-ghost use Rattle.deadlines.specs.Timers.{changed_all};
-ghost use Rattle.svscan_core.specs.Timers.{timer_change, TimersAgree};
+ghost use Rattle.deadlines.specs.Timers.{with_timer_changes};
+ghost use Rattle.svscan_core.specs.Timers.{timer_change_of, TimersAgree};
 ghost use Rattle.svscan_core.specs.Scanning.{prepared_services};
 ghost use Rattle.svscan_core.specs.Sound.{AllAgree, IsNumbered};
 ghost use Rattle.svscan_core.specs.Table.{charts_of, names_of, serials_of};
 
 use super::entry::{Entry, Listed};
 use super::listing::{config_in, sort_listing};
-use super::moves::{Moves, Touched, standing_at};
+use super::moves::{ChangedService, Moves, standing_at};
 use super::slots::Slots;
 use super::visit::Visit;
 use s6_events::{At, Name, NoMemory, Sid};
@@ -32,7 +33,7 @@ use supervise_core::{ChartState, Phase, Service};
 // The most services that stand.
 const SERVICE_LIMIT: usize = 64;
 
-/// What a listing drops and adds, before anything is changed. The lists keep their memory from step to step. This project's own.
+/// What a listing drops and adds, before anything is changed. The lists keep their memory from step to step.
 #[derive(Drop)]
 pub struct Scanning<A: Allocator> {
     /// The names of the services that leave.
@@ -54,12 +55,19 @@ fn is_retained(chart: &ChartState) -> bool
 /// Notes the services that leave, and says how many stay. Page `s6-svscan`.
 pub fn plan_drops<A: Allocator + Copy>(
     slots: &Slots<A>,
-    touched: &[Touched],
+    touched: &[ChangedService],
     scan: &mut Scanning<A>,
 ) -> Result<usize, NoMemory>
-    ensures dropped { OnOk result (scan.new.dropped.items ≡ scan.old.dropped.items ++ names_of (filter leaves (charts_of (with_touched slots.now.services touched.now)))) }
-    ensures dropped_sids { OnOk result (scan.new.dropped_sids.items ≡ scan.old.dropped_sids.items ++ serials_of (filter leaves (charts_of (with_touched slots.now.services touched.now)))) }
-    ensures retained { IfOk result (λ retained. retained ≡ length (filter stays (charts_of (with_touched slots.now.services touched.now)))) }
+    ensures dropped { OnOk result
+        (scan.new.dropped.items ≡ scan.old.dropped.items
+        ++ names_of (filter leaves (charts_of (with_changes slots.now.services touched.now)))) }
+    ensures dropped_sids { OnOk result
+        (scan.new.dropped_sids.items
+        ≡ scan.old.dropped_sids.items
+        ++ serials_of (filter leaves (charts_of (with_changes slots.now.services touched.now)))) }
+    ensures retained { IfOk result
+        (λ retained. retained ≡ length
+        (filter stays (charts_of (with_changes slots.now.services touched.now)))) }
     ensures added { scan.new.added.items ≡ scan.old.added.items }
     ensures listed { scan.new.listed.items ≡ scan.old.listed.items }
     ensures next_sid { scan.new.next_sid ≡ scan.old.next_sid }
@@ -79,7 +87,7 @@ pub fn plan_drops<A: Allocator + Copy>(
 }
 
 impl<A: Allocator + Copy> Scanning<A> {
-    /// Nothing yet, where this is the next serial. Takes no memory.
+    /// Nothing yet, where this is the next serial.
     pub fn new(alloc: A, next_sid: u64) -> Scanning<A>
         ensures dropped { result.dropped.items ≡ [] }
         ensures dropped_sids { result.dropped_sids.items ≡ [] }
@@ -113,8 +121,10 @@ impl<A: Allocator + Copy> Scanning<A> {
 
     // The service leaves.
     fn drop_service(&mut self, chart: &ChartState) -> Result<(), NoMemory>
-        ensures dropped { OnOk result (self.new.dropped.items ≡ self.old.dropped.items ++ chart.now.name ∷ []) }
-        ensures dropped_sids { OnOk result (self.new.dropped_sids.items ≡ self.old.dropped_sids.items ++ chart.now.sid ∷ []) }
+        ensures dropped { OnOk result
+            (self.new.dropped.items ≡ self.old.dropped.items ++ chart.now.name ∷ []) }
+        ensures dropped_sids { OnOk result
+            (self.new.dropped_sids.items ≡ self.old.dropped_sids.items ++ chart.now.sid ∷ []) }
         ensures added { self.new.added.items ≡ self.old.added.items }
         ensures listed { self.new.listed.items ≡ self.old.listed.items }
         ensures next_sid { self.new.next_sid ≡ self.old.next_sid }
@@ -135,10 +145,18 @@ impl<A: Allocator + Copy> Scanning<A> {
     ) -> Result<(), NoMemory>
         requires orders { length moves.old.orders.items + 1 ≤ 256 }
         requires next { self.old.next_sid + 1 < 2 ^ 64 }
-        ensures state { OnOk result ((retained : List ChartState) → state_behind retained (adding_of self.new moves.new) ≡ with_service config (state_behind retained (adding_of self.old moves.old)) name.now) }
-        ensures goes_on { (services : List Supervised) → IsNumbered self.old.next_sid (charts_of (services ++ self.old.added.items)) → OnOk result (GoesOn services (adding_of self.old moves.old) (adding_of self.new moves.new)) }
-        ensures count { OnOk result (length self.new.added.items ≡ length self.old.added.items + 1) }
-        ensures orders { OnOk result (length moves.new.orders.items ≤ length moves.old.orders.items + 1) }
+        ensures state { OnOk result
+            ((retained : List ChartState)
+            → state_behind retained (adding_of self.new moves.new)
+            ≡ with_service config (state_behind retained (adding_of self.old moves.old)) name.now) }
+        ensures goes_on { (services : List Supervised)
+            → IsNumbered self.old.next_sid (charts_of (services ++ self.old.added.items))
+            → OnOk result (GoesOn services (adding_of self.old moves.old)
+            (adding_of self.new moves.new)) }
+        ensures count { OnOk result
+            (length self.new.added.items ≡ length self.old.added.items + 1) }
+        ensures orders { OnOk result
+            (length moves.new.orders.items ≤ length moves.old.orders.items + 1) }
         ensures next { OnOk result (self.new.next_sid ≡ self.old.next_sid + 1) }
         ensures dropped { self.new.dropped.items ≡ self.old.dropped.items }
         ensures dropped_sids { self.new.dropped_sids.items ≡ self.old.dropped_sids.items }
@@ -166,9 +184,16 @@ impl<A: Allocator + Copy> Scanning<A> {
         requires few { retained + length self.old.added.items ≤ 64 }
         requires orders { length moves.old.orders.items + 1 ≤ 256 }
         requires next { self.old.next_sid + 1 < 2 ^ 64 }
-        ensures state { OnOk result ((services : List ChartState) → length services ≡ retained → state_behind services (adding_of self.new moves.new) ≡ with_new_name found (state_behind services (adding_of self.old moves.old)) name.now) }
-        ensures goes_on { (services : List Supervised) → IsNumbered self.old.next_sid (charts_of (services ++ self.old.added.items)) → OnOk result (GoesOn services (adding_of self.old moves.old) (adding_of self.new moves.new)) }
-        ensures grows { OnOk result (Grows retained (adding_of self.old moves.old) (adding_of self.new moves.new)) }
+        ensures state { OnOk result
+            ((services : List ChartState) → length services ≡ retained
+            → state_behind services (adding_of self.new moves.new)
+            ≡ with_new_name found (state_behind services (adding_of self.old moves.old)) name.now) }
+        ensures goes_on { (services : List Supervised)
+            → IsNumbered self.old.next_sid (charts_of (services ++ self.old.added.items))
+            → OnOk result (GoesOn services (adding_of self.old moves.old)
+            (adding_of self.new moves.new)) }
+        ensures grows { OnOk result
+            (Grows retained (adding_of self.old moves.old) (adding_of self.new moves.new)) }
         ensures dropped { self.new.dropped.items ≡ self.old.dropped.items }
         ensures dropped_sids { self.new.dropped_sids.items ≡ self.old.dropped_sids.items }
         ensures touched { moves.new.touched.items ≡ moves.old.touched.items }
@@ -198,10 +223,17 @@ impl<A: Allocator + Copy> Scanning<A> {
         requires orders { length moves.old.orders.items + 1 ≤ 256 }
         requires next { self.old.next_sid + 1 < 2 ^ 64 }
         ensures state { OnOk result ((services : List ChartState) → length services ≡ retained
-            → stands name.now (services ++ charts_of self.old.added.items) ≡ list_any (λ s. bytes_eq name.now s.chart.name) slots.now.services
-            → state_behind services (adding_of self.new moves.new) ≡ with_name listing.now (state_behind services (adding_of self.old moves.old)) name.now) }
-        ensures goes_on { (services : List Supervised) → IsNumbered self.old.next_sid (charts_of (services ++ self.old.added.items)) → OnOk result (GoesOn services (adding_of self.old moves.old) (adding_of self.new moves.new)) }
-        ensures grows { OnOk result (Grows retained (adding_of self.old moves.old) (adding_of self.new moves.new)) }
+            → stands name.now (services ++ charts_of self.old.added.items)
+            ≡ list_any (λ s. bytes_eq name.now s.chart.name) slots.now.services
+            → state_behind services (adding_of self.new moves.new)
+            ≡ with_name listing.now (state_behind services (adding_of self.old moves.old))
+            name.now) }
+        ensures goes_on { (services : List Supervised)
+            → IsNumbered self.old.next_sid (charts_of (services ++ self.old.added.items))
+            → OnOk result (GoesOn services (adding_of self.old moves.old)
+            (adding_of self.new moves.new)) }
+        ensures grows { OnOk result
+            (Grows retained (adding_of self.old moves.old) (adding_of self.new moves.new)) }
         ensures dropped { self.new.dropped.items ≡ self.old.dropped.items }
         ensures dropped_sids { self.new.dropped_sids.items ≡ self.old.dropped_sids.items }
         ensures touched { moves.new.touched.items ≡ moves.old.touched.items }
@@ -223,15 +255,23 @@ impl<A: Allocator + Copy> Scanning<A> {
         listing: &[Entry],
         now: At,
     ) -> Result<(), NoMemory>
-        requires once { repeats names.now ≡ false }
+        requires once { repeats_name names.now ≡ false }
         requires few { retained + length self.old.added.items ≤ 64 }
         requires orders { length moves.old.orders.items ≤ 64 }
         requires next { self.old.next_sid + 65 < 2 ^ 64 }
         ensures state { OnOk result ((services : List ChartState) → length services ≡ retained
-            → ((name : List ℕ) → lists names.now name ≡ true → stands name (services ++ charts_of self.old.added.items) ≡ list_any (λ s. bytes_eq name s.chart.name) slots.now.services)
-            → state_behind services (adding_of self.new moves.new) ≡ with_names listing.now (state_behind services (adding_of self.old moves.old)) names.now) }
-        ensures goes_on { (services : List Supervised) → IsNumbered self.old.next_sid (charts_of (services ++ self.old.added.items)) → OnOk result (GoesOn services (adding_of self.old moves.old) (adding_of self.new moves.new)) }
-        ensures grows { OnOk result (Grows retained (adding_of self.old moves.old) (adding_of self.new moves.new)) }
+            → ((name : List ℕ) → lists names.now name ≡ true
+            → stands name (services ++ charts_of self.old.added.items)
+            ≡ list_any (λ s. bytes_eq name s.chart.name) slots.now.services)
+            → state_behind services (adding_of self.new moves.new)
+            ≡ with_names listing.now (state_behind services (adding_of self.old moves.old))
+            names.now) }
+        ensures goes_on { (services : List Supervised)
+            → IsNumbered self.old.next_sid (charts_of (services ++ self.old.added.items))
+            → OnOk result (GoesOn services (adding_of self.old moves.old)
+            (adding_of self.new moves.new)) }
+        ensures grows { OnOk result
+            (Grows retained (adding_of self.old moves.old) (adding_of self.new moves.new)) }
         ensures dropped { self.new.dropped.items ≡ self.old.dropped.items }
         ensures dropped_sids { self.new.dropped_sids.items ≡ self.old.dropped_sids.items }
         ensures touched { moves.new.touched.items ≡ moves.old.touched.items }
@@ -257,28 +297,60 @@ pub fn plan_scan<A: Allocator + Copy>(
     requires dropped_sids { scan.old.dropped_sids.items ≡ [] }
     requires added { scan.old.added.items ≡ [] }
     requires listed { scan.old.listed.items ≡ [] }
-    requires names { repeats (names_of (charts_of (with_touched slots.now.services moves.old.touched.items))) ≡ false }
-    requires order { IsNumbered scan.old.next_sid (charts_of (with_touched slots.now.services moves.old.touched.items)) }
+    requires names { repeats_name
+        (names_of (charts_of (with_changes slots.now.services moves.old.touched.items))) ≡ false }
+    requires order { IsNumbered scan.old.next_sid
+        (charts_of (with_changes slots.now.services moves.old.touched.items)) }
     requires few { length slots.now.services ≤ 64 }
-    requires stand { names_of (charts_of (with_touched slots.now.services moves.old.touched.items)) ≡ names_of (charts_of slots.now.services) }
-    requires listing { repeats (names_in listing.now) ≡ false }
+    requires stand { names_of (charts_of (with_changes slots.now.services moves.old.touched.items))
+        ≡ names_of (charts_of slots.now.services) }
+    requires listing { repeats_name (names_in listing.now) ≡ false }
     requires room { length moves.old.orders.items ≤ 64 }
     requires next { scan.old.next_sid + 65 < 2 ^ 64 }
-    requires generations { All (λ c. c.generation + 1 < 2 ^ 64) (charts_of (with_touched slots.now.services moves.old.touched.items)) }
+    requires generations { All (λ c. c.generation + 1 < 2 ^ 64)
+        (charts_of (with_changes slots.now.services moves.old.touched.items)) }
     ensures services { OnOk result (charts_of (prepared_services slots.now.services moves.new.touched.items scan.new.dropped.items scan.new.added.items)
-        ≡ (scanned listing.now now (charts_of (with_touched slots.now.services moves.old.touched.items)) scan.old.next_sid).services) }
-    ensures next_sid { OnOk result (scan.new.next_sid ≡ (scanned listing.now now (charts_of (with_touched slots.now.services moves.old.touched.items)) scan.old.next_sid).next_sid) }
-    ensures events { OnOk result (moves.new.events.items ≡ moves.old.events.items ++ (scanned listing.now now (charts_of (with_touched slots.now.services moves.old.touched.items)) scan.old.next_sid).events) }
-    ensures orders { OnOk result (moves.new.orders.items ≡ moves.old.orders.items ++ (scanned listing.now now (charts_of (with_touched slots.now.services moves.old.touched.items)) scan.old.next_sid).orders) }
-    ensures dropped { OnOk result (scan.new.dropped_sids.items ≡ dropped_by listing.now now (charts_of (with_touched slots.now.services moves.old.touched.items))) }
-    ensures listed { OnOk result (scan.new.listed.items ≡ (scanned listing.now now (charts_of (with_touched slots.now.services moves.old.touched.items)) scan.old.next_sid).listed) }
-    ensures agrees { OnOk result ((history : List Moment) → clock_of history ≡ now → AllAgree (with_touched slots.now.services moves.old.touched.items) (history ++ map moment_of moves.old.events.items)
-        → AllAgree (prepared_services slots.now.services moves.new.touched.items scan.new.dropped.items scan.new.added.items) (history ++ map moment_of moves.new.events.items)) }
-    ensures tallies { OnOk result (KeepTallied scan.old.next_sid (with_touched slots.now.services moves.old.touched.items) (prepared_services slots.now.services moves.new.touched.items scan.new.dropped.items scan.new.added.items) []) }
-    ensures timers { OnOk result ((timers : List Timer) → TimersAgree (changed_all (timers_of moves.old.touched.items) timers) (charts_of (with_touched slots.now.services moves.old.touched.items))
-        → TimersAgree (changed_all (timers_of moves.new.touched.items ++ (map (λ sid. Clear sid) scan.new.dropped_sids.items ++ map timer_change (charts_of scan.new.added.items))) timers)
+        ≡ (after_scan listing.now now
+        (charts_of (with_changes slots.now.services moves.old.touched.items))
+        scan.old.next_sid).services) }
+    ensures next_sid { OnOk result
+        (scan.new.next_sid ≡ (after_scan listing.now now
+        (charts_of (with_changes slots.now.services moves.old.touched.items))
+        scan.old.next_sid).next_sid) }
+    ensures events { OnOk result
+        (moves.new.events.items ≡ moves.old.events.items
+        ++ (after_scan listing.now now
+        (charts_of (with_changes slots.now.services moves.old.touched.items))
+        scan.old.next_sid).events) }
+    ensures orders { OnOk result
+        (moves.new.orders.items ≡ moves.old.orders.items
+        ++ (after_scan listing.now now
+        (charts_of (with_changes slots.now.services moves.old.touched.items))
+        scan.old.next_sid).orders) }
+    ensures dropped { OnOk result
+        (scan.new.dropped_sids.items
+        ≡ dropped_by listing.now now
+        (charts_of (with_changes slots.now.services moves.old.touched.items))) }
+    ensures listed { OnOk result
+        (scan.new.listed.items ≡ (after_scan listing.now now
+        (charts_of (with_changes slots.now.services moves.old.touched.items))
+        scan.old.next_sid).listed) }
+    ensures agrees { OnOk result ((history : List Moment) → clock_of history ≡ now → AllAgree (with_changes slots.now.services moves.old.touched.items) (history ++ map moment_of moves.old.events.items)
+        → AllAgree (prepared_services slots.now.services moves.new.touched.items
+        scan.new.dropped.items scan.new.added.items)
+        (history ++ map moment_of moves.new.events.items)) }
+    ensures tallies { OnOk result
+        (KeepTallied scan.old.next_sid (with_changes slots.now.services moves.old.touched.items)
+        (prepared_services slots.now.services moves.new.touched.items scan.new.dropped.items
+        scan.new.added.items) []) }
+    ensures timers { OnOk result ((timers : List Timer) → TimersAgree (with_timer_changes (timers_of moves.old.touched.items) timers) (charts_of (with_changes slots.now.services moves.old.touched.items))
+        → TimersAgree (with_timer_changes
+        (timers_of moves.new.touched.items
+        ++ (map (λ sid. Clear sid) scan.new.dropped_sids.items
+        ++ map timer_change_of (charts_of scan.new.added.items))) timers)
         (charts_of (prepared_services slots.now.services moves.new.touched.items scan.new.dropped.items scan.new.added.items))) }
-    ensures names { KeepNames slots.now.services moves.old.touched.items → OnOk result (KeepNames slots.now.services moves.new.touched.items) }
+    ensures names { KeepNames slots.now.services moves.old.touched.items
+        → OnOk result (KeepNames slots.now.services moves.new.touched.items) }
     ensures few { OnOk result (length scan.new.added.items ≤ 64) }
 {
     moves.visit_all(slots, Visit::Look(listing), now)?;

@@ -1,8 +1,9 @@
+//! Where the services stand: slots, with an index of their names.
 ghost use Rattle.std.specs.Prelude.{◌≡◌, [], ◌∷◌, ◌++◌, ◌+◌, ◌<◌, ◌≤◌, false, length, find, bytes_eq, slice_get, slice_set, option_map, vec_capacity, None, Some, IsSomeAnd, OnOk, IsOk};
 ghost use Rattle.std.specs.List.{list_any};
 ghost use Rattle.slab.specs.Slab.{get, slab_len, Updates};
-ghost use Rattle.supervise_core.specs.Service.{Supervised, adopted};
-ghost use Rattle.svscan_core.specs.Names.{repeats};
+ghost use Rattle.supervise_core.specs.Service.{Supervised, with_view};
+ghost use Rattle.svscan_core.specs.Names.{repeats_name};
 ghost use Rattle.svscan_core.specs.Table.{charts_of, names_of, without_name};
 
 use indexmap::IndexMap;
@@ -11,10 +12,10 @@ use slab::Slab;
 use std::alloc::Allocator;
 use std::hash::{BuildHasherDefault, FoldHasher};
 use std::marker::Model;
-use supervise_core::{Service, Standing};
+use supervise_core::{Service, ServiceState};
 
 /// The services that stand, each in a slot of its own, and an index from their names to the slots, in the order in which they were
-/// added. This project's own.
+/// added.
 #[derive(Drop)]
 pub struct Slots<A: Allocator> {
     slots: Slab<Service<A>, A>,
@@ -22,13 +23,13 @@ pub struct Slots<A: Allocator> {
 }
 
 impl<A: Allocator> Model for Slots<A> {
-    ghost use Rattle.svscan_core.specs.Held.{Held};
+    ghost use Rattle.svscan_core.specs.Held.{SlotsView};
 
-    ghost Value = { Held };
+    ghost Value = { SlotsView };
 
-    ghost use Rattle.svscan_core.specs.SlotFields.{held, IsHeld};
+    ghost use Rattle.svscan_core.specs.SlotFields.{slots_view, IsHeld};
 
-    ghost view = { held };
+    ghost view = { slots_view };
 
     ghost invariant = { IsHeld };
 }
@@ -37,10 +38,11 @@ impl<A: Allocator> Model for Slots<A> {
 fn adopt_in<A: Allocator + Copy>(
     slots: &mut Slab<Service<A>, A>,
     slot: usize,
-    standing: Standing,
+    standing: ServiceState,
     death: Option<(At, Exit)>,
 )
-    ensures updates { (s : Supervised) → get slots.old slot ≡ Some s → Updates slots.old slots.new slot (Some (adopted standing death s)) }
+    ensures updates { (s : Supervised) → get slots.old slot ≡ Some s
+        → Updates slots.old slots.new slot (Some (with_view standing death s)) }
     ensures count { slab_len slots.new ≡ slab_len slots.old }
     ensures capacity { slots.new.capacity ≡ slots.old.capacity }
 {
@@ -59,7 +61,7 @@ fn empty_slot<A: Allocator + Copy>(slots: &mut Slab<Service<A>, A>, slot: usize)
 }
 
 impl<A: Allocator + Copy> Slots<A> {
-    /// None stands; this takes no memory.
+    /// None stands.
     pub fn new(alloc: A) -> Slots<A>
         ensures services { result.services ≡ [] }
     {
@@ -72,7 +74,7 @@ impl<A: Allocator + Copy> Slots<A> {
     /// How many stand.
     pub fn len(&self) -> usize
         ensures count { result ≡ length self.now.services }
-        ensures names { repeats (names_of (charts_of self.now.services)) ≡ false }
+        ensures names { repeats_name (names_of (charts_of self.now.services)) ≡ false }
     {
         self.index.len()
     }
@@ -87,7 +89,8 @@ impl<A: Allocator + Copy> Slots<A> {
 
     /// The one of this name.
     pub fn find(&self, name: &Name) -> Option<&Service<A>>
-        ensures { option_map (λ s. s.now) result ≡ find (λ s. bytes_eq name.now s.chart.name) self.now.services }
+        ensures { option_map (λ s. s.now) result
+            ≡ find (λ s. bytes_eq name.now s.chart.name) self.now.services }
     {
         let slot = self.index.get(name)?;
         self.slots.get(*slot)
@@ -101,9 +104,11 @@ impl<A: Allocator + Copy> Slots<A> {
     }
 
     /// The one at this place takes this state and this status, and a death joins its tally where there is one; its name stays.
-    pub fn adopt(&mut self, place: usize, standing: Standing, death: Option<(At, Exit)>)
-        requires name { IsSomeAnd (slice_get self.old.services place) (λ s. s.chart.name ≡ standing.chart.name) }
-        ensures services { (s : Supervised) → slice_get self.old.services place ≡ Some s → self.new.services ≡ slice_set self.old.services place (adopted standing death s) }
+    pub fn adopt(&mut self, place: usize, standing: ServiceState, death: Option<(At, Exit)>)
+        requires name { IsSomeAnd (slice_get self.old.services place)
+            (λ s. s.chart.name ≡ standing.chart.name) }
+        ensures services { (s : Supervised) → slice_get self.old.services place ≡ Some s
+            → self.new.services ≡ slice_set self.old.services place (with_view standing death s) }
         ensures room { self.new.room ≡ self.old.room }
     {
         // For the proof: its clause says that no two names are equal.
@@ -142,7 +147,8 @@ impl<A: Allocator + Copy> Slots<A> {
     /// One more under a new name goes last; there is room for it.
     pub fn add(&mut self, service: Service<A>)
         requires room { 0 < self.old.room }
-        requires absent { list_any (λ s. bytes_eq service.chart.name s.chart.name) self.old.services ≡ false }
+        requires absent { list_any (λ s. bytes_eq service.chart.name s.chart.name) self.old.services
+            ≡ false }
         ensures services { self.new.services ≡ self.old.services ++ service ∷ [] }
         ensures room { self.old.room ≤ self.new.room + 1 }
     {
@@ -154,7 +160,8 @@ impl<A: Allocator + Copy> Slots<A> {
     /// All of these go last, in their order; there is room for them. `added` is empty then, and keeps its memory.
     pub fn add_all(&mut self, added: &mut Vec<Service<A>, A>)
         requires room { length added.old.items ≤ self.old.room }
-        requires names { repeats (names_of (charts_of (self.old.services ++ added.old.items))) ≡ false }
+        requires names { repeats_name (names_of (charts_of (self.old.services ++ added.old.items)))
+            ≡ false }
         ensures services { self.new.services ≡ self.old.services ++ added.old.items }
         ensures added { added.new.items ≡ [] }
         ensures capacity { vec_capacity added.new ≡ vec_capacity added.old }

@@ -1,37 +1,39 @@
+//! Questions and single changes of the table.
 ghost use Rattle.std.specs.Prelude.{◌≡◌, ◌+◌, ◌<◌, ◌^◌, ◌++◌, ◌==◌, List, All, true, map, find, bytes_eq, is_some, option_map, slice_get, IfSome, IfNone};
 ghost use Rattle.std.specs.List.{list_any};
 ghost use Rattle.deadlines.specs.Timers.{is_rising};
 ghost use Rattle.s6_events.specs.Clock.{clock_of};
 ghost use Rattle.s6_events.specs.declared.moment.Moment.{Moment};
-ghost use Rattle.supervise_core.specs.Chart.{fire};
+ghost use Rattle.supervise_core.specs.Chart.{fire_move};
 ghost use Rattle.supervise_core.specs.Service.{AgreesAs, KeepsAgreeing};
 ghost use Rattle.svscan_core.specs.Deaths.{DeathOf, deaths_after, AllTallied};
-ghost use Rattle.svscan_core.specs.Moves.{event, moment_of, services_after, events_after, orders_after};
+ghost use Rattle.svscan_core.specs.Moves.{service_mark, moment_of, services_after, events_after, orders_after};
 ghost use Rattle.svscan_core.specs.Sound.{AllAgree};
 ghost use Rattle.svscan_core.specs.Table.{charts_of, serials_of};
-ghost use Rattle.svscan_core.specs.Work.{changed_at};
+ghost use Rattle.svscan_core.specs.Work.{change_move_at};
 
 use super::place::place_of;
 use super::slots::Slots;
 use s6_events::{At, Name, Sid};
 use std::alloc::Allocator;
-use supervise_core::{Change, Out, Service, Standing};
+use supervise_core::{Change, Out, Service, ServiceState};
 
-/// The serial of the service of this name, and None where none has it. This project's own.
+/// The serial of the service of this name, and None where none has it.
 pub fn find_sid<A: Allocator + Copy>(slots: &Slots<A>, name: &Name) -> Option<Sid>
-    ensures { result ≡ option_map (λ c. c.sid) (find (λ c. bytes_eq name.now c.name) (charts_of slots.now.services)) }
+    ensures { result ≡ option_map (λ c. c.sid)
+        (find (λ c. bytes_eq name.now c.name) (charts_of slots.now.services)) }
 {
     Some(slots.find(name)?.sid())
 }
 
-/// The serial of the service at this place, of those in the order in which they were added; None past the last one. This project's own.
+/// The serial of the service at this place, of those in the order in which they were added; None past the last one.
 pub fn nth_sid<A: Allocator + Copy>(slots: &Slots<A>, place: usize) -> Option<Sid>
     ensures { result ≡ option_map (λ c. c.sid) (slice_get (charts_of slots.now.services) place) }
 {
     Some(slots.nth(place)?.sid())
 }
 
-/// The service of this serial, and None where none has it. This project's own.
+/// The service of this serial, and None where none has it.
 pub fn get<A: Allocator + Copy>(slots: &Slots<A>, sid: Sid) -> Option<&Service<A>>
     requires { is_rising (serials_of (charts_of slots.now.services)) ≡ true }
     ensures { option_map (λ s. s.now) result ≡ find (λ s. s.chart.sid == sid) slots.now.services }
@@ -40,7 +42,7 @@ pub fn get<A: Allocator + Copy>(slots: &Slots<A>, sid: Sid) -> Option<&Service<A
 }
 
 /// The service of this serial takes a change, and what it gives is the answer; None where none has the serial, and then every service
-/// stays as it stands. No memory is taken. This project's own; the changes are those of page `s6-supervise`.
+/// stays as it stands. No memory is taken. The changes are those of page `s6-supervise`.
 pub fn change<A: Allocator + Copy>(
     slots: &mut Slots<A>,
     sid: Sid,
@@ -49,16 +51,26 @@ pub fn change<A: Allocator + Copy>(
 ) -> Option<Out>
     requires order { is_rising (serials_of (charts_of slots.old.services)) ≡ true }
     requires generations { All (λ c. c.generation + 1 < 2 ^ 64) (charts_of slots.old.services) }
-    ensures services { charts_of slots.new.services ≡ services_after (changed_at sid change.now now) (charts_of slots.old.services) }
+    ensures services { charts_of slots.new.services
+        ≡ services_after (change_move_at sid change.now now) (charts_of slots.old.services) }
     ensures known { is_some result ≡ list_any (λ c. c.sid == sid) (charts_of slots.old.services) }
     ensures unknown { IfNone result (slots.new.services ≡ slots.old.services) }
-    ensures events { IfSome result (λ out. map (event sid) out.events.items ≡ events_after (changed_at sid change.now now) (charts_of slots.old.services)) }
-    ensures orders { IfSome result (λ out. out.orders.items ≡ orders_after (changed_at sid change.now now) (charts_of slots.old.services)) }
-    ensures stale { IfSome result (λ out. out.stale ≡ list_any (λ c. (changed_at sid change.now now c).stale) (charts_of slots.old.services)) }
+    ensures events { IfSome result
+        (λ out. map (service_mark sid) out.events.items
+        ≡ events_after (change_move_at sid change.now now) (charts_of slots.old.services)) }
+    ensures orders { IfSome result
+        (λ out. out.orders.items ≡ orders_after (change_move_at sid change.now now)
+        (charts_of slots.old.services)) }
+    ensures stale { IfSome result
+        (λ out. out.stale ≡ list_any (λ c. (change_move_at sid change.now now c).stale)
+        (charts_of slots.old.services)) }
     ensures agrees { (history : List Moment) → clock_of history ≡ now → AllAgree slots.old.services history
-        → IfSome result (λ out. AllAgree slots.new.services (history ++ map moment_of (map (event sid) out.events.items))) }
+        → IfSome result (λ out. AllAgree slots.new.services
+        (history ++ map moment_of (map (service_mark sid) out.events.items))) }
     ensures tallies { (deaths : List DeathOf) → AllTallied slots.old.services deaths
-        → AllTallied slots.new.services (deaths ++ deaths_after (changed_at sid change.now now) (charts_of slots.old.services)) }
+        → AllTallied slots.new.services
+        (deaths ++ deaths_after (change_move_at sid change.now now)
+        (charts_of slots.old.services)) }
     ensures room { slots.new.room ≡ slots.old.room }
 {
     let place = place_of(slots, sid)?;
@@ -69,10 +81,10 @@ pub fn change<A: Allocator + Copy>(
 }
 
 // Its timer goes off.
-fn fire_timer(standing: Standing, now: At) -> Standing
+fn fire_timer(standing: ServiceState, now: At) -> ServiceState
     requires { standing.chart.generation + 1 < 2 ^ 64 }
-    ensures chart { result.chart ≡ (fire now standing.chart).chart }
-    ensures agrees { KeepsAgreeing now (fire now standing.chart).marks standing result }
+    ensures chart { result.chart ≡ (fire_move now standing.chart).chart }
+    ensures agrees { KeepsAgreeing now (fire_move now standing.chart).marks standing result }
 {
     let mut fired = standing;
     let _out = fired.change(&Change::Fire, now);
@@ -80,10 +92,10 @@ fn fire_timer(standing: Standing, now: At) -> Standing
 }
 
 // What a service is once its timer went off, where its moment has come.
-fn after_timer(standing: Standing, now: At) -> Standing
+fn after_timer(standing: ServiceState, now: At) -> ServiceState
     requires { standing.chart.generation + 1 < 2 ^ 64 }
-    ensures chart { result.chart ≡ (fire now standing.chart).chart }
-    ensures agrees { KeepsAgreeing now (fire now standing.chart).marks standing result }
+    ensures chart { result.chart ≡ (fire_move now standing.chart).chart }
+    ensures agrees { KeepsAgreeing now (fire_move now standing.chart).marks standing result }
 {
     if standing.timer().is_some_and(|due| due <= now.millis()) {
         fire_timer(standing, now)
@@ -92,13 +104,20 @@ fn after_timer(standing: Standing, now: At) -> Standing
     }
 }
 
-/// What the service of this name is once all due timers went off; None where none has the name. No memory is taken. This project's own.
-pub fn after_timers<A: Allocator + Copy>(slots: &Slots<A>, name: &Name, now: At) -> Option<Standing>
+/// What the service of this name is once all due timers went off; None where none has the name. No memory is taken.
+pub fn after_timers<A: Allocator + Copy>(
+    slots: &Slots<A>,
+    name: &Name,
+    now: At,
+) -> Option<ServiceState>
     requires order { is_rising (serials_of (charts_of slots.now.services)) ≡ true }
     requires generations { All (λ c. c.generation + 1 < 2 ^ 64) (charts_of slots.now.services) }
-    ensures chart { option_map (λ s. s.chart) result ≡ find (λ c. bytes_eq name.now c.name) (services_after (fire now) (charts_of slots.now.services)) }
+    ensures chart { option_map (λ s. s.chart) result
+        ≡ find (λ c. bytes_eq name.now c.name)
+        (services_after (fire_move now) (charts_of slots.now.services)) }
     ensures agrees { (history : List Moment) → clock_of history ≡ now → AllAgree slots.now.services history
-        → IfSome result (λ s. AgreesAs s (history ++ map moment_of (events_after (fire now) (charts_of slots.now.services)))) }
+        → IfSome result (λ s. AgreesAs s
+        (history ++ map moment_of (events_after (fire_move now) (charts_of slots.now.services)))) }
 {
     let standing = slots.find(name)?.standing();
     Some(after_timer(standing, now))

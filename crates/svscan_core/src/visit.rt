@@ -1,18 +1,19 @@
+//! What each service in turn takes: its timer, an order to all, or a look at its directory.
 ghost use Rattle.std.specs.Prelude.{◌≡◌, ◌+◌, ◌<◌, ◌≤◌, ◌^◌, length, true};
-ghost use Rattle.supervise_core.specs.ChartState.{still};
-ghost use Rattle.supervise_core.specs.Chart.{control, fire, changed_by};
+ghost use Rattle.supervise_core.specs.ChartState.{no_move};
+ghost use Rattle.supervise_core.specs.Chart.{control_move, fire_move, changed_by};
 ghost use Rattle.supervise_core.specs.MatchesMove.{MatchesMove, most_orders};
 ghost use Rattle.supervise_core.specs.Service.{KeepsAgreeing};
-ghost use Rattle.svscan_core.specs.Scan.{looked_at};
-ghost use Rattle.svscan_core.specs.Visit.{visited};
+ghost use Rattle.svscan_core.specs.Scan.{after_look};
+ghost use Rattle.svscan_core.specs.Visit.{visit_move};
 ghost use Rattle.svscan_core.specs.declared.visit.Visit.TheVariants.{Fire};
-ghost use Rattle.svscan_core.specs.Work.{leaving, nuked, terminated};
+ghost use Rattle.svscan_core.specs.Work.{leave_letters, nuke_move, terminate_move};
 
 use super::entry::{Entry, ScanOrder};
 use super::listing::{config_in, is_listed};
 use arrayvec::ArrayVec;
 use s6_events::At;
-use supervise_core::{Change, Out, Standing};
+use supervise_core::{Change, Out, ServiceState};
 use svc_commands::{ControlLetter, Letters};
 
 /// What each service in turn takes: its timer rule, an order of all services, or a look at its directory.
@@ -25,7 +26,7 @@ pub enum Visit<'a> {
 
 // The letters of a service that leaves.
 fn leaving_letters() -> Letters
-    ensures { result.items ≡ leaving }
+    ensures { result.items ≡ leave_letters }
 {
     let mut letters = ArrayVec::new();
     letters.push(ControlLetter::Exit);
@@ -34,9 +35,10 @@ fn leaving_letters() -> Letters
 }
 
 /// The service takes a change; `out` has the marks and orders of that change, and nothing else.
-pub fn take(standing: &mut Standing, change: &Change, now: At, out: &mut Out)
+pub fn take(standing: &mut ServiceState, change: &Change, now: At, out: &mut Out)
     requires { standing.old.chart.generation + 1 < 2 ^ 64 }
-    ensures gives { MatchesMove (changed_by change.now now standing.old.chart) standing.new.chart out.new }
+    ensures gives { MatchesMove (changed_by change.now now standing.old.chart) standing.new.chart
+        out.new }
     ensures agrees { KeepsAgreeing now out.new.events.items standing.old standing.new }
     ensures sid { standing.new.chart.sid ≡ standing.old.chart.sid }
     ensures name { standing.new.chart.name ≡ standing.old.chart.name }
@@ -47,9 +49,9 @@ pub fn take(standing: &mut Standing, change: &Change, now: At, out: &mut Out)
 }
 
 // Its timer goes off where its moment has come.
-fn fire_timer(standing: &mut Standing, now: At, out: &mut Out)
+fn fire_timer(standing: &mut ServiceState, now: At, out: &mut Out)
     requires { standing.old.chart.generation + 1 < 2 ^ 64 }
-    ensures gives { MatchesMove (fire now standing.old.chart) standing.new.chart out.new }
+    ensures gives { MatchesMove (fire_move now standing.old.chart) standing.new.chart out.new }
     ensures agrees { KeepsAgreeing now out.new.events.items standing.old standing.new }
     ensures sid { standing.new.chart.sid ≡ standing.old.chart.sid }
     ensures name { standing.new.chart.name ≡ standing.old.chart.name }
@@ -59,9 +61,10 @@ fn fire_timer(standing: &mut Standing, now: At, out: &mut Out)
 }
 
 // Its supervisor is told to end, and it is told to go down.
-fn leave(standing: &mut Standing, now: At, out: &mut Out)
+fn leave(standing: &mut ServiceState, now: At, out: &mut Out)
     requires { standing.old.chart.generation + 1 < 2 ^ 64 }
-    ensures gives { MatchesMove (control leaving now standing.old.chart) standing.new.chart out.new }
+    ensures gives { MatchesMove (control_move leave_letters now standing.old.chart)
+        standing.new.chart out.new }
     ensures agrees { KeepsAgreeing now out.new.events.items standing.old standing.new }
     ensures sid { standing.new.chart.sid ≡ standing.old.chart.sid }
     ensures name { standing.new.chart.name ≡ standing.old.chart.name }
@@ -71,8 +74,9 @@ fn leave(standing: &mut Standing, now: At, out: &mut Out)
 }
 
 // Its directory is listed or not, and says what was read.
-fn look_at(standing: &mut Standing, listing: &[Entry], now: At)
-    ensures { standing.new ≡ record standing.old { chart = looked_at listing.now now standing.old.chart } }
+fn look_at(standing: &mut ServiceState, listing: &[Entry], now: At)
+    ensures { standing.new ≡ record standing.old
+        { chart = after_look listing.now now standing.old.chart } }
 {
     let name = standing.chart().name;
     standing.set_active(is_listed(listing, &name), now);
@@ -82,9 +86,9 @@ fn look_at(standing: &mut Standing, listing: &[Entry], now: At)
 }
 
 // An inactive service leaves.
-fn nuke(standing: &mut Standing, now: At, out: &mut Out)
+fn nuke(standing: &mut ServiceState, now: At, out: &mut Out)
     requires { standing.old.chart.generation + 1 < 2 ^ 64 }
-    ensures gives { MatchesMove (nuked now standing.old.chart) standing.new.chart out.new }
+    ensures gives { MatchesMove (nuke_move now standing.old.chart) standing.new.chart out.new }
     ensures agrees { KeepsAgreeing now out.new.events.items standing.old standing.new }
     ensures sid { standing.new.chart.sid ≡ standing.old.chart.sid }
     ensures name { standing.new.chart.name ≡ standing.old.chart.name }
@@ -98,9 +102,9 @@ fn nuke(standing: &mut Standing, now: At, out: &mut Out)
 }
 
 // The service becomes inactive, and leaves.
-fn terminate(standing: &mut Standing, now: At, out: &mut Out)
+fn terminate(standing: &mut ServiceState, now: At, out: &mut Out)
     requires { standing.old.chart.generation + 1 < 2 ^ 64 }
-    ensures gives { MatchesMove (terminated now standing.old.chart) standing.new.chart out.new }
+    ensures gives { MatchesMove (terminate_move now standing.old.chart) standing.new.chart out.new }
     ensures agrees { KeepsAgreeing now out.new.events.items standing.old standing.new }
     ensures sid { standing.new.chart.sid ≡ standing.old.chart.sid }
     ensures name { standing.new.chart.name ≡ standing.old.chart.name }
@@ -112,8 +116,9 @@ fn terminate(standing: &mut Standing, now: At, out: &mut Out)
 
 impl Visit<'_> {
     /// Whether it leaves the service as it stands.
-    pub fn passes(self, standing: &Standing, now: At) -> bool
-        ensures { result ≡ true → visited self.entry now standing.now.chart ≡ still standing.now.chart }
+    pub fn passes(self, standing: &ServiceState, now: At) -> bool
+        ensures { result ≡ true → visit_move self.entry now standing.now.chart
+            ≡ no_move standing.now.chart }
     {
         match self {
             Visit::Fire => !standing.timer().is_some_and(|due| due <= now.millis()),
@@ -123,9 +128,10 @@ impl Visit<'_> {
     }
 
     /// The service takes it; `out` has the marks and orders of that, and nothing else.
-    pub fn make(self, standing: &mut Standing, now: At, out: &mut Out)
+    pub fn make(self, standing: &mut ServiceState, now: At, out: &mut Out)
         requires next { standing.old.chart.generation + 1 < 2 ^ 64 }
-        ensures gives { MatchesMove (visited self.entry now standing.old.chart) standing.new.chart out.new }
+        ensures gives { MatchesMove
+            (visit_move self.entry now standing.old.chart) standing.new.chart out.new }
         ensures agrees { KeepsAgreeing now out.new.events.items standing.old standing.new }
         ensures sid { standing.new.chart.sid ≡ standing.old.chart.sid }
         ensures name { standing.new.chart.name ≡ standing.old.chart.name }

@@ -1,12 +1,13 @@
+//! What a step asks of the services.
 use super::entry::{Entry, ScanOrder};
 use s6_events::Sid;
 use supervise_core::Change;
 
-/// What a step asks of the services. This project's own.
+/// What a step asks of the services.
 #[derive(Clone, Copy)]
-pub enum Work<'a> {
+pub enum ServiceWork<'a> {
     /// Nothing.
-    Leave,
+    Nothing,
     /// The service of this serial takes this change.
     Change(Sid, &'a Change),
     /// The scan directory was listed; no name stands in the listing twice. Page `s6-svscanctl`, `-a`.

@@ -1,6 +1,6 @@
 -- The serials of names, one name after the other.
-use Rattle.std.proofs.Common.{◌≡◌, ◌∙◌, ℕ, zero, suc, arith, ◌<◌, ◌+◌, List, [], ◌∷◌, ◌++◌, Bool, true, false, ◌&&◌, refl, sym, ap, take, length, get_or}
-use Rattle.std.specs.Prelude.{Some, None, is_some}
+use Rattle.std.proofs.Common.{◌≡◌, ◌∙◌, ℕ, ◌<◌, ◌+◌, List, [], ◌∷◌, ◌++◌, true, refl, sym, ap, take, length, get_or}
+use Rattle.std.specs.Prelude.{Some, is_some}
 use Rattle.std.specs.List.{cons_option}
 use Rattle.std.proofs.lemmas.List.{take_more}
 use Rattle.std.proofs.lemmas.List.Elements.{filter_map-append}
@@ -9,30 +9,23 @@ use Rattle.supervise_core.specs.declared.chart.ChartState.{ChartState}
 use Rattle.svscan_core.proofs.Truth.{both_of}
 use Rattle.tree_core.specs.Acts.{all_named, serial_of, serials_named}
 
-next_name : (names : List (List ℕ)) (i : ℕ) (name : List ℕ) → i < length names → name ≡ get_or names i name → take (i + 1) names ≡ take i names ++ name ∷ []
+next_name : (names : List (List ℕ)) (i : ℕ) (name : List ℕ) → i < length names → name ≡ get_or names i name
+    → take (i + 1) names ≡ take i names ++ name ∷ []
 next_name names i name lt is = take_more names i name lt ∙ ap (λ n. take i names ++ n ∷ []) (sym is)
 
-pub more_named : (names : List (List ℕ)) (cs : List ChartState) (i : ℕ) (name : List ℕ) → i < length names → name ≡ get_or names i name → (sid : ℕ) → serial_of name cs ≡ Some sid
+pub more_named : (names : List (List ℕ)) (cs : List ChartState) (i : ℕ) (name : List ℕ) → i < length names → name ≡ get_or names i name → (sid : ℕ)
+    → serial_of name cs ≡ Some sid
     → all_named (take i names) cs ≡ true → all_named (take (i + 1) names) cs ≡ true
 more_named names cs i name lt is sid found all =
     ap (λ ns. all_named ns cs) (next_name names i name lt is)
     ∙ (list_all-append (λ n. is_some (serial_of n cs)) (take i names) (name ∷ [])
     ∙ both_of (all_named (take i names) cs) _ all (both_of (is_some (serial_of name cs)) true (ap is_some found) refl))
 
-pub more_serials : (names : List (List ℕ)) (cs : List ChartState) (i : ℕ) (name : List ℕ) → i < length names → name ≡ get_or names i name → (sid : ℕ) → serial_of name cs ≡ Some sid
+pub more_serials : (names : List (List ℕ)) (cs : List ChartState) (i : ℕ) (name : List ℕ) → i < length names → name ≡ get_or names i name
+    → (sid : ℕ) → serial_of name cs ≡ Some sid
     → (sids : List ℕ) → sids ≡ serials_named (take i names) cs → sids ++ sid ∷ [] ≡ serials_named (take (i + 1) names) cs
 more_serials names cs i name lt is sid found sids e =
     ap (λ ss. ss ++ sid ∷ []) e
     ∙ (ap (λ o. serials_named (take i names) cs ++ cons_option o []) (sym found)
     ∙ (sym (filter_map-append (λ n. serial_of n cs) (take i names) (name ∷ []))
     ∙ ap (λ ns. serials_named ns cs) (sym (next_name names i name lt is))))
-
--- a name of no service is one of them
-pub lacking_one : (names : List (List ℕ)) (cs : List ChartState) (i : ℕ) (name : List ℕ) → i < length names → name ≡ get_or names i name → serial_of name cs ≡ None → all_named names cs ≡ false
-lacking_one [] cs i name lt is none = absurd (omega (arith, lt))
-lacking_one (n ∷ names) cs zero name lt is none = ap (λ x. is_some (serial_of x cs) && all_named names cs) (sym is) ∙ ap (λ o. is_some o && all_named names cs) none
-lacking_one (n ∷ names) cs (suc i) name lt is none = by (is_some (serial_of n cs)) (lacking_one names cs i name (omega (arith, lt)) is none)
-  where
-    by : (b : Bool) → all_named names cs ≡ false → (b && all_named names cs) ≡ false
-    by true e = e
-    by false e = refl

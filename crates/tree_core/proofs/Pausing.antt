@@ -9,20 +9,22 @@ use Rattle.s6_events.specs.declared.mark.Mark.{Mark}
 use Rattle.servicedir.specs.declared.config.Config.{Config}
 use Rattle.svc_commands.specs.declared.control_letter.ControlLetter.{ControlLetter}
 use Rattle.supervise_core.specs.declared.change.Change.{Change}
-use Rattle.supervise_core.specs.declared.change.Change.TheVariants.{Started, StartFailed, Notify, Death, FinishEnded, Control, Fire, SetConfig, SetActive}
+use Rattle.supervise_core.specs.declared.change.Change.TheVariants.{Started, StartFailed, Notify, Death, FinishEnded, Control, Fire, SetConfig}
+use Rattle.supervise_core.specs.declared.change.Change.TheVariants.{SetActive}
 use Rattle.supervise_core.specs.declared.chart.ChartState.{ChartState}
-use Rattle.supervise_core.specs.ChartState.{Moved, still, is_starting}
-use Rattle.supervise_core.specs.ControlLetters.{followed_by}
-use Rattle.supervise_core.specs.Chart.{started, start_failed, notified, death, finish_ended, control, take_letter, fire, changed_by, set_active}
+use Rattle.supervise_core.specs.ChartState.{Moved, no_move, is_starting}
+use Rattle.supervise_core.specs.ControlLetters.{then_move}
+use Rattle.supervise_core.specs.Chart.{started_move, start_failed_move, notify_move, death_move, finish_ended_move, control_move, letter_move}
+use Rattle.supervise_core.specs.Chart.{fire_move, changed_by, with_activity}
 use Rattle.svscan_core.specs.declared.entry.ScanOrder.{ScanOrder}
 use Rattle.svscan_core.specs.declared.entry.ScanOrder.TheVariants.{Nuke, Terminate}
-use Rattle.svscan_core.specs.Work.{commanded, leaving}
+use Rattle.svscan_core.specs.Work.{command_move, leave_letters}
 use Rattle.svscan_core.proofs.Truth.{second}
 use Rattle.tree_core.specs.declared.input.Input.{Input}
 use Rattle.tree_core.specs.Closing.{is_run}
-use Rattle.tree_core.specs.Pause.{Past, nothing_yet, tell, tell_step, past_of, has_paused, PausesAfterDeath}
+use Rattle.tree_core.specs.Pause.{Past, no_past, past_with, past_with_step, past_of, has_paused, PausesAfterDeath}
 use Rattle.tree_core.specs.Permanent.{wants_up}
-use Rattle.tree_core.specs.Taken.{Taken, clock_in, marks_in, orders_in, told_in}
+use Rattle.tree_core.specs.Taken.{StepTaken, clock_in, marks_in, orders_in, change_in_step}
 use Rattle.tree_core.proofs.OwnScan.{begins}
 use Rattle.tree_core.proofs.OwnWork.{Did, move_of, told_of}
 use Rattle.tree_core.proofs.OwnWork.Did.{takes, obeys, looks}
@@ -31,53 +33,58 @@ use Rattle.tree_core.proofs.Pacing.{Paced, RunsLate, paused_later, fire_paces, d
 
 -- a service that waits for its start is not told to have died
 abbrev SameDeath : Past → ℕ → Moved → Type 0
-SameDeath past now m = (fold (tell now) past m.marks).last_death ≡ past.last_death
+SameDeath past now m = (fold (past_with now) past m.marks).last_death ≡ past.last_death
 
-same_started : (past : Past) (generation pid now : ℕ) (c : ChartState) → SameDeath past now (started generation pid now c)
+same_started : (past : Past) (generation pid now : ℕ) (c : ChartState) → SameDeath past now (started_move generation pid now c)
 same_started past generation pid now c = search rules
 
-same_start_failed : (past : Past) (generation now : ℕ) (c : ChartState) → SameDeath past now (start_failed generation now c)
+same_start_failed : (past : Past) (generation now : ℕ) (c : ChartState) → SameDeath past now (start_failed_move generation now c)
 same_start_failed past generation now c = search rules
 
-same_notified : (past : Past) (generation : ℕ) (bytes : List ℕ) (now : ℕ) (c : ChartState) → SameDeath past now (notified generation bytes now c)
+same_notified : (past : Past) (generation : ℕ) (bytes : List ℕ) (now : ℕ) (c : ChartState) → SameDeath past now (notify_move generation bytes now c)
 same_notified past generation bytes now c = search rules
 
-same_death : (past : Past) (generation : ℕ) (exit : Exit) (now : ℕ) (c : ChartState) → is_starting c.phase ≡ true → SameDeath past now (death generation exit now c)
+same_death : (past : Past) (generation : ℕ) (exit : Exit) (now : ℕ) (c : ChartState) → is_starting c.phase ≡ true
+    → SameDeath past now (death_move generation exit now c)
 same_death past generation exit now c h = search (h, rules)
 
-same_finish_ended : (past : Past) (generation : ℕ) (exit : Exit) (now : ℕ) (c : ChartState) → SameDeath past now (finish_ended generation exit now c)
+same_finish_ended : (past : Past) (generation : ℕ) (exit : Exit) (now : ℕ) (c : ChartState)
+    → SameDeath past now (finish_ended_move generation exit now c)
 same_finish_ended past generation exit now c = search rules
 
-same_fire : (past : Past) (now : ℕ) (c : ChartState) → SameDeath past now (fire now c)
+same_fire : (past : Past) (now : ℕ) (c : ChartState) → SameDeath past now (fire_move now c)
 same_fire past now c = search rules
 
-same_letter : (past : Past) (now : ℕ) (letter : ControlLetter) (c : ChartState) → SameDeath past now (take_letter now letter c)
+same_letter : (past : Past) (now : ℕ) (letter : ControlLetter) (c : ChartState) → SameDeath past now (letter_move now letter c)
 same_letter past now letter c = search rules
 
-same_letters : (past : Past) (now : ℕ) (letters : List ControlLetter) (m : Moved) → SameDeath past now m → SameDeath past now (fold (λ so_far letter. followed_by (take_letter now letter) so_far) m letters)
+same_letters : (past : Past) (now : ℕ) (letters : List ControlLetter) (m : Moved) → SameDeath past now m
+    → SameDeath past now (fold (λ so_far letter. then_move (letter_move now letter) so_far) m letters)
 same_letters past now [] m h = h
 same_letters past now (letter ∷ letters) m h =
-    same_letters past now letters (followed_by (take_letter now letter) m)
-    (ap (λ (p : Past). p.last_death) (fold-append (tell now) past m.marks (take_letter now letter m.chart).marks) ∙ (same_letter (fold (tell now) past m.marks) now letter m.chart ∙ h))
+    same_letters past now letters (then_move (letter_move now letter) m)
+    (ap (λ (p : Past). p.last_death) (fold-append (past_with now) past m.marks (letter_move now letter m.chart).marks)
+    ∙ (same_letter (fold (past_with now) past m.marks) now letter m.chart ∙ h))
 
-same_changed : (past : Past) (change : Change) (now : ℕ) (c : ChartState) → is_starting c.phase ≡ true → SameDeath past now (changed_by change now c)
+same_changed : (past : Past) (change : Change) (now : ℕ) (c : ChartState) → is_starting c.phase ≡ true
+    → SameDeath past now (changed_by change now c)
 same_changed past (Started generation pid) now c h = same_started past generation pid now c
 same_changed past (StartFailed generation) now c h = same_start_failed past generation now c
 same_changed past (Notify generation bytes) now c h = same_notified past generation bytes.items now c
 same_changed past (Death generation exit) now c h = same_death past generation exit now c h
 same_changed past (FinishEnded generation exit) now c h = same_finish_ended past generation exit now c
-same_changed past (Control letters) now c h = same_letters past now letters.items (still c) refl
+same_changed past (Control letters) now c h = same_letters past now letters.items (no_move c) refl
 same_changed past Fire now c h = same_fire past now c
 same_changed past (SetConfig config) now c h = refl
 same_changed past (SetActive active) now c h = refl
 
-same_commanded : (past : Past) (order : ScanOrder) (now : ℕ) (c : ChartState) → SameDeath past now (commanded order now c)
+same_commanded : (past : Past) (order : ScanOrder) (now : ℕ) (c : ChartState) → SameDeath past now (command_move order now c)
 same_commanded past Nuke now c = by c.active
   where
-    by : (b : Bool) → SameDeath past now (cond b (still c) (control leaving now c))
+    by : (b : Bool) → SameDeath past now (cond b (no_move c) (control_move leave_letters now c))
     by true = refl
-    by false = same_letters past now leaving (still c) refl
-same_commanded past Terminate now c = same_letters past now leaving (still (set_active false now c)) refl
+    by false = same_letters past now leave_letters (no_move c) refl
+same_commanded past Terminate now c = same_letters past now leave_letters (no_move (with_activity false now c)) refl
 
 same_did : (past : Past) (did : Did) (now : ℕ) (c : ChartState) → is_starting c.phase ≡ true → SameDeath past now (move_of did now c)
 same_did past (takes None) now c h = refl
@@ -86,41 +93,46 @@ same_did past (obeys order) now c h = same_commanded past order now c
 same_did past (looks listing) now c h = refl
 
 -- a timer that starts a run leaves the service waiting for its start
-fire_starting : (now : ℕ) (c : ChartState) → list_any is_run (fire now c).orders ≡ true → is_starting (fire now c).chart.phase ≡ true
+fire_starting : (now : ℕ) (c : ChartState) → list_any is_run (fire_move now c).orders ≡ true → is_starting (fire_move now c).chart.phase ≡ true
 fire_starting now c h = search (h, rules)
 
 -- a timer and then an act
 record PacesBoth (past : Past) (now : ℕ) (did : Did) (c : ChartState) : Type 0 where
-  paced : Paced (fold (tell now) past (marks_by did now c)) (move_of did now (fire now c).chart).chart
-  bound : has_paused (now + 1000) (fold (tell now) past (marks_by did now c)).last_death ≡ true
-  runs : wants_up (told_of did) ≡ false → list_any is_run (orders_by did now c) ≡ true → has_paused now (fold (tell now) past (marks_by did now c)).last_death ≡ true
+  paced : Paced (fold (past_with now) past (marks_by did now c)) (move_of did now (fire_move now c).chart).chart
+  bound : has_paused (now + 1000) (fold (past_with now) past (marks_by did now c)).last_death ≡ true
+  runs : wants_up (told_of did) ≡ false → list_any is_run (orders_by did now c) ≡ true
+      → has_paused now (fold (past_with now) past (marks_by did now c)).last_death ≡ true
 
-both_pace : (past : Past) (now : ℕ) (did : Did) (c : ChartState) → Paced past c → has_paused (now + 1000) past.last_death ≡ true → PacesBoth past now did c
+both_pace : (past : Past) (now : ℕ) (did : Did) (c : ChartState) → Paced past c → has_paused (now + 1000) past.last_death ≡ true
+    → PacesBoth past now did c
 both_pace past now did c h bound =
     let first = fire_paces past now c h bound in
-    let mid : Past = fold (tell now) past (fire now c).marks in
-    let after = did_paces (fold (tell now) past (fire now c).marks) did now (fire now c).chart first.paces.paced first.paces.bound in
-    let told : fold (tell now) past (marks_by did now c) ≡ fold (tell now) (fold (tell now) past (fire now c).marks) (move_of did now (fire now c).chart).marks =
-    fold-append (tell now) past (fire now c).marks (move_of did now (fire now c).chart).marks in
+    let mid : Past = fold (past_with now) past (fire_move now c).marks in
+    let after = did_paces (fold (past_with now) past (fire_move now c).marks) did now (fire_move now c).chart first.paces.paced first.paces.bound in
+    let told : fold (past_with now) past (marks_by did now c)
+    ≡ fold (past_with now) (fold (past_with now) past (fire_move now c).marks) (move_of did now (fire_move now c).chart).marks =
+    fold-append (past_with now) past (fire_move now c).marks (move_of did now (fire_move now c).chart).marks in
     record {
-      paced = subst (λ (p : Past). Paced p (move_of did now (fire now c).chart).chart) (sym told) after.paced;
+      paced = subst (λ (p : Past). Paced p (move_of did now (fire_move now c).chart).chart) (sym told) after.paced;
       bound = subst (λ (p : Past). has_paused (now + 1000) p.last_death ≡ true) (sym told) after.bound;
       runs = λ k starts. subst (λ (p : Past). has_paused now p.last_death ≡ true) (sym told)
-          (by (list_any is_run (fire now c).orders) refl k first.runs
-          (did_runs (fold (tell now) past (fire now c).marks) did now (fire now c).chart k first.paces.paced first.paces.bound)
-          (sym (list_any-append is_run (fire now c).orders (move_of did now (fire now c).chart).orders) ∙ starts));
+          (by (list_any is_run (fire_move now c).orders) refl k first.runs
+          (did_runs (fold (past_with now) past (fire_move now c).marks) did now (fire_move now c).chart k first.paces.paced first.paces.bound)
+          (sym (list_any-append is_run (fire_move now c).orders (move_of did now (fire_move now c).chart).orders) ∙ starts));
     }
   where
-    by : (b : Bool) → list_any is_run (fire now c).orders ≡ b → wants_up (told_of did) ≡ false → RunsLate past now (fire now c)
-        → RunsLate (fold (tell now) past (fire now c).marks) now (move_of did now (fire now c).chart)
-        → (list_any is_run (fire now c).orders || list_any is_run (move_of did now (fire now c).chart).orders) ≡ true
-        → has_paused now (fold (tell now) (fold (tell now) past (fire now c).marks) (move_of did now (fire now c).chart).marks).last_death ≡ true
+    by : (b : Bool) → list_any is_run (fire_move now c).orders ≡ b → wants_up (told_of did) ≡ false → RunsLate past now (fire_move now c)
+        → RunsLate (fold (past_with now) past (fire_move now c).marks) now (move_of did now (fire_move now c).chart)
+        → (list_any is_run (fire_move now c).orders || list_any is_run (move_of did now (fire_move now c).chart).orders) ≡ true
+        → has_paused now (fold (past_with now) (fold (past_with now) past (fire_move now c).marks)
+        (move_of did now (fire_move now c).chart).marks).last_death ≡ true
     by true e k first act starts =
-        ap (has_paused now) (same_did (fold (tell now) past (fire now c).marks) did now (fire now c).chart (fire_starting now c e)) ∙ first e
-    by false e k first act starts = act (second (list_any is_run (fire now c).orders) _ starts e)
+        ap (has_paused now) (same_did (fold (past_with now) past (fire_move now c).marks) did now (fire_move now c).chart (fire_starting now c e))
+        ∙ first e
+    by false e k first act starts = act (second (list_any is_run (fire_move now c).orders) _ starts e)
 
 -- a service keeps pace with what was told of it
-record KeepsPace (A : Type 0) (sid : ℕ) (ts : List (Taken A)) (clock : ℕ) (c : ChartState) : Type 0 where
+record KeepsPace (A : Type 0) (sid : ℕ) (ts : List (StepTaken A)) (clock : ℕ) (c : ChartState) : Type 0 where
   paced : Paced (past_of sid ts) c
   bound : has_paused (clock + 1000) (past_of sid ts).last_death ≡ true
 
@@ -129,27 +141,32 @@ pause_law A sid = record {
   Unborn = λ ts. (past_of sid ts).last_death ≡ None;
   Living = λ ts clock c. KeepsPace A sid ts clock c;
   Dropped = λ ts. Unit;
-  Check = λ ts t. wants_up (told_in sid t) ≡ false → list_any is_run (orders_in sid t) ≡ true → has_paused (clock_in t) (past_of sid (ts ++ t ∷ [])).last_death ≡ true;
+  Check = λ ts t. wants_up (change_in_step sid t) ≡ false → list_any is_run (orders_in sid t) ≡ true
+      → has_paused (clock_in t) (past_of sid (ts ++ t ∷ [])).last_death ≡ true;
 }
 
-past_more : {A : Type 0} (sid : ℕ) (ts : List (Taken A)) (t : Taken A) (marks : List Mark) → marks_in sid t ≡ marks → past_of sid (ts ++ t ∷ []) ≡ fold (tell (clock_in t)) (past_of sid ts) marks
-past_more sid ts t marks e = fold-append (tell_step sid) nothing_yet ts (t ∷ []) ∙ ap (fold (tell (clock_in t)) (past_of sid ts)) e
+past_more : {A : Type 0} (sid : ℕ) (ts : List (StepTaken A)) (t : StepTaken A) (marks : List Mark) → marks_in sid t ≡ marks
+    → past_of sid (ts ++ t ∷ []) ≡ fold (past_with (clock_in t)) (past_of sid ts) marks
+past_more sid ts t marks e = fold-append (past_with_step sid) no_past ts (t ∷ []) ∙ ap (fold (past_with (clock_in t)) (past_of sid ts)) e
 
 no_run_now : {X : Type 0} (b : Bool) → b ≡ false → b ≡ true → X
 no_run_now b e h = cc
 
-moves_pace : (A : Type 0) (sid : ℕ) (ts : List (Taken A)) (t : Taken A) (clock now : ℕ) (c : ChartState) (did : Did) → clock_in t ≡ now → clock ≤ now → KeepsPace A sid ts clock c
+moves_pace : (A : Type 0) (sid : ℕ) (ts : List (StepTaken A)) (t : StepTaken A) (clock now : ℕ) (c : ChartState) (did : Did) → clock_in t ≡ now
+    → clock ≤ now → KeepsPace A sid ts clock c
     → Shows A sid t (marks_by did now c) (orders_by did now c) (told_of did)
-    → (wants_up (told_in sid t) ≡ false → list_any is_run (orders_in sid t) ≡ true → has_paused (clock_in t) (past_of sid (ts ++ t ∷ [])).last_death ≡ true)
-    × KeepsPace A sid (ts ++ t ∷ []) now (move_of did now (fire now c).chart).chart
+    → (wants_up (change_in_step sid t) ≡ false → list_any is_run (orders_in sid t) ≡ true
+    → has_paused (clock_in t) (past_of sid (ts ++ t ∷ [])).last_death ≡ true)
+    × KeepsPace A sid (ts ++ t ∷ []) now (move_of did now (fire_move now c).chart).chart
 moves_pace A sid ts t clock now c did at later h shows =
-    let both = both_pace (past_of sid ts) now did c h.paced (paused_later (clock + 1000) (now + 1000) (past_of sid ts).last_death (omega (arith, later)) h.bound) in
-    let past : past_of sid (ts ++ t ∷ []) ≡ fold (tell now) (past_of sid ts) (marks_by did now c) =
-    past_more sid ts t (marks_by did now c) shows.marks_shown ∙ ap (λ n. fold (tell n) (past_of sid ts) (marks_by did now c)) at in (
+    let both = both_pace (past_of sid ts) now did c h.paced
+    (paused_later (clock + 1000) (now + 1000) (past_of sid ts).last_death (omega (arith, later)) h.bound) in
+    let past : past_of sid (ts ++ t ∷ []) ≡ fold (past_with now) (past_of sid ts) (marks_by did now c) =
+    past_more sid ts t (marks_by did now c) shows.marks_shown ∙ ap (λ n. fold (past_with n) (past_of sid ts) (marks_by did now c)) at in (
       (λ k starts. (λ i. has_paused (at i) (past i).last_death)
           ∙ both.runs (ap wants_up (sym shows.told_so) ∙ k) (ap (list_any is_run) (sym shows.orders_shown) ∙ starts)),
       record {
-        paced = subst (λ (p : Past). Paced p (move_of did now (fire now c).chart).chart) (sym past) both.paced;
+        paced = subst (λ (p : Past). Paced p (move_of did now (fire_move now c).chart).chart) (sym past) both.paced;
         bound = ap (λ (p : Past). has_paused (now + 1000) p.last_death) past ∙ both.bound;
       },
     )
@@ -157,7 +174,8 @@ moves_pace A sid ts t clock now c did at later h shows =
 begins_pace : (past : Past) (sid : ℕ) (now : ℕ) (name : List ℕ) (config : Config) → Paced past (begins sid name config).chart
 begins_pace past sid now name config = search rules
 
-begins_same : (past : Past) (sid now : ℕ) (name : List ℕ) (config : Config) → (fold (tell now) past (begins sid name config).marks).last_death ≡ past.last_death
+begins_same : (past : Past) (sid now : ℕ) (name : List ℕ) (config : Config)
+    → (fold (past_with now) past (begins sid name config).marks).last_death ≡ past.last_death
 begins_same past sid now name config = search rules
 
 pause_steps : (A : Type 0) (sid : ℕ) → Steps A sid (pause_law A sid)
@@ -168,7 +186,8 @@ pause_steps A sid = record {
   );
   born = λ ts t now name config at h shows.
       let none : (past_of sid (ts ++ t ∷ [])).last_death ≡ None =
-      ap (λ (p : Past). p.last_death) (past_more sid ts t (begins sid name config).marks shows.marks_shown) ∙ (begins_same (past_of sid ts) sid (clock_in t) name config ∙ h) in (
+      ap (λ (p : Past). p.last_death) (past_more sid ts t (begins sid name config).marks shows.marks_shown)
+      ∙ (begins_same (past_of sid ts) sid (clock_in t) name config ∙ h) in (
         (λ k starts. ap (has_paused (clock_in t)) none),
         record { paced = begins_pace (past_of sid (ts ++ t ∷ [])) sid now name config; bound = ap (has_paused (now + 1000)) none },
       );

@@ -1,12 +1,13 @@
 -- A plan with the parts of a step is the step.
-use Rattle.std.proofs.Common.{rules, ◌≡◌, ℕ, ◌<◌, List, [], ◌∷◌, ◌++◌, Bool, true, false, cond, refl, sym, ◌∙◌, ap, map, max, subst, arith, nat_eq, get_or, append-nil, append_assoc}
+use Rattle.std.proofs.Common.{rules, ◌≡◌, ℕ, ◌<◌, List, [], ◌∷◌, ◌++◌, Bool, true, false, cond, refl, sym, ◌∙◌, ap, map, max, subst, arith, nat_eq}
+use Rattle.std.proofs.Common.{get_or, append-nil, append_assoc}
 use Rattle.std.specs.Prelude.{nat_lt, Result, Ok, Err, IfOk, IsOk, IsOkAnd}
 use Rattle.std.proofs.lemmas.Bool.Decides.{nat_tests}
 use Rattle.std.proofs.lemmas.List.{map-append}
-use Rattle.event_directory.specs.Changes.{Change as DirectoryAsk, Offer, after_change as directories_after, answer_to as directory_answer, matches_of}
-use Rattle.event_directory.specs.Directories.{Directories, after_moments as directories_after_moments, matches_by}
+use Rattle.event_directory.specs.Changes.{DirectoryRequest, Offer, directories_after_change, directory_answer, matches_of}
+use Rattle.event_directory.specs.Directories.{WrittenDirectories, directories_after_moments, matches_by}
 use Rattle.event_directory.specs.Pattern.{finds}
-use Rattle.event_directory.specs.Remembered.{AreHeard, Prepared as PreparedDirectories, Shown as HeardBy, committed}
+use Rattle.event_directory.specs.Remembered.{AreHeard, DirectoriesPrepared, DirectoriesShown, directories_after_commit}
 use Rattle.event_directory.specs.declared.directory_change.DirectoryAnswer.{DirectoryAnswer}
 use Rattle.event_directory.specs.declared.hit.Hit.{Hit}
 use Rattle.s6_events.specs.Clock.{clock_of}
@@ -14,17 +15,17 @@ use Rattle.s6_events.specs.declared.moment.Moment.{Moment}
 use Rattle.s6_events.specs.declared.moment.Moment.TheVariants.{Clock}
 use Rattle.s6_events.specs.declared.order.Order.{Order}
 use Rattle.supervise_core.specs.declared.status.Status.{Status}
-use Rattle.supervise_core.specs.Chart.{fire}
+use Rattle.supervise_core.specs.Chart.{fire_move}
 use Rattle.supervise_core.specs.Service.{Supervised}
 use Rattle.supervise_core.specs.Status.{Agrees}
 use Rattle.supervise_core.proofs.Agreement.{agrees_clock}
 use Rattle.svscan_core.specs.declared.event.Event.{Event}
 use Rattle.svscan_core.specs.Deaths.{DeathOf, deaths_given, AllTallied, AllBefore, KeepTallied}
 use Rattle.svscan_core.specs.Moves.{services_after, events_after, orders_after, moment_of}
-use Rattle.svscan_core.specs.Registry.{Prepared, worked_of}
+use Rattle.svscan_core.specs.Registry.{RegistryPrepared, result_of}
 use Rattle.svscan_core.specs.Sound.{AllAgree, IsSound}
 use Rattle.svscan_core.specs.Table.{charts_of}
-use Rattle.svscan_core.specs.Work.{Worked, worked, stepped, given_before, closing_after}
+use Rattle.svscan_core.specs.Work.{WorkResult, work_result, step_result, with_earlier, closing_after}
 use Rattle.svscan_core.proofs.Few.{fired_few}
 use Rattle.svscan_core.proofs.SerialsRise.{fired_numbers}
 use Rattle.svscan_core.proofs.Tallied.{joined_before}
@@ -33,20 +34,22 @@ use Rattle.tree_core.specs.declared.input.Input.{Input}
 use Rattle.tree_core.specs.declared.plan.StepPlan.{StepPlan}
 use Rattle.wait_conditions.specs.declared.verdict.Verdict.{Verdict}
 use Rattle.wait_conditions.specs.declared.wait_change.WaitAnswer.{WaitAnswer}
-use Rattle.wait_conditions.specs.Stands.{Shown, StandsFor as AreKept}
-use Rattle.wait_conditions.specs.Steps.{Change as WaitChange, after_moments, after_change, answer_to, releases_by}
+use Rattle.wait_conditions.specs.Stands.{WaitsShown, WaitsStandFor}
+use Rattle.wait_conditions.specs.Steps.{WaitRequest, waits_after_moments, waits_after_change, wait_answer, releases_by}
 use Rattle.wait_conditions.specs.Watch.{Watch}
-use Rattle.tree_core.specs.Acts.{acted, ask_of, directory_ask_of, offer_of, work_of}
-use Rattle.tree_core.specs.Listening.{Ask, as_match, as_release, listened, released_at_once}
+use Rattle.tree_core.specs.Acts.{act_result, ask_of, directory_ask_of, offer_of, work_of}
+use Rattle.tree_core.specs.Listening.{Ask, as_match, as_release, watch_after, released_at_once}
 use Rattle.tree_core.specs.Machine.{Machine, directories_at, directories_of, watch_at, watch_of}
-use Rattle.tree_core.specs.Plan.{Present, IsNow, Plans, HasFired, Chooses, Chosen, Told, chosen_work, chosen_change, chosen_ask, chosen_reply, released_by_answer, told_at}
+use Rattle.tree_core.specs.Plan.{PresentState, IsNow, Plans, HasFired, Chooses, Chosen, ListenersAnswer, chosen_work, chosen_change, chosen_ask}
+use Rattle.tree_core.specs.Plan.{chosen_reply, released_by_answer, answers_at}
 use Rattle.tree_core.specs.Plan.Chosen.{refuse, nothing, report, letters, listing, order, show, tally, failure, wait, cancel, ask_directories}
-use Rattle.tree_core.specs.Step.{Stepped, step, timed, noticed, clocked, with_act, with_moves, step_limit, clock_moments}
+use Rattle.tree_core.specs.Step.{StepResult, step, timed_step, with_listeners, with_clock, with_act, with_moves, step_limit, clock_moments}
 use Rattle.tree_core.proofs.Listened.{directories_join, directories_stay, history_stays, moments_join}
 use Rattle.tree_core.proofs.Reading.{reading-clocked}
 
 -- a machine that is not spent takes the step
-opened : {A : Type 0} (m : Machine) (input : Input A) → m.steps < step_limit → step m input ≡ noticed m input.at (timed input.act (clocked input.at m))
+opened : {A : Type 0} (m : Machine) (input : Input A) → m.steps < step_limit
+    → step m input ≡ with_listeners m input.at (timed_step input.act (with_clock input.at m))
 opened m input left = let open_step : nat_eq m.steps step_limit ≡ false = grind (arith, nat_tests) in rw open_step
 
 -- the moments of a step behind the history, the clock reading and the marks of timers and act
@@ -69,8 +72,9 @@ all_clocked : (services : List Supervised) (clock at : ℕ) (h : List Moment) �
 all_clocked services clock at h all = λ k d lt. clock_agrees (get_or services k d).chart.sid clock at (get_or services k d).status h (all k d lt)
 
 -- what was given before changes no reply
-reply_alone : {A : Type 0} (choice : Chosen) (services : List Supervised) (events : List Event) (orders : List Order) (w : Worked) (told : Told)
-    → chosen_reply {A = A} choice services (given_before events orders w) told ≡ chosen_reply choice services w told
+reply_alone : {A : Type 0} (choice : Chosen) (services : List Supervised) (events : List Event) (orders : List Order) (w : WorkResult)
+    (told : ListenersAnswer)
+    → chosen_reply {A = A} choice services (with_earlier events orders w) told ≡ chosen_reply choice services w told
 reply_alone (refuse why) services events orders w told = refl
 reply_alone nothing services events orders w told = refl
 reply_alone (report sid change) services events orders w told = refl
@@ -85,27 +89,31 @@ reply_alone (cancel id) services events orders w told = refl
 reply_alone (ask_directories ask) services events orders w told = refl
 
 -- what the waiters tell of a step, and what is kept of them then
-pub record Listens (old new : Shown) (ms : List Moment) (change : WaitChange) (given : List (ℕ × Verdict)) (told : WaitAnswer) : Type 0 where
-  pub stands : (w : Watch) → AreKept old w → AreKept new (after_change (after_moments w ms) change)
-  pub released : (w : Watch) → AreKept old w → given ≡ releases_by w ms
-  pub answer : (w : Watch) → AreKept old w → told ≡ answer_to (after_moments w ms) change
+pub record Listens (old new : WaitsShown) (ms : List Moment) (change : WaitRequest) (given : List (ℕ × Verdict)) (told : WaitAnswer) : Type 0 where
+  pub stands : (w : Watch) → WaitsStandFor old w → WaitsStandFor new (waits_after_change (waits_after_moments w ms) change)
+  pub released : (w : Watch) → WaitsStandFor old w → given ≡ releases_by w ms
+  pub answer : (w : Watch) → WaitsStandFor old w → told ≡ wait_answer (waits_after_moments w ms) change
 
 -- what the event directories tell of a step, and what they have heard then
-pub record HearsLetters (old : HeardBy) (new : PreparedDirectories) (ms : List Moment) (ask : DirectoryAsk) (matches : List (ℕ × Hit)) (told : DirectoryAnswer) : Type 0 where
-  pub stands : (offer : Offer) (d : Directories) → AreHeard finds old d → AreHeard finds (committed new offer) (directories_after ask offer (directories_after_moments d ms))
-  pub matched : (d : Directories) → AreHeard finds old d → matches ≡ matches_by finds d ms ++ matches_of finds ask (directories_after_moments d ms)
-  pub answer : (d : Directories) → AreHeard finds old d → told ≡ directory_answer ask (directories_after_moments d ms)
+pub record HearsLetters (old : DirectoriesShown) (new : DirectoriesPrepared) (ms : List Moment) (ask : DirectoryRequest) (matches : List (ℕ × Hit))
+    (told : DirectoryAnswer) : Type 0 where
+  pub stands : (offer : Offer) (d : WrittenDirectories) → AreHeard finds old d
+      → AreHeard finds (directories_after_commit new offer) (directories_after_change ask offer (directories_after_moments d ms))
+  pub matched : (d : WrittenDirectories) → AreHeard finds old d
+      → matches ≡ matches_by finds d ms ++ matches_of finds ask (directories_after_moments d ms)
+  pub answer : (d : WrittenDirectories) → AreHeard finds old d → told ≡ directory_answer ask (directories_after_moments d ms)
 
 -- the parts of a step at this moment
-pub record Makes {A : Type 0} (now : ℕ) (pr : Present) (input : Input A) (plan : StepPlan A) (prepared : Prepared) (later : Shown) (directories : PreparedDirectories) (effect : Effect A) (choice : Chosen) : Type 0 where
+pub record Makes {A : Type 0} (now : ℕ) (pr : PresentState) (input : Input A) (plan : StepPlan A) (prepared : RegistryPrepared) (later : WaitsShown)
+    (directories : DirectoriesPrepared) (effect : Effect A) (choice : Chosen) : Type 0 where
   pub given : List (ℕ × Verdict)
   pub matches : List (ℕ × Hit)
-  pub told : Told
+  pub told : ListenersAnswer
   pub now_is : plan.now ≡ now
   pub closes : plan.closing ≡ closing_after (chosen_work choice) pr.closing
-  pub works : worked_of prepared ≡ stepped (chosen_work choice) now (charts_of pr.services) pr.next_sid
+  pub works : result_of prepared ≡ step_result (chosen_work choice) now (charts_of pr.services) pr.next_sid
   pub chooses : (m : Machine) (history : List Moment) → HasFired pr.closing now pr.services history m → Chooses input.act m pr.services choice
-  pub reply : effect.reply ≡ chosen_reply choice pr.services (worked_of prepared) told
+  pub reply : effect.reply ≡ chosen_reply choice pr.services (result_of prepared) told
   pub events : effect.events.items ≡ prepared.events
   pub orders : effect.orders.items ≡ prepared.orders
   pub matched : effect.matched.items ≡ map as_match matches
@@ -113,107 +121,139 @@ pub record Makes {A : Type 0} (now : ℕ) (pr : Present) (input : Input A) (plan
   pub moments : plan.moments.items ≡ clock_moments pr.clock input.at ++ map moment_of prepared.events
   pub listens : Listens pr.waits later plan.moments.items (chosen_change now choice) given told.waiters
   pub hears_letters : HearsLetters pr.directories directories plan.moments.items (chosen_ask choice) matches told.directories
-  pub agrees : (history : List Moment) → clock_of history ≡ now → AllAgree pr.services history → AllAgree prepared.services (history ++ map moment_of prepared.events)
-  pub tallies : KeepTallied pr.next_sid pr.services prepared.services (deaths_given (chosen_work choice) now (services_after (fire now) (charts_of pr.services)))
+  pub agrees : (history : List Moment) → clock_of history ≡ now → AllAgree pr.services history
+      → AllAgree prepared.services (history ++ map moment_of prepared.events)
+  pub tallies : KeepTallied pr.next_sid pr.services prepared.services
+      (deaths_given (chosen_work choice) now (services_after (fire_move now) (charts_of pr.services)))
   pub sound : IsSound pr.next_sid (charts_of pr.services)
 
 -- a machine with what is there now
-abbrev pub now_in : Present → Machine → Machine
+abbrev pub now_in : PresentState → Machine → Machine
 now_in pr m = record m { clock = pr.clock; steps = pr.steps; closing = pr.closing; services = charts_of pr.services; next_sid = pr.next_sid }
 
-plan_makes : {A : Type 0} (pr : Present) (input : Input A) (plan : StepPlan A) (prepared : Prepared) (later : Shown) (directories : PreparedDirectories) (effect : Effect A) (choice : Chosen)
+plan_makes : {A : Type 0} (pr : PresentState) (input : Input A) (plan : StepPlan A) (prepared : RegistryPrepared) (later : WaitsShown)
+    (directories : DirectoriesPrepared) (effect : Effect A) (choice : Chosen)
     → pr.steps < step_limit → Makes (max pr.clock input.at) pr input plan prepared later directories effect choice
-    → (old : Machine) → AllAgree pr.services old.history → AllTallied pr.services old.deaths → AllBefore pr.next_sid old.deaths → pr.clock ≡ clock_of old.history
-    → AreKept pr.waits (watch_of old) → AreHeard finds pr.directories (directories_of old)
+    → (old : Machine) → AllAgree pr.services old.history → AllTallied pr.services old.deaths → AllBefore pr.next_sid old.deaths
+    → pr.clock ≡ clock_of old.history
+    → WaitsStandFor pr.waits (watch_of old) → AreHeard finds pr.directories (directories_of old)
     → Plans (now_in pr old) input plan prepared later directories effect
 plan_makes {A} pr input plan prepared later directories effect choice left p old agrees tallied numbered reading kept heard =
     let m : Machine = now_in pr old in
     let now : ℕ = max pr.clock input.at in
-    let fired : Machine = with_moves (fire now) (clocked input.at m) in
+    let fired : Machine = with_moves (fire_move now) (with_clock input.at m) in
     let done : Machine = with_act input.act fired in
     let before : List Moment = old.history ++ clock_moments pr.clock input.at in
     let t = opened m input left in
     let seen : clock_of before ≡ now = sym (reading-clocked old.history pr.clock input.at reading) in
     let all : AllAgree pr.services before = all_clocked pr.services pr.clock input.at old.history agrees in
     let chosen : Chooses input.act fired pr.services choice =
-    p.chooses fired before (record { clock = refl; closing_is = refl; services_are = refl; past = refl; agrees = all; tallies = tallied; order = p.sound.order; reading = seen }) in
+    p.chooses fired before (record {
+      clock = refl;
+      closing_is = refl;
+      services_are = refl;
+      past = refl;
+      agrees = all;
+      tallies = tallied;
+      order =
+          p.sound.order;
+      reading = seen;
+    }) in
     let cs = charts_of pr.services in
-    let given = given_before (events_after (fire now) cs) (orders_after (fire now) cs) in
-    let work : worked_of prepared ≡ given (acted input.act fired).work =
-    p.works ∙ ap given (ap (λ w. worked w now (services_after (fire now) cs) pr.next_sid) (sym chosen.work)) in
-    let died : old.deaths ++ deaths_given (chosen_work choice) now (services_after (fire now) cs) ≡ old.deaths ++ deaths_given (work_of input.act fired) now (services_after (fire now) cs) =
-    ap (λ w. old.deaths ++ deaths_given w now (services_after (fire now) cs)) (sym chosen.work) in
-    let marks : prepared.events ≡ events_after (fire now) cs ++ (acted input.act fired).work.events = ap (λ (w : Worked). w.events) work in
-    let joined : plan.moments.items ≡ clock_moments pr.clock input.at ++ map moment_of (events_after (fire now) cs ++ (acted input.act fired).work.events) =
+    let given = with_earlier (events_after (fire_move now) cs) (orders_after (fire_move now) cs) in
+    let work : result_of prepared ≡ given (act_result input.act fired).work =
+    p.works ∙ ap given (ap (λ w. work_result w now (services_after (fire_move now) cs) pr.next_sid) (sym chosen.work)) in
+    let died : old.deaths ++ deaths_given (chosen_work choice) now (services_after (fire_move now) cs)
+    ≡ old.deaths ++ deaths_given (work_of input.act fired) now (services_after (fire_move now) cs) =
+    ap (λ w. old.deaths ++ deaths_given w now (services_after (fire_move now) cs)) (sym chosen.work) in
+    let marks : prepared.events ≡ events_after (fire_move now) cs ++ (act_result input.act fired).work.events =
+    ap (λ (w : WorkResult). w.events) work in
+    let joined : plan.moments.items ≡ clock_moments pr.clock input.at
+    ++ map moment_of (events_after (fire_move now) cs ++ (act_result input.act fired).work.events) =
     p.moments ∙ ap (λ e. clock_moments pr.clock input.at ++ map moment_of e) marks in
     let past : old.history ++ plan.moments.items ≡ done.history =
-    ap (λ ms. old.history ++ ms) joined ∙ regrouped old.history (clock_moments pr.clock input.at) (events_after (fire now) cs) _ in
+    ap (λ ms. old.history ++ ms) joined ∙ regrouped old.history (clock_moments pr.clock input.at) (events_after (fire_move now) cs) _ in
     let at : watch_at (old.history ++ plan.moments.items) fired ≡ watch_of done = ap (λ h. watch_at h fired) past in
     let there : directories_after_moments (directories_of m) plan.moments.items ≡ directories_of done =
     directories_join (directories_of m) plan.moments.items ∙ ap (λ h. directories_at h fired) past in
     let ask : Ask = ask_of input.act fired in
-    let change : WaitChange = chosen_change now choice in
-    let told : p.told ≡ told_at (old.history ++ plan.moments.items) fired choice =
+    let change : WaitRequest = chosen_change now choice in
+    let told : p.told ≡ answers_at (old.history ++ plan.moments.items) fired choice =
     λ i. record {
-      waiters = (p.listens.answer (watch_of m) kept ∙ ap (λ w. answer_to w change) (moments_join (watch_of m) plan.moments.items)) i;
-      directories = (p.hears_letters.answer (directories_of m) heard ∙ ap (directory_answer (chosen_ask choice)) (directories_join (directories_of m) plan.moments.items)) i;
+      waiters = (p.listens.answer (watch_of m) kept ∙ ap (λ w. wait_answer w change) (moments_join (watch_of m) plan.moments.items)) i;
+      directories = (p.hears_letters.answer (directories_of m) heard
+          ∙ ap (directory_answer (chosen_ask choice)) (directories_join (directories_of m) plan.moments.items)) i;
     } in
     record {
       clock = p.now_is ∙ sym (ap (λ s. s.machine.clock) t);
       steps = sym (ap (λ s. s.machine.steps) t);
       closing = p.closes ∙ (ap (λ w. closing_after w pr.closing) (sym chosen.work) ∙ sym (ap (λ s. s.machine.closing) t));
-      services = ap (λ (w : Worked). w.services) work ∙ sym (ap (λ s. s.machine.services) t);
-      next_sid = ap (λ (w : Worked). w.next_sid) work ∙ sym (ap (λ s. s.machine.next_sid) t);
+      services = ap (λ (w : WorkResult). w.services) work ∙ sym (ap (λ s. s.machine.services) t);
+      next_sid = ap (λ (w : WorkResult). w.next_sid) work ∙ sym (ap (λ s. s.machine.next_sid) t);
       history = past ∙ sym (ap (λ s. s.machine.history) t);
       outcome =
           (λ i. record {
             reply =
                 (p.reply
                 ∙ (ap (λ w. chosen_reply choice pr.services w p.told) work
-                ∙ (reply_alone choice pr.services (events_after (fire now) cs) (orders_after (fire now) cs) (acted input.act fired).work p.told
-                ∙ (ap (chosen_reply choice pr.services (acted input.act fired).work) told ∙ sym (chosen.reply (old.history ++ plan.moments.items)))))) i;
+                ∙ (reply_alone choice pr.services (events_after (fire_move now) cs) (orders_after (fire_move now) cs)
+                (act_result input.act fired).work p.told
+                ∙ (ap (chosen_reply choice pr.services (act_result input.act fired).work) told
+                ∙ sym (chosen.reply (old.history ++ plan.moments.items)))))) i;
             events = (p.events ∙ marks) i;
-            orders = (p.orders ∙ ap (λ (w : Worked). w.orders) work) i;
+            orders = (p.orders ∙ ap (λ (w : WorkResult). w.orders) work) i;
             matched =
                 (p.matched
                 ∙ (ap (map as_match) (p.hears_letters.matched (directories_of m) heard)
-                ∙ (map-append as_match (matches_by finds (directories_of m) plan.moments.items) (matches_of finds (chosen_ask choice) (directories_after_moments (directories_of m) plan.moments.items))
-                ∙ λ j. map as_match (matches_by finds (directories_of m) (joined j)) ++ map as_match (matches_of finds (sym chosen.asks j) (there j))))) i;
+                ∙ (map-append as_match (matches_by finds (directories_of m) plan.moments.items)
+                (matches_of finds (chosen_ask choice) (directories_after_moments (directories_of m) plan.moments.items))
+                ∙ λ j. map as_match (matches_by finds (directories_of m) (joined j))
+                ++ map as_match (matches_of finds (sym chosen.asks j) (there j))))) i;
             released =
                 (p.released
                 ∙ λ j. map as_release ((p.listens.released (watch_of m) kept ∙ ap (releases_by (watch_of m)) joined) j)
-                ++ map as_release ((ap (λ (x : Told). released_by_answer x.waiters) told ∙ (chosen.hears.at_once (old.history ++ plan.moments.items) ∙ ap (released_at_once ask) at)) j)) i;
+                ++ map as_release ((ap (λ (x : ListenersAnswer). released_by_answer x.waiters) told
+                ∙ (chosen.hears.at_once (old.history ++ plan.moments.items) ∙ ap (released_at_once ask) at)) j)) i;
           })
           ∙ sym (ap (λ s. s.outcome) t);
       agrees =
           subst (λ (h : List Moment). AllAgree prepared.services h)
-          (append_assoc old.history (clock_moments pr.clock input.at) (map moment_of prepared.events) ∙ ap (λ ms. old.history ++ ms) (sym p.moments))
+          (append_assoc old.history (clock_moments pr.clock input.at) (map moment_of prepared.events)
+          ∙ ap (λ ms. old.history ++ ms) (sym p.moments))
           (p.agrees before seen all);
       tallies =
           subst (λ (ds : List DeathOf). AllTallied prepared.services ds) (died ∙ sym (ap (λ s. s.machine.deaths) t))
           (p.tallies old.deaths numbered tallied);
       numbered =
-          subst (λ (s : Stepped A). AllBefore prepared.next_sid s.machine.deaths) (sym t)
-          (subst (λ (n : ℕ). AllBefore n (old.deaths ++ deaths_given (work_of input.act fired) now (services_after (fire now) cs))) (sym (ap (λ (w : Worked). w.next_sid) work))
-          (joined_before (work_of input.act fired) now pr.next_sid (services_after (fire now) cs) old.deaths (fired_few now cs p.sound.few) (fired_numbers now pr.next_sid cs p.sound.order) numbered));
+          subst (λ (s : StepResult A). AllBefore prepared.next_sid s.machine.deaths) (sym t)
+          (subst (λ (n : ℕ). AllBefore n (old.deaths ++ deaths_given (work_of input.act fired) now (services_after (fire_move now) cs)))
+          (sym (ap (λ (w : WorkResult). w.next_sid) work))
+          (joined_before (work_of input.act fired) now pr.next_sid (services_after (fire_move now) cs) old.deaths (fired_few now cs p.sound.few)
+          (fired_numbers now pr.next_sid cs p.sound.order) numbered));
       waiting =
-          subst (AreKept later)
-          (ap (λ w. after_change w change) (moments_join (watch_of m) plan.moments.items)
+          subst (WaitsStandFor later)
+          (ap (λ w. waits_after_change w change) (moments_join (watch_of m) plan.moments.items)
           ∙ (chosen.hears.after (old.history ++ plan.moments.items)
-          ∙ (ap (listened ask) at
-          ∙ ((λ i. record { history = history_stays ask (watch_of done) i; waiters = (listened ask (watch_of done)).waiters; next = (listened ask (watch_of done)).next })
+          ∙ (ap (watch_after ask) at
+          ∙ ((λ i. record {
+            history = history_stays ask (watch_of done) i;
+            waiters = (watch_after ask (watch_of done)).waiters;
+            next =
+                (watch_after ask (watch_of done)).next;
+          })
           ∙ sym (ap (λ s. watch_of s.machine) t)))))
           (p.listens.stands (watch_of m) kept);
       hearing =
-          subst (AreHeard finds (committed directories (offer_of input.act)))
-          ((λ i. directories_after (sym chosen.asks i) (offer_of input.act) (there i))
+          subst (AreHeard finds (directories_after_commit directories (offer_of input.act)))
+          ((λ i. directories_after_change (sym chosen.asks i) (offer_of input.act) (there i))
           ∙ (directories_stay (directory_ask_of input.act fired) (offer_of input.act) (directories_of done)
           ∙ sym (ap (λ s. directories_of s.machine) t)))
           (p.hears_letters.stands (offer_of input.act) (directories_of m) heard);
     }
 
 -- and it is the step of each machine that has now what a tree has
-pub plans_all : {A : Type 0} (pr : Present) (now : ℕ) (input : Input A) (plan : StepPlan A) (prepared : Prepared) (later : Shown) (directories : PreparedDirectories) (effect : Effect A) (choice : Chosen)
+pub plans_all : {A : Type 0} (pr : PresentState) (now : ℕ) (input : Input A) (plan : StepPlan A) (prepared : RegistryPrepared) (later : WaitsShown)
+    (directories : DirectoriesPrepared) (effect : Effect A) (choice : Chosen)
     → pr.steps < step_limit → now ≡ max pr.clock input.at → Makes now pr input plan prepared later directories effect choice
     → (m : Machine) → IsNow pr m → Plans m input plan prepared later directories effect
 plans_all {A} pr now input plan prepared later directories effect choice left latest p m is =

@@ -2,7 +2,8 @@
 use Rattle.std.proofs.Math.Numerals.{add-one}
 use Rattle.std.specs.Prelude.{slice_get, unwrap_or}
 use Rattle.supervise_core.specs.declared.row.Row.{Row}
-use Rattle.std.proofs.Common.{rules, subst, map, ◌∙◌, ◌+◌, ◌++◌, ℕ, zero, sym, ap, take, ◌≡◌, List, [], ◌∷◌, Bool, true, false, cond, refl, find, suc, arith, Some, option_map}
+use Rattle.std.proofs.Common.{rules, subst, map, ◌∙◌, ◌+◌, ◌++◌, ℕ, zero, sym, ap, take, ◌≡◌, List, [], ◌∷◌, Bool, true, false, cond, refl, find}
+use Rattle.std.proofs.Common.{suc, arith, Some, option_map}
 use Rattle.s6_events.specs.declared.moment.Moment.{Moment}
 use Rattle.supervise_core.specs.declared.chart.ChartState.{ChartState}
 use Rattle.supervise_core.specs.Service.{Supervised, AgreesWith}
@@ -16,12 +17,14 @@ find_charts f p [] = refl
 find_charts f p (s ∷ rest) = by (p s.chart) (find_charts f p rest)
   where
     by : (b : Bool) → option_map (λ s. f s.chart) (find (λ s. p s.chart) rest) ≡ option_map f (find p (charts_of rest))
-        → option_map (λ s. f s.chart) (cond b (Some s) (find (λ s. p s.chart) rest)) ≡ option_map f (cond b (Some s.chart) (find p (charts_of rest)))
+        → option_map (λ s. f s.chart) (cond b (Some s) (find (λ s. p s.chart) rest))
+        ≡ option_map f (cond b (Some s.chart) (find p (charts_of rest)))
     by true later = refl
     by false later = later
 
 -- a history that agrees with all agrees with one that is found
-pub agrees_with_found : (q : Supervised → Bool) (services : List Supervised) (history : List Moment) (s : Supervised) → AllAgree services history → Some s ≡ find q services
+pub agrees_with_found : (q : Supervised → Bool) (services : List Supervised) (history : List Moment) (s : Supervised) → AllAgree services history
+    → Some s ≡ find q services
     → AgreesWith s history
 agrees_with_found q [] history s all found = cc
 agrees_with_found q (x ∷ rest) history s all found = by (q x) found (agrees_with_found q rest history s (λ k d lt. all (suc k) d (omega arith)))
@@ -40,12 +43,15 @@ rows_more {X} rows all p x there so_far = ap (λ xs. xs ++ x ∷ []) so_far ∙ 
     taken (z ∷ ys) (suc q) y e = ap (λ zs. z ∷ zs) (taken ys q y e)
 
 -- the row at a place
-pub row_there : (services : List Supervised) (p : ℕ) (s : Supervised) (f : ChartState → Row) → Some s ≡ slice_get services p → slice_get (map f (charts_of services)) p ≡ Some (f s.chart)
+pub row_there : (services : List Supervised) (p : ℕ) (s : Supervised) (f : ChartState → Row) → Some s ≡ slice_get services p
+    → slice_get (map f (charts_of services)) p ≡ Some (f s.chart)
 row_there [] p s f e = search rules
 row_there (x ∷ services) zero s f e = ap (λ o. Some (f (unwrap_or o x).chart)) (sym e)
 row_there (x ∷ services) (suc p) s f e = row_there services p s f e
 
-pub agrees_there : (services : List Supervised) (p : ℕ) (s : Supervised) (history : List Moment) → AllAgree services history → Some s ≡ slice_get services p → AgreesWith s history
+pub agrees_there : (services : List Supervised) (p : ℕ) (s : Supervised) (history : List Moment) → AllAgree services history
+    → Some s ≡ slice_get services p → AgreesWith s history
 agrees_there [] p s history all e = search rules
-agrees_there (x ∷ services) zero s history all e = subst (λ (y : Supervised). AgreesWith y history) (sym (ap (λ o. unwrap_or o x) e)) (all 0 x (omega arith))
+agrees_there (x ∷ services) zero s history all e =
+    subst (λ (y : Supervised). AgreesWith y history) (sym (ap (λ o. unwrap_or o x) e)) (all 0 x (omega arith))
 agrees_there (x ∷ services) (suc p) s history all e = agrees_there services p s history (λ k d lt. all (suc k) d (omega (arith, lt))) e

@@ -10,21 +10,23 @@ use Rattle.s6_events.specs.declared.order.Order.TheVariants.{Signal}
 use Rattle.servicedir.specs.declared.config.Config.{Config}
 use Rattle.svc_commands.specs.declared.control_letter.ControlLetter.{ControlLetter}
 use Rattle.supervise_core.specs.declared.change.Change.{Change}
-use Rattle.supervise_core.specs.declared.change.Change.TheVariants.{Started, StartFailed, Notify, Death, FinishEnded, Control, Fire, SetConfig, SetActive}
+use Rattle.supervise_core.specs.declared.change.Change.TheVariants.{Started, StartFailed, Notify, Death, FinishEnded, Control, Fire, SetConfig}
+use Rattle.supervise_core.specs.declared.change.Change.TheVariants.{SetActive}
 use Rattle.supervise_core.specs.declared.chart.ChartState.{ChartState}
 use Rattle.supervise_core.specs.declared.phase.Phase.{Phase}
 use Rattle.supervise_core.specs.declared.phase.Phase.TheVariants.{Down, Starting, Up, Finish, Gone}
-use Rattle.supervise_core.specs.ChartState.{Moved, still, refused, marked, is_up, is_starting}
-use Rattle.supervise_core.specs.ControlLetters.{followed_by}
-use Rattle.supervise_core.specs.Moves.{settle, start_finish, send_down_signal}
-use Rattle.supervise_core.specs.Reports.{is_awaiting, is_running, spawned, dead, with_death}
-use Rattle.supervise_core.specs.Chart.{started, start_failed, notified, death, finish_ended, control, take_letter, fire, changed_by, set_active}
+use Rattle.supervise_core.specs.ChartState.{Moved, no_move, stale_move, with_mark, is_up, is_starting}
+use Rattle.supervise_core.specs.ControlLetters.{then_move}
+use Rattle.supervise_core.specs.Moves.{settle_move, finish_move, down_signal_move}
+use Rattle.supervise_core.specs.Reports.{is_awaiting, is_running, with_run, with_last_exit, with_reported_death}
+use Rattle.supervise_core.specs.Chart.{started_move, start_failed_move, notify_move, death_move, finish_ended_move, control_move, letter_move}
+use Rattle.supervise_core.specs.Chart.{fire_move, changed_by, with_activity}
 use Rattle.svscan_core.specs.declared.entry.Entry.{Entry}
 use Rattle.svscan_core.specs.declared.entry.ScanOrder.{ScanOrder}
 use Rattle.svscan_core.specs.declared.entry.ScanOrder.TheVariants.{Nuke, Terminate}
-use Rattle.svscan_core.specs.Listing.{is_listed, config_in}
-use Rattle.svscan_core.specs.Scan.{configured, looked_at}
-use Rattle.svscan_core.specs.Work.{commanded, leaving}
+use Rattle.svscan_core.specs.Listing.{has_entry, listed_config}
+use Rattle.svscan_core.specs.Scan.{with_read_config, after_look}
+use Rattle.svscan_core.specs.Work.{command_move, leave_letters}
 use Rattle.tree_core.proofs.OwnScan.{begins}
 use Rattle.tree_core.proofs.OwnWork.{Did, move_of, told_of, IsFresh}
 use Rattle.tree_core.proofs.OwnWork.Did.{takes, obeys, looks}
@@ -57,13 +59,14 @@ pub all_fair_append : (there : ℕ → Bool) (xs ys : List Order) → AllFair th
 all_fair_append there [] ys h k = k
 all_fair_append there (x ∷ xs) ys h k = (h.0, all_fair_append there xs ys h.1 k)
 
-still_signals : (there : ℕ → Bool) (c : ChartState) → IsFine there c.phase c.generation → Signals there c (still c)
+still_signals : (there : ℕ → Bool) (c : ChartState) → IsFine there c.phase c.generation → Signals there c (no_move c)
 still_signals there c h = record { fair = tt; up = h; later = omega arith }
 
-pub fire_signals : (there : ℕ → Bool) (now : ℕ) (c : ChartState) → IsFine there c.phase c.generation → Signals there c (fire now c)
+pub fire_signals : (there : ℕ → Bool) (now : ℕ) (c : ChartState) → IsFine there c.phase c.generation → Signals there c (fire_move now c)
 fire_signals there now c h = search (h, rules)
 
-letter_signals : (there : ℕ → Bool) (now : ℕ) (letter : ControlLetter) (c : ChartState) → IsFine there c.phase c.generation → Signals there c (take_letter now letter c)
+letter_signals : (there : ℕ → Bool) (now : ℕ) (letter : ControlLetter) (c : ChartState) → IsFine there c.phase c.generation
+    → Signals there c (letter_move now letter c)
 letter_signals there now letter c h = search (h, rules)
 
 awaiting_first : (p : Phase) (generation now : ℕ) → (is_starting p && (now == generation)) ≡ true → first_alive p now ≤ now
@@ -74,54 +77,68 @@ awaiting_first Finish generation now e = cc
 awaiting_first Gone generation now e = cc
 
 spawned_signals : (there : ℕ → Bool) (pid now : ℕ) (c : ChartState) → there c.generation ≡ true → first_alive c.phase c.generation ≤ c.generation
-    → Signals there c (marked Spawned (cond c.down_pending (send_down_signal now (record (spawned pid c) { down_pending = false })) (still (spawned pid c))))
+    → Signals there c (with_mark Spawned (cond c.down_pending (down_signal_move now (record (with_run pid c) { down_pending = false }))
+    (no_move (with_run pid c))))
 spawned_signals there pid now c h first = by c.down_pending
   where
-    by : (b : Bool) → Signals there c (marked Spawned (cond b (send_down_signal now (record (spawned pid c) { down_pending = false })) (still (spawned pid c))))
+    by : (b : Bool) → Signals there c (with_mark Spawned
+        (cond b (down_signal_move now (record (with_run pid c) { down_pending = false })) (no_move (with_run pid c))))
     by true = record { fair = (h, (h, tt)); up = h; later = first }
     by false = record { fair = tt; up = h; later = first }
 
-started_signals : (there : ℕ → Bool) (generation pid now : ℕ) (c : ChartState) → IsFine there c.phase c.generation → (is_awaiting generation c ≡ true → there c.generation ≡ true)
-    → Signals there c (started generation pid now c)
+started_signals : (there : ℕ → Bool) (generation pid now : ℕ) (c : ChartState) → IsFine there c.phase c.generation
+    → (is_awaiting generation c ≡ true → there c.generation ≡ true)
+    → Signals there c (started_move generation pid now c)
 started_signals there generation pid now c h k = by (is_awaiting generation c) refl
   where
     by : (b : Bool) → is_awaiting generation c ≡ b
-        → Signals there c (cond b (marked Spawned (cond c.down_pending (send_down_signal now (record (spawned pid c) { down_pending = false })) (still (spawned pid c)))) (refused c))
+        → Signals there c (cond b (with_mark Spawned
+        (cond c.down_pending (down_signal_move now (record (with_run pid c) { down_pending = false })) (no_move (with_run pid c)))) (stale_move c))
     by true e = spawned_signals there pid now c (k e) (awaiting_first c.phase generation c.generation e)
     by false e = record { fair = tt; up = h; later = omega arith }
 
-start_failed_signals : (there : ℕ → Bool) (generation now : ℕ) (c : ChartState) → IsFine there c.phase c.generation → Signals there c (start_failed generation now c)
+start_failed_signals : (there : ℕ → Bool) (generation now : ℕ) (c : ChartState) → IsFine there c.phase c.generation
+    → Signals there c (start_failed_move generation now c)
 start_failed_signals there generation now c h = search (h, rules)
 
-notified_signals : (there : ℕ → Bool) (generation : ℕ) (bytes : List ℕ) (now : ℕ) (c : ChartState) → IsFine there c.phase c.generation → Signals there c (notified generation bytes now c)
+notified_signals : (there : ℕ → Bool) (generation : ℕ) (bytes : List ℕ) (now : ℕ) (c : ChartState) → IsFine there c.phase c.generation
+    → Signals there c (notify_move generation bytes now c)
 notified_signals there generation bytes now c h = search (h, rules)
 
-death_signals : (there : ℕ → Bool) (generation : ℕ) (exit : Exit) (now : ℕ) (c : ChartState) → IsFine there c.phase c.generation → Signals there c (death generation exit now c)
+death_signals : (there : ℕ → Bool) (generation : ℕ) (exit : Exit) (now : ℕ) (c : ChartState) → IsFine there c.phase c.generation
+    → Signals there c (death_move generation exit now c)
 death_signals there generation exit now c h = search (h, rules)
 
-finish_ended_signals : (there : ℕ → Bool) (generation : ℕ) (exit : Exit) (now : ℕ) (c : ChartState) → IsFine there c.phase c.generation → Signals there c (finish_ended generation exit now c)
+finish_ended_signals : (there : ℕ → Bool) (generation : ℕ) (exit : Exit) (now : ℕ) (c : ChartState) → IsFine there c.phase c.generation
+    → Signals there c (finish_ended_move generation exit now c)
 finish_ended_signals there generation exit now c h = search (h, rules)
 
-active_signals : (there : ℕ → Bool) (active : Bool) (now : ℕ) (c : ChartState) → IsFine there c.phase c.generation → Signals there c (still (set_active active now c))
+active_signals : (there : ℕ → Bool) (active : Bool) (now : ℕ) (c : ChartState) → IsFine there c.phase c.generation
+    → Signals there c (no_move (with_activity active now c))
 active_signals there active now c h = search (h, rules)
 
 -- after its death was reported no run of the generation is alive
-settle_first : (now : ℕ) (c : ChartState) → c.generation + 1 ≤ first_alive (settle now c).chart.phase (settle now c).chart.generation
+settle_first : (now : ℕ) (c : ChartState) → c.generation + 1 ≤ first_alive (settle_move now c).chart.phase (settle_move now c).chart.generation
 settle_first now c = search rules
 
-death_first : (generation : ℕ) (exit : Exit) (now : ℕ) (c : ChartState) → (death generation exit now c).stale ≡ false
-    → generation + 1 ≤ first_alive (death generation exit now c).chart.phase (death generation exit now c).chart.generation
+death_first : (generation : ℕ) (exit : Exit) (now : ℕ) (c : ChartState) → (death_move generation exit now c).stale ≡ false
+    → generation + 1 ≤ first_alive (death_move generation exit now c).chart.phase (death_move generation exit now c).chart.generation
 death_first generation exit now c fresh = by (is_running generation c) refl fresh
   where
     rest : Moved
-    rest = with_death now exit (marked Died (cond c.config.finish (start_finish exit now (dead exit now c)) (marked FinishDone (settle now (dead exit now c)))))
+    rest = with_reported_death now exit (with_mark Died
+        (cond c.config.finish (finish_move exit now (with_last_exit exit now c))
+        (with_mark FinishDone (settle_move now (with_last_exit exit now c)))))
 
     the_first : c.generation + 1 ≤ first_alive rest.chart.phase rest.chart.generation
-    the_first = by_finish c.config.finish (settle_first now (dead exit now c))
+    the_first = by_finish c.config.finish (settle_first now (with_last_exit exit now c))
       where
-        by_finish : (b : Bool) → c.generation + 1 ≤ first_alive (settle now (dead exit now c)).chart.phase (settle now (dead exit now c)).chart.generation
-            → c.generation + 1 ≤ first_alive (cond b (start_finish exit now (dead exit now c)) (marked FinishDone (settle now (dead exit now c)))).chart.phase
-            (cond b (start_finish exit now (dead exit now c)) (marked FinishDone (settle now (dead exit now c)))).chart.generation
+        by_finish : (b : Bool) → c.generation + 1
+            ≤ first_alive (settle_move now (with_last_exit exit now c)).chart.phase (settle_move now (with_last_exit exit now c)).chart.generation
+            → c.generation + 1 ≤ first_alive (cond b (finish_move exit now (with_last_exit exit now c))
+            (with_mark FinishDone (settle_move now (with_last_exit exit now c)))).chart.phase
+            (cond b (finish_move exit now (with_last_exit exit now c))
+            (with_mark FinishDone (settle_move now (with_last_exit exit now c)))).chart.generation
         by_finish true h = omega arith
         by_finish false h = h
 
@@ -129,32 +146,42 @@ death_first generation exit now c fresh = by (is_running generation c) refl fres
     same true e = sym ((Decides-eqb c.generation generation).0 e)
     same false e = cc
 
-    by : (b : Bool) → is_running generation c ≡ b → (cond b rest (refused c)).stale ≡ false → generation + 1 ≤ first_alive (cond b rest (refused c)).chart.phase (cond b rest (refused c)).chart.generation
+    by : (b : Bool) → is_running generation c ≡ b → (cond b rest (stale_move c)).stale ≡ false
+        → generation + 1 ≤ first_alive (cond b rest (stale_move c)).chart.phase (cond b rest (stale_move c)).chart.generation
     by true e f = let first = the_first in let it : generation ≡ c.generation = same (is_up c.phase) e in omega (arith, first, it)
     by false e f = cc
 
 -- two moves, one after the other
-followed_signals : (there : ℕ → Bool) (now : ℕ) (letter : ControlLetter) (c : ChartState) (m : Moved) → Signals there c m → Signals there c (followed_by (take_letter now letter) m)
+followed_signals : (there : ℕ → Bool) (now : ℕ) (letter : ControlLetter) (c : ChartState) (m : Moved) → Signals there c m
+    → Signals there c (then_move (letter_move now letter) m)
 followed_signals there now letter c m h =
     let one = letter_signals there now letter m.chart h.up in
     let a = h.later in
     let b = one.later in
-    record { fair = all_fair_append there m.orders (take_letter now letter m.chart).orders h.fair one.fair; up = one.up; later = omega (arith, a, b) }
+    record {
+      fair = all_fair_append there m.orders (letter_move now letter m.chart).orders h.fair one.fair;
+      up = one.up;
+      later =
+          omega (arith, a, b);
+    }
 
 letters_signal : (there : ℕ → Bool) (now : ℕ) (letters : List ControlLetter) (c : ChartState) (m : Moved) → Signals there c m
-    → Signals there c (fold (λ so_far letter. followed_by (take_letter now letter) so_far) m letters)
+    → Signals there c (fold (λ so_far letter. then_move (letter_move now letter) so_far) m letters)
 letters_signal there now [] c m h = h
-letters_signal there now (letter ∷ letters) c m h = letters_signal there now letters c (followed_by (take_letter now letter) m) (followed_signals there now letter c m h)
+letters_signal there now (letter ∷ letters) c m h =
+    letters_signal there now letters c (then_move (letter_move now letter) m) (followed_signals there now letter c m h)
 
-control_signals : (there : ℕ → Bool) (letters : List ControlLetter) (now : ℕ) (c : ChartState) → IsFine there c.phase c.generation → Signals there c (control letters now c)
-control_signals there letters now c h = letters_signal there now letters c (still c) (still_signals there c h)
+control_signals : (there : ℕ → Bool) (letters : List ControlLetter) (now : ℕ) (c : ChartState) → IsFine there c.phase c.generation
+    → Signals there c (control_move letters now c)
+control_signals there letters now c h = letters_signal there now letters c (no_move c) (still_signals there c h)
 
 -- what is told as a start is of a run that is there
 abbrev pub TellsStart : (ℕ → Bool) → ChartState → Option Change → Type 0
 TellsStart there c (Some (Started generation pid)) = is_awaiting generation c ≡ true → there c.generation ≡ true
 TellsStart there c told = Unit
 
-changed_signals : (there : ℕ → Bool) (change : Change) (now : ℕ) (c : ChartState) → TellsStart there c (Some change) → IsFine there c.phase c.generation → Signals there c (changed_by change now c)
+changed_signals : (there : ℕ → Bool) (change : Change) (now : ℕ) (c : ChartState) → TellsStart there c (Some change)
+    → IsFine there c.phase c.generation → Signals there c (changed_by change now c)
 changed_signals there (Started generation pid) now c k h = started_signals there generation pid now c h k
 changed_signals there (StartFailed generation) now c k h = start_failed_signals there generation now c h
 changed_signals there (Notify generation bytes) now c k h = notified_signals there generation bytes.items now c h
@@ -165,27 +192,31 @@ changed_signals there Fire now c k h = fire_signals there now c h
 changed_signals there (SetConfig config) now c k h = record { fair = tt; up = h; later = omega arith }
 changed_signals there (SetActive active) now c k h = active_signals there active now c h
 
-commanded_signals : (there : ℕ → Bool) (order : ScanOrder) (now : ℕ) (c : ChartState) → IsFine there c.phase c.generation → Signals there c (commanded order now c)
+commanded_signals : (there : ℕ → Bool) (order : ScanOrder) (now : ℕ) (c : ChartState) → IsFine there c.phase c.generation
+    → Signals there c (command_move order now c)
 commanded_signals there Nuke now c h = by c.active
   where
-    by : (b : Bool) → Signals there c (cond b (still c) (control leaving now c))
+    by : (b : Bool) → Signals there c (cond b (no_move c) (control_move leave_letters now c))
     by true = still_signals there c h
-    by false = control_signals there leaving now c h
+    by false = control_signals there leave_letters now c h
 commanded_signals there Terminate now c h =
     let away = active_signals there false now c h in
-    let told = control_signals there leaving now (set_active false now c) away.up in
+    let told = control_signals there leave_letters now (with_activity false now c) away.up in
     let a = away.later in
     let b = told.later in
     record { fair = told.fair; up = told.up; later = omega (arith, a, b) }
 
-looked_signals : (there : ℕ → Bool) (listing : List Entry) (now : ℕ) (c : ChartState) → IsFine there c.phase c.generation → Signals there c (still (looked_at listing now c))
-looked_signals there listing now c h = by (config_in listing c.name) (active_signals there (is_listed listing c.name) now c h)
+looked_signals : (there : ℕ → Bool) (listing : List Entry) (now : ℕ) (c : ChartState) → IsFine there c.phase c.generation
+    → Signals there c (no_move (after_look listing now c))
+looked_signals there listing now c h = by (listed_config listing c.name) (active_signals there (has_entry listing c.name) now c h)
   where
-    by : (found : Option Config) → Signals there c (still (set_active (is_listed listing c.name) now c)) → Signals there c (still (configured found (set_active (is_listed listing c.name) now c)))
+    by : (found : Option Config) → Signals there c (no_move (with_activity (has_entry listing c.name) now c))
+        → Signals there c (no_move (with_read_config found (with_activity (has_entry listing c.name) now c)))
     by None away = away
     by (Some config) away = record { fair = tt; up = away.up; later = away.later }
 
-pub did_signals : (there : ℕ → Bool) (did : Did) (now : ℕ) (c : ChartState) → TellsStart there c (told_of did) → IsFine there c.phase c.generation → Signals there c (move_of did now c)
+pub did_signals : (there : ℕ → Bool) (did : Did) (now : ℕ) (c : ChartState) → TellsStart there c (told_of did) → IsFine there c.phase c.generation
+    → Signals there c (move_of did now c)
 did_signals there (takes None) now c k h = still_signals there c h
 did_signals there (takes (Some change)) now c k h = changed_signals there change now c k h
 did_signals there (obeys order) now c k h = commanded_signals there order now c h
@@ -196,7 +227,8 @@ abbrev pub TellsDeath : ℕ → Option Change → Type 0
 TellsDeath first (Some (Death generation exit)) = generation + 1 ≤ first
 TellsDeath first told = Unit
 
-pub did_dies : (did : Did) (now : ℕ) (c : ChartState) → IsFresh did now c → TellsDeath (first_alive (move_of did now c).chart.phase (move_of did now c).chart.generation) (told_of did)
+pub did_dies : (did : Did) (now : ℕ) (c : ChartState) → IsFresh did now c
+    → TellsDeath (first_alive (move_of did now c).chart.phase (move_of did now c).chart.generation) (told_of did)
 did_dies (takes None) now c fresh = tt
 did_dies (takes (Some (Started generation pid))) now c fresh = tt
 did_dies (takes (Some (StartFailed generation))) now c fresh = tt
@@ -213,5 +245,6 @@ did_dies (looks listing) now c fresh = tt
 pub begins_fair : (there : ℕ → Bool) (sid : ℕ) (name : List ℕ) (config : Config) → AllFair there (begins sid name config).orders
 begins_fair there sid name config = search rules
 
-pub begins_not_up : (there : ℕ → Bool) (sid : ℕ) (name : List ℕ) (config : Config) → IsFine there (begins sid name config).chart.phase (begins sid name config).chart.generation
+pub begins_not_up : (there : ℕ → Bool) (sid : ℕ) (name : List ℕ) (config : Config)
+    → IsFine there (begins sid name config).chart.phase (begins sid name config).chart.generation
 begins_not_up there sid name config = search rules

@@ -1,5 +1,6 @@
 -- Which timers are due, where timers agree with the services.
-use Rattle.std.proofs.Common.{subst, ◌≡◌, refl, sym, ap, ◌∙◌, ℕ, zero, suc, ◌<◌, ◌≤◌, List, [], ◌∷◌, Bool, true, false, ◌||◌, ◌==◌, cond, arith, map, max, filter, length, get_or}
+use Rattle.std.proofs.Common.{subst, ◌≡◌, refl, sym, ap, ◌∙◌, ℕ, zero, suc, ◌<◌, ◌≤◌, List, [], ◌∷◌, Bool, true, false, ◌||◌, ◌==◌, cond, arith}
+use Rattle.std.proofs.Common.{map, max, filter, length, get_or}
 use Rattle.std.specs.Prelude.{Option, Some, None, nat_lt, nat_le}
 use Rattle.std.specs.List.{list_any, list_all}
 use Rattle.std.proofs.lemmas.Bool.Decides.{nat_tests}
@@ -18,7 +19,7 @@ use Rattle.svscan_core.proofs.Timers.{one_number}
 use Rattle.svscan_core.proofs.Truth.{both_left, both_right, neither_left, neither_right}
 use Rattle.tree_core.specs.declared.input.Input.{Input}
 use Rattle.tree_core.specs.Plan.{IsQuiet}
-use Rattle.tree_core.specs.StandsFor.{Stored}
+use Rattle.tree_core.specs.StandsFor.{StoredTree}
 
 clock_stays : (now clock at : ℕ) → now ≡ max clock at → at ≤ clock → now ≡ clock
 clock_stays now clock at is early = is ∙ omega arith
@@ -27,14 +28,16 @@ clock_stays now clock at is early = is ∙ omega arith
 later_unset : (s : ℕ) (ts : List Timer) → list_all (λ t. nat_lt s t.sid) ts ≡ true → set_in s ts ≡ None
 later_unset s [] h = refl
 later_unset s (t ∷ ts) h =
-    ap (λ b. cond b (Some t.at) (set_in s ts)) (later_other s t.sid (both_left (nat_lt s t.sid) _ h)) ∙ later_unset s ts (both_right (nat_lt s t.sid) _ h)
+    ap (λ b. cond b (Some t.at) (set_in s ts)) (later_other s t.sid (both_left (nat_lt s t.sid) _ h))
+    ∙ later_unset s ts (both_right (nat_lt s t.sid) _ h)
 
 due_found : (now q : ℕ) (ts : List Timer) → rises ts ≡ true → list_any (λ sid. sid == q) (due_by now ts) ≡ is_due now (set_in q ts)
 due_found now q [] r = refl
 due_found now q (t ∷ ts) r = by (nat_le t.at now) (t.sid == q) refl refl (due_found now q ts (both_right _ (rises ts) r))
   where
     by : (a b : Bool) → nat_le t.at now ≡ a → (t.sid == q) ≡ b → list_any (λ sid. sid == q) (due_by now ts) ≡ is_due now (set_in q ts)
-        → list_any (λ sid. sid == q) (map (λ u. u.sid) (cond a (t ∷ filter (λ u. nat_le u.at now) ts) (filter (λ u. nat_le u.at now) ts))) ≡ is_due now (cond b (Some t.at) (set_in q ts))
+        → list_any (λ sid. sid == q) (map (λ u. u.sid) (cond a (t ∷ filter (λ u. nat_le u.at now) ts) (filter (λ u. nat_le u.at now) ts)))
+        ≡ is_due now (cond b (Some t.at) (set_in q ts))
     by true true e f rest = ap (λ b. b || list_any (λ sid. sid == q) (due_by now ts)) f ∙ sym e
     by true false e f rest = ap (λ b. b || list_any (λ sid. sid == q) (due_by now ts)) f ∙ rest
     by false true e f rest =
@@ -44,12 +47,14 @@ due_found now q (t ∷ ts) r = by (nat_le t.at now) (t.sid == q) refl refl (due_
     by false false e f rest = rest
 
 -- each of the services in rising serial has its own timer
-above_all : (s : ℕ) (cs : List ChartState) (k : ℕ) (d : ChartState) → list_all (λ m. nat_lt s m) (serials_of cs) ≡ true → k < length cs → nat_lt s (get_or cs k d).sid ≡ true
+above_all : (s : ℕ) (cs : List ChartState) (k : ℕ) (d : ChartState) → list_all (λ m. nat_lt s m) (serials_of cs) ≡ true → k < length cs
+    → nat_lt s (get_or cs k d).sid ≡ true
 above_all s [] k d h lt = absurd (omega (arith, lt))
 above_all s (c ∷ cs) zero d h lt = both_left (nat_lt s c.sid) _ h
 above_all s (c ∷ cs) (suc k) d h lt = above_all s cs k d (both_right (nat_lt s c.sid) _ h) (omega (arith, lt))
 
-own_timer : (cs : List ChartState) (k : ℕ) (d : ChartState) → is_rising (serials_of cs) ≡ true → k < length cs → timer_in (get_or cs k d).sid cs ≡ in_reach (get_or cs k d).timer
+own_timer : (cs : List ChartState) (k : ℕ) (d : ChartState) → is_rising (serials_of cs) ≡ true → k < length cs
+    → timer_in (get_or cs k d).sid cs ≡ in_reach (get_or cs k d).timer
 own_timer [] k d r lt = absurd (omega (arith, lt))
 own_timer (c ∷ cs) zero d r lt = ap (λ b. cond b (in_reach c.timer) (timer_in c.sid cs)) (itself c.sid)
 own_timer (c ∷ cs) (suc k) d r lt =
@@ -70,14 +75,16 @@ due_in_reach now (Some due) l = by (nat_le due last_moment) refl
     by false h = sym (past_due now due l h)
 
 -- the serials of the due timers are those of the services whose timers are due
-pub due_agrees : (now : ℕ) (ts : List Timer) (services : List ChartState) → now ≤ last_moment → TimersAgree ts services → is_rising (serials_of services) ≡ true
+pub due_agrees : (now : ℕ) (ts : List Timer) (services : List ChartState) → now ≤ last_moment → TimersAgree ts services
+    → is_rising (serials_of services) ≡ true
     → AreDue (due_by now ts) now services
 due_agrees now ts services l a r = λ k d lt.
     due_found now (get_or services k d).sid ts a.order
     ∙ (ap (is_due now) (a.moments (get_or services k d).sid ∙ own_timer services k d r lt) ∙ due_in_reach now (get_or services k d).timer l)
 
 -- where no service is due no timer is
-rest_timer : (now q : ℕ) (cs : List ChartState) → now ≤ last_moment → list_any (λ c. is_due now c.timer) cs ≡ false → is_due now (timer_in q cs) ≡ false
+rest_timer : (now q : ℕ) (cs : List ChartState) → now ≤ last_moment → list_any (λ c. is_due now c.timer) cs ≡ false
+    → is_due now (timer_in q cs) ≡ false
 rest_timer now q [] l h = refl
 rest_timer now q (c ∷ cs) l h = by (c.sid == q) (rest_timer now q cs l (neither_right (is_due now c.timer) _ h))
   where
@@ -89,21 +96,27 @@ nothing_in : (xs : List ℕ) → ((q : ℕ) → list_any (λ n. n == q) xs ≡ f
 nothing_in [] h = refl
 nothing_in (x ∷ xs) h = let here : (x == x) ≡ false = neither_left (x == x) _ (h x) in let there = itself x in cc
 
-pub none_due : (now : ℕ) (ts : List Timer) (services : List ChartState) → now ≤ last_moment → TimersAgree ts services → list_any (λ c. is_due now c.timer) services ≡ false
+pub none_due : (now : ℕ) (ts : List Timer) (services : List ChartState) → now ≤ last_moment → TimersAgree ts services
+    → list_any (λ c. is_due now c.timer) services ≡ false
     → due_by now ts ≡ []
-none_due now ts services l a h = nothing_in (due_by now ts) (λ q. due_found now q ts a.order ∙ (ap (is_due now) (a.moments q) ∙ rest_timer now q services l h))
+none_due now ts services l a h = nothing_in (due_by now ts)
+    (λ q. due_found now q ts a.order ∙ (ap (is_due now) (a.moments q) ∙ rest_timer now q services l h))
 
 -- what a tree finds due are the services whose timers are due, and for a quiet input there is none
-pub due_now : (now late next : ℕ) (due : List ℕ) (ts : List Timer) (before seen : List ChartState) → now ≡ late → now ≤ last_moment → due ≡ due_by now ts → seen ≡ before
+pub due_now : (now late next : ℕ) (due : List ℕ) (ts : List Timer) (before seen : List ChartState) → now ≡ late → now ≤ last_moment
+    → due ≡ due_by now ts → seen ≡ before
     → TimersAgree ts before → IsNumbered next before → AreDue due late seen
 due_now now late next due ts before seen e l is same a numbered =
     subst (λ (n : ℕ). AreDue due n seen) e
     (subst (λ (cs : List ChartState). AreDue due now cs) (sym same)
     (subst (λ (sids : List ℕ). AreDue sids now before) (sym is) (due_agrees now ts before l a (rising_before (serials_of before) next numbered))))
 
-pub none_for_quiet : {A : Type 0} (t seen : Stored) (input : Input A) (now : ℕ) (ts : List Timer) → t ≡ seen → now ≡ max t.clock input.at → now ≤ last_moment
+pub none_for_quiet : {A : Type 0} (t seen : StoredTree) (input : Input A) (now : ℕ) (ts : List Timer) → t ≡ seen → now ≡ max t.clock input.at
+    → now ≤ last_moment
     → TimersAgree ts (charts_of t.services) → IsQuiet input seen.clock (charts_of seen.services) → due_by now ts ≡ []
 none_for_quiet {A} t seen input now ts same e l a quiet =
-    let q : IsQuiet input t.clock (charts_of t.services) = subst (λ (x : Stored). IsQuiet input x.clock (charts_of x.services)) (sym same) quiet in
+    let q : IsQuiet input t.clock (charts_of t.services) =
+    subst (λ (x : StoredTree). IsQuiet input x.clock (charts_of x.services)) (sym same) quiet in
     let late : now ≡ t.clock = clock_stays now t.clock input.at e q.early in
-    none_due now ts (charts_of t.services) l a (subst (λ (n : ℕ). list_any (λ c. is_due n c.timer) (charts_of t.services) ≡ false) (sym late) q.rest)
+    none_due now ts (charts_of t.services) l a (subst (λ (n : ℕ). list_any (λ c. is_due n c.timer) (charts_of t.services) ≡ false)
+    (sym late) q.rest)

@@ -1,15 +1,15 @@
 -- What an act asks of those who listen, the waiters and the event directories, and what a step tells of them.
 use Rattle.std.specs.Prelude.{ℕ, List, [], Option, None, Some, option_map, option_to_list}
-use Rattle.event_directory.specs.Changes.{Change as DirectoryAsk}
-use Rattle.event_directory.specs.Changes.Change.{leave, send, subscribe}
+use Rattle.event_directory.specs.Changes.{DirectoryRequest}
+use Rattle.event_directory.specs.Changes.DirectoryRequest.{no_directory_request, send, subscribe}
 use Rattle.event_directory.specs.declared.directory_change.DirectoryFault.{DirectoryFault}
 use Rattle.event_directory.specs.declared.directory_change.DirectoryFault.TheVariants as fault
 use Rattle.event_directory.specs.declared.hit.Hit.{Hit}
 use Rattle.event_directory.specs.declared.source.Source.{Source}
-use Rattle.wait_conditions.specs.declared.verdict.Standing.TheVariants.{Waiting}
+use Rattle.wait_conditions.specs.declared.verdict.WaitState.TheVariants.{Waiting}
 use Rattle.wait_conditions.specs.declared.verdict.Verdict.{Verdict}
-use Rattle.wait_conditions.specs.Verdict.{Asked}
-use Rattle.wait_conditions.specs.Watch.{Watch, after_add, after_cancel, made_now, newly, standing_of}
+use Rattle.wait_conditions.specs.Verdict.{WaitTerms}
+use Rattle.wait_conditions.specs.Watch.{Watch, after_add, after_cancel, new_waiter, new_release, waiter_state}
 use Rattle.tree_core.specs.declared.effect.Match.{Match}
 use Rattle.tree_core.specs.declared.effect.Release.{Release}
 use Rattle.tree_core.specs.declared.input.Target.{Target}
@@ -20,7 +20,7 @@ use Rattle.tree_core.specs.declared.reply.Refusal.TheVariants.{TooMany, NoSuch, 
 -- what is asked of the waiters
 pub data Ask : Type 0 where
   same : Ask
-  add_waiter : Asked → Ask
+  add_waiter : WaitTerms → Ask
   cancel_waiter : ℕ → Ask
 
 -- nothing where the act is refused, and else this
@@ -29,18 +29,19 @@ ask_unless None ask = ask
 ask_unless (Some why) ask = same
 
 -- the waiters after it
-abbrev pub listened : Ask → Watch → Watch
-listened same w = w
-listened (add_waiter asked) w = after_add w asked
-listened (cancel_waiter id) w = after_cancel w id
+abbrev pub watch_after : Ask → Watch → Watch
+watch_after same w = w
+watch_after (add_waiter asked) w = after_add w asked
+watch_after (cancel_waiter id) w = after_cancel w id
 
 -- a waiter with its verdict, where it has one
-abbrev pub told_at_once : ℕ → Option Verdict → List (ℕ × Verdict)
-told_at_once id verdict = option_to_list (option_map (λ v. (id, v)) verdict)
+abbrev pub release_of_new : ℕ → Option Verdict → List (ℕ × Verdict)
+release_of_new id verdict = option_to_list (option_map (λ v. (id, v)) verdict)
 
 -- the waiter that is made, where its verdict over no moment is no longer waiting
 abbrev pub released_at_once : Ask → Watch → List (ℕ × Verdict)
-released_at_once (add_waiter asked) w = told_at_once w.next (newly Waiting (standing_of w.history (made_now w asked)))
+released_at_once (add_waiter asked) w =
+    release_of_new w.next (new_release Waiting (waiter_state w.history (new_waiter w asked)))
 released_at_once ask w = []
 
 -- a release, as an effect has it
@@ -48,13 +49,13 @@ abbrev pub as_release : ℕ × Verdict → Release
 as_release r = record { waiter = r.0; verdict = r.1 }
 
 -- a subscription to what was found
-abbrev pub subscribe_found : Option Source → DirectoryAsk
-subscribe_found None = leave
+abbrev pub subscribe_found : Option Source → DirectoryRequest
+subscribe_found None = no_directory_request
 subscribe_found (Some source) = subscribe source
 
 -- a message to a free directory; a service's directory takes none
-abbrev pub send_to : Target → List ℕ → DirectoryAsk
-send_to (target.Service name) letters = leave
+abbrev pub send_to : Target → List ℕ → DirectoryRequest
+send_to (target.Service name) letters = no_directory_request
 send_to (target.Directory name) letters = send name letters
 
 -- why the directories refuse, as a reply has it

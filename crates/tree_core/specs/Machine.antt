@@ -4,9 +4,9 @@ use Rattle.s6_events.specs.declared.moment.Moment.{Moment}
 use Rattle.s6_events.specs.declared.order.Order.{Order}
 use Rattle.supervise_core.specs.declared.chart.ChartState.{ChartState}
 use Rattle.svscan_core.specs.declared.event.Event.{Event}
-use Rattle.event_directory.specs.Directories.{Directories, FreeDirectory, Placed as Subscription}
+use Rattle.event_directory.specs.Directories.{WrittenDirectories, FreeDirectory, WrittenSubscription}
 use Rattle.svscan_core.specs.Deaths.{DeathOf}
-use Rattle.wait_conditions.specs.Watch.{Placed, Watch}
+use Rattle.wait_conditions.specs.Watch.{WrittenWaiter, Watch}
 use Rattle.tree_core.specs.declared.effect.Match.{Match}
 use Rattle.tree_core.specs.declared.effect.Release.{Release}
 use Rattle.tree_core.specs.declared.reply.Reply.{Reply}
@@ -22,10 +22,10 @@ pub record Machine : Type 0 where
   pub next_sid : ℕ
   pub history : List Moment
   pub deaths : List DeathOf
-  pub waiters : List Placed
+  pub waiters : List WrittenWaiter
   pub next_waiter : ℕ
   pub directories : List FreeDirectory
-  pub subscriptions : List Subscription
+  pub subscriptions : List WrittenSubscription
   pub next_subscription : ℕ
 
 -- before any input
@@ -53,10 +53,16 @@ abbrev pub watch_of : Machine → Watch
 watch_of m = watch_at m.history m
 
 -- its event directories beside these moments, and beside its own
-abbrev pub directories_at : List Moment → Machine → Directories
-directories_at history m = record { history = history; free = m.directories; subscriptions = m.subscriptions; next = m.next_subscription }
+abbrev pub directories_at : List Moment → Machine → WrittenDirectories
+directories_at history m = record {
+  history = history;
+  free = m.directories;
+  subscriptions = m.subscriptions;
+  next =
+      m.next_subscription;
+}
 
-abbrev pub directories_of : Machine → Directories
+abbrev pub directories_of : Machine → WrittenDirectories
 directories_of m = directories_at m.history m
 
 -- what a step gives

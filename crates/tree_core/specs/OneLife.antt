@@ -1,12 +1,13 @@
 -- A service has one life at a time.
-use Rattle.std.specs.Prelude.{◌≡◌, ℕ, zero, suc, ◌+◌, List, [], ◌∷◌, ◌++◌, length, Bool, true, false, ◌||◌, ◌==◌, Option, Some}
+use Rattle.std.specs.Prelude.{◌≡◌, ℕ, zero, suc, ◌+◌, List, [], ◌∷◌, ◌++◌, length, Bool, true, false, ◌||◌, ◌==◌}
+use Rattle.std.specs.Prelude.{Option, Some}
 use Rattle.std.specs.List.{flat_map, list_all, list_any}
 use Rattle.s6_events.specs.declared.order.Order.{Order}
 use Rattle.s6_events.specs.declared.order.Order.TheVariants.{Run}
 use Rattle.supervise_core.specs.declared.change.Change.{Change}
 use Rattle.supervise_core.specs.declared.change.Change.TheVariants.{StartFailed, Death}
 use Rattle.tree_core.specs.declared.input.Input.{Input}
-use Rattle.tree_core.specs.Taken.{Taken, taken, next_step, orders_in, told_in}
+use Rattle.tree_core.specs.Taken.{StepTaken, steps_taken, next_step, orders_in, change_in_step}
 
 -- the generations of the runs that orders start
 abbrev pub generation_of : Order → List ℕ
@@ -17,10 +18,10 @@ abbrev pub generations_of : List Order → List ℕ
 generations_of orders = flat_map generation_of orders
 
 -- the generations of the runs of a service in a step, and in these steps
-abbrev pub generations_in : {A : Type 0} → ℕ → Taken A → List ℕ
+abbrev pub generations_in : {A : Type 0} → ℕ → StepTaken A → List ℕ
 generations_in sid t = generations_of (orders_in sid t)
 
-abbrev pub generations_given : {A : Type 0} → ℕ → List (Taken A) → List ℕ
+abbrev pub generations_given : {A : Type 0} → ℕ → List (StepTaken A) → List ℕ
 generations_given sid steps = flat_map (generations_in sid) steps
 
 -- 1, 2, 3 and so on, this many
@@ -35,10 +36,11 @@ ends_before generation (Some (StartFailed of)) = of + 1 == generation
 ends_before generation told = false
 
 -- after these steps a run of this generation may come: it is the first one, or the one before it is over
-abbrev pub may_come : {A : Type 0} → ℕ → List (Taken A) → ℕ → Bool
-may_come sid steps generation = generation == 1 || list_any (λ t. ends_before generation (told_in sid t)) steps
+abbrev pub may_come : {A : Type 0} → ℕ → List (StepTaken A) → ℕ → Bool
+may_come sid steps generation = generation == 1 || list_any (λ t. ends_before generation (change_in_step sid t)) steps
 
 -- so far the runs of the service had the generations 1, 2, 3 and so on, and those of the next step come only after the one before
 pub record HasOneLife {A : Type 0} (inputs : List (Input A)) (input : Input A) (sid : ℕ) : Type 0 where
-  pub counted : generations_given sid (taken inputs) ≡ up_to (length (generations_given sid (taken inputs)))
-  pub after_another : list_all (may_come sid (taken inputs ++ next_step inputs input ∷ [])) (generations_in sid (next_step inputs input)) ≡ true
+  pub counted : generations_given sid (steps_taken inputs) ≡ up_to (length (generations_given sid (steps_taken inputs)))
+  pub after_another : list_all (may_come sid (steps_taken inputs ++ next_step inputs input ∷ []))
+      (generations_in sid (next_step inputs input)) ≡ true

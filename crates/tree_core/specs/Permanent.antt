@@ -9,12 +9,12 @@ use Rattle.supervise_core.specs.declared.change.Change.{Change}
 use Rattle.supervise_core.specs.declared.change.Change.TheVariants.{Control}
 use Rattle.tree_core.specs.declared.input.Input.{Input}
 use Rattle.tree_core.specs.Closing.{is_run}
-use Rattle.tree_core.specs.Taken.{Taken, taken, next_step, marks_in, orders_in, told_in}
+use Rattle.tree_core.specs.Taken.{StepTaken, steps_taken, next_step, marks_in, orders_in, change_in_step}
 
 -- the marks O and s
-abbrev pub tells_failure : Mark → Bool
-tells_failure PermanentFailure = true
-tells_failure mark = false
+abbrev pub is_failure_mark : Mark → Bool
+is_failure_mark PermanentFailure = true
+is_failure_mark mark = false
 
 abbrev pub tells_start : Mark → Bool
 tells_start SupervisorStarted = true
@@ -30,17 +30,18 @@ wants_up (Some (Control letters)) = list_any is_up_letter letters.items
 wants_up told = false
 
 -- the step has a letter u for the service, or an s of it
-abbrev pub frees : {A : Type 0} → ℕ → Taken A → Bool
-frees sid t = wants_up (told_in sid t) || list_any tells_start (marks_in sid t)
+abbrev pub frees : {A : Type 0} → ℕ → StepTaken A → Bool
+frees sid t = wants_up (change_in_step sid t) || list_any tells_start (marks_in sid t)
 
 -- after one step more: an O came, and since then no step with a letter u for it or an s of it
-abbrev pub fails_on : {A : Type 0} → ℕ → Bool → Taken A → Bool
-fails_on sid failed t = if frees sid t then false else failed || list_any tells_failure (marks_in sid t)
+abbrev pub fails_on : {A : Type 0} → ℕ → Bool → StepTaken A → Bool
+fails_on sid failed t = if frees sid t then false else failed || list_any is_failure_mark (marks_in sid t)
 
-abbrev pub has_failed : {A : Type 0} → ℕ → List (Taken A) → Bool
-has_failed sid steps = fold (fails_on sid) false steps
+abbrev pub has_failed_for_good : {A : Type 0} → ℕ → List (StepTaken A) → Bool
+has_failed_for_good sid steps = fold (fails_on sid) false steps
 
 -- where the service has failed so by the end of the next step, that step starts no run of it
 abbrev pub RestsAfterFailure : {A : Type 0} → List (Input A) → Input A → ℕ → Type 0
 RestsAfterFailure inputs input sid =
-    has_failed sid (taken inputs ++ next_step inputs input ∷ []) ≡ true → list_any is_run (orders_in sid (next_step inputs input)) ≡ false
+    has_failed_for_good sid (steps_taken inputs ++ next_step inputs input ∷ []) ≡ true
+    → list_any is_run (orders_in sid (next_step inputs input)) ≡ false

@@ -9,5 +9,5 @@ abbrev pub row_named : List ℕ → Machine → Option Row
 row_named name m = option_map (status_row m.history m.clock) (find (λ c. bytes_eq name c.name) m.services)
 
 -- the rows of all, in rising serial
-abbrev pub rows_of : Machine → List Row
-rows_of m = map (status_row m.history m.clock) m.services
+abbrev pub all_rows : Machine → List Row
+all_rows m = map (status_row m.history m.clock) m.services

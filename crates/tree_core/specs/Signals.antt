@@ -6,36 +6,39 @@ use Rattle.s6_events.specs.declared.order.Order.TheVariants.{Signal}
 use Rattle.supervise_core.specs.declared.change.Change.{Change}
 use Rattle.supervise_core.specs.declared.change.Change.TheVariants.{Started, Death}
 use Rattle.tree_core.specs.declared.input.Input.{Input}
-use Rattle.tree_core.specs.Taken.{Taken, taken, next_step, orders_in, told_in}
+use Rattle.tree_core.specs.Taken.{StepTaken, steps_taken, next_step, orders_in, change_in_step}
 
 -- the generations of the runs that orders signal
-abbrev pub signalled : Order → List ℕ
-signalled (Signal sid generation number) = generation ∷ []
-signalled order = []
+abbrev pub signal_generations : Order → List ℕ
+signal_generations (Signal sid generation number) = generation ∷ []
+signal_generations order = []
 
-abbrev pub signalled_in : {A : Type 0} → ℕ → Taken A → List ℕ
-signalled_in sid t = flat_map signalled (orders_in sid t)
+abbrev pub signals_in : {A : Type 0} → ℕ → StepTaken A → List ℕ
+signals_in sid t = flat_map signal_generations (orders_in sid t)
 
 -- what the service is told is the start, or the death, of the run of this generation
-abbrev pub is_start : ℕ → Option Change → Bool
-is_start generation (Some (Started of pid)) = of == generation
-is_start generation told = false
+abbrev pub is_start_of : ℕ → Option Change → Bool
+is_start_of generation (Some (Started of pid)) = of == generation
+is_start_of generation told = false
 
-abbrev pub is_death : ℕ → Option Change → Bool
-is_death generation (Some (Death of exit)) = of == generation
-is_death generation told = false
+abbrev pub is_death_of : ℕ → Option Change → Bool
+is_death_of generation (Some (Death of exit)) = of == generation
+is_death_of generation told = false
 
 -- in one of these steps its start, or its death, was reported
-abbrev pub has_started : {A : Type 0} → ℕ → List (Taken A) → ℕ → Bool
-has_started sid steps generation = list_any (λ t. is_start generation (told_in sid t)) steps
+abbrev pub has_started : {A : Type 0} → ℕ → List (StepTaken A) → ℕ → Bool
+has_started sid steps generation = list_any (λ t. is_start_of generation (change_in_step sid t)) steps
 
-abbrev pub has_died : {A : Type 0} → ℕ → List (Taken A) → ℕ → Bool
-has_died sid steps generation = list_any (λ t. is_death generation (told_in sid t)) steps
+abbrev pub has_died : {A : Type 0} → ℕ → List (StepTaken A) → ℕ → Bool
+has_died sid steps generation = list_any (λ t. is_death_of generation (change_in_step sid t)) steps
 
 -- its start was reported in this step or before, and its death not before it
-abbrev pub is_there : {A : Type 0} → ℕ → List (Taken A) → Taken A → ℕ → Bool
-is_there sid earlier t generation = has_started sid (earlier ++ t ∷ []) generation && not (has_died sid earlier generation)
+abbrev pub is_run_there : {A : Type 0} → ℕ → List (StepTaken A) → StepTaken A → ℕ → Bool
+is_run_there sid earlier t generation =
+    has_started sid (earlier ++ t ∷ []) generation && not (has_died sid earlier generation)
 
 -- each signal of the next step goes to a run that is there
 abbrev pub SignalsWhatIsThere : {A : Type 0} → List (Input A) → Input A → ℕ → Type 0
-SignalsWhatIsThere inputs input sid = list_all (is_there sid (taken inputs) (next_step inputs input)) (signalled_in sid (next_step inputs input)) ≡ true
+SignalsWhatIsThere inputs input sid =
+    list_all (is_run_there sid (steps_taken inputs) (next_step inputs input)) (signals_in sid (next_step inputs input))
+    ≡ true

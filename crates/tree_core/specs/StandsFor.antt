@@ -1,11 +1,11 @@
 -- Which machines a tree stands for.
 use Rattle.std.specs.Prelude.{◌≡◌, ℕ, ◌≤◌, List, length, drop, Bool}
 use Rattle.event_directory.specs.Pattern.{finds}
-use Rattle.event_directory.specs.Remembered.{AreHeard, Shown as HeardBy}
+use Rattle.event_directory.specs.Remembered.{AreHeard, DirectoriesShown}
 use Rattle.s6_events.specs.Clock.{clock_of}
 use Rattle.s6_events.specs.declared.moment.Moment.{Moment}
 use Rattle.supervise_core.specs.Service.{Supervised}
-use Rattle.wait_conditions.specs.Stands.{Shown, StandsFor as AreKept}
+use Rattle.wait_conditions.specs.Stands.{WaitsShown, WaitsStandFor}
 use Rattle.tree_core.specs.Machine.{Machine, directories_of, watch_of}
 use Rattle.svscan_core.specs.Deaths.{AllTallied, AllBefore}
 use Rattle.svscan_core.specs.Sound.{AllAgree}
@@ -13,7 +13,7 @@ use Rattle.svscan_core.specs.Table.{charts_of}
 
 -- what a tree stores: all that is there now, with what each service stores of its marks, how many moments it forgot, those after
 -- them, what is kept of the waiters, and what the subscriptions have heard
-pub record Stored : Type 0 where
+pub record StoredTree : Type 0 where
   pub clock : ℕ
   pub steps : ℕ
   pub closing : Bool
@@ -21,13 +21,13 @@ pub record Stored : Type 0 where
   pub next_sid : ℕ
   pub forgotten : ℕ
   pub kept : List Moment
-  pub waits : Shown
-  pub directories : HeardBy
+  pub waits : WaitsShown
+  pub directories : DirectoriesShown
 
 -- a tree stands for each machine with which it agrees in all that it stores, whatever it has forgotten: whose clock is the last
 -- clock reading of its history, whose deaths are those of serials given so far, of which each tally has the last, whose waiters stand
 -- as they are kept, and whose subscriptions have heard what is remembered of them
-pub record StandsFor (t : Stored) (m : Machine) : Type 0 where
+pub record StandsFor (t : StoredTree) (m : Machine) : Type 0 where
   pub clock : m.clock ≡ t.clock
   pub steps : m.steps ≡ t.steps
   pub closing : m.closing ≡ t.closing
@@ -39,5 +39,5 @@ pub record StandsFor (t : Stored) (m : Machine) : Type 0 where
   pub tallies : AllTallied t.services m.deaths
   pub numbered : AllBefore m.next_sid m.deaths
   pub reading : m.clock ≡ clock_of m.history
-  pub waiting : AreKept t.waits (watch_of m)
+  pub waiting : WaitsStandFor t.waits (watch_of m)
   pub hearing : AreHeard finds t.directories (directories_of m)

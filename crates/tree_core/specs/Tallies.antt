@@ -1,7 +1,7 @@
 -- The last deaths of a service, read from all deaths.
 use Rattle.std.specs.Prelude.{ℕ, List, Bool, Option, option_map, find, bytes_eq}
 use Rattle.death_tally.specs.LastDeaths.{last_deaths}
-use Rattle.death_tally.specs.PermanentFailure.{is_permanent}
+use Rattle.death_tally.specs.PermanentFailure.{are_permanent_failure}
 use Rattle.death_tally.specs.declared.death_list.DeathItem.{DeathItem}
 use Rattle.s6_events.specs.declared.exit.Exit.{Exit}
 use Rattle.supervise_core.specs.declared.chart.ChartState.{ChartState}
@@ -18,4 +18,5 @@ tally_named name m = option_map (tally_of m) (find (λ c. bytes_eq name c.name) 
 
 -- whether at least so many of them, no longer ago than so many seconds, are named by a list
 abbrev pub failure_named : List ℕ → ℕ → ℕ → List DeathItem → Machine → Option Bool
-failure_named name seconds count items m = option_map (is_permanent m.clock seconds count items) (tally_named name m)
+failure_named name seconds count items m =
+    option_map (are_permanent_failure m.clock seconds count items) (tally_named name m)

@@ -1,15 +1,15 @@
 -- What a contract sees of a tree, and what is true of every tree.
 use Rattle.svscan_core.specs.Table.{charts_of}
 use Rattle.svscan_core.specs.Timers.{TimersAgree}
-use Rattle.wait_conditions.specs.Stands.{shown}
+use Rattle.wait_conditions.specs.Stands.{waits_shown}
 use Rattle.tree_core.specs.declared.tree.Tree.TheInside.{Inside}
 use Rattle.tree_core.specs.Sound.{IsCounted, IsRecorded}
 use Rattle.tree_core.specs.Machine.{Machine}
-use Rattle.tree_core.specs.StandsFor.{Stored, StandsFor}
+use Rattle.tree_core.specs.StandsFor.{StoredTree, StandsFor}
 
 -- its services, its numbers, its history, its waiters and its event directories
-abbrev pub stored : {A : Type 0} → Inside A → Stored
-stored t = record {
+abbrev pub tree_view : {A : Type 0} → Inside A → StoredTree
+tree_view t = record {
   clock = t.clock;
   steps = t.steps;
   closing = t.closing;
@@ -17,14 +17,15 @@ stored t = record {
   next_sid = t.registry.shown.next_sid;
   forgotten = t.history.forgotten;
   kept = t.history.kept;
-  waits = shown t.waits;
+  waits = waits_shown t.waits;
   directories = t.directories.shown;
 }
 
 -- its numbers don't outrun its steps, its deadlines agree with its services, and there is a machine for which it stands
 abbrev pub TreeInvariant : {A : Type 0} → Inside A → Type 0
 TreeInvariant t =
-    IsCounted t.steps t.registry.shown.next_sid t.waits.next t.directories.shown.next (charts_of t.registry.shown.services)
+    IsCounted t.steps t.registry.shown.next_sid t.waits.next t.directories.shown.next
+    (charts_of t.registry.shown.services)
     × IsRecorded t.steps t.history.forgotten t.history.kept
     × TimersAgree t.deadlines.timers (charts_of t.registry.shown.services)
-    × ((m : Machine) × StandsFor (stored t) m)
+    × ((m : Machine) × StandsFor (tree_view t) m)

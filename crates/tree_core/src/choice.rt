@@ -1,20 +1,21 @@
+//! What is to be done for an act, and the order in which its refusals are looked for.
 ghost use Rattle.std.specs.Prelude.{◌≡◌, ◌==◌, ◌+◌, ◌<◌, ◌≤◌, ◌^◌, ◌++◌, List, map, find, bytes_eq, length, option_map, All, IfOk, IsOk, None, Some, if◌then◌else◌, true, false};
 ghost use Rattle.std.specs.List.{list_any};
-ghost use Rattle.death_tally.specs.PermanentFailure.{is_permanent};
-ghost use Rattle.event_directory.specs.Changes.{asked_by as directories_asked};
+ghost use Rattle.death_tally.specs.PermanentFailure.{are_permanent_failure};
+ghost use Rattle.event_directory.specs.Changes.{directory_request_of};
 ghost use Rattle.s6_events.specs.Clock.{clock_of};
-ghost use Rattle.supervise_core.specs.Chart.{fire};
+ghost use Rattle.supervise_core.specs.Chart.{fire_move};
 ghost use Rattle.supervise_core.specs.StatusRow.{status_row};
 ghost use Rattle.supervise_core.specs.declared.change.Change.TheVariants.{Control};
 ghost use Rattle.svscan_core.specs.Moves.{moment_of, services_after, events_after};
 ghost use Rattle.svscan_core.specs.Sound.{AllAgree};
 ghost use Rattle.s6_events.specs.declared.moment.Moment.{Moment};
-ghost use Rattle.svscan_core.specs.Asked.{asked_by, IsOrderly};
+ghost use Rattle.svscan_core.specs.Asked.{work_asked, IsOrderly};
 ghost use Rattle.svscan_core.specs.Table.{charts_of};
-ghost use Rattle.wait_conditions.specs.Steps.{asked_by as waiters_asked};
+ghost use Rattle.wait_conditions.specs.Steps.{wait_request_of};
 ghost use Rattle.tree_core.specs.Acts.{all_named, serials_named, source_named};
 ghost use Rattle.tree_core.specs.Machine.{Machine};
-ghost use Rattle.tree_core.specs.Plan.{plain, chosen_work, chosen_change, chosen_ask, report_choice, letters_choice, row_choice, failure_choice, scan_choice, wait_choice, subscribe_choice, send_choice, tally_in, AsksNothing, Chooses, HasFired, is_reading};
+ghost use Rattle.tree_core.specs.Plan.{chosen_of, chosen_work, chosen_change, chosen_ask, report_choice, letters_choice, row_choice, failure_choice, scan_choice, wait_choice, subscribe_choice, send_choice, tally_in, AsksNothing, Chooses, HasFired, is_reading};
 
 use super::input::{Act, Target};
 use super::names::has_repeated_name;
@@ -26,7 +27,7 @@ use s6_events::{At, Condition, Mode, Name, NoMemory, Sid, SubId, WaitId};
 use std::alloc::Allocator;
 use supervise_core::{Change, Phase, Row};
 use svc_commands::Letters as ControlLetters;
-use svscan_core::{Entry, Registry, ScanOrder, Work, has_repeats};
+use svscan_core::{Entry, Registry, ScanOrder, ServiceWork, has_repeats};
 use wait_conditions::WaitChange;
 
 /// The most names of one wait.
@@ -36,7 +37,7 @@ const MOST_NAMES: usize = 16;
 #[derive(Drop)]
 pub enum Choice<'a> {
     Refuse(Refusal),
-    Leave,
+    Nothing,
     Report(Sid, Change),
     Letters(Sid, Change),
     Listing(&'a [Entry]),
@@ -54,21 +55,21 @@ pub enum Choice<'a> {
 
 impl Choice<'_> {
     /// What is asked of the services.
-    pub fn work(&self) -> Work<'_>
-        ensures { asked_by result ≡ chosen_work (plain self.now) }
+    pub fn work(&self) -> ServiceWork<'_>
+        ensures { work_asked result ≡ chosen_work (chosen_of self.now) }
     {
         match self {
-            Choice::Report(sid, change) => Work::Change(*sid, change),
-            Choice::Letters(sid, change) => Work::Change(*sid, change),
-            Choice::Listing(listing) => Work::Listing(listing),
-            Choice::Command(order) => Work::Command(*order),
-            _ => Work::Leave,
+            Choice::Report(sid, change) => ServiceWork::Change(*sid, change),
+            Choice::Letters(sid, change) => ServiceWork::Change(*sid, change),
+            Choice::Listing(listing) => ServiceWork::Listing(listing),
+            Choice::Command(order) => ServiceWork::Command(*order),
+            _ => ServiceWork::Nothing,
         }
     }
 
     /// What is asked of the waiters, at this moment.
     pub fn wait_change(&self, now: At) -> WaitChange<'_>
-        ensures { waiters_asked result ≡ chosen_change now (plain self.now) }
+        ensures { wait_request_of result ≡ chosen_change now (chosen_of self.now) }
     {
         match self {
             Choice::Wait(condition, mode, timeout, sids) => {
@@ -81,7 +82,7 @@ impl Choice<'_> {
 
     /// What is asked of the event directories.
     pub fn directory_change(&self) -> DirectoryChange<'_>
-        ensures { directories_asked result ≡ chosen_ask (plain self.now) }
+        ensures { directory_request_of result ≡ chosen_ask (chosen_of self.now) }
     {
         match self {
             Choice::MakeDirectory(name) => DirectoryChange::Make(*name),
@@ -106,7 +107,8 @@ fn copy_of<T: Copy + Default, const N: usize>(list: &ArrayVec<T, N>) -> ArrayVec
 
 // A report for the service of a serial.
 fn report<'a, A: Allocator + Copy>(registry: &Registry<A>, sid: Sid, change: Change) -> Choice<'a>
-    ensures { plain result ≡ report_choice (list_any (λ c. c.sid == sid) (charts_of registry.now.shown.services)) sid change }
+    ensures { chosen_of result ≡ report_choice
+        (list_any (λ c. c.sid == sid) (charts_of registry.now.shown.services)) sid change }
 {
     if registry.get(sid).is_none() {
         return Choice::Refuse(Refusal::NoService);
@@ -122,7 +124,10 @@ fn letters<'a, A: Allocator + Copy>(
     now: At,
 ) -> Choice<'a>
     requires { All (λ c. c.generation + 1 < 2 ^ 64) (charts_of registry.now.shown.services) }
-    ensures { plain result ≡ letters_choice (find (λ c. bytes_eq name c.name) (services_after (fire now) (charts_of registry.now.shown.services))) (Control letters.now) }
+    ensures { chosen_of result ≡ letters_choice
+        (find (λ c. bytes_eq name c.name)
+        (services_after (fire_move now) (charts_of registry.now.shown.services)))
+        (Control letters.now) }
 {
     let Some(standing) = registry.after_timers(name, now) else {
         return Choice::Refuse(Refusal::NoService);
@@ -136,10 +141,13 @@ fn letters<'a, A: Allocator + Copy>(
 // The status row of the service of a name.
 fn show<'a, A: Allocator + Copy>(registry: &Registry<A>, name: Name, now: At) -> Choice<'a>
     requires { All (λ c. c.generation + 1 < 2 ^ 64) (charts_of registry.now.shown.services) }
-    ensures idle { AsksNothing now (plain result) }
+    ensures idle { AsksNothing now (chosen_of result) }
     ensures row { (history : List Moment) → clock_of history ≡ now → AllAgree registry.now.shown.services history
-        → plain result ≡ row_choice (option_map (status_row (history ++ map moment_of (events_after (fire now) (charts_of registry.now.shown.services))) now)
-        (find (λ c. bytes_eq name c.name) (services_after (fire now) (charts_of registry.now.shown.services)))) }
+        → chosen_of result ≡ row_choice
+        (option_map (status_row (history
+        ++ map moment_of (events_after (fire_move now) (charts_of registry.now.shown.services)))
+        now)
+        (find (λ c. bytes_eq name c.name) (services_after (fire_move now) (charts_of registry.now.shown.services)))) }
 {
     match registry.after_timers(name, now) {
         Some(standing) => Choice::Show(standing.status().row(&standing.chart(), now)),
@@ -156,8 +164,10 @@ fn judge<'a, A: Allocator + Copy>(
     count: u32,
     list: &DeathList,
 ) -> Choice<'a>
-    ensures idle { AsksNothing now (plain result) }
-    ensures failure { plain result ≡ failure_choice (option_map (is_permanent now seconds count list.now) (tally_in name registry.now.shown.services)) }
+    ensures idle { AsksNothing now (chosen_of result) }
+    ensures failure { chosen_of result
+        ≡ failure_choice (option_map (are_permanent_failure now seconds count list.now)
+        (tally_in name registry.now.shown.services)) }
 {
     match registry.named(name) {
         Some(service) => { Choice::Failure(permafails(service.tally(), now, seconds, count, list)) }
@@ -171,7 +181,7 @@ fn scan<A: Allocator + Copy>(
     listing: &[Entry],
     closing: bool,
 ) -> Result<Choice<'_>, NoMemory>
-    ensures { IfOk result (λ choice. plain choice ≡ scan_choice closing listing.now) }
+    ensures { IfOk result (λ choice. chosen_of choice ≡ scan_choice closing listing.now) }
 {
     if closing {
         return Ok(Choice::Refuse(Refusal::Closing));
@@ -189,7 +199,8 @@ fn serials_of<A: Allocator + Copy>(
 ) -> Option<ArrayVec<Sid, 16>>
     requires { length names.now ≤ 16 }
     ensures { option_map (λ sids. sids.items) result
-        ≡ (if all_named names.now (charts_of registry.now.shown.services) then Some (serials_named names.now (charts_of registry.now.shown.services)) else None) }
+        ≡ (if all_named names.now (charts_of registry.now.shown.services)
+        then Some (serials_named names.now (charts_of registry.now.shown.services)) else None) }
 {
     let mut sids = ArrayVec::new();
     for name in names {
@@ -210,7 +221,8 @@ fn wait<'a, A: Allocator + Copy>(
     timeout: u32,
     names: &[Name],
 ) -> Result<Choice<'a>, NoMemory>
-    ensures { IfOk result (λ choice. plain choice ≡ wait_choice condition mode timeout names.now (charts_of registry.now.shown.services)) }
+    ensures { IfOk result (λ choice. chosen_of choice
+        ≡ wait_choice condition mode timeout names.now (charts_of registry.now.shown.services)) }
 {
     if names.is_empty() {
         return Ok(Choice::Refuse(Refusal::Empty));
@@ -229,7 +241,8 @@ fn wait<'a, A: Allocator + Copy>(
 
 // A subscription to the event directory of a service or to a free one.
 fn subscribe<'a, A: Allocator + Copy>(registry: &Registry<A>, target: Target) -> Choice<'a>
-    ensures { plain result ≡ subscribe_choice (source_named target (charts_of registry.now.shown.services)) }
+    ensures { chosen_of result ≡ subscribe_choice
+        (source_named target (charts_of registry.now.shown.services)) }
 {
     let source = match target {
         Target::Directory(name) => Source::Directory(name),
@@ -243,7 +256,7 @@ fn subscribe<'a, A: Allocator + Copy>(registry: &Registry<A>, target: Target) ->
 
 // A message; the event directory of a service takes none from outside.
 fn send<'a>(target: Target, message: &'a Message) -> Choice<'a>
-    ensures { plain result ≡ send_choice target message.now }
+    ensures { chosen_of result ≡ send_choice target message.now }
 {
     match target {
         Target::Service(_) => Choice::Refuse(Refusal::Reserved),
@@ -260,10 +273,16 @@ pub fn choose<'a, A: Allocator + Copy>(
     now: At,
 ) -> Result<Choice<'a>, NoMemory>
     requires { All (λ c. c.generation + 1 < 2 ^ 64) (charts_of registry.now.shown.services) }
-    ensures chosen { IfOk result (λ choice. (m : Machine) → (history : List Moment) → HasFired closing now registry.now.shown.services history m → Chooses act.now m registry.now.shown.services (plain choice)) }
-    ensures orderly { IfOk result (λ choice. registry.now.shown.next_sid + 65 < 2 ^ 64 → IsOrderly registry.now.shown.next_sid (chosen_work (plain choice))) }
+    ensures chosen { IfOk result
+        (λ choice. (m : Machine) → (history : List Moment)
+        → HasFired closing now registry.now.shown.services history m
+        → Chooses act.now m registry.now.shown.services (chosen_of choice)) }
+    ensures orderly { IfOk result
+        (λ choice. registry.now.shown.next_sid + 65 < 2 ^ 64
+        → IsOrderly registry.now.shown.next_sid (chosen_work (chosen_of choice))) }
     ensures quiet { is_reading act.now ≡ true → IsOk result }
-    ensures idle { is_reading act.now ≡ true → IfOk result (λ choice. AsksNothing now (plain choice)) }
+    ensures idle { is_reading act.now ≡ true
+        → IfOk result (λ choice. AsksNothing now (chosen_of choice)) }
 {
     match act {
         Act::Scan(listing) => scan(alloc, listing.entries(), closing),
@@ -308,6 +327,6 @@ pub fn choose<'a, A: Allocator + Copy>(
         Act::Unsubscribe(id) => Ok(Choice::Unsubscribe(*id)),
         Act::Send(target, message) => Ok(send(*target, message)),
         Act::MakeDir(name) => Ok(Choice::MakeDirectory(*name)),
-        Act::Tick => Ok(Choice::Leave),
+        Act::Tick => Ok(Choice::Nothing),
     }
 }

@@ -1,3 +1,4 @@
+//! What a step gives: its reply, events, orders, matches and releases.
 ghost use Rattle.std.specs.Prelude.{◌≡◌, ◌++◌, ◌∷◌, ◌+◌, ◌≤◌, [], length, map, OnOk, IsOk};
 ghost use Rattle.tree_core.specs.Listening.{as_match, as_release};
 ghost use Rattle.tree_core.specs.Plan.{released_by_answer};
@@ -5,11 +6,11 @@ ghost use Rattle.tree_core.specs.declared.reply.Reply.TheVariants.{Done};
 
 use super::reply::Reply;
 use arrayvec::ArrayVec;
-use event_directory::{DirectoryPlan, Hit};
+use event_directory::{DirectoriesPlan, Hit};
 use s6_events::{NoMemory, Order, SubId, WaitId};
 use std::alloc::Allocator;
 use svscan_core::Event;
-use wait_conditions::{Verdict, WaitAnswer, WaitPlan};
+use wait_conditions::{Verdict, WaitAnswer, WaitsPlan};
 
 /// A hit of a subscription.
 #[derive(Clone, Copy, PartialEq, Eq, Debug)]
@@ -37,7 +38,7 @@ pub struct Effect<A: Allocator> {
 }
 
 impl<A: Allocator + Copy> Effect<A> {
-    /// Nothing yet. It takes no memory.
+    /// Nothing yet.
     pub fn new(alloc: A) -> Effect<A>
         ensures reply { result.reply ≡ Done }
         ensures events { result.events.items ≡ [] }
@@ -87,11 +88,13 @@ impl<A: Allocator + Copy> Effect<A> {
     }
 
     // The matches of a step.
-    pub(crate) fn match_all(&mut self, plan: &DirectoryPlan<A>) -> Result<(), NoMemory>
+    pub(crate) fn match_all(&mut self, plan: &DirectoriesPlan<A>) -> Result<(), NoMemory>
         ensures reply { self.new.reply ≡ self.old.reply }
         ensures events { self.new.events.items ≡ self.old.events.items }
         ensures orders { self.new.orders.items ≡ self.old.orders.items }
-        ensures matched { OnOk result (self.new.matched.items ≡ self.old.matched.items ++ map as_match plan.now.matches.items) }
+        ensures matched { OnOk result
+            (self.new.matched.items ≡ self.old.matched.items
+            ++ map as_match plan.now.matches.items) }
         ensures released { self.new.released.items ≡ self.old.released.items }
         ensures quiet { plan.now.matches.items ≡ [] → IsOk result }
     {
@@ -110,21 +113,26 @@ impl<A: Allocator + Copy> Effect<A> {
         ensures events { self.new.events.items ≡ self.old.events.items }
         ensures orders { self.new.orders.items ≡ self.old.orders.items }
         ensures matched { self.new.matched.items ≡ self.old.matched.items }
-        ensures released { OnOk result (self.new.released.items ≡ self.old.released.items ++ as_release (waiter, verdict) ∷ []) }
+        ensures released { OnOk result
+            (self.new.released.items ≡ self.old.released.items ++ as_release (waiter, verdict)
+            ∷ []) }
     {
         self.released.push(Release { waiter, verdict })?;
         Ok(())
     }
 
     // The waiters that a step releases: those of its moments, and then the one that it makes, where that is released at once.
-    pub(crate) fn release_all(&mut self, plan: &WaitPlan<A>) -> Result<(), NoMemory>
+    pub(crate) fn release_all(&mut self, plan: &WaitsPlan<A>) -> Result<(), NoMemory>
         ensures reply { self.new.reply ≡ self.old.reply }
         ensures events { self.new.events.items ≡ self.old.events.items }
         ensures orders { self.new.orders.items ≡ self.old.orders.items }
         ensures matched { self.new.matched.items ≡ self.old.matched.items }
         ensures released { OnOk result (self.new.released.items
-            ≡ self.old.released.items ++ (map as_release plan.now.released.items ++ map as_release (released_by_answer plan.now.answer))) }
-        ensures quiet { plan.now.released.items ≡ [] → released_by_answer plan.now.answer ≡ [] → IsOk result }
+            ≡ self.old.released.items ++
+            (map as_release plan.now.released.items
+            ++ map as_release (released_by_answer plan.now.answer))) }
+        ensures quiet { plan.now.released.items ≡ [] → released_by_answer plan.now.answer ≡ []
+            → IsOk result }
     {
         for (waiter, verdict) in plan.released.as_slice() {
             self.release(*waiter, *verdict)?;

@@ -1,3 +1,4 @@
+//! The inputs of a tree: who, when, and which act.
 ghost use Rattle.std.specs.Prelude.{◌≡◌};
 
 use super::names::Names;

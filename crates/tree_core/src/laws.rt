@@ -14,14 +14,15 @@ ghost use Rattle.tree_core.specs.declared.input.Input.{Input};
 use std::alloc::Allocator;
 
 /// A scan takes the names of its listing in the order of their bytes: they rise, and a name is among them where it is in the
-/// listing. This project's own.
+/// listing.
 pub fn byte_order()
     ensures { (listing : List (List ℕ)) → IsInByteOrder listing (in_byte_order listing) }
 {}
 
 /// After a step whose terminate was done no later step starts a run, whatever its inputs are. Page `s6-svscanctl`, `-t`.
 pub fn closing<A: Allocator>()
-    ensures { (m : Machine) → (input : Input A) → (later : List (Input A)) → StaysClosed m input later }
+    ensures { (m : Machine) → (input : Input A) → (later : List (Input A))
+        → StaysClosed m input later }
 {}
 
 /// In each run from the start the letters of each service are the beginning of a word of the event grammar.
@@ -32,23 +33,27 @@ pub fn letters<A: Allocator>()
 /// In each run from the start the runs of a service have the generations 1, 2, 3 and so on, and each comes only after the one before
 /// it could not be started or died.
 pub fn one_life<A: Allocator>()
-    ensures { (inputs : List (Input A)) → (input : Input A) → (sid : ℕ) → HasOneLife inputs input sid }
+    ensures { (inputs : List (Input A)) → (input : Input A) → (sid : ℕ)
+        → HasOneLife inputs input sid }
 {}
 
 /// In each run from the start a signal goes to a run whose start was reported in that step or before, and whose death was not
 /// reported before that step.
 pub fn signals<A: Allocator>()
-    ensures { (inputs : List (Input A)) → (input : Input A) → (sid : ℕ) → SignalsWhatIsThere inputs input sid }
+    ensures { (inputs : List (Input A)) → (input : Input A) → (sid : ℕ)
+        → SignalsWhatIsThere inputs input sid }
 {}
 
 /// In each run from the start, after a permanent failure of a service no step starts a run of it, until a step with a letter u for
 /// it or an s of it.
 pub fn permanent<A: Allocator>()
-    ensures { (inputs : List (Input A)) → (input : Input A) → (sid : ℕ) → RestsAfterFailure inputs input sid }
+    ensures { (inputs : List (Input A)) → (input : Input A) → (sid : ℕ)
+        → RestsAfterFailure inputs input sid }
 {}
 
 /// In each run from the start, a step that starts a run of a service that has died, and has no letter u for it, does so at least a
 /// second after its last death, unless it had been ready for more than a second then.
 pub fn pause<A: Allocator>()
-    ensures { (inputs : List (Input A)) → (input : Input A) → (sid : ℕ) → PausesAfterDeath inputs input sid }
+    ensures { (inputs : List (Input A)) → (input : Input A) → (sid : ℕ)
+        → PausesAfterDeath inputs input sid }
 {}

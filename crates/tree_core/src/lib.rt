@@ -18,4 +18,4 @@ pub use names::Names;
 pub use reply::{Refusal, Reply, ScanReport, TallyReport};
 pub use svscan_core::{Entry, Event, Listed, ScanOrder};
 pub use tree::Tree;
-pub use wait_conditions::{Standing, Verdict};
+pub use wait_conditions::{Verdict, WaitState};

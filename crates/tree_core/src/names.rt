@@ -1,6 +1,6 @@
 //! Names of services, as a wait has them.
 ghost use Rattle.std.specs.Prelude.{◌≡◌, IfOk};
-ghost use Rattle.svscan_core.specs.Names.{repeats as name_repeats};
+ghost use Rattle.svscan_core.specs.Names.{repeats_name};
 
 use s6_events::{Name, NoMemory};
 use std::alloc::Allocator;
@@ -39,7 +39,7 @@ impl<A: Allocator> Names<A> {
 
 /// Whether a name stands twice among these. `NoMemory` where a growth was refused.
 pub fn has_repeated_name<A: Allocator + Copy>(alloc: A, names: &[Name]) -> Result<bool, NoMemory>
-    ensures { IfOk result (λ repeats. repeats ≡ name_repeats names.now) }
+    ensures { IfOk result (λ repeats. repeats ≡ repeats_name names.now) }
 {
     let mut set = BTreeSet::new(alloc);
     let mut repeats = false;

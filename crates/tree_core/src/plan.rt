@@ -1,18 +1,19 @@
+//! A step that is known before anything is changed.
 ghost use Rattle.std.specs.Prelude.{ℕ, false, ◌≡◌, ◌+◌, ◌*◌, ◌<◌, ◌≤◌, ◌^◌, ◌++◌, List, [], map, max, length, All, IfOk, IsOk, IsOkAnd, OnOk};
 ghost use Rattle.deadlines.specs.declared.timer.Timer.{Timer};
-ghost use Rattle.deadlines.specs.Timers.{changed_all};
+ghost use Rattle.deadlines.specs.Timers.{with_timer_changes};
 ghost use Rattle.event_directory.specs.Changes.{Offer};
-ghost use Rattle.event_directory.specs.Remembered.{committed};
+ghost use Rattle.event_directory.specs.Remembered.{directories_after_commit};
 ghost use Rattle.s6_events.specs.At.{last_moment};
 ghost use Rattle.svscan_core.specs.Moves.{moment_of};
 ghost use Rattle.svscan_core.specs.Table.{charts_of};
 ghost use Rattle.svscan_core.specs.Timers.{TimersAgree};
-ghost use Rattle.svscan_core.specs.Registry.{worked_of};
+ghost use Rattle.svscan_core.specs.Registry.{result_of};
 ghost use Rattle.svscan_core.specs.Work.{AreDue, closing_after};
 ghost use Rattle.tree_core.specs.Acts.{tally_reply};
 ghost use Rattle.tree_core.specs.Machine.{Machine};
-ghost use Rattle.wait_conditions.specs.Stands.{shown};
-ghost use Rattle.tree_core.specs.Plan.{present, plain, lists_more, tally_in, chosen_work, chosen_reply, waiter_reply, directory_reply, IsNow, Plans, IsQuiet};
+ghost use Rattle.wait_conditions.specs.Stands.{waits_shown};
+ghost use Rattle.tree_core.specs.Plan.{present_state, chosen_of, lists_more, tally_in, chosen_work, chosen_reply, waiter_reply, directory_reply, IsNow, Plans, IsQuiet};
 ghost use Rattle.tree_core.specs.Step.{clock_moments, step_limit};
 
 use super::choice::{Choice, choose};
@@ -51,7 +52,8 @@ fn moments_of<A: Allocator + Copy>(
     at: At,
     events: &[Event],
 ) -> Result<Vec<Moment, A>, NoMemory>
-    ensures moments { IfOk result (λ moments. moments.items ≡ clock_moments clock at ++ map moment_of events.now) }
+    ensures moments { IfOk result
+        (λ moments. moments.items ≡ clock_moments clock at ++ map moment_of events.now) }
     ensures count { IfOk result (λ moments. length moments.items ≤ 1 + length events.now) }
     ensures quiet { at ≤ clock → events.now ≡ [] → IsOkAnd result (λ moments. moments.items ≡ []) }
 {
@@ -71,7 +73,8 @@ fn tally_of<A: Allocator + Copy>(
     registry: &Registry<A>,
     name: Name,
 ) -> Result<Reply<A>, NoMemory>
-    ensures { IfOk result (λ reply. reply ≡ tally_reply (tally_in name registry.now.shown.services)) }
+    ensures { IfOk result (λ reply. reply
+        ≡ tally_reply (tally_in name registry.now.shown.services)) }
 {
     match registry.named(name) {
         Some(service) => Ok(Reply::Tally(TallyReport::new(service.tally().list(alloc)?))),
@@ -113,8 +116,11 @@ fn reply_to<A: Allocator + Copy>(
     waiters: &WaitAnswer,
     directories: &DirectoryAnswer,
 ) -> Result<Reply<A>, NoMemory>
-    ensures reply { IfOk result (λ reply. reply ≡ chosen_reply (plain choice.now) registry.now.shown.services (worked_of registry.now.prepared) (record { waiters = waiters.now; directories = directories.now })) }
-    ensures quiet { lists_more (plain choice.now) ≡ false → IsOk result }
+    ensures reply { IfOk result (λ reply. reply
+        ≡ chosen_reply (chosen_of choice.now) registry.now.shown.services
+        (result_of registry.now.prepared)
+        (record { waiters = waiters.now; directories = directories.now })) }
+    ensures quiet { lists_more (chosen_of choice.now) ≡ false → IsOk result }
 {
     Ok(match choice {
         Choice::Refuse(why) => Reply::Refused(*why),
@@ -131,7 +137,7 @@ fn reply_to<A: Allocator + Copy>(
         | Choice::Send(_, _)
         | Choice::Subscribe(_)
         | Choice::Unsubscribe(_) => directory_reply(directories),
-        Choice::Report(_, _) | Choice::Leave | Choice::Letters(_, _) | Choice::Command(_) => {
+        Choice::Report(_, _) | Choice::Nothing | Choice::Letters(_, _) | Choice::Command(_) => {
             Reply::Done
         }
     })
@@ -139,7 +145,7 @@ fn reply_to<A: Allocator + Copy>(
 
 // After a terminate the tree is closing.
 fn closes(choice: &Choice, closing: bool) -> bool
-    ensures { result ≡ closing_after (chosen_work (plain choice.now)) closing }
+    ensures { result ≡ closing_after (chosen_work (chosen_of choice.now)) closing }
 {
     closing || matches!(choice, Choice::Command(ScanOrder::Terminate))
 }
@@ -157,7 +163,8 @@ pub fn plan_step<A: Allocator + Copy>(
     effect: &mut Effect<A>,
 ) -> Result<StepPlan<A>, NoMemory>
     requires due { AreDue due.now (max clock input.now.at) (charts_of registry.old.shown.services) }
-    requires generations { All (λ c. c.generation + 2 < 2 ^ 64) (charts_of registry.old.shown.services) }
+    requires generations { All (λ c. c.generation + 2 < 2 ^ 64)
+        (charts_of registry.old.shown.services) }
     requires next { registry.old.shown.next_sid + 65 < 2 ^ 64 }
     requires waiters { waits.old.next < 2 ^ 63 }
     requires subscriptions { directories.old.shown.next < 2 ^ 63 }
@@ -166,17 +173,26 @@ pub fn plan_step<A: Allocator + Copy>(
     requires matched { effect.old.matched.items ≡ [] }
     requires released { effect.old.released.items ≡ [] }
     ensures shown { registry.new.shown ≡ registry.old.shown }
-    ensures waits { shown waits.new ≡ shown waits.old }
+    ensures waits { waits_shown waits.new ≡ waits_shown waits.old }
     ensures directories { directories.new.shown ≡ directories.old.shown }
-    ensures step { IfOk result (λ plan. (steps : ℕ) → steps < step_limit → (m : Machine) → IsNow (present clock steps closing registry.old.shown.services registry.old.shown.next_sid (shown waits.old) directories.old.shown) m
-        → Plans m input.now plan registry.new.prepared waits.new.prepared directories.new.prepared effect.new) }
-    ensures grows { OnOk result ((n : ℕ) → All (λ c. c.generation ≤ n) (charts_of registry.old.shown.services) → All (λ c. c.generation ≤ n + 2) (charts_of registry.new.prepared.services)) }
+    ensures step { IfOk result (λ plan. (steps : ℕ) → steps < step_limit → (m : Machine) → IsNow (present_state clock steps closing registry.old.shown.services registry.old.shown.next_sid (waits_shown waits.old) directories.old.shown) m
+        → Plans m input.now plan registry.new.prepared waits.new.prepared directories.new.prepared
+        effect.new) }
+    ensures grows { OnOk result ((n : ℕ)
+        → All (λ c. c.generation ≤ n) (charts_of registry.old.shown.services)
+        → All (λ c. c.generation ≤ n + 2) (charts_of registry.new.prepared.services)) }
     ensures next { OnOk result (registry.new.prepared.next_sid ≤ registry.old.shown.next_sid + 64) }
     ensures waiters { OnOk result (waits.new.prepared.next ≤ waits.old.next + 1) }
-    ensures subscriptions { OnOk result ((offer : Offer) → (committed directories.new.prepared offer).next ≤ directories.old.shown.next + 1) }
+    ensures subscriptions { OnOk result
+        ((offer : Offer) → (directories_after_commit directories.new.prepared offer).next
+        ≤ directories.old.shown.next + 1) }
     ensures count { IfOk result (λ plan. length plan.moments.items ≤ 1024) }
-    ensures timers { IfOk result (λ plan. (timers : List Timer) → TimersAgree timers (charts_of registry.old.shown.services) → TimersAgree (changed_all plan.timers.items timers) (charts_of registry.new.prepared.services)) }
-    ensures quiet { IsQuiet input.now clock (charts_of registry.old.shown.services) → due.now ≡ [] → IsOkAnd result (λ plan. (plan.moments.items ≡ []) × (plan.timers.items ≡ [])) }
+    ensures timers { IfOk result
+        (λ plan. (timers : List Timer) → TimersAgree timers (charts_of registry.old.shown.services)
+        → TimersAgree (with_timer_changes plan.timers.items timers)
+        (charts_of registry.new.prepared.services)) }
+    ensures quiet { IsQuiet input.now clock (charts_of registry.old.shown.services) → due.now ≡ []
+        → IsOkAnd result (λ plan. (plan.moments.items ≡ []) × (plan.timers.items ≡ [])) }
 {
     let alloc = registry.allocator();
     let _count = registry.len();

@@ -1,3 +1,4 @@
+//! The replies to an act, and the reasons of a refusal.
 ghost use Rattle.std.specs.Prelude.{◌≡◌};
 
 use s6_events::{At, Exit, Name, Sid, SubId, WaitId};
@@ -7,7 +8,7 @@ use supervise_core::Row;
 use svscan_core::Listed;
 
 /// Why an act was refused. A refused act changes nothing itself; the clock and the timers of its step stand. The reasons are
-/// this project's own.
+/// chosen here.
 #[derive(Clone, Copy, Debug, PartialEq, Eq)]
 pub enum Refusal {
     /// No service has this name or serial.

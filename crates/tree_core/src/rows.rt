@@ -1,3 +1,4 @@
+//! The status rows of the services.
 ghost use Rattle.std.specs.Prelude.{◌≡◌, ◌<◌, List, Some, slice_get, length, map, find, bytes_eq, option_map};
 ghost use Rattle.s6_events.specs.declared.moment.Moment.{Moment};
 ghost use Rattle.supervise_core.specs.StatusRow.{status_row};
@@ -13,7 +14,8 @@ use svscan_core::Registry;
 /// The status row of the service of the name.
 pub fn row_of<A: Allocator + Copy>(registry: &Registry<A>, name: Name, now: At) -> Option<Row>
     ensures { (history : List Moment) → AllAgree registry.now.shown.services history
-        → result ≡ option_map (status_row history now) (find (λ c. bytes_eq name c.name) (charts_of registry.now.shown.services)) }
+        → result ≡ option_map (status_row history now)
+        (find (λ c. bytes_eq name c.name) (charts_of registry.now.shown.services)) }
 {
     Some(registry.named(name)?.row(now))
 }
@@ -22,7 +24,8 @@ pub fn row_of<A: Allocator + Copy>(registry: &Registry<A>, name: Name, now: At) 
 fn row_at<A: Allocator + Copy>(registry: &Registry<A>, place: usize, now: At) -> Row
     requires { place < length registry.now.shown.services }
     ensures { (history : List Moment) → AllAgree registry.now.shown.services history
-        → slice_get (map (status_row history now) (charts_of registry.now.shown.services)) place ≡ Some result }
+        → slice_get (map (status_row history now) (charts_of registry.now.shown.services)) place
+        ≡ Some result }
 {
     match registry.at(place) {
         Some(service) => service.row(now),
@@ -32,7 +35,8 @@ fn row_at<A: Allocator + Copy>(registry: &Registry<A>, place: usize, now: At) ->
 
 /// The status rows of all services.
 pub fn rows_of<A: Allocator + Copy>(registry: &Registry<A>, now: At) -> ArrayVec<Row, 64>
-    ensures { (history : List Moment) → AllAgree registry.now.shown.services history → result.items ≡ map (status_row history now) (charts_of registry.now.shown.services) }
+    ensures { (history : List Moment) → AllAgree registry.now.shown.services history
+        → result.items ≡ map (status_row history now) (charts_of registry.now.shown.services) }
 {
     let mut rows = ArrayVec::new();
     for place in 0..registry.len() {

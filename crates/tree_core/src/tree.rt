@@ -1,12 +1,13 @@
+//! The tree: one input is one step.
 ghost use Rattle.std.specs.Prelude.{◌≡◌, IfOk, OnOk, IfErr, OnErr, IsOk, option_map};
 ghost use Rattle.tree_core.specs.Acts.{offer_of};
 ghost use Rattle.tree_core.specs.Effect.{outcome_of};
 ghost use Rattle.event_directory.specs.Directories.{list_named};
 ghost use Rattle.event_directory.specs.Pattern.{finds};
-ghost use Rattle.wait_conditions.specs.Watch.{standing_named};
+ghost use Rattle.wait_conditions.specs.Watch.{state_named};
 ghost use Rattle.tree_core.specs.Machine.{new_machine, directories_of, watch_of, Machine};
 ghost use Rattle.tree_core.specs.Plan.{IsQuiet};
-ghost use Rattle.tree_core.specs.Rows.{row_named, rows_of as all_rows};
+ghost use Rattle.tree_core.specs.Rows.{row_named, all_rows};
 ghost use Rattle.svscan_core.specs.Table.{charts_of};
 ghost use Rattle.tree_core.specs.StandsFor.{StandsFor};
 ghost use Rattle.tree_core.specs.Run.{after, outcome};
@@ -25,13 +26,13 @@ use std::alloc::Allocator;
 use std::marker::Model;
 use supervise_core::Row;
 use svscan_core::Registry;
-use wait_conditions::{Standing, Waits};
+use wait_conditions::{WaitState, Waits};
 
 /// The most steps of a tree: 2^48.
 const STEP_LIMIT: u64 = 281_474_976_710_656;
 
 /// All services, waiters and event directories, their clock and their history: the written machine, as far as it is remembered. A tree keeps the allocator
-/// that it was made with. This project's own.
+/// that it was made with.
 #[derive(Drop)]
 pub struct Tree<A: Allocator> {
     clock: At,
@@ -45,19 +46,19 @@ pub struct Tree<A: Allocator> {
 }
 
 impl<A: Allocator> Model for Tree<A> {
-    ghost use Rattle.tree_core.specs.StandsFor.{Stored};
+    ghost use Rattle.tree_core.specs.StandsFor.{StoredTree};
 
-    ghost Value = { Stored };
+    ghost Value = { StoredTree };
 
-    ghost use Rattle.tree_core.specs.TreeFields.{stored, TreeInvariant};
+    ghost use Rattle.tree_core.specs.TreeFields.{tree_view, TreeInvariant};
 
-    ghost view = { stored };
+    ghost view = { tree_view };
 
     ghost invariant = { TreeInvariant };
 }
 
 impl<A: Allocator + Copy> Tree<A> {
-    /// A tree with no service, at the moment 0. It takes no memory yet.
+    /// A tree with no service, at the moment 0.
     pub fn new(alloc: A) -> Tree<A>
         ensures { StandsFor result new_machine }
     {
@@ -79,7 +80,8 @@ impl<A: Allocator + Copy> Tree<A> {
             (outcome_of effect.new ≡ outcome m input.old) × StandsFor self.new (after m input.old)) }
         ensures err { OnErr result ((self.new ≡ self.old) × (input.new ≡ input.old)) }
         ensures spent { self.old.steps ≡ step_limit → IsOk result }
-        ensures quiet { IsQuiet input.old self.old.clock (charts_of self.old.services) → IsOk result }
+        ensures quiet { IsQuiet input.old self.old.clock (charts_of self.old.services)
+            → IsOk result }
     {
         effect.clear();
         if self.steps == STEP_LIMIT {
@@ -159,30 +161,32 @@ impl<A: Allocator + Copy> Tree<A> {
         self.clock
     }
 
-    /// The status row of the service of the name; None where there is none. Takes no memory. Page `s6-svstat`.
+    /// The status row of the service of the name; None where there is none. Page `s6-svstat`.
     pub fn row(&self, name: Name) -> Option<Row>
         ensures { (m : Machine) → StandsFor self.now m → result ≡ row_named name m }
     {
         row_of(&self.registry, name, self.clock)
     }
 
-    /// The status rows of all services, in rising serial. Takes no memory. Page `s6-svstat`.
+    /// The status rows of all services, in rising serial. Page `s6-svstat`.
     pub fn rows(&self) -> ArrayVec<Row, 64>
         ensures { (m : Machine) → StandsFor self.now m → result.items ≡ all_rows m }
     {
         rows_of(&self.registry, self.clock)
     }
 
-    /// Where the waiter of this serial stands, or None where there is none. Takes no memory. Page `s6-svwait`.
-    pub fn result(&self, id: WaitId) -> Option<Standing>
-        ensures { (m : Machine) → StandsFor self.now m → result ≡ standing_named (watch_of m) id }
+    /// Where the waiter of this serial stands, or None where there is none. Page `s6-svwait`.
+    pub fn result(&self, id: WaitId) -> Option<WaitState>
+        ensures { (m : Machine) → StandsFor self.now m → result ≡ state_named (watch_of m) id }
     {
         self.waits.result(id)
     }
 
-    /// What the subscription of this serial has heard, or None where there is none. Takes no memory. Page `s6-ftrig-listen1`.
+    /// What the subscription of this serial has heard, or None where there is none. Page `s6-ftrig-listen1`.
     pub fn list(&self, id: SubId) -> Option<SubView<'_>>
-        ensures { (m : Machine) → StandsFor self.now m → option_map (λ v. (v.letters.now, v.state)) result ≡ list_named finds id (directories_of m) }
+        ensures { (m : Machine) → StandsFor self.now m
+            → option_map (λ v. (v.letters.now, v.state)) result
+            ≡ list_named finds id (directories_of m) }
     {
         self.directories.list(id)
     }

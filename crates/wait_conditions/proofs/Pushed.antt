@@ -1,8 +1,8 @@
 -- One more moment changes what is known of a service by its mark alone.
 use Rattle.std.proofs.Common.{◌≡◌, ◌<◌, ◌+◌, ℕ, List, [], ◌∷◌, ◌++◌, Option, is_some, length, take, get_or, sym, ap, ◌∙◌, rules}
 use Rattle.std.proofs.lemmas.List.{take_more}
-use Rattle.wait_conditions.specs.declared.service_state.ServiceState.{ServiceState}
-use Rattle.wait_conditions.specs.declared.service_state.SinceState.{SinceState}
+use Rattle.wait_conditions.specs.declared.supervisor_state.SupervisorState.{SupervisorState}
+use Rattle.wait_conditions.specs.declared.supervisor_state.SinceState.{SinceState}
 use Rattle.s6_events.specs.declared.mark.Mark.{Mark}
 use Rattle.s6_events.specs.declared.moment.Moment.{Moment}
 use Rattle.s6_events.specs.Clock.{clock_of}
@@ -11,10 +11,10 @@ use Rattle.s6_events.specs.CurrentLetter.{start_or, tells_state, mark_or_done}
 use Rattle.s6_events.proofs.Newest.{newest-push}
 use Rattle.wait_conditions.specs.Holds.{is_spawned}
 use Rattle.wait_conditions.specs.Fails.{is_failed, tells_failure, is_ended, tells_supervisor}
-use Rattle.wait_conditions.specs.ServiceState.{state_of, since_of, state_after, since_after}
+use Rattle.wait_conditions.specs.SupervisorState.{state_of, since_of, state_after, since_after}
 
 -- what the newest marks tell
-abbrev state_told : Option Dated → Option Dated → ServiceState
+abbrev state_told : Option Dated → Option Dated → SupervisorState
 state_told letter supervisor = record { letter = mark_or_done letter; ended = is_ended supervisor }
 
 abbrev since_told : Option Dated → Option Dated → SinceState
@@ -29,7 +29,8 @@ since_newer : (at : ℕ) (mark : Option Mark) (s f : Option Dated)
     → since_told (newer is_spawned at mark s) (newer tells_failure at mark f) ≡ since_after mark (since_told s f)
 since_newer at mark s f = search rules
 
-pub state_of-push : (sid : ℕ) (moments : List Moment) (m : Moment) → state_of sid (moments ++ m ∷ []) ≡ state_after (mark_of sid m) (state_of sid moments)
+pub state_of-push : (sid : ℕ) (moments : List Moment) (m : Moment)
+    → state_of sid (moments ++ m ∷ []) ≡ state_after (mark_of sid m) (state_of sid moments)
 state_of-push sid moments m =
     (λ i. state_told (newest-push (start_or tells_state) sid moments m i) (newest-push tells_supervisor sid moments m i))
     ∙ state_newer (clock_of moments) (mark_of sid m) (newest (start_or tells_state) sid moments) (newest tells_supervisor sid moments)
@@ -40,13 +41,15 @@ since_of-push sid since m =
     ∙ since_newer (clock_of since) (mark_of sid m) (newest is_spawned sid since) (newest tells_failure sid since)
 
 -- a loop's step over the moments
-pub state_more : (sid : ℕ) (moments : List Moment) (i : ℕ) (m : Moment) (state : ServiceState) → i < length moments → m ≡ get_or moments i m → state ≡ state_of sid (take i moments) → state_after (mark_of sid m) state ≡ state_of sid (take (i + 1) moments)
+pub state_more : (sid : ℕ) (moments : List Moment) (i : ℕ) (m : Moment) (state : SupervisorState) → i < length moments → m ≡ get_or moments i m
+    → state ≡ state_of sid (take i moments) → state_after (mark_of sid m) state ≡ state_of sid (take (i + 1) moments)
 state_more sid moments i m state h is e =
     ap (state_after (mark_of sid m)) e
     ∙ (sym (state_of-push sid (take i moments) m)
     ∙ ap (state_of sid) (ap (λ n. take i moments ++ n ∷ []) is ∙ sym (take_more moments i m h)))
 
-pub since_more : (sid : ℕ) (moments : List Moment) (i : ℕ) (m : Moment) (state : SinceState) → i < length moments → m ≡ get_or moments i m → state ≡ since_of sid (take i moments) → since_after (mark_of sid m) state ≡ since_of sid (take (i + 1) moments)
+pub since_more : (sid : ℕ) (moments : List Moment) (i : ℕ) (m : Moment) (state : SinceState) → i < length moments → m ≡ get_or moments i m
+    → state ≡ since_of sid (take i moments) → since_after (mark_of sid m) state ≡ since_of sid (take (i + 1) moments)
 since_more sid moments i m state h is e =
     ap (since_after (mark_of sid m)) e
     ∙ (sym (since_of-push sid (take i moments) m)

@@ -56,4 +56,5 @@ failure_at wanted failed ended =
 -- the failure of the condition of a service, if it fails; an O counts since the waiter began
 abbrev pub failure : Condition → ℕ → List Moment → List Moment → Option Failure
 failure wanted sid past since =
-    if holds wanted sid past since then None else failure_at wanted (has_failed sid since) (has_ended sid (past ++ since))
+    if holds wanted sid past since then None
+    else failure_at wanted (has_failed sid since) (has_ended sid (past ++ since))

@@ -3,37 +3,39 @@ use Rattle.std.specs.Prelude.{◌≡◌, ℕ, ◌+◌, ◌≤◌, List, [], ◌�
 use Rattle.s6_events.specs.Rising.{AreRising}
 use Rattle.s6_events.specs.declared.moment.Moment.{Moment}
 use Rattle.wait_conditions.specs.declared.verdict.Verdict.{Verdict}
-use Rattle.wait_conditions.specs.declared.verdict.Standing.TheVariants.{Waiting, Released}
-use Rattle.wait_conditions.specs.Verdict.{Asked, verdict}
-use Rattle.wait_conditions.specs.Release.{standing, settled, IsLeast}
-use Rattle.wait_conditions.specs.Stands.{Shown, StandsFor}
+use Rattle.wait_conditions.specs.declared.verdict.WaitState.TheVariants.{Waiting, Released}
+use Rattle.wait_conditions.specs.Verdict.{WaitTerms, verdict}
+use Rattle.wait_conditions.specs.Release.{release_state, first_release_of, IsLeast}
+use Rattle.wait_conditions.specs.Stands.{WaitsShown, WaitsStandFor}
 use Rattle.wait_conditions.specs.Watch.{Watch, releases}
 
 -- a released waiter has the verdict that comes at the least number of moments since its place
 abbrev pub ReleasedAtTheLeast : Type 0
 ReleasedAtTheLeast =
-    (a : Asked) (past since : List Moment) (v : Verdict) → standing a past since ≡ Released v
+    (a : WaitTerms) (past since : List Moment) (v : Verdict) → release_state a past since ≡ Released v
     → (k : ℕ) × IsLeast (verdict a past) since v k
 
 -- a waiter that waits has waited at each number of moments since its place
 abbrev pub WaitsThroughout : Type 0
 WaitsThroughout =
-    (a : Asked) (past since : List Moment) → standing a past since ≡ Waiting
+    (a : WaitTerms) (past since : List Moment) → release_state a past since ≡ Waiting
     → (k : ℕ) → k ≤ length since → verdict a past (take k since) ≡ Waiting
 
 -- one moment more: a waiter that waits takes the verdict over all of them, and a released one keeps its own
 abbrev pub GrowsByMoments : Type 0
 GrowsByMoments =
-    (a : Asked) (past since : List Moment) (m : Moment)
-    → standing a past (since ++ m ∷ []) ≡ settled (standing a past since) (verdict a past (since ++ m ∷ []))
+    (a : WaitTerms) (past since : List Moment) (m : Moment)
+    → release_state a past (since ++ m ∷ [])
+    ≡ first_release_of (release_state a past since) (verdict a past (since ++ m ∷ []))
 
 -- a waiter that one moment more releases is released at the least number of moments since its place, and that number counts this one
 abbrev pub ReleasedByTheLastMoment : Type 0
 ReleasedByTheLastMoment =
-    (a : Asked) (past since : List Moment) (m : Moment) (v : Verdict)
-    → standing a past since ≡ Waiting → standing a past (since ++ m ∷ []) ≡ Released v
+    (a : WaitTerms) (past since : List Moment) (m : Moment) (v : Verdict)
+    → release_state a past since ≡ Waiting → release_state a past (since ++ m ∷ []) ≡ Released v
     → IsLeast (verdict a past) (since ++ m ∷ []) v (length since + 1)
 
 -- whatever stored waiters stand for, a moment's releases come in rising serial
 abbrev pub ReleasesRise : Type 0
-ReleasesRise = (s : Shown) (w : Watch) (m : Moment) → StandsFor s w → AreRising (map (λ (r : ℕ × Verdict). r.0) (releases w m))
+ReleasesRise = (s : WaitsShown) (w : Watch) (m : Moment) → WaitsStandFor s w
+    → AreRising (map (λ (r : ℕ × Verdict). r.0) (releases w m))

@@ -4,7 +4,7 @@ pub mod Fails
 pub mod Verdict
 pub mod Release
 pub mod OneMore
-pub mod ServiceState
+pub mod SupervisorState
 pub mod Waiter
 pub mod Watch
 pub mod Kept

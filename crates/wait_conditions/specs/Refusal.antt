@@ -10,15 +10,15 @@ abbrev pub is_named_in : List ℕ → ℕ → Bool
 is_named_in sids sid = list_any (λ other. other == sid) sids
 
 -- a service is named twice
-abbrev pub repeats : List ℕ → Bool
-repeats [] = false
-repeats (sid ∷ sids) = is_named_in sids sid || repeats sids
+abbrev pub repeats_serial : List ℕ → Bool
+repeats_serial [] = false
+repeats_serial (sid ∷ sids) = is_named_in sids sid || repeats_serial sids
 
 -- no service, one named twice, over 16, or 256 waiters that stand: what is found first
-abbrev pub refusal : ℕ → List ℕ → Option AddFault
-refusal standing sids =
+abbrev pub add_refusal : ℕ → List ℕ → Option AddFault
+add_refusal standing sids =
     if length sids == 0 then Some fault.Empty
-    else if repeats sids then Some fault.Repeated
+    else if repeats_serial sids then Some fault.Repeated
     else if nat_lt 16 (length sids) then Some fault.TooManyServices
     else if nat_le 256 standing then Some fault.TooMany
     else None

@@ -9,13 +9,13 @@ use Rattle.s6_events.specs.declared.condition.Mode.TheVariants as mode
 use Rattle.wait_conditions.specs.declared.failure.Failure.{Failure}
 use Rattle.wait_conditions.specs.declared.failure.Failure.TheVariants.{Permanent}
 use Rattle.wait_conditions.specs.declared.verdict.Verdict.TheVariants.{Held, Failed, Gone, TimedOut}
-use Rattle.wait_conditions.specs.declared.verdict.Standing.{Standing}
-use Rattle.wait_conditions.specs.declared.verdict.Standing.TheVariants.{Waiting, Released}
+use Rattle.wait_conditions.specs.declared.verdict.WaitState.{WaitState}
+use Rattle.wait_conditions.specs.declared.verdict.WaitState.TheVariants.{Waiting, Released}
 use Rattle.wait_conditions.specs.Holds.{holds}
 use Rattle.wait_conditions.specs.Fails.{failure}
 
 -- what a waiter was made with: a deadline is a moment in milliseconds
-pub record Asked : Type 0 where
+pub record WaitTerms : Type 0 where
   pub condition : Condition
   pub mode : Mode
   pub sids : List ℕ
@@ -32,9 +32,9 @@ is_late None since = false
 is_late (Some deadline) since = list_any (reaches deadline) since
 
 -- a failure for good
-abbrev pub is_permanent : Option Failure → Bool
-is_permanent (Some Permanent) = true
-is_permanent _ = false
+abbrev pub is_failure_for_good : Option Failure → Bool
+is_failure_for_good (Some Permanent) = true
+is_failure_for_good _ = false
 
 -- every one of the services holds, or one
 abbrev pub is_enough : Mode → (ℕ → Bool) → List ℕ → Bool
@@ -47,10 +47,11 @@ is_hopeless mode.All test sids = list_any test sids
 is_hopeless mode.One test sids = list_all test sids
 
 -- held, else failed or gone, else timed out, else waiting
-abbrev pub verdict : Asked → List Moment → List Moment → Standing
+abbrev pub verdict : WaitTerms → List Moment → List Moment → WaitState
 verdict a past since =
     if is_enough a.mode (λ sid. holds a.condition sid past since) a.sids then Released Held
     else if is_hopeless a.mode (λ sid. is_some (failure a.condition sid past since)) a.sids then
-    (if list_any (λ sid. is_permanent (failure a.condition sid past since)) a.sids then Released Failed else Released Gone)
+    (if list_any (λ sid. is_failure_for_good (failure a.condition sid past since)) a.sids then Released Failed
+    else Released Gone)
     else if is_late a.deadline since then Released TimedOut
     else Waiting

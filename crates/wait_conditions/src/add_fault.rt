@@ -1,10 +1,11 @@
+//! Why a waiter is not made.
 ghost use Rattle.std.specs.Prelude.{◌≡◌};
 ghost use Rattle.wait_conditions.specs.declared.add_fault.AddFault.TheVariants as fault;
 
 use s6_events::NoMemory;
 use thiserror::Error;
 
-/// Why a waiter was not made. This project's own; the first four are looked for in this order.
+/// Why a waiter was not made. The first four are looked for in this order.
 #[derive(Clone, Copy, Debug, PartialEq, Eq, Error)]
 pub enum AddFault {
     /// No service is named.

@@ -1,13 +1,14 @@
+//! Whether a waiter holds, fails, is late or waits.
 ghost use Rattle.std.specs.Prelude.{◌≡◌, ◌≤◌, length, take, drop};
 ghost use Rattle.std.specs.List.{list_all, list_any};
 ghost use Rattle.wait_conditions.specs.Holds.{suits, holds_at, holds};
 ghost use Rattle.wait_conditions.specs.Fails.{failure_at, failure};
-ghost use Rattle.wait_conditions.specs.Verdict.{reaches, is_late, is_permanent, is_enough, is_hopeless, verdict};
-ghost use Rattle.wait_conditions.specs.Waiter.{asked_of, holds_for, fails_for, fails_for_good};
+ghost use Rattle.wait_conditions.specs.Verdict.{reaches, is_late, is_failure_for_good, is_enough, is_hopeless, verdict};
+ghost use Rattle.wait_conditions.specs.Waiter.{terms_of, holds_for, fails_for, fails_for_good};
 
 use crate::failure::Failure;
-use crate::service_state::{read_since, read_state};
-use crate::verdict::{Standing, Verdict};
+use crate::supervisor_state::{read_since, read_state};
+use crate::verdict::{Verdict, WaitState};
 use crate::waiter::Waiter;
 use s6_events::{Condition, Mark, Mode, Moment, Sid};
 
@@ -117,7 +118,8 @@ fn one_fails(waiter: &Waiter, moments: &[Moment]) -> bool
 
 fn enough_hold(waiter: &Waiter, moments: &[Moment]) -> bool
     requires { waiter.now.place ≤ length moments.now }
-    ensures { result ≡ is_enough waiter.now.mode (holds_for waiter.now moments.now) waiter.now.sids.items }
+    ensures { result ≡ is_enough waiter.now.mode
+        (holds_for waiter.now moments.now) waiter.now.sids.items }
 {
     match waiter.mode {
         Mode::All => all_hold(waiter, moments),
@@ -127,7 +129,8 @@ fn enough_hold(waiter: &Waiter, moments: &[Moment]) -> bool
 
 fn too_many_fail(waiter: &Waiter, moments: &[Moment]) -> bool
     requires { waiter.now.place ≤ length moments.now }
-    ensures { result ≡ is_hopeless waiter.now.mode (fails_for waiter.now moments.now) waiter.now.sids.items }
+    ensures { result ≡ is_hopeless waiter.now.mode
+        (fails_for waiter.now moments.now) waiter.now.sids.items }
 {
     match waiter.mode {
         Mode::All => one_fails(waiter, moments),
@@ -136,7 +139,7 @@ fn too_many_fail(waiter: &Waiter, moments: &[Moment]) -> bool
 }
 
 fn is_permanent_failure(failure: Option<Failure>) -> bool
-    ensures { result ≡ is_permanent failure }
+    ensures { result ≡ is_failure_for_good failure }
 {
     matches!(failure, Some(Failure::Permanent))
 }
@@ -179,21 +182,22 @@ fn deadline_passed(deadline: Option<u64>, since: &[Moment]) -> bool
 }
 
 /// What the moments since a waiter began say of it.
-pub fn judge(waiter: &Waiter, moments: &[Moment]) -> Standing
+pub fn judge(waiter: &Waiter, moments: &[Moment]) -> WaitState
     requires { waiter.now.place ≤ length moments.now }
-    ensures { result ≡ verdict (asked_of waiter.now) (take waiter.now.place moments.now) (drop waiter.now.place moments.now) }
+    ensures { result ≡ verdict (terms_of waiter.now) (take waiter.now.place moments.now)
+        (drop waiter.now.place moments.now) }
 {
     if enough_hold(waiter, moments) {
-        Standing::Released(Verdict::Held)
+        WaitState::Released(Verdict::Held)
     } else if too_many_fail(waiter, moments) {
         if one_fails_for_good(waiter, moments) {
-            Standing::Released(Verdict::Failed)
+            WaitState::Released(Verdict::Failed)
         } else {
-            Standing::Released(Verdict::Gone)
+            WaitState::Released(Verdict::Gone)
         }
     } else if deadline_passed(waiter.deadline, &moments[waiter.place..]) {
-        Standing::Released(Verdict::TimedOut)
+        WaitState::Released(Verdict::TimedOut)
     } else {
-        Standing::Waiting
+        WaitState::Waiting
     }
 }

@@ -2,12 +2,12 @@
 ghost use Rattle.wait_conditions.specs.Laws.{GrowsByMoments, ReleasedAtTheLeast, ReleasedByTheLastMoment, ReleasesRise, WaitsThroughout};
 
 /// A waiter that is released has the verdict over the least number of moments since its place, from 0 on, at which its verdict
-/// isn't waiting. This project's own.
+/// isn't waiting.
 pub fn released_at_the_least()
     ensures { ReleasedAtTheLeast }
 {}
 
-/// A waiter that waits has waited at each number of moments since its place. This project's own.
+/// A waiter that waits has waited at each number of moments since its place.
 pub fn waits_throughout()
     ensures { WaitsThroughout }
 {}
@@ -19,12 +19,12 @@ pub fn one_moment_more()
 {}
 
 /// A waiter that one moment more releases is released at the least number of moments since its place, and that number counts this
-/// moment. This project's own.
+/// moment.
 pub fn released_by_the_last_moment()
     ensures { ReleasedByTheLastMoment }
 {}
 
-/// The releases of one moment come in rising serial. This project's own.
+/// The releases of one moment come in rising serial.
 pub fn releases_rise()
     ensures { ReleasesRise }
 {}

@@ -1,20 +1,21 @@
+//! Looking at each waiter after a moment, and noting its release.
 ghost use Rattle.std.specs.Prelude.{◌≡◌, ◌≤◌, ◌+◌, ◌++◌, All, length, map, vec_len, vec_capacity, option_to_list};
 ghost use Rattle.std.specs.List.{filter_map};
-ghost use Rattle.wait_conditions.specs.Kept.{kept_of, looked, release_seen};
-ghost use Rattle.wait_conditions.specs.Watch.{newly};
+ghost use Rattle.wait_conditions.specs.Kept.{waiter_view, with_state_over, release_seen};
+ghost use Rattle.wait_conditions.specs.Watch.{new_release};
 
 use crate::judging::judge;
-use crate::verdict::{Standing, Verdict};
+use crate::verdict::{Verdict, WaitState};
 use crate::waiter::Waiter;
 use s6_events::{Moment, WaitId};
 use std::alloc::Allocator;
 
 // The verdict of one that waited before.
-fn new_verdict(before: Standing, after: Standing) -> Option<Verdict>
-    ensures { result ≡ newly before after }
+fn new_verdict(before: WaitState, after: WaitState) -> Option<Verdict>
+    ensures { result ≡ new_release before after }
 {
     match (before, after) {
-        (Standing::Waiting, Standing::Released(verdict)) => Some(verdict),
+        (WaitState::Waiting, WaitState::Released(verdict)) => Some(verdict),
         _ => None,
     }
 }
@@ -22,9 +23,9 @@ fn new_verdict(before: Standing, after: Standing) -> Option<Verdict>
 // A waiter that waits takes its verdict.
 fn look(waiter: &mut Waiter, moments: &[Moment])
     requires { waiter.old.place ≤ length moments.now }
-    ensures { kept_of waiter.new ≡ looked moments.now (kept_of waiter.old) }
+    ensures { waiter_view waiter.new ≡ with_state_over moments.now (waiter_view waiter.old) }
 {
-    if waiter.standing == Standing::Waiting {
+    if waiter.standing == WaitState::Waiting {
         waiter.standing = judge(waiter, moments);
     }
 }
@@ -32,8 +33,8 @@ fn look(waiter: &mut Waiter, moments: &[Moment])
 // The same, and its release, if this brings it.
 pub fn look_for_release(waiter: &mut Waiter, moments: &[Moment]) -> Option<(WaitId, Verdict)>
     requires { waiter.old.place ≤ length moments.now }
-    ensures waiter { kept_of waiter.new ≡ looked moments.now (kept_of waiter.old) }
-    ensures release { result ≡ release_seen moments.now (kept_of waiter.old) }
+    ensures waiter { waiter_view waiter.new ≡ with_state_over moments.now (waiter_view waiter.old) }
+    ensures release { result ≡ release_seen moments.now (waiter_view waiter.old) }
 {
     let before = waiter.standing;
     look(waiter, moments);
@@ -58,10 +59,13 @@ pub fn look_at_all<A: Allocator>(
     moments: &[Moment],
     released: &mut Vec<(WaitId, Verdict), A>,
 )
-    requires placed { All (λ k. k.place ≤ length moments.now) (map kept_of waiters.old) }
+    requires placed { All (λ k. k.place ≤ length moments.now) (map waiter_view waiters.old) }
     requires room { vec_len released.old + length waiters.old ≤ vec_capacity released.old }
-    ensures waiters { map kept_of waiters.new ≡ map (looked moments.now) (map kept_of waiters.old) }
-    ensures released { released.new.items ≡ released.old.items ++ filter_map (release_seen moments.now) (map kept_of waiters.old) }
+    ensures waiters { map waiter_view waiters.new
+        ≡ map (with_state_over moments.now) (map waiter_view waiters.old) }
+    ensures released { released.new.items
+        ≡ released.old.items ++ filter_map (release_seen moments.now)
+        (map waiter_view waiters.old) }
 {
     for i in 0..waiters.len() {
         let release = look_for_release(&mut waiters[i], moments);
@@ -75,10 +79,13 @@ pub fn look_at_every<A: Allocator>(
     moments: &[Moment],
     released: &mut Vec<(WaitId, Verdict), A>,
 )
-    requires placed { All (λ k. k.place ≤ length moments.now) (map kept_of waiters.old.items) }
+    requires placed { All (λ k. k.place ≤ length moments.now) (map waiter_view waiters.old.items) }
     requires room { vec_len released.old + vec_len waiters.old ≤ vec_capacity released.old }
-    ensures waiters { map kept_of waiters.new.items ≡ map (looked moments.now) (map kept_of waiters.old.items) }
-    ensures released { released.new.items ≡ released.old.items ++ filter_map (release_seen moments.now) (map kept_of waiters.old.items) }
+    ensures waiters { map waiter_view waiters.new.items
+        ≡ map (with_state_over moments.now) (map waiter_view waiters.old.items) }
+    ensures released { released.new.items
+        ≡ released.old.items ++ filter_map (release_seen moments.now)
+        (map waiter_view waiters.old.items) }
 {
     look_at_all(waiters.as_mut_slice(), moments, released);
 }

@@ -25,7 +25,7 @@ impl<A: Allocator> Model for Moments<A> {
 }
 
 impl<A: Allocator + Copy> Moments<A> {
-    /// No moment yet. Takes no memory.
+    /// No moment yet.
     pub fn new(alloc: A) -> Moments<A>
         ensures shown { result.shown ≡ [] }
         ensures step { result.step ≡ [] }
@@ -100,7 +100,7 @@ impl<A: Allocator + Copy> Moments<A> {
         Ok(())
     }
 
-    /// The moments of the step are handed in. Takes no memory.
+    /// The moments of the step are handed in.
     pub fn settle(&mut self)
         ensures shown { self.new.shown ≡ self.old.shown ++ self.old.step }
         ensures step { self.new.step ≡ [] }

@@ -1,5 +1,6 @@
+//! Which waiters are not made, and the deadline of one that is.
 ghost use Rattle.std.specs.Prelude.{◌≡◌};
-ghost use Rattle.wait_conditions.specs.Refusal.{is_named_in, repeats, refusal, deadline_of};
+ghost use Rattle.wait_conditions.specs.Refusal.{is_named_in, repeats_serial, add_refusal, deadline_of};
 
 use crate::add_fault::AddFault;
 use s6_events::{At, Sid};
@@ -18,7 +19,7 @@ fn is_among(sid: Sid, sids: &[Sid]) -> bool
 
 // Whether a service is named twice.
 fn has_repeat(sids: &[Sid]) -> bool
-    ensures { result ≡ repeats sids.now }
+    ensures { result ≡ repeats_serial sids.now }
 {
     for i in 0..sids.len() {
         if is_among(sids[i], &sids[i + 1..]) {
@@ -30,7 +31,7 @@ fn has_repeat(sids: &[Sid]) -> bool
 
 /// Why no waiter for these services may be made, where so many stand.
 pub fn refusal_for(standing: usize, sids: &[Sid]) -> Option<AddFault>
-    ensures { result ≡ refusal standing sids.now }
+    ensures { result ≡ add_refusal standing sids.now }
 {
     if sids.is_empty() {
         Some(AddFault::Empty)

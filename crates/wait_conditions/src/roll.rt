@@ -1,16 +1,16 @@
 //! The waiters that stand, whatever the moments are.
 ghost use Rattle.std.specs.Prelude.{◌≡◌, ◌≤◌, ◌<◌, ◌+◌, ◌^◌, [], IfOk, IfErr, OnErr, None, length, map, filter};
-ghost use Rattle.wait_conditions.specs.Kept.{kept_of, is_other, standing_stored, standing_kept};
-ghost use Rattle.wait_conditions.specs.Refusal.{refusal, fault_told, deadline_of};
+ghost use Rattle.wait_conditions.specs.Kept.{waiter_view, is_other, standing_stored, standing_kept};
+ghost use Rattle.wait_conditions.specs.Refusal.{add_refusal, fault_told, deadline_of};
 ghost use Rattle.wait_conditions.specs.Stands.{shown_of, AddsWaiter, CancelsWaiter, MakesChange};
-ghost use Rattle.wait_conditions.specs.Steps.{asked_by};
-ghost use Rattle.wait_conditions.specs.Steps.Change.{add_one, cancel_one};
-ghost use Rattle.wait_conditions.specs.Watch.{asking};
+ghost use Rattle.wait_conditions.specs.Steps.{wait_request_of};
+ghost use Rattle.wait_conditions.specs.Steps.WaitRequest.{add_one, cancel_one};
+ghost use Rattle.wait_conditions.specs.Watch.{wait_terms};
 
 use crate::add_fault::AddFault;
 use crate::looking::look_for_release;
 use crate::refusing::{deadline_for, refusal_for};
-use crate::verdict::{Standing, Verdict};
+use crate::verdict::{Verdict, WaitState};
 use crate::wait_change::{WaitAnswer, WaitChange};
 use crate::waiter::Waiter;
 use arrayvec::ArrayVec;
@@ -25,7 +25,7 @@ pub struct Roll<A: Allocator> {
 }
 
 impl<A: Allocator + Copy> Roll<A> {
-    /// No waiter; the first one gets the serial 1. Takes no memory.
+    /// No waiter; the first one gets the serial 1.
     pub fn new(alloc: A) -> Roll<A>
         ensures waiters { result.waiters.items ≡ [] }
         ensures next { result.next ≡ 1 }
@@ -38,7 +38,8 @@ impl<A: Allocator + Copy> Roll<A> {
 
     /// The same waiters once more. Takes no memory where there is none.
     pub fn copied(&self, alloc: A) -> Result<Roll<A>, NoMemory>
-        ensures waiters { IfOk result (λ copy. map kept_of copy.waiters.items ≡ map kept_of self.now.waiters.items) }
+        ensures waiters { IfOk result
+            (λ copy. map waiter_view copy.waiters.items ≡ map waiter_view self.now.waiters.items) }
         ensures next { IfOk result (λ copy. copy.next ≡ self.now.next) }
     {
         let waiters = copy_all(alloc, &self.waiters)?;
@@ -49,8 +50,8 @@ impl<A: Allocator + Copy> Roll<A> {
     }
 
     /// Where the waiter of this serial stands.
-    pub fn standing(&self, id: WaitId) -> Option<Standing>
-        ensures { result ≡ standing_kept id (map kept_of self.now.waiters.items) }
+    pub fn standing(&self, id: WaitId) -> Option<WaitState>
+        ensures { result ≡ standing_kept id (map waiter_view self.now.waiters.items) }
     {
         standing_in(&self.waiters, id)
     }
@@ -67,9 +68,13 @@ impl<A: Allocator + Copy> Roll<A> {
     ) -> Result<(WaitId, Option<Verdict>), AddFault>
         requires { self.old.next < 2 ^ 63 }
         ensures ok { IfOk result (λ made. AddsWaiter (shown_of moments.now self.old) (shown_of moments.now self.new)
-            (asking condition mode sids.now (deadline_of timeout start)) made.0 made.1) }
-        ensures possible { IfOk result (λ made. refusal (length (map kept_of self.old.waiters.items)) sids.now ≡ None) }
-        ensures fault { IfErr result (λ fault. fault ≡ fault_told (refusal (length (map kept_of self.old.waiters.items)) sids.now)) }
+            (wait_terms condition mode sids.now (deadline_of timeout start)) made.0 made.1) }
+        ensures possible { IfOk result
+            (λ made. add_refusal (length (map waiter_view self.old.waiters.items)) sids.now
+            ≡ None) }
+        ensures fault { IfErr result
+            (λ fault. fault ≡ fault_told
+            (add_refusal (length (map waiter_view self.old.waiters.items)) sids.now)) }
         ensures err { OnErr result (shown_of moments.now self.new ≡ shown_of moments.now self.old) }
     {
         if let Some(fault) = refusal_for(self.waiters.len(), sids) {
@@ -91,7 +96,7 @@ impl<A: Allocator + Copy> Roll<A> {
     ) -> Result<(WaitId, Option<Verdict>), NoMemory>
         requires { self.old.next < 2 ^ 63 }
         ensures ok { IfOk result (λ made. AddsWaiter (shown_of moments.now self.old) (shown_of moments.now self.new)
-            (asking condition mode sids.items deadline) made.0 made.1) }
+            (wait_terms condition mode sids.items deadline) made.0 made.1) }
         ensures err { OnErr result (shown_of moments.now self.new ≡ shown_of moments.now self.old) }
     {
         self.waiters.reserve(1)?;
@@ -103,7 +108,7 @@ impl<A: Allocator + Copy> Roll<A> {
             sids,
             deadline,
             place: moments.len(),
-            standing: Standing::Waiting,
+            standing: WaitState::Waiting,
         };
         let release = look_for_release(&mut waiter, moments);
         self.waiters.push_reserved(waiter);
@@ -113,7 +118,8 @@ impl<A: Allocator + Copy> Roll<A> {
 
     /// Takes the waiter of this serial out, if there is one.
     pub fn take_out(&mut self, id: WaitId)
-        ensures waiters { map kept_of self.new.waiters.items ≡ filter (is_other id) (map kept_of self.old.waiters.items) }
+        ensures waiters { map waiter_view self.new.waiters.items
+            ≡ filter (is_other id) (map waiter_view self.old.waiters.items) }
         ensures next { self.new.next ≡ self.old.next }
     {
         drop_named(&mut self.waiters, id);
@@ -131,7 +137,7 @@ impl<A: Allocator + Copy> Roll<A> {
     ) -> Result<WaitAnswer, NoMemory>
         requires { self.old.next < 2 ^ 63 }
         ensures { IfOk result (λ told. MakesChange (shown_of moments.now self.old) (shown_of moments.now self.new)
-            (add_one (asking condition mode sids.now (deadline_of timeout start))) told) }
+            (add_one (wait_terms condition mode sids.now (deadline_of timeout start))) told) }
     {
         if let Some(fault) = refusal_for(self.waiters.len(), sids) {
             return Ok(WaitAnswer::Refused(fault));
@@ -143,7 +149,8 @@ impl<A: Allocator + Copy> Roll<A> {
 
     // A waiter is cancelled, if it stands.
     fn answer_cancel(&mut self, moments: &[Moment], id: WaitId) -> WaitAnswer
-        ensures { MakesChange (shown_of moments.now self.old) (shown_of moments.now self.new) (cancel_one id) result }
+        ensures { MakesChange (shown_of moments.now self.old) (shown_of moments.now self.new)
+            (cancel_one id) result }
     {
         let stood = self.standing(id).is_some();
         self.take_out(id);
@@ -153,7 +160,9 @@ impl<A: Allocator + Copy> Roll<A> {
     /// The change of a step, after these moments.
     pub fn make(&mut self, moments: &[Moment], change: &WaitChange) -> Result<WaitAnswer, NoMemory>
         requires { self.old.next < 2 ^ 63 }
-        ensures { IfOk result (λ told. MakesChange (shown_of moments.now self.old) (shown_of moments.now self.new) (asked_by change.now) told) }
+        ensures { IfOk result (λ told.
+            MakesChange (shown_of moments.now self.old) (shown_of moments.now self.new)
+            (wait_request_of change.now) told) }
     {
         match change {
             WaitChange::Nothing => Ok(WaitAnswer::Nothing),
@@ -168,7 +177,7 @@ impl<A: Allocator + Copy> Roll<A> {
 
 // The same waiters once more.
 fn copy_all<A: Allocator>(alloc: A, waiters: &[Waiter]) -> Result<Vec<Waiter, A>, NoMemory>
-    ensures { IfOk result (λ copies. map kept_of copies.items ≡ map kept_of waiters.now) }
+    ensures { IfOk result (λ copies. map waiter_view copies.items ≡ map waiter_view waiters.now) }
 {
     let mut copies = Vec::new(alloc);
     copies.reserve(waiters.len())?;
@@ -179,7 +188,7 @@ fn copy_all<A: Allocator>(alloc: A, waiters: &[Waiter]) -> Result<Vec<Waiter, A>
 }
 
 fn copy_of(waiter: &Waiter) -> Waiter
-    ensures { kept_of result ≡ kept_of waiter.now }
+    ensures { waiter_view result ≡ waiter_view waiter.now }
 {
     Waiter {
         id: waiter.id,
@@ -202,13 +211,13 @@ fn list_of(sids: &[Sid]) -> ArrayVec<Sid, 16>
 }
 
 // Where the waiter of this serial stands.
-fn standing_in(waiters: &[Waiter], id: WaitId) -> Option<Standing>
-    ensures { result ≡ standing_kept id (map kept_of waiters.now) }
+fn standing_in(waiters: &[Waiter], id: WaitId) -> Option<WaitState>
+    ensures { result ≡ standing_kept id (map waiter_view waiters.now) }
 {
     find_standing(waiters, id)
 }
 
-fn find_standing(waiters: &[Waiter], id: WaitId) -> Option<Standing>
+fn find_standing(waiters: &[Waiter], id: WaitId) -> Option<WaitState>
     ensures { result ≡ standing_stored id waiters.now }
 {
     for waiter in waiters {
@@ -221,7 +230,8 @@ fn find_standing(waiters: &[Waiter], id: WaitId) -> Option<Standing>
 
 // Takes the waiter of this serial out, if there is one.
 fn drop_named<A: Allocator>(waiters: &mut Vec<Waiter, A>, id: WaitId)
-    ensures { map kept_of waiters.new.items ≡ filter (is_other id) (map kept_of waiters.old.items) }
+    ensures { map waiter_view waiters.new.items
+        ≡ filter (is_other id) (map waiter_view waiters.old.items) }
 {
     waiters.retain(|waiter| waiter.id != id);
 }

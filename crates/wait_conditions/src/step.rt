@@ -1,32 +1,32 @@
 //! A step that is worked out on a copy of the waiters, beside which the moments of the step stand.
 ghost use Rattle.std.specs.Prelude.{◌≡◌, ◌++◌, ◌<◌, ◌^◌, ◌≤◌, [], ℕ, List, All, IfOk, OnOk, OnErr, true, length, map};
 ghost use Rattle.std.specs.List.{filter_map, list_any};
-ghost use Rattle.wait_conditions.specs.Kept.{kept_of, release_seen, still_waits};
+ghost use Rattle.wait_conditions.specs.Kept.{waiter_view, release_seen, still_waits};
 ghost use Rattle.s6_events.specs.declared.moment.Moment.{Moment};
 ghost use Rattle.wait_conditions.specs.declared.wait_change.WaitAnswer.TheVariants as answer;
 ghost use Rattle.wait_conditions.specs.Stands.{shown_of, AllPlaced, TakesMoment, TakesMoments, MakesStep};
-ghost use Rattle.wait_conditions.specs.Steps.{asked_by};
-ghost use Rattle.wait_conditions.specs.Steps.Change.{leave};
+ghost use Rattle.wait_conditions.specs.Steps.{wait_request_of};
+ghost use Rattle.wait_conditions.specs.Steps.WaitRequest.{no_wait_request};
 
 use crate::looking::look_at_every;
 use crate::moments::Moments;
 use crate::roll::Roll;
-use crate::verdict::{Standing, Verdict};
+use crate::verdict::{Verdict, WaitState};
 use crate::wait_change::WaitChange;
-use crate::wait_plan::WaitPlan;
+use crate::wait_plan::WaitsPlan;
 use crate::waiter::Waiter;
 use s6_events::{Moment, NoMemory, WaitId};
 use std::alloc::Allocator;
 
 // Whether this waiter waits still.
 fn waits_still(waiter: &Waiter) -> bool
-    ensures { result ≡ still_waits (kept_of waiter.now) }
+    ensures { result ≡ still_waits (waiter_view waiter.now) }
 {
-    matches!(waiter.standing, Standing::Waiting)
+    matches!(waiter.standing, WaitState::Waiting)
 }
 
 fn has_waiting(waiters: &[Waiter]) -> bool
-    ensures { result ≡ list_any (λ w. still_waits (kept_of w)) waiters.now }
+    ensures { result ≡ list_any (λ w. still_waits (waiter_view w)) waiters.now }
 {
     waiters.iter().any(|waiter| waits_still(waiter))
 }
@@ -34,18 +34,24 @@ fn has_waiting(waiters: &[Waiter]) -> bool
 // Whether these moments leave all waiters as they are, since there is no moment, or no waiter waits.
 fn leave_waiters<A: Allocator>(waiters: &Vec<Waiter, A>, step: &[Moment]) -> bool
     ensures none { step.now ≡ [] → result ≡ true }
-    ensures calm { result ≡ true → (ms : List Moment) (next : ℕ) → All (λ k. k.place ≤ length ms) (map kept_of waiters.now.items)
-        → TakesMoments (record { moments = ms; waiters = map kept_of waiters.now.items; next = next })
-        (record { moments = ms ++ step.now; waiters = map kept_of waiters.now.items; next = next }) step.now [] }
+    ensures calm { result ≡ true → (ms : List Moment) (next : ℕ) → All (λ k. k.place ≤ length ms) (map waiter_view waiters.now.items)
+        → TakesMoments (record {
+          moments = ms;
+          waiters = map waiter_view waiters.now.items;
+          next =
+              next;
+        })
+        (record { moments = ms ++ step.now; waiters = map waiter_view waiters.now.items; next = next }) step.now [] }
 {
     step.is_empty() || !has_waiting(waiters)
 }
 
 /// Whether a step leaves all waiters as they are.
 pub fn is_calm<A: Allocator>(roll: &Roll<A>, step: &[Moment], change: &WaitChange) -> bool
-    ensures quiet { step.now ≡ [] → asked_by change.now ≡ leave → result ≡ true }
+    ensures quiet { step.now ≡ [] → wait_request_of change.now ≡ no_wait_request → result ≡ true }
     ensures calm { result ≡ true → (ms : List Moment) → AllPlaced (shown_of ms roll.now)
-        → MakesStep (shown_of ms roll.now) (shown_of (ms ++ step.now) roll.now) step.now (asked_by change.now) [] answer.Nothing }
+        → MakesStep (shown_of ms roll.now) (shown_of (ms ++ step.now) roll.now) step.now
+        (wait_request_of change.now) [] answer.Nothing }
 {
     match change {
         WaitChange::Nothing => leave_waiters(&roll.waiters, step),
@@ -64,9 +70,9 @@ fn take_one<A: Allocator + Copy>(
     ensures shown { moments.new.shown ≡ moments.old.shown }
     ensures takes { OnOk result (TakesMoment (shown_of (moments.old.shown ++ moments.old.step) roll.old)
         (shown_of (moments.new.shown ++ moments.new.step) roll.new) moment.now
-        (filter_map (release_seen (moments.new.shown ++ moments.new.step)) (map kept_of roll.old.waiters.items))) }
+        (filter_map (release_seen (moments.new.shown ++ moments.new.step)) (map waiter_view roll.old.waiters.items))) }
     ensures released { OnOk result (released.new.items ≡ released.old.items
-        ++ filter_map (release_seen (moments.new.shown ++ moments.new.step)) (map kept_of roll.old.waiters.items)) }
+        ++ filter_map (release_seen (moments.new.shown ++ moments.new.step)) (map waiter_view roll.old.waiters.items)) }
 {
     released.reserve(roll.waiters.len())?;
     moments.join(*moment)?;
@@ -99,18 +105,18 @@ fn work_step<A: Allocator + Copy>(
     roll: &mut Roll<A>,
     step: &[Moment],
     change: &WaitChange,
-) -> Result<WaitPlan<A>, NoMemory>
+) -> Result<WaitsPlan<A>, NoMemory>
     requires placed { AllPlaced (shown_of moments.old.shown roll.old) }
     requires serials { roll.old.next < 2 ^ 63 }
     ensures shown { moments.new.shown ≡ moments.old.shown }
     ensures ok { IfOk result (λ plan. MakesStep (shown_of moments.old.shown roll.old) (shown_of (moments.new.shown ++ moments.new.step) roll.new)
-        step.now (asked_by change.now) plan.released.items plan.answer) }
+        step.now (wait_request_of change.now) plan.released.items plan.answer) }
 {
     moments.forget();
     let released = take_all(moments, roll, step)?;
     let all = moments.all();
     let answer = roll.make(all, change)?;
-    Ok(WaitPlan { released, answer })
+    Ok(WaitsPlan { released, answer })
 }
 
 /// Works out a step. NoMemory: its moments are forgotten.
@@ -119,12 +125,12 @@ pub fn work_out<A: Allocator + Copy>(
     roll: &mut Roll<A>,
     step: &[Moment],
     change: &WaitChange,
-) -> Result<WaitPlan<A>, NoMemory>
+) -> Result<WaitsPlan<A>, NoMemory>
     requires placed { AllPlaced (shown_of moments.old.shown roll.old) }
     requires serials { roll.old.next < 2 ^ 63 }
     ensures shown { moments.new.shown ≡ moments.old.shown }
     ensures ok { IfOk result (λ plan. MakesStep (shown_of moments.old.shown roll.old) (shown_of (moments.new.shown ++ moments.new.step) roll.new)
-        step.now (asked_by change.now) plan.released.items plan.answer) }
+        step.now (wait_request_of change.now) plan.released.items plan.answer) }
     ensures err { OnErr result (moments.new.step ≡ []) }
 {
     match work_step(moments, roll, step, change) {

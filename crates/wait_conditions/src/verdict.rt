@@ -1,4 +1,5 @@
-/// How a wait ends. Page `s6-svwait`; `Gone` is this project's own.
+//! Verdicts, and where a waiter stands.
+/// How a wait ends. Page `s6-svwait`; `Gone` is chosen here.
 #[derive(Clone, Copy, Debug, PartialEq, Eq)]
 pub enum Verdict {
     /// The condition held, of all the services at one moment or of one of them.
@@ -11,9 +12,9 @@ pub enum Verdict {
     TimedOut,
 }
 
-/// Where a waiter stands. This project's own.
+/// Where a waiter stands.
 #[derive(Clone, Copy, Debug, PartialEq, Eq)]
-pub enum Standing {
+pub enum WaitState {
     /// It waits still.
     Waiting,
     /// It was released, with this verdict, which never changes.

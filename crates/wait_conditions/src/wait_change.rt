@@ -1,8 +1,9 @@
+//! What a step asks of the waiters, and their answer.
 use crate::add_fault::AddFault;
 use crate::verdict::Verdict;
 use s6_events::{At, Condition, Mode, Sid, WaitId};
 
-/// What a step asks of the waiters, after its moments. This project's own.
+/// What a step asks of the waiters, after its moments.
 #[derive(Clone, Copy)]
 pub enum WaitChange<'a> {
     /// Nothing.
@@ -13,7 +14,7 @@ pub enum WaitChange<'a> {
     Cancel(WaitId),
 }
 
-/// What a step answers to its change. This project's own.
+/// What a step answers to its change.
 #[derive(Clone, Copy, Debug, PartialEq, Eq)]
 pub enum WaitAnswer {
     /// Nothing was asked.

@@ -1,3 +1,4 @@
+//! What a prepared step of the waiters gives.
 ghost use Rattle.std.specs.Prelude.{◌≡◌, []};
 ghost use Rattle.wait_conditions.specs.declared.wait_change.WaitAnswer.TheVariants as answer;
 
@@ -9,18 +10,18 @@ use std::alloc::Allocator;
 /// What a step of the waiters gives once it is made: the releases by its moments, by moment and then in rising serial, and the
 /// answer to its change.
 #[derive(Drop)]
-pub struct WaitPlan<A: Allocator> {
+pub struct WaitsPlan<A: Allocator> {
     pub released: Vec<(WaitId, Verdict), A>,
     pub answer: WaitAnswer,
 }
 
-impl<A: Allocator> WaitPlan<A> {
+impl<A: Allocator> WaitsPlan<A> {
     // Of a step that does nothing.
-    pub(crate) fn empty(alloc: A) -> WaitPlan<A>
+    pub(crate) fn empty(alloc: A) -> WaitsPlan<A>
         ensures released { result.released.items ≡ [] }
         ensures answer { result.answer ≡ answer.Nothing }
     {
-        WaitPlan {
+        WaitsPlan {
             released: Vec::new(alloc),
             answer: WaitAnswer::Nothing,
         }

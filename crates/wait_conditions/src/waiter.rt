@@ -1,4 +1,5 @@
-use crate::verdict::Standing;
+//! A waiter as it is stored.
+use crate::verdict::WaitState;
 use arrayvec::ArrayVec;
 use s6_events::{Condition, Mode, Sid, WaitId};
 
@@ -11,5 +12,5 @@ pub struct Waiter {
     pub sids: ArrayVec<Sid, 16>,
     pub deadline: Option<u64>,
     pub place: usize,
-    pub standing: Standing,
+    pub standing: WaitState,
 }

@@ -1,29 +1,29 @@
 //! The waiters of all services.
 ghost use Rattle.std.specs.Prelude.{◌≡◌, ◌≤◌, ◌<◌, ◌+◌, ◌^◌, [], IfOk, IfErr, OnOk, OnErr, IsOkAnd, None, is_some, length};
 ghost use Rattle.wait_conditions.specs.Kept.{standing_kept};
-ghost use Rattle.wait_conditions.specs.Refusal.{refusal, fault_told, deadline_of};
-ghost use Rattle.wait_conditions.specs.Stands.{WaitsFor, StandsFor, TakesMoment, AddsWaiter, CancelsWaiter, MakesStep, IsIdle, shown};
-ghost use Rattle.wait_conditions.specs.Steps.{asked_by, releases_by, after_moments, after_change, answer_to};
-ghost use Rattle.wait_conditions.specs.Steps.Change.{leave};
-ghost use Rattle.wait_conditions.specs.declared.verdict.Standing.TheVariants.{Waiting};
+ghost use Rattle.wait_conditions.specs.Refusal.{add_refusal, fault_told, deadline_of};
+ghost use Rattle.wait_conditions.specs.Stands.{WaitsFor, WaitsStandFor, TakesMoment, AddsWaiter, CancelsWaiter, MakesStep, IsIdle, waits_shown};
+ghost use Rattle.wait_conditions.specs.Steps.{wait_request_of, releases_by, waits_after_moments, waits_after_change, wait_answer};
+ghost use Rattle.wait_conditions.specs.Steps.WaitRequest.{no_wait_request};
+ghost use Rattle.wait_conditions.specs.declared.verdict.WaitState.TheVariants.{Waiting};
 ghost use Rattle.wait_conditions.specs.declared.wait_change.WaitAnswer.TheVariants as answer;
-ghost use Rattle.wait_conditions.specs.Watch.{Watch, new_watch, releases, after_moment, after_add, after_cancel, standing_named};
-ghost use Rattle.wait_conditions.specs.Watch.{asking, made_now, newly, standing_of};
+ghost use Rattle.wait_conditions.specs.Watch.{Watch, new_watch, releases, waits_after_moment, after_add, after_cancel, state_named};
+ghost use Rattle.wait_conditions.specs.Watch.{wait_terms, new_waiter, new_release, waiter_state};
 
 use crate::add_fault::AddFault;
 use crate::looking::look_at_every;
 use crate::moments::Moments;
 use crate::roll::Roll;
 use crate::step::{is_calm, work_out};
-use crate::verdict::{Standing, Verdict};
+use crate::verdict::{Verdict, WaitState};
 use crate::wait_change::WaitChange;
-use crate::wait_plan::WaitPlan;
+use crate::wait_plan::WaitsPlan;
 use s6_events::{At, Condition, Mode, Moment, NoMemory, Sid, WaitId};
 use std::alloc::Allocator;
 use std::marker::Model;
 
 /// The waiters that stand, at most 256, and all moments that were handed in. Pages `s6-svwait` and `s6-svlisten`; that the
-/// history alone says when a waiter is released is this project's own.
+/// history alone says when a waiter is released is chosen here.
 ///
 /// A step is worked out first (`prepare`), which changes nothing that is shown, and then made (`commit`), which takes no memory;
 /// or one thing alone is done at once (`add`, `moment`, `cancel`), and then nothing is prepared any more. The waiters of a step
@@ -39,19 +39,19 @@ pub struct Waits<A: Allocator> {
 }
 
 impl<A: Allocator> Model for Waits<A> {
-    ghost use Rattle.wait_conditions.specs.Stands.{Stored};
+    ghost use Rattle.wait_conditions.specs.Stands.{StoredWaits};
 
-    ghost Value = { Stored };
+    ghost Value = { StoredWaits };
 
-    ghost use Rattle.wait_conditions.specs.WaitsFields.{stored, IsKept};
+    ghost use Rattle.wait_conditions.specs.WaitsFields.{waits_view, IsSoundWaits};
 
-    ghost view = { stored };
+    ghost view = { waits_view };
 
-    ghost invariant = { IsKept };
+    ghost invariant = { IsSoundWaits };
 }
 
 impl<A: Allocator + Copy> Waits<A> {
-    /// No waiter, and no moment yet. Takes no memory, and keeps the allocator.
+    /// No waiter, and no moment yet. It keeps the allocator.
     pub fn new(alloc: A) -> Waits<A>
         ensures empty { WaitsFor result new_watch }
         ensures serials { result.next ≡ 1 }
@@ -64,15 +64,15 @@ impl<A: Allocator + Copy> Waits<A> {
         }
     }
 
-    /// Where the waiter of this serial stands, or None where there is none. Takes no memory.
-    pub fn result(&self, id: WaitId) -> Option<Standing>
-        ensures { (w : Watch) → WaitsFor self.now w → result ≡ standing_named w id }
+    /// Where the waiter of this serial stands, or None where there is none.
+    pub fn result(&self, id: WaitId) -> Option<WaitState>
+        ensures { (w : Watch) → WaitsFor self.now w → result ≡ state_named w id }
     {
         self.stored_result(id)
     }
 
     // `result`, by what is stored alone.
-    fn stored_result(&self, id: WaitId) -> Option<Standing>
+    fn stored_result(&self, id: WaitId) -> Option<WaitState>
         ensures { result ≡ standing_kept id self.now.waiters }
     {
         self.roll.standing(id)
@@ -91,10 +91,14 @@ impl<A: Allocator + Copy> Waits<A> {
     ) -> Result<(WaitId, Option<Verdict>), AddFault>
         requires { self.old.next < 2 ^ 63 }
         ensures ok { IfOk result (λ made. (w : Watch) → WaitsFor self.old w →
-            let asked = asking condition mode sids.now (deadline_of timeout start) in
-            (made.0 ≡ w.next) × (made.1 ≡ newly Waiting (standing_of w.history (made_now w asked))) × WaitsFor self.new (after_add w asked)) }
-        ensures possible { IfOk result (λ made. (w : Watch) → WaitsFor self.old w → refusal (length w.waiters) sids.now ≡ None) }
-        ensures fault { IfErr result (λ fault. (w : Watch) → WaitsFor self.old w → fault ≡ fault_told (refusal (length w.waiters) sids.now)) }
+            let asked = wait_terms condition mode sids.now (deadline_of timeout start) in
+            (made.0 ≡ w.next) × (made.1 ≡ new_release Waiting (waiter_state w.history (new_waiter w asked))) × WaitsFor self.new (after_add w asked)) }
+        ensures possible { IfOk result
+            (λ made. (w : Watch) → WaitsFor self.old w
+            → add_refusal (length w.waiters) sids.now ≡ None) }
+        ensures fault { IfErr result
+            (λ fault. (w : Watch) → WaitsFor self.old w
+            → fault ≡ fault_told (add_refusal (length w.waiters) sids.now)) }
         ensures serial { OnOk result (self.new.next ≡ self.old.next + 1) }
         ensures err { OnErr result (self.new ≡ self.old) }
         ensures idle { OnOk result (IsIdle self.new) }
@@ -112,10 +116,12 @@ impl<A: Allocator + Copy> Waits<A> {
         start: At,
     ) -> Result<(WaitId, Option<Verdict>), AddFault>
         requires { self.old.next < 2 ^ 63 }
-        ensures ok { IfOk result (λ made. AddsWaiter (shown self.old) (shown self.new)
-            (asking condition mode sids.now (deadline_of timeout start)) made.0 made.1) }
-        ensures possible { IfOk result (λ made. refusal (length self.old.waiters) sids.now ≡ None) }
-        ensures fault { IfErr result (λ fault. fault ≡ fault_told (refusal (length self.old.waiters) sids.now)) }
+        ensures ok { IfOk result (λ made. AddsWaiter (waits_shown self.old) (waits_shown self.new)
+            (wait_terms condition mode sids.now (deadline_of timeout start)) made.0 made.1) }
+        ensures possible { IfOk result
+            (λ made. add_refusal (length self.old.waiters) sids.now ≡ None) }
+        ensures fault { IfErr result
+            (λ fault. fault ≡ fault_told (add_refusal (length self.old.waiters) sids.now)) }
         ensures serial { OnOk result (self.new.next ≡ self.old.next + 1) }
         ensures err { OnErr result (self.new ≡ self.old) }
         ensures idle { OnOk result (IsIdle self.new) }
@@ -130,10 +136,10 @@ impl<A: Allocator + Copy> Waits<A> {
     }
 
     /// Hands in the next moment. Answers the waiters that it releases, in rising serial, each with its verdict. NoMemory: nothing
-    /// has changed. This project's own.
+    /// has changed.
     pub fn moment(&mut self, moment: &Moment) -> Result<Vec<(WaitId, Verdict), A>, NoMemory>
         ensures ok { IfOk result (λ released. (w : Watch) → WaitsFor self.old w →
-            (released.items ≡ releases w moment.now) × WaitsFor self.new (after_moment w moment.now)) }
+            (released.items ≡ releases w moment.now) × WaitsFor self.new (waits_after_moment w moment.now)) }
         ensures serials { self.new.next ≡ self.old.next }
         ensures err { OnErr result (self.new ≡ self.old) }
         ensures idle { OnOk result (IsIdle self.new) }
@@ -143,7 +149,8 @@ impl<A: Allocator + Copy> Waits<A> {
 
     // `moment`, by what is stored alone.
     fn take_moment(&mut self, moment: &Moment) -> Result<Vec<(WaitId, Verdict), A>, NoMemory>
-        ensures ok { IfOk result (λ released. TakesMoment (shown self.old) (shown self.new) moment.now released.items) }
+        ensures ok { IfOk result (λ released.
+            TakesMoment (waits_shown self.old) (waits_shown self.new) moment.now released.items) }
         ensures serials { self.new.next ≡ self.old.next }
         ensures err { OnErr result (self.new ≡ self.old) }
         ensures idle { OnOk result (IsIdle self.new) }
@@ -157,9 +164,9 @@ impl<A: Allocator + Copy> Waits<A> {
         Ok(released)
     }
 
-    /// Ends the waiter of this serial, released or not, and says whether there was one. Takes no memory. This project's own.
+    /// Ends the waiter of this serial, released or not, and says whether there was one.
     pub fn cancel(&mut self, id: WaitId) -> bool
-        ensures stood { (w : Watch) → WaitsFor self.old w → result ≡ is_some (standing_named w id) }
+        ensures stood { (w : Watch) → WaitsFor self.old w → result ≡ is_some (state_named w id) }
         ensures after { (w : Watch) → WaitsFor self.old w → WaitsFor self.new (after_cancel w id) }
         ensures serials { self.new.next ≡ self.old.next }
         ensures idle { IsIdle self.new }
@@ -171,7 +178,7 @@ impl<A: Allocator + Copy> Waits<A> {
 
     // `cancel`, by what is stored alone.
     fn take_out(&mut self, id: WaitId)
-        ensures after { CancelsWaiter (shown self.old) (shown self.new) id }
+        ensures after { CancelsWaiter (waits_shown self.old) (waits_shown self.new) id }
         ensures idle { IsIdle self.new }
     {
         self.roll.take_out(id);
@@ -181,7 +188,7 @@ impl<A: Allocator + Copy> Waits<A> {
 
     /// Works out a step: its moments in order, each looked at as it joins, so that the releases come by moment and then in rising
     /// serial; and after all of them one change. A waiter that is added begins after these moments, and its verdict is looked at
-    /// once right then. Nothing that is shown changes, and what was prepared before is forgotten. This project's own.
+    /// once right then. Nothing that is shown changes, and what was prepared before is forgotten.
     ///
     /// NoMemory where a growth was refused; then nothing is prepared. A step that does nothing takes no memory, and releases nothing. Where no waiter
     /// waits, the moments alone ask for any; a change asks for some too.
@@ -189,17 +196,20 @@ impl<A: Allocator + Copy> Waits<A> {
         &mut self,
         moments: &[Moment],
         change: &WaitChange,
-    ) -> Result<WaitPlan<A>, NoMemory>
+    ) -> Result<WaitsPlan<A>, NoMemory>
         requires { self.old.next < 2 ^ 63 }
-        ensures released { IfOk result (λ plan. (w : Watch) → WaitsFor self.old w → plan.released.items ≡ releases_by w moments.now) }
+        ensures released { IfOk result
+            (λ plan. (w : Watch) → WaitsFor self.old w
+            → plan.released.items ≡ releases_by w moments.now) }
         ensures answer { IfOk result (λ plan. (w : Watch) → WaitsFor self.old w →
-            plan.answer ≡ answer_to (after_moments w moments.now) (asked_by change.now)) }
+            plan.answer ≡ wait_answer (waits_after_moments w moments.now) (wait_request_of change.now)) }
         ensures prepared { OnOk result ((w : Watch) → WaitsFor self.old w →
-            StandsFor self.new.prepared (after_change (after_moments w moments.now) (asked_by change.now))) }
+            WaitsStandFor self.new.prepared (waits_after_change (waits_after_moments w moments.now) (wait_request_of change.now))) }
         ensures serials { OnOk result (self.new.prepared.next ≤ self.old.next + 1) }
-        ensures shown { shown self.new ≡ shown self.old }
+        ensures shown { waits_shown self.new ≡ waits_shown self.old }
         ensures idle { OnErr result (IsIdle self.new) }
-        ensures quiet { moments.now ≡ [] → asked_by change.now ≡ leave → IsOkAnd result (λ plan. (plan.released.items ≡ []) × (plan.answer ≡ answer.Nothing)) }
+        ensures quiet { moments.now ≡ [] → wait_request_of change.now ≡ no_wait_request
+            → IsOkAnd result (λ plan. (plan.released.items ≡ []) × (plan.answer ≡ answer.Nothing)) }
     {
         let plan = self.prepare_stored(moments, change)?;
         Ok(plan)
@@ -210,20 +220,21 @@ impl<A: Allocator + Copy> Waits<A> {
         &mut self,
         moments: &[Moment],
         change: &WaitChange,
-    ) -> Result<WaitPlan<A>, NoMemory>
+    ) -> Result<WaitsPlan<A>, NoMemory>
         requires { self.old.next < 2 ^ 63 }
-        ensures ok { IfOk result (λ plan. MakesStep (shown self.old) self.new.prepared
-            moments.now (asked_by change.now) plan.released.items plan.answer) }
-        ensures shown { shown self.new ≡ shown self.old }
+        ensures ok { IfOk result (λ plan. MakesStep (waits_shown self.old) self.new.prepared
+            moments.now (wait_request_of change.now) plan.released.items plan.answer) }
+        ensures shown { waits_shown self.new ≡ waits_shown self.old }
         ensures idle { OnErr result (IsIdle self.new) }
-        ensures quiet { moments.now ≡ [] → asked_by change.now ≡ leave → IsOkAnd result (λ plan. (plan.released.items ≡ []) × (plan.answer ≡ answer.Nothing)) }
+        ensures quiet { moments.now ≡ [] → wait_request_of change.now ≡ no_wait_request
+            → IsOkAnd result (λ plan. (plan.released.items ≡ []) × (plan.answer ≡ answer.Nothing)) }
     {
         let alloc = self.moments.allocator();
         self.later = None;
         self.moments.forget();
         if is_calm(&self.roll, moments, change) {
             self.moments.join_all(moments)?;
-            return Ok(WaitPlan::empty(alloc));
+            return Ok(WaitsPlan::empty(alloc));
         }
         let mut later = self.roll.copied(alloc)?;
         let plan = work_out(&mut self.moments, &mut later, moments, change)?;
@@ -232,9 +243,9 @@ impl<A: Allocator + Copy> Waits<A> {
     }
 
     /// Makes the step that was prepared: what it releases and answers is in its plan. Where nothing is prepared, nothing changes.
-    /// Takes no memory. This project's own.
+    /// Takes no memory.
     pub fn commit(&mut self)
-        ensures shown { shown self.new ≡ self.old.prepared }
+        ensures shown { waits_shown self.new ≡ self.old.prepared }
         ensures idle { IsIdle self.new }
     {
         if let Some(later) = self.later.take() {

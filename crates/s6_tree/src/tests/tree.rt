@@ -11,7 +11,7 @@ use std::process::Abort;
 use std::test::Fail;
 use svc_commands::{ControlLetter, Letters};
 use tree_core::{
-    Act, Entry, Input, Listing, Message, Names, Pattern, ScanOrder, Standing, State, Target, Tree,
+    Act, Entry, Input, Listing, Message, Names, Pattern, ScanOrder, State, Target, Tree, WaitState,
 };
 
 // What one service is told, or the scan directory, before the act has memory of its own.
@@ -300,8 +300,8 @@ type Before = (
     u64,
     u64,
     usize,
-    Option<Standing>,
-    Option<Standing>,
+    Option<WaitState>,
+    Option<WaitState>,
     Option<usize>,
 );
 

@@ -3,7 +3,7 @@
 ghost use Rattle.std.specs.Prelude.{◌≡◌, ℕ, ◌+◌, ◌<◌, ◌^◌, ◌==◌, All, IfOk, true};
 ghost use Rattle.std.specs.List.{list_any};
 ghost use Rattle.supervise_core.specs.Chart.{is_due};
-ghost use Rattle.svscan_core.specs.Asked.{asked_by, IsOrderly};
+ghost use Rattle.svscan_core.specs.Asked.{work_asked, IsOrderly};
 ghost use Rattle.svscan_core.specs.Table.{charts_of};
 ghost use Rattle.svscan_core.specs.Work.{AreDue};
 
@@ -17,6 +17,7 @@ use supervise_core::ChartState;
 
 mod full;
 mod refused;
+mod refused_order;
 
 // Whether it is one of these.
 fn is_among(due: &[Sid], sid: Sid) -> bool
@@ -28,7 +29,8 @@ fn is_among(due: &[Sid], sid: Sid) -> bool
 // Whether a service has few runs behind it, and is one of these exactly where its timer is due.
 fn is_fit(chart: &ChartState, due: &[Sid], now: At) -> bool
     ensures few { result ≡ true → chart.now.generation + 2 < 2 ^ 64 }
-    ensures due { result ≡ true → list_any (λ sid. sid == chart.now.sid) due.now ≡ is_due now chart.now.timer }
+    ensures due { result ≡ true → list_any (λ sid. sid == chart.now.sid) due.now
+        ≡ is_due now chart.now.timer }
 {
     if chart.generation >= 1000 {
         return false;
@@ -42,8 +44,10 @@ fn is_fit(chart: &ChartState, due: &[Sid], now: At) -> bool
 
 // Whether all services are.
 fn are_fit<A: Allocator + Copy>(slots: &Slots<A>, due: &[Sid], now: At) -> bool
-    ensures few { result ≡ true → All (λ c. c.generation + 2 < 2 ^ 64) (charts_of slots.now.services) }
-    ensures fewer { result ≡ true → All (λ c. c.generation + 1 < 2 ^ 64) (charts_of slots.now.services) }
+    ensures few { result ≡ true → All (λ c. c.generation + 2 < 2 ^ 64)
+        (charts_of slots.now.services) }
+    ensures fewer { result ≡ true
+        → All (λ c. c.generation + 1 < 2 ^ 64) (charts_of slots.now.services) }
     ensures due { result ≡ true → AreDue due.now now (charts_of slots.now.services) }
 {
     for place in 0..slots.len() {
@@ -58,11 +62,12 @@ fn are_fit<A: Allocator + Copy>(slots: &Slots<A>, due: &[Sid], now: At) -> bool
 }
 
 // Whether the work lists no name twice.
-fn is_orderly(alloc: Global, work: &Work) -> Result<bool, NoMemory>
-    ensures { IfOk result (λ orderly. orderly ≡ true → (next : ℕ) → next < 1000 → IsOrderly next (asked_by work.now)) }
+fn is_orderly(alloc: Global, work: &ServiceWork) -> Result<bool, NoMemory>
+    ensures { IfOk result (λ orderly. orderly ≡ true → (next : ℕ) → next < 1000
+        → IsOrderly next (work_asked work.now)) }
 {
     match work {
-        Work::Listing(listing) => Ok(!sort_listing(alloc, listing)?.repeats),
+        ServiceWork::Listing(listing) => Ok(!sort_listing(alloc, listing)?.repeats),
         _ => Ok(true),
     }
 }
@@ -73,7 +78,8 @@ fn at(millis: u64) -> Result<At, Fail> {
 
 // Whether all services of the registry are, and few ever stood.
 fn is_ready<A: Allocator + Copy>(registry: &Registry<A>, due: &[Sid], now: At) -> bool
-    ensures few { result ≡ true → All (λ c. c.generation + 2 < 2 ^ 64) (charts_of registry.now.shown.services) }
+    ensures few { result ≡ true → All (λ c. c.generation + 2 < 2 ^ 64)
+        (charts_of registry.now.shown.services) }
     ensures due { result ≡ true → AreDue due.now now (charts_of registry.now.shown.services) }
     ensures next { result ≡ true → registry.now.shown.next_sid < 1000 }
 {
@@ -87,10 +93,10 @@ fn is_ready<A: Allocator + Copy>(registry: &Registry<A>, due: &[Sid], now: At) -
 fn prepare_orderly<A: Allocator + Copy>(
     registry: &mut Registry<A>,
     due: &[Sid],
-    work: &Work,
+    work: &ServiceWork,
     now: At,
 ) -> bool
-    requires { (next : ℕ) → next < 1000 → IsOrderly next (asked_by work.now) }
+    requires { (next : ℕ) → next < 1000 → IsOrderly next (work_asked work.now) }
 {
     if !is_ready(registry, due, now) {
         return false;
@@ -104,7 +110,7 @@ fn prepare<A: Allocator + Copy>(
     alloc: Global,
     registry: &mut Registry<A>,
     due: &[Sid],
-    work: &Work,
+    work: &ServiceWork,
     now: At,
 ) -> Result<bool, Fail> {
     let is_orderly = is_orderly(alloc, work)?;

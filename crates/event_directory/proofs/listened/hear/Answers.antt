@@ -48,10 +48,13 @@ returns-in_ok-extend_from_slice-in-Some-clause-matches g c =
     rw (c.in_ok-extend_from_slice-in-Some.ensures.items, c.deref.ensures.value)
     (ap (λ l. c.args.matches.now.items ++ l)
     (hits_here g.F.Finds.test c.args.source c.args.letter c.args.listened.now c.in-Some.place c.index-listened-place.result
-    (first_at c.args.source c.args.listened.now c.in-Some.place c.index-listened-place.result (sym c.place_in.ensures ∙ c.in-Some.is)) _ c.in_ok-hits-in-Some.ensures.hits))
+    (first_at c.args.source c.args.listened.now c.in-Some.place c.index-listened-place.result (sym c.place_in.ensures ∙ c.in-Some.is)) _
+    c.in_ok-hits-in-Some.ensures.hits))
 
 pub returns-in-None-clause-prepared : goal.returns-in-None-clause-prepared
-returns-in-None-clause-prepared g c = hear_nowhere g.F.Finds.test c.args.source c.args.letter c.args.listened.now (absent_at c.args.source c.args.listened.now (sym c.place_in.ensures ∙ c.in-None.is))
+returns-in-None-clause-prepared g c = hear_nowhere g.F.Finds.test c.args.source c.args.letter c.args.listened.now
+    (absent_at c.args.source c.args.listened.now (sym c.place_in.ensures ∙ c.in-None.is))
 
 pub returns-in-None-clause-matches : goal.returns-in-None-clause-matches
-returns-in-None-clause-matches g c = hits_nowhere g.F.Finds.test c.args.source c.args.letter c.args.listened.now c.args.matches.now.items (absent_at c.args.source c.args.listened.now (sym c.place_in.ensures ∙ c.in-None.is))
+returns-in-None-clause-matches g c = hits_nowhere g.F.Finds.test c.args.source c.args.letter c.args.listened.now c.args.matches.now.items
+    (absent_at c.args.source c.args.listened.now (sym c.place_in.ensures ∙ c.in-None.is))

@@ -11,5 +11,6 @@ returns-in_err-place g c =
 
 pub returns : goal.returns
 returns g c =
-    c.list.ensures ∙ ap (λ l. view_of c.args.id l.kept.standing) c.index-listened-place.is ∙ sym (ap (view_of c.args.id) (standing_here c.args.source c.args.listened.now c.in_ok-place.place c.index-listened-place.result
+    c.list.ensures ∙ ap (λ l. view_of c.args.id l.kept.standing) c.index-listened-place.is
+    ∙ sym (ap (view_of c.args.id) (standing_here c.args.source c.args.listened.now c.in_ok-place.place c.index-listened-place.result
     (first_at c.args.source c.args.listened.now c.in_ok-place.place c.index-listened-place.result (sym c.place_in.ensures ∙ c.in_ok-place.was))))

@@ -8,6 +8,7 @@ invariant-loop-subscription g l = record {
   same : map standing_of_stored l.subscriptions ≡ map standing_of_stored l.fn.subscriptions;
   planned : map planned_standing l.subscriptions ≡ map planned_standing l.fn.subscriptions;
   rest : drop l.subscription-index l.subscriptions ≡ drop l.subscription-index l.fn.subscriptions;
-  done : map prepared_standing (take l.subscription-index l.subscriptions) ≡ after_letter g.F.Finds.test l.letter (map prepared_standing (take l.subscription-index l.fn.subscriptions));
+  done : map prepared_standing (take l.subscription-index l.subscriptions)
+      ≡ after_letter g.F.Finds.test l.letter (map prepared_standing (take l.subscription-index l.fn.subscriptions));
   hits : l.hits.items ≡ hits_from g.F.Finds.test l.letter (map prepared_standing (take l.subscription-index l.fn.subscriptions));
 }

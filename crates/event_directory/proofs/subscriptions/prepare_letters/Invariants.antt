@@ -7,6 +7,8 @@ abbrev pub invariant-loop-letter : goal.invariant-loop-letter
 invariant-loop-letter g l = record {
   same : map standing_of_stored l.subscriptions ≡ map standing_of_stored l.fn.subscriptions;
   planned : map planned_standing l.subscriptions ≡ map planned_standing l.fn.subscriptions;
-  next : map prepared_standing l.subscriptions ≡ after_letters g.F.Finds.test (take l.letter-index l.letters) (map prepared_standing l.fn.subscriptions);
-  hits : map (λ v. v.items) l.hits.items ≡ hits_from_letters g.F.Finds.test (take l.letter-index l.letters) (map prepared_standing l.fn.subscriptions);
+  next : map prepared_standing l.subscriptions
+      ≡ after_letters g.F.Finds.test (take l.letter-index l.letters) (map prepared_standing l.fn.subscriptions);
+  hits : map (λ v. v.items) l.hits.items ≡ hits_from_letters g.F.Finds.test (take l.letter-index l.letters)
+      (map prepared_standing l.fn.subscriptions);
 }

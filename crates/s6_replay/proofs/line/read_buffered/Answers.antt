@@ -1,4 +1,5 @@
-use Rattle.std.proofs.Common.{◌≡◌, ◌+◌, ◌<◌, ◌≤◌, ◌≢◌, ◌++◌, length, take, rules, sym, ap, subst, ◌∙◌, arith, take-take, length-append, length-take-le, true, is_some}
+use Rattle.std.proofs.Common.{◌≡◌, ◌+◌, ◌<◌, ◌≤◌, ◌≢◌, ◌++◌, length, take, rules, sym, ap, subst, ◌∙◌, arith, take-take, length-append}
+use Rattle.std.proofs.Common.{length-take-le, true, is_some}
 use Rattle.std.proofs.lemmas.List.Elements.{All-append}
 use Rattle.std.specs.Io.KnownBytes.{Consumes}
 use Rattle.std.specs.Io.BufRead.{FillKeeps}
@@ -17,11 +18,13 @@ returns-then-is_none-clause-ok g c start before =
     let ends : end ≤ length within = end_within within c.memchr-newline.result end found c.unwrap_or-end.ensures in
     let rested = c.fill_buf.follows.lender-at-none in
     let filled = subst (FillKeeps _ (g.R.Read.remaining rested) (g.R.BufRead.consumable_len rested)) c.in-Ok.is c.fill_buf.follows.holds-at-none in
-    let moved = Consumes_shown _ _ _ _ shown end (omega arith) c.in-Ok.ensures.front c.in-Ok.ensures.end filled.0 filled.1 c.consume.ensures.bytes in
+    let moved = Consumes_shown _ _ _ _ shown end
+    (omega arith) c.in-Ok.ensures.front c.in-Ok.ensures.end filled.0 filled.1 c.consume.ensures.bytes in
     let part = take end within in
     let items : c.extend_from_slice.new.self.items ≡ c.args.line.now.items ++ part = search rules in (
       record {
-        plain = subst HasNoNewline (sym items) (All-append (λ b. b ≢ 10) _ _ c.requires.part.plain (plain_before within c.memchr-newline.result end found c.unwrap_or-end.ensures));
+        plain = subst HasNoNewline (sym items) (All-append (λ b. b ≢ 10) _ _ c.requires.part.plain
+            (plain_before within c.memchr-newline.result end found c.unwrap_or-end.ensures));
         within = omega (arith, ap length items, length-append c.args.line.now.items part, length-take-le end within ends);
       },
       reads_on start _ _ _ part _ before (subst (Consumes _ _) (sym (take-take end c.min.result shown (omega arith))) moved.0) items,
@@ -38,11 +41,14 @@ returns-clause-ok g c start before =
     let ends : end < length within = end_before within c.memchr-newline.result end found some c.unwrap_or-end.ensures in
     let rested = c.fill_buf.follows.lender-at-none in
     let filled = subst (FillKeeps _ (g.R.Read.remaining rested) (g.R.BufRead.consumable_len rested)) c.in-Ok.is c.fill_buf.follows.holds-at-none in
-    let moved = Consumes_shown _ _ _ _ shown (end + 1) (omega arith) c.in-Ok.ensures.front c.in-Ok.ensures.end filled.0 filled.1 c.consume-2.ensures.bytes in
+    let moved = Consumes_shown _ _ _ _ shown (end + 1)
+    (omega arith) c.in-Ok.ensures.front c.in-Ok.ensures.end filled.0 filled.1 c.consume-2.ensures.bytes in
     let part = take end within in
     let items : c.extend_from_slice.new.self.items ≡ c.args.line.now.items ++ part = search rules in
-    let read = sym (take-take (end + 1) c.min.result shown (omega arith)) ∙ with_newline within c.memchr-newline.result end found some c.unwrap_or-end.ensures in (
-      subst HasNoNewline (sym items) (All-append (λ b. b ≢ 10) _ _ c.requires.part.plain (plain_before within c.memchr-newline.result end found c.unwrap_or-end.ensures)),
+    let read = sym (take-take (end + 1) c.min.result shown (omega arith))
+    ∙ with_newline within c.memchr-newline.result end found some c.unwrap_or-end.ensures in (
+      subst HasNoNewline (sym items) (All-append (λ b. b ≢ 10) _ _ c.requires.part.plain
+          (plain_before within c.memchr-newline.result end found c.unwrap_or-end.ensures)),
       omega (arith, ap length items, length-append c.args.line.now.items part, length-take-le end within (omega arith)),
       reads_newline start _ _ _ part _ before (subst (Consumes _ _) read moved.0) items,
     )

@@ -9,6 +9,7 @@ returns-in-Ok-clause-ok g c = (
   omega (arith, c.loop-reader.invariant.part.within),
   (
     get_or c.read.new.buf 0 0,
-    Consumes-trans _ _ _ _ _ c.loop-reader.invariant.consumed (rw (one_byte c.read.new.buf c.in-Ok.field-0 (omega arith) (omega arith)) at c.in-Ok.ensures.bytes.0),
+    Consumes-trans _ _ _ _ _ c.loop-reader.invariant.consumed
+        (rw (one_byte c.read.new.buf c.in-Ok.field-0 (omega arith) (omega arith)) at c.in-Ok.ensures.bytes.0),
   ),
 )

@@ -3,7 +3,8 @@ use Rattle.s6_replay.proofs.Runs.{starts, goes_on, ends_whole, ends_at_limit, st
 use Rattle.s6_replay.proofs.replay.replay_all.Goals as goal
 
 pub loop-done-init : goal.loop-done-init
-loop-done-init g c = starts _ _ _ _ _ _ c.in_default.ensures.ok c.requires c.none-counts.ensures.inputs c.none-counts.ensures.events c.none-counts.ensures.orders
+loop-done-init g c = starts _ _ _ _ _ _ c.in_default.ensures.ok c.requires c.none-counts.ensures.inputs c.none-counts.ensures.events
+    c.none-counts.ensures.orders
 
 pub loop-done-preserved : goal.loop-done-preserved
 loop-done-preserved g c =
@@ -31,5 +32,6 @@ returns-in-Ok-End-clause-ok g c = (
 pub returns-in-Ok-clause-ok : goal.returns-in-Ok-clause-ok
 returns-in-Ok-clause-ok g c = (
   c.loop-done.invariant.0,
-  ends_at_limit _ _ _ _ _ _ c.loop-done.tree c.loop-done.done c.loop-done.counts c.loop-done.invariant.0 c.loop-done.invariant.1 (omega arith) c.in-Ok.ensures.ok,
+  ends_at_limit _ _ _ _ _ _ c.loop-done.tree c.loop-done.done c.loop-done.counts c.loop-done.invariant.0 c.loop-done.invariant.1
+      (omega arith) c.in-Ok.ensures.ok,
 )

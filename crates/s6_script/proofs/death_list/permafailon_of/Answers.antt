@@ -30,4 +30,5 @@ pub returns-in-None-clause-spelled : goal.returns-in-None-clause-spelled
 returns-in-None-clause-spelled g c =
     let two = one_taken 1 c.args.words.now _ _ c.take_next.ensures.rest c.take_next-2.ensures.rest in
     let three = one_taken 2 c.args.words.now _ _ two c.take_next-3.ensures.rest in
-    permafailon_lost c.args.words.now Tick _ (next_word 3 c.args.words.now _ _ three c.take_next-4.ensures.word) (sym c.in-None.is ∙ c.in_ok-list.ensures)
+    permafailon_lost c.args.words.now Tick _ (next_word 3 c.args.words.now _ _ three c.take_next-4.ensures.word)
+    (sym c.in-None.is ∙ c.in_ok-list.ensures)

@@ -7,5 +7,6 @@ use Rattle.s6_script.proofs.entry_options.config_of.Given as goal
 abbrev pub invariant-loop-option : goal.invariant-loop-option
 invariant-loop-option l = record {
   fits : IsConfig l.config;
-  spelled : (c : Config) → IsConfig c → map (λ w. w.now) l.options ≡ option_words c → l.config ≡ fold with_setting plain_config (take l.option-index (settings c));
+  spelled : (c : Config) → IsConfig c → map (λ w. w.now) l.options ≡ option_words c
+      → l.config ≡ fold with_setting plain_config (take l.option-index (settings c));
 }

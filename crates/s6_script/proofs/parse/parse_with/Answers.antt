@@ -8,7 +8,8 @@ use Rattle.s6_script.proofs.parse.parse_with.Goals as goal
 
 pub returns-then-eq-clause-found : goal.returns-then-eq-clause-found
 returns-then-eq-clause-found g c =
-    let same : c.as_slice.result.now ≡ c.args.line.now = (bytes_decides c.as_slice.result.now c.args.line.now).0 (sym c.eq.ensures ∙ c.if-eq.true) in
+    let same : c.as_slice.result.now ≡ c.args.line.now =
+    (bytes_decides c.as_slice.result.now c.args.line.now).0 (sym c.eq.ensures ∙ c.if-eq.true) in
     built_found c.args.line.now c.in_ok-input.input c.build.result
     (record { at = c.in_ok-input.ensures.at; actor = c.in_ok-input.ensures.actor; act = c.in_ok-input.ensures.act })
     c.build.ensures.ok c.build.ensures.fits (sym same ∙ (c.as_slice.ensures.value ∙ c.in_ok-spell.ensures))
@@ -25,7 +26,8 @@ returns-then-eq-clause-line g c =
 
 pub returns-then-eq-clause-pattern : goal.returns-then-eq-clause-pattern
 returns-then-eq-clause-pattern g c =
-    let same : c.as_slice.result.now ≡ c.args.line.now = (bytes_decides c.as_slice.result.now c.args.line.now).0 (sym c.eq.ensures ∙ c.if-eq.true) in
+    let same : c.as_slice.result.now ≡ c.args.line.now =
+    (bytes_decides c.as_slice.result.now c.args.line.now).0 (sym c.eq.ensures ∙ c.if-eq.true) in
     unbuilt_pattern c.args.line.now c.in_ok-input.input c.build.result
     (record { at = c.in_ok-input.ensures.at; actor = c.in_ok-input.ensures.actor; act = c.in_ok-input.ensures.act })
     c.build.ensures.fits c.build.ensures.pattern (sym same ∙ (c.as_slice.ensures.value ∙ c.in_ok-spell.ensures))

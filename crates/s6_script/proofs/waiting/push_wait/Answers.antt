@@ -10,7 +10,11 @@ returns g c =
     let mode = mode_word c.args.mode in
     let timeout = decimal c.args.timeout in
     grew c.args.text.now.items (codes "wait") _ _ _ c.in_ok-extend_from_slice.ensures.items
-    (grew _ (32 ∷ condition) _ _ _ (c.in_ok-push_word.ensures ∙ ap (λ w. c.extend_from_slice.new.self.items ++ (32 ∷ w)) (c.as_bytes.ensures.value ∙ c.condition_bytes.ensures))
-    (grew _ (32 ∷ mode) _ _ _ (c.in_ok-push_word-2.ensures ∙ ap (λ w. c.push_word.new.text.items ++ (32 ∷ w)) (c.as_bytes-2.ensures.value ∙ c.mode_bytes.ensures))
-    (grew _ (32 ∷ timeout) _ _ _ (c.in_ok-push_spaced.ensures ∙ ap (λ n. c.push_word-2.new.text.items ++ (32 ∷ decimal n)) c.from.ensures) c.in_ok-push_names.ensures)))
-    ∙ ap (λ t. c.args.text.now.items ++ (codes "wait" ++ (32 ∷ (condition ++ (32 ∷ (mode ++ (32 ∷ t))))))) (sym (join_words timeout c.args.names.now))
+    (grew _ (32 ∷ condition) _ _ _ (c.in_ok-push_word.ensures
+    ∙ ap (λ w. c.extend_from_slice.new.self.items ++ (32 ∷ w)) (c.as_bytes.ensures.value ∙ c.condition_bytes.ensures))
+    (grew _ (32 ∷ mode) _ _ _ (c.in_ok-push_word-2.ensures
+    ∙ ap (λ w. c.push_word.new.text.items ++ (32 ∷ w)) (c.as_bytes-2.ensures.value ∙ c.mode_bytes.ensures))
+    (grew _ (32 ∷ timeout) _ _ _ (c.in_ok-push_spaced.ensures ∙ ap (λ n. c.push_word-2.new.text.items ++ (32 ∷ decimal n)) c.from.ensures)
+    c.in_ok-push_names.ensures)))
+    ∙ ap (λ t. c.args.text.now.items ++ (codes "wait" ++ (32 ∷ (condition ++ (32 ∷ (mode ++ (32 ∷ t)))))))
+    (sym (join_words timeout c.args.names.now))

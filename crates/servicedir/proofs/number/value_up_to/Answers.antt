@@ -7,5 +7,6 @@ use Rattle.servicedir.proofs.number.value_up_to.Goals as goal
 pub returns-then-value-from : goal.returns-then-value-from
 returns-then-value-from c =
     let more : c.args.most < value_of_digits c.args.digits.now =
-    too_much c.args.most c.loop-digit.digit-index c.args.digits.now c.loop-digit-test.true (omega (arith, c.if-value-from.true, c.from-in-loop-digit.ensures, c.from.ensures, c.loop-digit.invariant.0)) in
+    too_much c.args.most c.loop-digit.digit-index c.args.digits.now c.loop-digit-test.true
+    (omega (arith, c.if-value-from.true, c.from-in-loop-digit.ensures, c.from.ensures, c.loop-digit.invariant.0)) in
     search rules

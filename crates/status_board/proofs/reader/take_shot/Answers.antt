@@ -16,7 +16,9 @@ pub returns-in_err-shot-clause-later : goal.returns-in_err-shot-clause-later
 returns-in_err-shot-clause-later g c = prefix_self c.args.known.now
 
 pub returns-then-follow-clause-later : goal.returns-then-follow-clause-later
-returns-then-follow-clause-later g c = followed c.follow.result c.args.known.now c.follow.new.self c.published.result.now c.follow.ensures.yes c.follow.ensures.no
+returns-then-follow-clause-later g c = followed c.follow.result c.args.known.now c.follow.new.self c.published.result.now c.follow.ensures.yes
+    c.follow.ensures.no
 
 pub returns-else-follow-clause-later : goal.returns-else-follow-clause-later
-returns-else-follow-clause-later g c = followed c.follow.result c.args.known.now c.follow.new.self c.published.result.now c.follow.ensures.yes c.follow.ensures.no
+returns-else-follow-clause-later g c = followed c.follow.result c.args.known.now c.follow.new.self c.published.result.now c.follow.ensures.yes
+    c.follow.ensures.no

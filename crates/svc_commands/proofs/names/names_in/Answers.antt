@@ -10,7 +10,8 @@ use Rattle.svc_commands.proofs.Words.{IsWordAt, texts_of, length_texts, to_word}
 use Rattle.svc_commands.proofs.names.names_in.Goals as goal
 
 pub returns-then-not-are_names : goal.returns-then-not-are_names
-returns-then-not-are_names c = bad_names (texts_of c.args.words.now) (sym (all_texts c.args.words.now) ∙ sym c.are_names.ensures ∙ c.if-not-are_names.true)
+returns-then-not-are_names c = bad_names (texts_of c.args.words.now)
+    (sym (all_texts c.args.words.now) ∙ sym c.are_names.ensures ∙ c.if-not-are_names.true)
 
 pub returns-in_err-name : goal.returns-in_err-name
 returns-in_err-name c =
@@ -20,9 +21,11 @@ returns-in_err-name c =
 
 pub returns-in_err-add_name : goal.returns-in_err-add_name
 returns-in_err-add_name c =
-    let all : list_all is_name (texts_of c.args.words.now) ≡ true = sym (all_texts c.args.words.now) ∙ sym c.are_names.ensures ∙ c.if-not-are_names.false in
+    let all : list_all is_name (texts_of c.args.words.now) ≡ true =
+    sym (all_texts c.args.words.now) ∙ sym c.are_names.ensures ∙ c.if-not-are_names.false in
     let len : length (texts_of c.args.words.now) ≡ length c.args.words.now = length_texts c.args.words.now in
-    let full : 16 ≤ length (take c.loop-word.word-index (texts_of c.args.words.now)) = rw (← c.loop-word.invariant.names) c.in_err-add_name.ensures.0 in
+    let full : 16 ≤ length (take c.loop-word.word-index (texts_of c.args.words.now)) =
+    rw (← c.loop-word.invariant.names) c.in_err-add_name.ensures.0 in
     let some : length (take c.loop-word.word-index (texts_of c.args.words.now)) ≡ c.loop-word.word-index =
     length-take-le c.loop-word.word-index (texts_of c.args.words.now) (omega (arith, len, c.loop-word-test.true)) in
     let told : names_fault (texts_of c.args.words.now) ≡ Some TooMany =
@@ -42,7 +45,8 @@ loop-word-preserved c =
 
 pub returns : goal.returns
 returns c =
-    let all : list_all is_name (texts_of c.args.words.now) ≡ true = sym (all_texts c.args.words.now) ∙ sym c.are_names.ensures ∙ c.if-not-are_names.false in
+    let all : list_all is_name (texts_of c.args.words.now) ≡ true =
+    sym (all_texts c.args.words.now) ∙ sym c.are_names.ensures ∙ c.if-not-are_names.false in
     let len : length (texts_of c.args.words.now) ≡ length c.args.words.now = length_texts c.args.words.now in
     let whole : c.loop-word.names.items ≡ texts_of c.args.words.now =
     c.loop-word.invariant.names ∙ take_all c.loop-word.word-index (texts_of c.args.words.now) (omega (arith, len, c.loop-word-test.false)) in

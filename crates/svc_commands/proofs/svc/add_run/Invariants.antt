@@ -6,5 +6,6 @@ use Rattle.svc_commands.proofs.svc.add_run.Given as goal
 abbrev pub invariant-loop-byte : goal.invariant-loop-byte
 invariant-loop-byte l = record {
   letters : l.letters.items ≡ l.initial.letters.items ++ flat_map svc_letters (take l.byte-index l.run);
-  fault : letters_fault svc_letters (length l.initial.letters.items) l.run ≡ letters_fault svc_letters (length l.letters.items) (drop l.byte-index l.run);
+  fault : letters_fault svc_letters (length l.initial.letters.items) l.run
+      ≡ letters_fault svc_letters (length l.letters.items) (drop l.byte-index l.run);
 }

@@ -15,7 +15,8 @@ returns c =
     sym (ap₂ kinds_for c.in-Ok.ensures c.before_dashes-own.ensures) ∙ c.in_ok-matches.ensures.kinds in
     let lacks : c.has_no_word.result ≡ is_empty (program_words (texts_of c.args.words.now)) =
     c.has_no_word.ensures ∙ ap is_empty c.after_dashes-program.ensures in
-    let told : wait_fault (is_empty (program_words (texts_of c.args.words.now))) (rows_for listen_app (own_words (texts_of c.args.words.now))) ≡ None =
+    let told : wait_fault (is_empty (program_words (texts_of c.args.words.now))) (rows_for listen_app (own_words (texts_of c.args.words.now)))
+    ≡ None =
     ap₂ wait_fault (sym lacks) (sym rows) ∙ c.in_ok-wait.ensures.0 in
     let P : List Row → Type 0 = λ rs. IsWaitCommand rs c.in_ok-wait.wait in
     ((kinds, told), subst P rows c.in_ok-wait.ensures.1, c.after_dashes-program.ensures)

@@ -8,7 +8,8 @@ use Rattle.svc_commands.proofs.svstat.fields_of.Goals as goal
 
 pub returns-in_err-field : goal.returns-in_err-field
 returns-in_err-field c =
-    let at : IsWordAt c.deref-item-items.result.now c.loop-item.item-index (get_or c.deref-item-items.result.now c.loop-item.item-index (record { ref_ptr = (0, 0); now = [] })).now =
+    let at : IsWordAt c.deref-item-items.result.now c.loop-item.item-index
+    (get_or c.deref-item-items.result.now c.loop-item.item-index (record { ref_ptr = (0, 0); now = [] })).now =
     record { within = c.loop-item-test.true; is = refl } in
     let strange : has_strange field_named (items_in c.args.list.now) ≡ true =
     ap (has_strange field_named) (sym (ap texts_of c.deref-item-items.ensures.value ∙ c.in-Ok.ensures))
@@ -17,7 +18,8 @@ returns-in_err-field c =
 
 pub loop-item-preserved : goal.loop-item-preserved
 loop-item-preserved c =
-    let at : IsWordAt c.deref-item-items.result.now c.loop-item.item-index (get_or c.deref-item-items.result.now c.loop-item.item-index (record { ref_ptr = (0, 0); now = [] })).now =
+    let at : IsWordAt c.deref-item-items.result.now c.loop-item.item-index
+    (get_or c.deref-item-items.result.now c.loop-item.item-index (record { ref_ptr = (0, 0); now = [] })).now =
     record { within = c.loop-item-test.true; is = refl } in
     record {
       fields = more_fields field_named _ _ _ _ _ _ at c.in_ok-field.ensures c.loop-item.invariant.fields c.in_ok-add_field.ensures;

@@ -4,4 +4,5 @@ use Rattle.std.proofs.lemmas.Iterator.Consumers.{YieldsList-at, YieldsList-from_
 use Rattle.svscan_core.proofs.listing.names_of.Goals as goal
 
 pub returns : goal.returns
-returns g c = items_from_collect _ c.collect.ensures.ran (YieldsList-from_copied (YieldsList-at c.copied.ensures.source (YieldsList-from_rest c.args.set.now.keys c.iter.ensures.rest)))
+returns g c = items_from_collect _ c.collect.ensures.ran
+    (YieldsList-from_copied (YieldsList-at c.copied.ensures.source (YieldsList-from_rest c.args.set.now.keys c.iter.ensures.rest)))

@@ -20,7 +20,8 @@ loop-low-preserved-then-lt g c =
       order = omega (arith, within);
       bound = c.loop-low.invariant.bound;
       below = lower_up_to (serials_of (charts_of services)) middle at c.args.sid c.requires.order
-          (serial_read services middle at c.in_ok-nth.field-0.now c.in_ok-nth.ensures c.sid-at.ensures) (is_lower at c.args.sid c.lt.result c.lt.ensures c.if-lt.true);
+          (serial_read services middle at c.in_ok-nth.field-0.now c.in_ok-nth.ensures c.sid-at.ensures)
+          (is_lower at c.args.sid c.lt.result c.lt.ensures c.if-lt.true);
       above = c.loop-low.invariant.above;
     }
 

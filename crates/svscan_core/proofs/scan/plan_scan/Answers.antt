@@ -1,19 +1,19 @@
 use Rattle.std.proofs.Common.{◌≡◌, ◌∙◌, ◌≤◌, ◌++◌, [], append-nil, sym, ap, subst, length, List, ℕ, true, arith, filter, map}
 use Rattle.std.proofs.lemmas.List.{length-map}
 use Rattle.supervise_core.specs.Service.{Supervised}
-use Rattle.svscan_core.specs.declared.moves.Touched.{Touched}
+use Rattle.svscan_core.specs.declared.moves.ChangedService.{ChangedService}
 use Rattle.svscan_core.specs.Adding.{adding_of}
 use Rattle.svscan_core.specs.declared.visit.Visit.TheVariants.{Look}
 use Rattle.svscan_core.specs.Deaths.{DeathOf, AllBefore, AllTallied}
 use Rattle.svscan_core.specs.Listing.{names_in}
 use Rattle.svscan_core.specs.Moves.{moment_of}
-use Rattle.svscan_core.specs.Moving.{with_touched, timers_of, moving_of}
-use Rattle.svscan_core.specs.Names.{repeats}
-use Rattle.svscan_core.specs.Scan.{ScanState, stays, leaves, scanned}
+use Rattle.svscan_core.specs.Moving.{with_changes, timers_of, step_so_far}
+use Rattle.svscan_core.specs.Names.{repeats_name}
+use Rattle.svscan_core.specs.Scan.{ScanState, stays, leaves, after_scan}
 use Rattle.svscan_core.specs.Scanning.{prepared_services}
 use Rattle.deadlines.specs.declared.timer.TimerChange.TheVariants.{Clear}
-use Rattle.deadlines.specs.Timers.{changed_all, is_rising}
-use Rattle.svscan_core.specs.Timers.{timer_change, TimersAgree}
+use Rattle.deadlines.specs.Timers.{with_timer_changes, is_rising}
+use Rattle.svscan_core.specs.Timers.{timer_change_of, TimersAgree}
 use Rattle.svscan_core.specs.Work.Work.{apply_listing}
 use Rattle.svscan_core.specs.Sound.{AllAgree}
 use Rattle.svscan_core.specs.Table.{charts_of, names_of, serials_of}
@@ -28,14 +28,16 @@ use Rattle.svscan_core.proofs.scan.plan_scan.Goals as goal
 
 pub visit_all-requires-clause-order : goal.visit_all-requires-clause-order
 visit_all-requires-clause-order g c =
-    rising_before (serials_of (charts_of (with_touched c.args.slots.now.services c.args.moves.now.touched.items))) c.args.scan.now.next_sid c.requires.order
+    rising_before (serials_of (charts_of (with_changes c.args.slots.now.services c.args.moves.now.touched.items))) c.args.scan.now.next_sid
+    c.requires.order
 
 pub add_names-requires-clause-once : goal.add_names-requires-clause-once
-add_names-requires-clause-once g c = ap repeats (c.as_slice-names.ensures.value ∙ c.in_ok-sorted.ensures.names) ∙ order_once (names_in c.args.listing.now)
+add_names-requires-clause-once g c = ap repeats_name (c.as_slice-names.ensures.value ∙ c.in_ok-sorted.ensures.names)
+    ∙ order_once (names_in c.args.listing.now)
 
 pub add_names-requires-clause-few : goal.add_names-requires-clause-few
 add_names-requires-clause-few g c =
-    let ss = with_touched c.args.slots.now.services c.as_slice.result.now in
+    let ss = with_changes c.args.slots.now.services c.as_slice.result.now in
     let long : length ss ≡ length c.args.slots.now.services = length_touched c.args.slots.now.services c.as_slice.result.now in
     let as_long : length (charts_of ss) ≡ length ss = length-map ss (λ (s : Supervised). s.chart) in
     let fewer : length (filter stays (charts_of ss)) ≤ length (charts_of ss) = length-filter stays (charts_of ss) in
@@ -45,25 +47,30 @@ add_names-requires-clause-few g c =
 
 pub add_names-requires-clause-orders : goal.add_names-requires-clause-orders
 add_names-requires-clause-orders g c =
-    let same : length c.visit_all.new.self.orders.items ≡ length c.args.moves.now.orders.items = ap length (same_orders c.args.now c.args.listing.now (moving_of c.args.slots.now.services c.args.moves.now) (moving_of c.args.slots.now.services c.visit_all.new.self) c.in_ok-visit_all.ensures.takes) in
+    let same : length c.visit_all.new.self.orders.items ≡ length c.args.moves.now.orders.items =
+    ap length (same_orders c.args.now c.args.listing.now (step_so_far c.args.slots.now.services c.args.moves.now)
+    (step_so_far c.args.slots.now.services c.visit_all.new.self) c.in_ok-visit_all.ensures.takes) in
     omega (arith, same, c.requires.room)
 
 leads : (g : _) (c : goal.After-drop-sorted-2 g)
-    → LeadsToScanned c.args.listing.now c.args.now c.args.scan.now.next_sid (with_touched c.args.slots.now.services c.args.moves.now.touched.items)
-    (with_touched c.args.slots.now.services c.visit_all.new.self.touched.items) c.plan_drops.new.scan.dropped.items
+    → LeadsToScanned c.args.listing.now c.args.now c.args.scan.now.next_sid (with_changes c.args.slots.now.services c.args.moves.now.touched.items)
+    (with_changes c.args.slots.now.services c.visit_all.new.self.touched.items) c.plan_drops.new.scan.dropped.items
     (adding_of c.plan_drops.new.scan c.visit_all.new.self) (adding_of c.add_names.new.self c.add_names.new.moves)
 leads g c =
     let slots = c.args.slots.now.services in
-    let standing = with_touched slots c.args.moves.now.touched.items in
-    let visited = with_touched slots c.visit_all.new.self.touched.items in
-    let same : with_touched slots c.as_slice.result.now ≡ visited = ap (with_touched slots) c.as_slice.ensures.value in
+    let standing = with_changes slots c.args.moves.now.touched.items in
+    let visited = with_changes slots c.visit_all.new.self.touched.items in
+    let same : with_changes slots c.as_slice.result.now ≡ visited = ap (with_changes slots) c.as_slice.ensures.value in
     let drops = c.in_ok-retained.ensures in
-    let retained : c.in_ok-retained.retained ≡ length (filter stays (charts_of visited)) = drops.retained ∙ ap (λ ss. length (filter stays (charts_of ss))) same in
+    let retained : c.in_ok-retained.retained ≡ length (filter stays (charts_of visited)) =
+    drops.retained ∙ ap (λ ss. length (filter stays (charts_of ss))) same in
     let adds = c.in_ok-add_names.ensures in
-    leads_to_scanned c.args.listing.now c.args.now c.args.scan.now.next_sid slots standing visited c.plan_drops.new.scan.dropped.items c.as_slice-names.result.now
+    leads_to_scanned c.args.listing.now c.args.now c.args.scan.now.next_sid slots standing visited c.plan_drops.new.scan.dropped.items
+    c.as_slice-names.result.now
     (adding_of c.plan_drops.new.scan c.visit_all.new.self) (adding_of c.add_names.new.self c.add_names.new.moves)
     c.in_ok-visit_all.ensures.takes.services c.requires.names c.requires.order c.requires.stand
-    (drops.dropped ∙ (ap (λ ns. ns ++ names_of (filter leaves (charts_of (with_touched slots c.as_slice.result.now)))) c.requires.dropped ∙ ap (λ ss. names_of (filter leaves (charts_of ss))) same))
+    (drops.dropped ∙ (ap (λ ns. ns ++ names_of (filter leaves (charts_of (with_changes slots c.as_slice.result.now)))) c.requires.dropped
+    ∙ ap (λ ss. names_of (filter leaves (charts_of ss))) same))
     (c.as_slice-names.ensures.value ∙ c.in_ok-sorted.ensures.names)
     (c.plan_drops.ensures.added ∙ c.requires.added) c.plan_drops.ensures.next_sid (c.plan_drops.ensures.listed ∙ c.requires.listed)
     (λ services long finds. adds.state services (long ∙ sym retained) finds)
@@ -71,8 +78,10 @@ leads g c =
 
 pub returns-clause-services : goal.returns-clause-services
 returns-clause-services g c =
-    ap (λ ts. charts_of (prepared_services c.args.slots.now.services ts c.add_names.new.self.dropped.items c.add_names.new.self.added.items)) c.add_names.ensures.touched
-    ∙ (ap (λ ns. charts_of (prepared_services c.args.slots.now.services c.visit_all.new.self.touched.items ns c.add_names.new.self.added.items)) c.add_names.ensures.dropped
+    ap (λ ts. charts_of (prepared_services c.args.slots.now.services ts c.add_names.new.self.dropped.items c.add_names.new.self.added.items))
+    c.add_names.ensures.touched
+    ∙ (ap (λ ns. charts_of (prepared_services c.args.slots.now.services c.visit_all.new.self.touched.items ns c.add_names.new.self.added.items))
+    c.add_names.ensures.dropped
     ∙ (leads g c).services)
 
 pub returns-clause-next_sid : goal.returns-clause-next_sid
@@ -81,14 +90,18 @@ returns-clause-next_sid g c = ap (λ (s : ScanState). s.next_sid) (leads g c).gi
 pub returns-clause-events : goal.returns-clause-events
 returns-clause-events g c =
     ap (λ (s : ScanState). s.events) (leads g c).given
-    ∙ ap (λ es. es ++ (scanned c.args.listing.now c.args.now (charts_of (with_touched c.args.slots.now.services c.args.moves.now.touched.items)) c.args.scan.now.next_sid).events)
-    (same_events c.args.now c.args.listing.now (moving_of c.args.slots.now.services c.args.moves.now) (moving_of c.args.slots.now.services c.visit_all.new.self) c.in_ok-visit_all.ensures.takes)
+    ∙ ap (λ es. es ++ (after_scan c.args.listing.now c.args.now
+    (charts_of (with_changes c.args.slots.now.services c.args.moves.now.touched.items)) c.args.scan.now.next_sid).events)
+    (same_events c.args.now c.args.listing.now (step_so_far c.args.slots.now.services c.args.moves.now)
+    (step_so_far c.args.slots.now.services c.visit_all.new.self) c.in_ok-visit_all.ensures.takes)
 
 pub returns-clause-orders : goal.returns-clause-orders
 returns-clause-orders g c =
     ap (λ (s : ScanState). s.orders) (leads g c).given
-    ∙ ap (λ os. os ++ (scanned c.args.listing.now c.args.now (charts_of (with_touched c.args.slots.now.services c.args.moves.now.touched.items)) c.args.scan.now.next_sid).orders)
-    (same_orders c.args.now c.args.listing.now (moving_of c.args.slots.now.services c.args.moves.now) (moving_of c.args.slots.now.services c.visit_all.new.self) c.in_ok-visit_all.ensures.takes)
+    ∙ ap (λ os. os ++ (after_scan c.args.listing.now c.args.now
+    (charts_of (with_changes c.args.slots.now.services c.args.moves.now.touched.items)) c.args.scan.now.next_sid).orders)
+    (same_orders c.args.now c.args.listing.now (step_so_far c.args.slots.now.services c.args.moves.now)
+    (step_so_far c.args.slots.now.services c.visit_all.new.self) c.in_ok-visit_all.ensures.takes)
 
 pub returns-clause-listed : goal.returns-clause-listed
 returns-clause-listed g c = ap (λ (s : ScanState). s.listed) (leads g c).given
@@ -97,45 +110,59 @@ pub returns-clause-agrees : goal.returns-clause-agrees
 returns-clause-agrees g c = λ h at all.
     let slots = c.args.slots.now.services in
     let seen = c.in_ok-visit_all.ensures.takes.agrees h at all in
-    subst (λ (ts : List Touched). AllAgree (prepared_services slots ts c.add_names.new.self.dropped.items c.add_names.new.self.added.items) (h ++ map moment_of c.add_names.new.moves.events.items))
+    subst (λ (ts : List ChangedService). AllAgree (prepared_services slots ts c.add_names.new.self.dropped.items c.add_names.new.self.added.items)
+    (h ++ map moment_of c.add_names.new.moves.events.items))
     (sym c.add_names.ensures.touched)
-    (subst (λ (ns : List (List ℕ)). AllAgree (prepared_services slots c.visit_all.new.self.touched.items ns c.add_names.new.self.added.items) (h ++ map moment_of c.add_names.new.moves.events.items))
+    (subst (λ (ns : List (List ℕ)). AllAgree (prepared_services slots c.visit_all.new.self.touched.items ns c.add_names.new.self.added.items)
+    (h ++ map moment_of c.add_names.new.moves.events.items))
     (sym c.add_names.ensures.dropped) ((leads g c).agrees h seen))
 
 pub returns-clause-tallies : goal.returns-clause-tallies
 returns-clause-tallies g c = λ deaths before all.
     let slots = c.args.slots.now.services in
-    let standing = with_touched slots c.args.moves.now.touched.items in
-    let seen : AllTallied (with_touched slots c.visit_all.new.self.touched.items) (deaths ++ []) =
-    subst (λ (ds : List DeathOf). AllTallied (with_touched slots c.visit_all.new.self.touched.items) (deaths ++ ds))
+    let standing = with_changes slots c.args.moves.now.touched.items in
+    let seen : AllTallied (with_changes slots c.visit_all.new.self.touched.items) (deaths ++ []) =
+    subst (λ (ds : List DeathOf). AllTallied (with_changes slots c.visit_all.new.self.touched.items) (deaths ++ ds))
     (no_visit_deaths (Look c.args.listing) c.args.now (charts_of standing)) (c.in_ok-visit_all.ensures.takes.tallies deaths all) in
-    subst (λ (ts : List Touched). AllTallied (prepared_services slots ts c.add_names.new.self.dropped.items c.add_names.new.self.added.items) (deaths ++ []))
+    subst (λ (ts : List ChangedService). AllTallied (prepared_services slots ts c.add_names.new.self.dropped.items c.add_names.new.self.added.items)
+    (deaths ++ []))
     (sym c.add_names.ensures.touched)
-    (subst (λ (ns : List (List ℕ)). AllTallied (prepared_services slots c.visit_all.new.self.touched.items ns c.add_names.new.self.added.items) (deaths ++ []))
+    (subst (λ (ns : List (List ℕ)). AllTallied (prepared_services slots c.visit_all.new.self.touched.items ns c.add_names.new.self.added.items)
+    (deaths ++ []))
     (sym c.add_names.ensures.dropped)
-    ((leads g c).tallies (deaths ++ []) (subst (λ (ds : List DeathOf). AllBefore c.args.scan.now.next_sid ds) (sym (append-nil deaths)) before) seen))
+    ((leads g c).tallies (deaths ++ []) (subst (λ (ds : List DeathOf). AllBefore c.args.scan.now.next_sid ds) (sym (append-nil deaths)) before)
+    seen))
 
 pub returns-clause-timers : goal.returns-clause-timers
 returns-clause-timers g c = λ ts a.
     let slots = c.args.slots.now.services in
-    let standing = with_touched slots c.args.moves.now.touched.items in
-    let visited = with_touched slots c.visit_all.new.self.touched.items in
-    let same : with_touched slots c.as_slice.result.now ≡ visited = ap (with_touched slots) c.as_slice.ensures.value in
-    let rising : is_rising (serials_of (charts_of standing)) ≡ true = rising_before (serials_of (charts_of standing)) c.args.scan.now.next_sid c.requires.order in
-    let looked : serials_of (charts_of visited) ≡ serials_of (charts_of standing) = ap serials_of c.in_ok-visit_all.ensures.takes.services ∙ looked_serials c.args.listing.now c.args.now (charts_of standing) in
-    let next = (scanned c.args.listing.now c.args.now (charts_of standing) c.args.scan.now.next_sid).next_sid in
-    let done = (scanned c.args.listing.now c.args.now (charts_of standing) c.args.scan.now.next_sid).services in
-    let rises : is_rising (serials_of done) ≡ true = rising_before (serials_of done) next (work_numbers (apply_listing c.args.listing.now) c.args.now (charts_of standing) c.args.scan.now.next_sid c.requires.order) in
+    let standing = with_changes slots c.args.moves.now.touched.items in
+    let visited = with_changes slots c.visit_all.new.self.touched.items in
+    let same : with_changes slots c.as_slice.result.now ≡ visited = ap (with_changes slots) c.as_slice.ensures.value in
+    let rising : is_rising (serials_of (charts_of standing)) ≡ true =
+    rising_before (serials_of (charts_of standing)) c.args.scan.now.next_sid c.requires.order in
+    let looked : serials_of (charts_of visited) ≡ serials_of (charts_of standing) =
+    ap serials_of c.in_ok-visit_all.ensures.takes.services ∙ looked_serials c.args.listing.now c.args.now (charts_of standing) in
+    let next = (after_scan c.args.listing.now c.args.now (charts_of standing) c.args.scan.now.next_sid).next_sid in
+    let done = (after_scan c.args.listing.now c.args.now (charts_of standing) c.args.scan.now.next_sid).services in
+    let rises : is_rising (serials_of done) ≡ true =
+    rising_before (serials_of done) next (work_numbers (apply_listing c.args.listing.now) c.args.now
+    (charts_of standing) c.args.scan.now.next_sid c.requires.order) in
     let sids : c.add_names.new.self.dropped_sids.items ≡ serials_of (filter leaves (charts_of visited)) =
     c.add_names.ensures.dropped_sids
     ∙ (c.in_ok-retained.ensures.dropped_sids
-    ∙ (ap (λ ns. ns ++ serials_of (filter leaves (charts_of (with_touched slots c.as_slice.result.now)))) c.requires.dropped_sids
+    ∙ (ap (λ ns. ns ++ serials_of (filter leaves (charts_of (with_changes slots c.as_slice.result.now)))) c.requires.dropped_sids
     ∙ ap (λ ss. serials_of (filter leaves (charts_of ss))) same)) in
-    subst (λ (us : List Touched). TimersAgree (changed_all (timers_of us ++ (map (λ sid. Clear sid) c.add_names.new.self.dropped_sids.items ++ map timer_change (charts_of c.add_names.new.self.added.items))) ts)
+    subst (λ (us : List ChangedService). TimersAgree
+    (with_timer_changes (timers_of us ++ (map (λ sid. Clear sid) c.add_names.new.self.dropped_sids.items
+    ++ map timer_change_of (charts_of c.add_names.new.self.added.items))) ts)
     (charts_of (prepared_services slots us c.add_names.new.self.dropped.items c.add_names.new.self.added.items))) (sym c.add_names.ensures.touched)
-    (subst (λ (ns : List (List ℕ)). TimersAgree (changed_all (timers_of c.visit_all.new.self.touched.items ++ (map (λ sid. Clear sid) c.add_names.new.self.dropped_sids.items ++ map timer_change (charts_of c.add_names.new.self.added.items))) ts)
+    (subst (λ (ns : List (List ℕ)). TimersAgree
+    (with_timer_changes (timers_of c.visit_all.new.self.touched.items
+    ++ (map (λ sid. Clear sid) c.add_names.new.self.dropped_sids.items ++ map timer_change_of (charts_of c.add_names.new.self.added.items))) ts)
     (charts_of (prepared_services slots c.visit_all.new.self.touched.items ns c.add_names.new.self.added.items))) (sym c.add_names.ensures.dropped)
-    (scan_timers ts (timers_of c.visit_all.new.self.touched.items) c.add_names.new.self.dropped_sids.items (charts_of c.add_names.new.self.added.items) (charts_of visited) _
+    (scan_timers ts (timers_of c.visit_all.new.self.touched.items) c.add_names.new.self.dropped_sids.items
+    (charts_of c.add_names.new.self.added.items) (charts_of visited) _
     (ap is_rising looked ∙ rising) sids
     ((leads g c).services ∙ sym (ap (λ (s : ScanState). s.services) (leads g c).given))
     (ap (λ xs. is_rising (serials_of xs)) (leads g c).services ∙ rises)

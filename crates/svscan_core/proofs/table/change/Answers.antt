@@ -14,7 +14,8 @@ use Rattle.svscan_core.proofs.table.change.Goals as goal
 pub returns-in_err-place-clause-services : goal.returns-in_err-place-clause-services
 returns-in_err-place-clause-services g c =
     let services = c.args.slots.now.services in
-    sym (none_reported c.args.sid c.args.change.now c.args.now (charts_of services) (any_chart services c.args.sid ∙ c.in_err-place.ensures.none)).services
+    sym (none_reported c.args.sid c.args.change.now c.args.now (charts_of services)
+    (any_chart services c.args.sid ∙ c.in_err-place.ensures.none)).services
 
 pub returns-in_err-place-clause-known : goal.returns-in_err-place-clause-known
 returns-in_err-place-clause-known g c =
@@ -23,7 +24,8 @@ returns-in_err-place-clause-known g c =
 pub returns-in_err-place-clause-tallies : goal.returns-in_err-place-clause-tallies
 returns-in_err-place-clause-tallies g c = λ deaths all.
     let services = c.args.slots.now.services in
-    let none = none_reported c.args.sid c.args.change.now c.args.now (charts_of services) (any_chart services c.args.sid ∙ c.in_err-place.ensures.none) in
+    let none = none_reported c.args.sid c.args.change.now c.args.now (charts_of services)
+    (any_chart services c.args.sid ∙ c.in_err-place.ensures.none) in
     subst (λ (ds : List DeathOf). AllTallied services ds) (sym (ap (λ ds. deaths ++ ds) none.deaths ∙ append-nil deaths)) all
 
 pub returns-in_err-nth-clause-services : goal.returns-in_err-nth-clause-services
@@ -46,14 +48,17 @@ change-out-requires g c =
     (all_at (λ (k : ChartState). k.generation + 1 < 2 ^ 64) (charts_of services) c.in_ok-place.place s.chart c.requires.generations
     (get_map (λ (t : Supervised). t.chart) services c.in_ok-place.place s (sym c.in_ok-nth.ensures)))
 
-changed : (g : Over) (c : goal.After-adopt g) → IsChanged c.args.sid c.args.now c.args.change.now c.args.slots.now.services c.adopt.new.self.services c.change-out.result
+changed : (g : Over) (c : goal.After-adopt g)
+    → IsChanged c.args.sid c.args.now c.args.change.now c.args.slots.now.services c.adopt.new.self.services c.change-out.result
 changed g c =
     let services = c.args.slots.now.services in
     let s = c.in_ok-nth.field-0.now in
     let there = sym c.in_ok-nth.ensures in
     let is = c.standing-standing.ensures in
-    changed_there c.args.sid c.args.now c.args.change.now services c.adopt.new.self.services c.in_ok-place.place s c.change-out.new.self c.death.result
-    c.change-out.result c.requires.order c.in_ok-place.ensures.found there (rw is at c.change-out.ensures.gives) (rw is at c.change-out.ensures.agrees)
+    changed_there c.args.sid c.args.now c.args.change.now services c.adopt.new.self.services c.in_ok-place.place s c.change-out.new.self
+    c.death.result
+    c.change-out.result c.requires.order c.in_ok-place.ensures.found there (rw is at c.change-out.ensures.gives)
+    (rw is at c.change-out.ensures.agrees)
     (rw is at c.change-out.ensures.sid) c.death.ensures (c.adopt.ensures.services s there)
 
 pub returns-clause-services : goal.returns-clause-services

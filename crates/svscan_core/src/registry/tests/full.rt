@@ -1,3 +1,4 @@
+//! A full table: 64 services are added and told to end.
 use super::*;
 use s6_events::Mark;
 
@@ -65,7 +66,7 @@ fn prepare_listing(
     registry: &mut Registry<Global>,
     listing: &[Entry],
 ) -> Result<bool, Fail> {
-    let work = Work::Listing(listing);
+    let work = ServiceWork::Listing(listing);
     prepare(rt, alloc, registry, &[], &work, At::zero())
 }
 

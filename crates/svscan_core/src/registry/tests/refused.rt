@@ -1,3 +1,4 @@
+//! Refused memory in a step of the table, growth by growth.
 use super::*;
 use linked_list_allocator::LocalHeap;
 
@@ -15,7 +16,7 @@ fn is_step_refused<A: Allocator + Copy>(
     listing: &[Entry],
     filler: Option<Vec<u8, A>>,
 ) -> Result<bool, Fail> {
-    let work = Work::Listing(listing);
+    let work = ServiceWork::Listing(listing);
     let before = shown(rt, alloc, registry)?;
     let is_prepared = prepare(rt, alloc, registry, &[], &work, At::zero())?;
     let after = shown(rt, alloc, registry)?;

@@ -5,8 +5,10 @@ use Rattle.tree_core.proofs.choice.report.Goals as goal
 
 pub returns-then-is_none : goal.returns-then-is_none
 returns-then-is_none g c =
-    sym (ap (λ b. report_choice b c.args.sid c.args.change) (known_by _ c.args.sid c.args.registry.now.shown.services c.get.result false c.get.ensures (c.is_none.ensures ∙ ap not c.if-is_none.true)))
+    sym (ap (λ b. report_choice b c.args.sid c.args.change)
+    (known_by _ c.args.sid c.args.registry.now.shown.services c.get.result false c.get.ensures (c.is_none.ensures ∙ ap not c.if-is_none.true)))
 
 pub returns : goal.returns
 returns g c =
-    sym (ap (λ b. report_choice b c.args.sid c.args.change) (known_by _ c.args.sid c.args.registry.now.shown.services c.get.result true c.get.ensures (c.is_none.ensures ∙ ap not c.if-is_none.false)))
+    sym (ap (λ b. report_choice b c.args.sid c.args.change)
+    (known_by _ c.args.sid c.args.registry.now.shown.services c.get.result true c.get.ensures (c.is_none.ensures ∙ ap not c.if-is_none.false)))

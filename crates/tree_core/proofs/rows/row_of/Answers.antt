@@ -12,6 +12,7 @@ returns-in_err-named g c = λ history agrees.
 
 pub returns : goal.returns
 returns g c = λ history agrees.
-    ap Some (c.row.ensures history (agrees_with_found _ c.args.registry.now.shown.services history c.in_ok-named.field-0.now agrees c.in_ok-named.ensures))
+    ap Some (c.row.ensures history (agrees_with_found _ c.args.registry.now.shown.services history c.in_ok-named.field-0.now agrees
+    c.in_ok-named.ensures))
     ∙ (ap (option_map (λ (s : Supervised). status_row history c.args.now s.chart)) c.in_ok-named.ensures
     ∙ find_charts (status_row history c.args.now) (λ x. bytes_eq c.args.name x.name) c.args.registry.now.shown.services)

@@ -8,6 +8,7 @@ pub loop-place-preserved : goal.loop-place-preserved
 loop-place-preserved g c = record {
   rows = λ history agrees.
       c.push.ensures.items
-      ∙ rows_more c.loop-place.rows.items (map (status_row history c.args.now) (charts_of c.args.registry.now.shown.services)) c.loop-place.place c.row_at.result (c.row_at.ensures history agrees) (c.loop-place.invariant.rows history agrees);
+      ∙ rows_more c.loop-place.rows.items (map (status_row history c.args.now) (charts_of c.args.registry.now.shown.services)) c.loop-place.place
+      c.row_at.result (c.row_at.ensures history agrees) (c.loop-place.invariant.rows history agrees);
   count = c.push.ensures.len ∙ ap (λ n. n + 1) c.loop-place.invariant.count;
 }

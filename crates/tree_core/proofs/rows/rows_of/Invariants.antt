@@ -7,6 +7,7 @@ use Rattle.tree_core.proofs.rows.rows_of.Given as goal
 
 abbrev pub invariant-loop-place : goal.invariant-loop-place
 invariant-loop-place g l = record {
-  rows : (history : List Moment) → AllAgree l.registry.shown.services history → l.rows.items ≡ take l.place (map (status_row history l.now) (charts_of l.registry.shown.services));
+  rows : (history : List Moment) → AllAgree l.registry.shown.services history
+      → l.rows.items ≡ take l.place (map (status_row history l.now) (charts_of l.registry.shown.services));
   count : length l.rows.items ≡ l.place;
 }

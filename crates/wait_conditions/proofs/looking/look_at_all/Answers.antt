@@ -1,31 +1,37 @@
 use Rattle.std.proofs.Common.{◌≤◌, ◌<◌, ◌++◌, arith, length, map, option_to_list, sym, ap, ◌∙◌}
 use Rattle.std.proofs.lemmas.List.{length-map}
 use Rattle.std.proofs.lemmas.List.Elements.{All-get_or}
-use Rattle.wait_conditions.specs.Kept.{Kept, kept_of, looked, release_seen}
+use Rattle.wait_conditions.specs.Kept.{StoredWaiter, waiter_view, with_state_over, release_seen}
 use Rattle.wait_conditions.proofs.InPlace.{ChangedBelow, at_place, changed_more, noted_more}
 use Rattle.wait_conditions.proofs.looking.look_at_all.Goals as goal
 
 pub look_for_release-release-requires : goal.look_for_release-release-requires
 look_for_release-release-requires g c =
-    let K = map kept_of c.args.waiters.now in
-    let within : c.loop-i.i < length K = omega (arith, length-map c.args.waiters.now kept_of) in
-    let below : ChangedBelow (looked c.args.moments.now) K c.loop-i.waiters c.loop-i.i = record { within = within; here = omega arith; now = c.loop-i.invariant.waiters } in
-    let place = ap (λ (k : Kept). k.place) (at_place _ K _ _ c.index-waiters-i.result below c.index-waiters-i.is) in
-    rw (← c.index-waiters-i.is) (rw place (All-get_or (λ k. k.place ≤ length c.args.moments.now) K c.loop-i.i (kept_of c.index-waiters-i.result) within c.requires.placed))
+    let K = map waiter_view c.args.waiters.now in
+    let within : c.loop-i.i < length K = omega (arith, length-map c.args.waiters.now waiter_view) in
+    let below : ChangedBelow (with_state_over c.args.moments.now) K c.loop-i.waiters c.loop-i.i =
+    record { within = within; here = omega arith; now = c.loop-i.invariant.waiters } in
+    let place = ap (λ (k : StoredWaiter). k.place) (at_place _ K _ _ c.index-waiters-i.result below c.index-waiters-i.is) in
+    rw (← c.index-waiters-i.is) (rw place (All-get_or (λ k. k.place ≤ length c.args.moments.now) K c.loop-i.i
+    (waiter_view c.index-waiters-i.result) within c.requires.placed))
 
 pub loop-i-preserved : goal.loop-i-preserved
 loop-i-preserved g c =
-    let K = map kept_of c.args.waiters.now in
-    let within : c.loop-i.i < length K = omega (arith, length-map c.args.waiters.now kept_of) in
-    let below : ChangedBelow (looked c.args.moments.now) K c.loop-i.waiters c.loop-i.i = record { within = within; here = omega arith; now = c.loop-i.invariant.waiters } in
+    let K = map waiter_view c.args.waiters.now in
+    let within : c.loop-i.i < length K = omega (arith, length-map c.args.waiters.now waiter_view) in
+    let below : ChangedBelow (with_state_over c.args.moments.now) K c.loop-i.waiters c.loop-i.i =
+    record { within = within; here = omega arith; now = c.loop-i.invariant.waiters } in
     let W = c.index-waiters-i.result in
     let is = c.index-waiters-i.is in
     record {
-      waiters = changed_more _ K c.loop-i.waiters c.loop-i.i W c.look_for_release-release.new.waiter below is (c.look_for_release-release.ensures.waiter ∙ ap (λ w. looked c.args.moments.now (kept_of w)) (sym is));
+      waiters = changed_more _ K c.loop-i.waiters c.loop-i.i W c.look_for_release-release.new.waiter below is
+          (c.look_for_release-release.ensures.waiter ∙ ap (λ w. with_state_over c.args.moments.now (waiter_view w)) (sym is));
       released =
           c.note.ensures.items
-          ∙ (ap (λ o. c.loop-i.released.items ++ option_to_list o) (c.look_for_release-release.ensures.release ∙ ap (λ w. release_seen c.args.moments.now (kept_of w)) (sym is))
-          ∙ noted_more (release_seen c.args.moments.now) K c.loop-i.i (kept_of W) _ _ within (at_place _ K _ _ W below is) c.loop-i.invariant.released);
+          ∙ (ap (λ o. c.loop-i.released.items ++ option_to_list o)
+          (c.look_for_release-release.ensures.release ∙ ap (λ w. release_seen c.args.moments.now (waiter_view w)) (sym is))
+          ∙ noted_more (release_seen c.args.moments.now) K c.loop-i.i (waiter_view W) _ _ within
+          (at_place _ K _ _ W below is) c.loop-i.invariant.released);
       room = omega arith;
       capacity = c.note.ensures.capacity ∙ c.loop-i.invariant.capacity;
     }

@@ -15,17 +15,20 @@ invariant_of-self-then-branch g c =
 pub invariant_of-self-in_err-reserve-2 : goal.invariant_of-self-in_err-reserve-2
 invariant_of-self-in_err-reserve-2 g c =
     subst (λ ls. AreDistinct (sources_of ls)) (sym c.reserve-2.ensures.items)
-    (still_by_followed c.self.inside.listened c.reserve_at.new.listened (rw c.deref_mut.ensures.value at c.reserve_at.ensures.same) c.self.invariant)
+    (still_by_followed c.self.inside.listened c.reserve_at.new.listened
+    (rw c.deref_mut.ensures.value at c.reserve_at.ensures.same) c.self.invariant)
 
 pub invariant_of-self-in_err-directory : goal.invariant_of-self-in_err-directory
 invariant_of-self-in_err-directory g c =
     subst (λ ls. AreDistinct (sources_of ls)) (sym c.reserve-2.ensures.items)
-    (still_by_followed c.self.inside.listened c.reserve_at.new.listened (rw c.deref_mut.ensures.value at c.reserve_at.ensures.same) c.self.invariant)
+    (still_by_followed c.self.inside.listened c.reserve_at.new.listened
+    (rw c.deref_mut.ensures.value at c.reserve_at.ensures.same) c.self.invariant)
 
 pub invariant_of-self-2 : goal.invariant_of-self-2
 invariant_of-self-2 g c =
     subst (λ ls. AreDistinct (sources_of ls)) (sym c.reserve-2.ensures.items)
-    (still_by_followed c.self.inside.listened c.reserve_at.new.listened (rw c.deref_mut.ensures.value at c.reserve_at.ensures.same) c.self.invariant)
+    (still_by_followed c.self.inside.listened c.reserve_at.new.listened
+    (rw c.deref_mut.ensures.value at c.reserve_at.ensures.same) c.self.invariant)
 
 pub returns-clause-room : goal.returns-clause-room
 returns-clause-room g c = record {
@@ -37,7 +40,8 @@ returns-clause-room g c = record {
       subst (λ s. IsAbsent s (map (λ r. r.0) (map room_of c.reserve-2.new.self.items))) (sym c.in_ok-directory.ensures.source)
       (subst (IsAbsent c.args.source.now) (sym (sources_roomed c.reserve-2.new.self.items))
       (subst (λ ls. IsAbsent c.args.source.now (sources_of ls))
-      (sym (c.reserve-2.ensures.items ∙ items_by followed_of c.self.inside.listened c.reserve_at.new.listened (rw c.deref_mut.ensures.value at c.reserve_at.ensures.same)))
+      (sym (c.reserve-2.ensures.items ∙ items_by followed_of c.self.inside.listened c.reserve_at.new.listened
+      (rw c.deref_mut.ensures.value at c.reserve_at.ensures.same)))
       (c.in_ok-reserve_at.ensures.absent c.if-branch.false)));
   next = rw (← c.self.view_is) at c.requires;
 }

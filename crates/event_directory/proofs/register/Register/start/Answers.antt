@@ -1,6 +1,6 @@
 use Rattle.std.proofs.Common.{◌∙◌, ◌++◌, ◌∷◌, [], map, refl, sym, ap, subst}
 use Rattle.event_directory.specs.Parts.{AreDistinct, IsAbsent, followed_of}
-use Rattle.event_directory.specs.Sending.{made_now}
+use Rattle.event_directory.specs.Sending.{new_kept_subscription}
 use Rattle.event_directory.proofs.Places.{distinct_pushed, sources_of}
 use Rattle.event_directory.proofs.Changed.{joined_last, sources_roomed, same_shown}
 use Rattle.event_directory.proofs.register.Register.start.Given.{Over}
@@ -21,6 +21,8 @@ returns g c =
     (same_shown _ _ refl
     (c.push_reserved.ensures.items ∙ ap (λ s. c.self.inside.subscribers.items ++ (c.self.inside.next, s) ∷ []) c.source.ensures)
     (ap (map followed_of) c.push_reserved-2.ensures.items
-    ∙ joined_last c.args.directory.source (made_now c.self.inside.next (g.F.Finds.source c.args.pattern) c.args.repeats) c.self.inside.listened.items c.take_in.new.self (absent g c)
-    c.take_in.ensures.source (c.take_in.ensures.after ∙ ap (λ l. l ++ made_now c.self.inside.next (g.F.Finds.source c.args.pattern) c.args.repeats ∷ []) c.requires.empty))
+    ∙ joined_last c.args.directory.source (new_kept_subscription c.self.inside.next (g.F.Finds.source c.args.pattern) c.args.repeats)
+    c.self.inside.listened.items c.take_in.new.self (absent g c)
+    c.take_in.ensures.source (c.take_in.ensures.after
+    ∙ ap (λ l. l ++ new_kept_subscription c.self.inside.next (g.F.Finds.source c.args.pattern) c.args.repeats ∷ []) c.requires.empty))
     refl)

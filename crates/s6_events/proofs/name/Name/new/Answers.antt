@@ -15,4 +15,5 @@ made_is_padded text front back f b le is = (
 )
 
 pub invariant_of-result : goal.invariant_of-result
-invariant_of-result c = made_is_padded c.args.text.now c.copy_from_slice.new.self _ c.copy_from_slice.ensures.after (drop-replicate (length c.args.text.now) 64 0) (search rules) (search rules)
+invariant_of-result c = made_is_padded c.args.text.now c.copy_from_slice.new.self _ c.copy_from_slice.ensures.after
+    (drop-replicate (length c.args.text.now) 64 0) (search rules) (search rules)

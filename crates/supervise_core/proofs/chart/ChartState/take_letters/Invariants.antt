@@ -1,5 +1,5 @@
 use Rattle.std.proofs.Common.{◌≡◌, ◌+◌, ◌≤◌, ◌*◌, take, length}
-use Rattle.supervise_core.specs.ControlLetters.{control as control_move}
+use Rattle.supervise_core.specs.ControlLetters.{control_move}
 use Rattle.supervise_core.specs.MatchesMove.{AppendsMove}
 use Rattle.supervise_core.specs.LetterBounds.{marks_left, runs_left}
 use Rattle.supervise_core.proofs.chart.ChartState.take_letters.Given as goal

@@ -1,14 +1,14 @@
 use Rattle.std.proofs.Common.{[], ◌∷◌, ◌≡◌, ◌∙◌, sym, ap, subst}
 use Rattle.std.specs.Prelude.{List, Option, None, Some, IsSomeAnd, slice_get}
 use Rattle.supervise_core.specs.declared.chart.ChartState.{ChartState}
-use Rattle.supervise_core.specs.ChartState.{Moved, still}
-use Rattle.supervise_core.specs.Service.{Supervised, Stands, adopted}
-use Rattle.svscan_core.specs.declared.moves.Touched.{Touched}
+use Rattle.supervise_core.specs.ChartState.{Moved, no_move}
+use Rattle.supervise_core.specs.Service.{Supervised, ServiceView, with_view}
+use Rattle.svscan_core.specs.declared.moves.ChangedService.{ChangedService}
 use Rattle.std.proofs.lemmas.List.{map-append}
-use Rattle.svscan_core.specs.Timers.{timer_change}
-use Rattle.svscan_core.specs.Moving.{with_touched, timers_of, moving_of, KeepNames, TakesAt}
+use Rattle.svscan_core.specs.Timers.{timer_change_of}
+use Rattle.svscan_core.specs.Moving.{with_changes, timers_of, step_so_far, KeepNames, TakesAt}
 use Rattle.svscan_core.specs.Table.{charts_of, serials_of}
-use Rattle.svscan_core.specs.Visit.{visited}
+use Rattle.svscan_core.specs.Visit.{visit_move}
 use Rattle.svscan_core.proofs.Places.{get_map}
 use Rattle.svscan_core.proofs.Taking.{stood, one_taken, stays_takes, touched_takes, touched_more, names_kept, serials_touched, chart_there}
 use Rattle.svscan_core.proofs.Tallied.{visit_joins}
@@ -16,52 +16,63 @@ use Rattle.svscan_core.proofs.moves.Moves.visit_at.Goals as goal
 
 pub returns-then-passes-clause-takes : goal.returns-then-passes-clause-takes
 returns-then-passes-clause-takes g c = λ k there.
-    let ss = with_touched c.args.slots.now.services c.args.self.now.touched.items in
+    let ss = with_changes c.args.slots.now.services c.args.self.now.touched.items in
     let old = stood (slice_get ss c.args.place) c.in-Some.before (sym c.in-Some.is ∙ (rw c.as_slice.ensures.value at c.standing_at.ensures)) in
-    let is : c.in-Some.before.chart ≡ k = sym (ap (λ (b : Stands). b.chart) old.2) ∙ chart_there ss c.args.place old.0 k old.1 there in
-    let stays : visited c.args.visit c.args.now k ≡ still k = subst (λ (x : ChartState). visited c.args.visit c.args.now x ≡ still x) is (c.passes.ensures c.if-passes.true) in
-    subst (λ (m : Moved). TakesAt c.args.now c.args.place k m (moving_of c.args.slots.now.services c.args.self.now) (moving_of c.args.slots.now.services c.args.self.now)) (sym stays)
-    (stays_takes c.args.now c.args.place k (moving_of c.args.slots.now.services c.args.self.now) there)
+    let is : c.in-Some.before.chart ≡ k = sym (ap (λ (b : ServiceView). b.chart) old.2) ∙ chart_there ss c.args.place old.0 k old.1 there in
+    let stays : visit_move c.args.visit c.args.now k ≡ no_move k =
+    subst (λ (x : ChartState). visit_move c.args.visit c.args.now x ≡ no_move x) is (c.passes.ensures c.if-passes.true) in
+    subst (λ (m : Moved). TakesAt c.args.now c.args.place k m (step_so_far c.args.slots.now.services c.args.self.now)
+    (step_so_far c.args.slots.now.services c.args.self.now)) (sym stays)
+    (stays_takes c.args.now c.args.place k (step_so_far c.args.slots.now.services c.args.self.now) there)
 
 pub make-requires : goal.make-requires
 make-requires g c =
-    let ss = with_touched c.args.slots.now.services c.args.self.now.touched.items in
+    let ss = with_changes c.args.slots.now.services c.args.self.now.touched.items in
     let old = stood (slice_get ss c.args.place) c.in-Some.before (sym c.in-Some.is ∙ (rw c.as_slice.ensures.value at c.standing_at.ensures)) in
-    record { next = c.requires.next c.in-Some.before.chart (get_map (λ (t : Supervised). t.chart) ss c.args.place old.0 old.1 ∙ ap (λ (b : Stands). Some b.chart) old.2) }
+    record {
+      next = c.requires.next c.in-Some.before.chart
+          (get_map (λ (t : Supervised). t.chart) ss c.args.place old.0 old.1 ∙ ap (λ (b : ServiceView). Some b.chart) old.2);
+    }
 
 pub returns-clause-takes : goal.returns-clause-takes
 returns-clause-takes g c = λ k there.
-    let ss = with_touched c.args.slots.now.services c.args.self.now.touched.items in
+    let ss = with_changes c.args.slots.now.services c.args.self.now.touched.items in
     let old = stood (slice_get ss c.args.place) c.in-Some.before (sym c.in-Some.is ∙ (rw c.as_slice.ensures.value at c.standing_at.ensures)) in
-    let is : c.in-Some.before.chart ≡ k = sym (ap (λ (b : Stands). b.chart) old.2) ∙ chart_there ss c.args.place old.0 k old.1 there in
+    let is : c.in-Some.before.chart ≡ k = sym (ap (λ (b : ServiceView). b.chart) old.2) ∙ chart_there ss c.args.place old.0 k old.1 there in
     let after = c.make.new.standing in
     let new = c.touch.new.self in
-    let t : Touched = record { place = c.args.place; standing = after; death = None } in
-    subst (λ (x : ChartState). TakesAt c.args.now c.args.place x (visited c.args.visit c.args.now x) (moving_of c.args.slots.now.services c.args.self.now) (moving_of c.args.slots.now.services new)) is
-    (touched_takes c.args.now c.args.place ss (with_touched c.args.slots.now.services new.touched.items) c.args.self.now.events.items new.events.items c.args.self.now.orders.items new.orders.items (timers_of c.args.self.now.touched.items) (timers_of new.touched.items)
-    old.0 c.in-Some.before after t.death (visited c.args.visit c.args.now c.in-Some.before.chart) c.make.new.out old.1 old.2 c.requires.order
+    let t : ChangedService = record { place = c.args.place; standing = after; death = None } in
+    subst (λ (x : ChartState). TakesAt c.args.now c.args.place x (visit_move c.args.visit c.args.now x)
+    (step_so_far c.args.slots.now.services c.args.self.now) (step_so_far c.args.slots.now.services new)) is
+    (touched_takes c.args.now c.args.place ss (with_changes c.args.slots.now.services new.touched.items) c.args.self.now.events.items
+    new.events.items c.args.self.now.orders.items new.orders.items (timers_of c.args.self.now.touched.items) (timers_of new.touched.items)
+    old.0 c.in-Some.before after t.death (visit_move c.args.visit c.args.now c.in-Some.before.chart) c.make.new.out old.1 old.2 c.requires.order
     c.make.ensures.gives c.make.ensures.agrees c.make.ensures.sid (visit_joins c.args.visit c.args.now c.in-Some.before.chart)
-    (ap (with_touched c.args.slots.now.services) c.in_ok-touch.ensures.touched ∙ (touched_more c.args.slots.now.services c.args.self.now.touched.items t ∙ one_taken ss t old.0 old.1))
+    (ap (with_changes c.args.slots.now.services) c.in_ok-touch.ensures.touched
+    ∙ (touched_more c.args.slots.now.services c.args.self.now.touched.items t ∙ one_taken ss t old.0 old.1))
     c.in_ok-touch.ensures.events c.in_ok-touch.ensures.orders
-    (ap timers_of c.in_ok-touch.ensures.touched ∙ map-append (λ (t : Touched). timer_change t.standing.chart) c.args.self.now.touched.items (t ∷ [])))
+    (ap timers_of c.in_ok-touch.ensures.touched
+    ∙ map-append (λ (t : ChangedService). timer_change_of t.standing.chart) c.args.self.now.touched.items (t ∷ [])))
 
 pub returns-clause-serials : goal.returns-clause-serials
 returns-clause-serials g c =
-    let ss = with_touched c.args.slots.now.services c.args.self.now.touched.items in
+    let ss = with_changes c.args.slots.now.services c.args.self.now.touched.items in
     let old = stood (slice_get ss c.args.place) c.in-Some.before (sym c.in-Some.is ∙ (rw c.as_slice.ensures.value at c.standing_at.ensures)) in
     let after = c.make.new.standing in
-    let t : Touched = record { place = c.args.place; standing = after; death = None } in
-    ap (λ (ts : List Touched). serials_of (charts_of (with_touched c.args.slots.now.services ts))) c.in_ok-touch.ensures.touched
+    let t : ChangedService = record { place = c.args.place; standing = after; death = None } in
+    ap (λ (ts : List ChangedService). serials_of (charts_of (with_changes c.args.slots.now.services ts))) c.in_ok-touch.ensures.touched
     ∙ (ap (λ (services : List Supervised). serials_of (charts_of services))
     (touched_more c.args.slots.now.services c.args.self.now.touched.items t ∙ one_taken ss t old.0 old.1)
-    ∙ serials_touched ss c.args.place old.0 (adopted after None old.0) old.1 (c.make.ensures.sid ∙ sym (ap (λ (b : Stands). b.chart.sid) old.2)))
+    ∙ serials_touched ss c.args.place old.0 (with_view after None old.0) old.1
+    (c.make.ensures.sid ∙ sym (ap (λ (b : ServiceView). b.chart.sid) old.2)))
 
 pub returns-clause-names : goal.returns-clause-names
 returns-clause-names g c = λ h.
-    let ss = with_touched c.args.slots.now.services c.args.self.now.touched.items in
+    let ss = with_changes c.args.slots.now.services c.args.self.now.touched.items in
     let old = stood (slice_get ss c.args.place) c.in-Some.before (sym c.in-Some.is ∙ (rw c.as_slice.ensures.value at c.standing_at.ensures)) in
     let after = c.make.new.standing in
-    let t : Touched = record { place = c.args.place; standing = after; death = None } in
-    subst (λ (ts : List Touched). KeepNames c.args.slots.now.services ts) (sym c.in_ok-touch.ensures.touched)
+    let t : ChangedService = record { place = c.args.place; standing = after; death = None } in
+    subst (λ (ts : List ChangedService). KeepNames c.args.slots.now.services ts) (sym c.in_ok-touch.ensures.touched)
     (names_kept c.args.slots.now.services c.args.self.now.touched.items t h
-    (subst (λ (o : Option Supervised). IsSomeAnd o (λ s. s.chart.name ≡ after.chart.name)) (sym old.1) (ap (λ (b : Stands). b.chart.name) old.2 ∙ sym c.make.ensures.name)))
+    (subst (λ (o : Option Supervised). IsSomeAnd o (λ s. s.chart.name ≡ after.chart.name)) (sym old.1)
+    (ap (λ (b : ServiceView). b.chart.name) old.2 ∙ sym c.make.ensures.name)))

@@ -7,7 +7,8 @@ use Rattle.svscan_core.proofs.SerialsRise.{rising_before}
 use Rattle.svscan_core.proofs.registry.Registry.change.Goals as goal
 
 pub change-out-requires-clause-order : goal.change-out-requires-clause-order
-change-out-requires-clause-order g c = rising_before (serials_of (charts_of c.self.inside.slots.services)) c.self.inside.next_sid c.self.invariant.shown.order
+change-out-requires-clause-order g c = rising_before
+    (serials_of (charts_of c.self.inside.slots.services)) c.self.inside.next_sid c.self.invariant.shown.order
 
 pub invariant_of-self : goal.invariant_of-self
 invariant_of-self g c =

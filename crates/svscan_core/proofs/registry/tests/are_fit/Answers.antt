@@ -20,9 +20,11 @@ one_after : (P : ChartState → Type 0) (services : List Supervised) (p : ℕ) (
     → All P (take p (charts_of services)) → All P (take (suc p) (charts_of services))
 one_after P [] p s e h rest = search rules
 one_after P (x ∷ xs) zero s e h rest =
-    all_of P x.chart (take 0 (charts_of xs)) (subst P (sym (ap (λ (o : Option Supervised). (unwrap_or o x).chart) e)) h) (none_taken P (charts_of xs))
+    all_of P x.chart (take 0 (charts_of xs)) (subst P (sym (ap (λ (o : Option Supervised). (unwrap_or o x).chart) e)) h)
+    (none_taken P (charts_of xs))
 one_after P (x ∷ xs) (suc p) s e h rest =
-    all_of P x.chart (take (suc p) (charts_of xs)) (rest 0 x.chart (omega arith)) (one_after P xs p s e h (all_later P x.chart (take p (charts_of xs)) rest))
+    all_of P x.chart (take (suc p) (charts_of xs)) (rest 0 x.chart (omega arith))
+    (one_after P xs p s e h (all_later P x.chart (take p (charts_of xs)) rest))
 
 one_more : (P : ChartState → Type 0) (services : List Supervised) (p : ℕ) (s : Supervised) → slice_get services p ≡ Some s → P s.chart
     → All P (take p (charts_of services)) → All P (take (p + 1) (charts_of services))
@@ -42,9 +44,12 @@ loop-place-preserved g c =
     let there : slice_get services c.loop-place.place ≡ Some c.in-Some.service.now = sym c.in-Some.ensures in
     record {
       few = one_more (λ x. x.generation + 2 < 2 ^ 64) services c.loop-place.place c.in-Some.service.now there
-          (subst (λ (x : ChartState). x.generation + 2 < 2 ^ 64) c.chart.ensures (c.is_fit.ensures.few c.if-not-is_fit.false)) c.loop-place.invariant.few;
-      due = one_more (λ x. list_any (λ sid. sid == x.sid) c.args.due.now ≡ is_due c.args.now x.timer) services c.loop-place.place c.in-Some.service.now there
-          (subst (λ (x : ChartState). list_any (λ sid. sid == x.sid) c.args.due.now ≡ is_due c.args.now x.timer) c.chart.ensures (c.is_fit.ensures.due c.if-not-is_fit.false)) c.loop-place.invariant.due;
+          (subst (λ (x : ChartState). x.generation + 2 < 2 ^ 64) c.chart.ensures (c.is_fit.ensures.few c.if-not-is_fit.false))
+          c.loop-place.invariant.few;
+      due = one_more (λ x. list_any (λ sid. sid == x.sid) c.args.due.now ≡ is_due c.args.now x.timer) services c.loop-place.place
+          c.in-Some.service.now there
+          (subst (λ (x : ChartState). list_any (λ sid. sid == x.sid) c.args.due.now ≡ is_due c.args.now x.timer) c.chart.ensures
+          (c.is_fit.ensures.due c.if-not-is_fit.false)) c.loop-place.invariant.due;
     }
 
 -- all services were looked at
@@ -60,7 +65,8 @@ pub returns-clause-few : goal.returns-clause-few
 returns-clause-few g c = λ e. all_few g c
 
 pub returns-clause-fewer : goal.returns-clause-fewer
-returns-clause-fewer g c = λ e. All-weaker (λ x. x.generation + 2 < 2 ^ 64) (λ x. x.generation + 1 < 2 ^ 64) (λ x h. omega (arith, h)) (charts_of c.args.slots.now.services) (all_few g c)
+returns-clause-fewer g c = λ e. All-weaker (λ x. x.generation + 2 < 2 ^ 64) (λ x. x.generation + 1 < 2 ^ 64) (λ x h. omega (arith, h))
+    (charts_of c.args.slots.now.services) (all_few g c)
 
 pub returns-clause-due : goal.returns-clause-due
 returns-clause-due g c = λ e. subst (λ (cs : List ChartState). AreDue c.args.due.now c.args.now cs) (whole g c) c.loop-place.invariant.due

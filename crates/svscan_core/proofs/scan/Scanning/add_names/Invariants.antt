@@ -13,8 +13,10 @@ use Rattle.svscan_core.proofs.scan.Scanning.add_names.Given as goal
 abbrev pub invariant-loop-name : goal.invariant-loop-name
 invariant-loop-name g l = record {
   state : (services : List ChartState) → length services ≡ l.retained
-      → ((name : List ℕ) → lists l.names name ≡ true → stands name (services ++ charts_of l.fn.self.added.items) ≡ list_any (λ s. bytes_eq name s.chart.name) l.slots.services)
-      → state_behind services (adding_of l.self l.moves) ≡ with_names l.listing (state_behind services (adding_of l.fn.self l.fn.moves)) (take l.name-index l.names);
+      → ((name : List ℕ) → lists l.names name ≡ true
+      → stands name (services ++ charts_of l.fn.self.added.items) ≡ list_any (λ s. bytes_eq name s.chart.name) l.slots.services)
+      → state_behind services (adding_of l.self l.moves)
+      ≡ with_names l.listing (state_behind services (adding_of l.fn.self l.fn.moves)) (take l.name-index l.names);
   goes_on : (services : List Supervised) → IsNumbered l.fn.self.next_sid (charts_of (services ++ l.fn.self.added.items))
       → GoesOn services (adding_of l.fn.self l.fn.moves) (adding_of l.self l.moves);
   grows : Grows l.retained (adding_of l.fn.self l.fn.moves) (adding_of l.self l.moves);

@@ -1,6 +1,6 @@
 use Rattle.std.proofs.Common.{◌∙◌, sym, ap}
 use Rattle.std.specs.Map.{keys_of}
-use Rattle.svscan_core.specs.Names.{repeats}
+use Rattle.svscan_core.specs.Names.{repeats_name}
 use Rattle.svscan_core.proofs.Held.{length-services_in, names_held, distinct_names}
 use Rattle.svscan_core.proofs.slots.Slots.len.Goals as goal
 
@@ -11,4 +11,5 @@ returns-clause-count g c =
 pub returns-clause-names : goal.returns-clause-names
 returns-clause-names g c =
     rw (← c.self.view_is)
-    (ap repeats (names_held c.self.inside.slots c.self.inside.index.entries c.self.invariant) ∙ distinct_names (keys_of c.self.inside.index.entries) c.len.ensures.unique)
+    (ap repeats_name (names_held c.self.inside.slots c.self.inside.index.entries c.self.invariant)
+    ∙ distinct_names (keys_of c.self.inside.index.entries) c.len.ensures.unique)

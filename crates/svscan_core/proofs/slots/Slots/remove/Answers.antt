@@ -7,7 +7,8 @@ use Rattle.svscan_core.proofs.slots.Slots.remove.Given.{Over}
 use Rattle.svscan_core.proofs.slots.Slots.remove.Goals as goal
 
 removed : (g : Over) (c : goal.After-empty_slot g) → (services_in c.empty_slot.new.slots c.shift_remove.new.self.entries
-    ≡ without_name (services_in c.self.inside.slots c.self.inside.index.entries) c.args.name) × AreHeld c.empty_slot.new.slots c.shift_remove.new.self.entries
+    ≡ without_name (services_in c.self.inside.slots c.self.inside.index.entries) c.args.name)
+    × AreHeld c.empty_slot.new.slots c.shift_remove.new.self.entries
 removed g c =
     let at = sym c.in-Some.ensures.value in
     let s = held_named c.self.inside.slots c.self.inside.index.entries c.args.name c.in-Some.slot c.self.invariant at in
@@ -25,4 +26,5 @@ pub returns-in_default-clause-services : goal.returns-in_default-clause-services
 returns-in_default-clause-services g c =
     let none : c.shift_remove.new.self.entries ≡ c.self.inside.index.entries = search rules in
     rw (← c.self.view_is, none)
-    (sym (without-absent c.self.inside.slots c.self.inside.index.entries c.args.name c.self.invariant (sym c.shift_remove.ensures.value ∙ c.in_default.is)))
+    (sym (without-absent c.self.inside.slots c.self.inside.index.entries c.args.name c.self.invariant
+    (sym c.shift_remove.ensures.value ∙ c.in_default.is)))

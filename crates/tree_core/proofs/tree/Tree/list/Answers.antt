@@ -1,9 +1,9 @@
 use Rattle.std.proofs.Common.{sym, subst}
 use Rattle.tree_core.specs.Machine.{directories_of}
-use Rattle.tree_core.specs.StandsFor.{Stored, StandsFor}
+use Rattle.tree_core.specs.StandsFor.{StoredTree, StandsFor}
 use Rattle.tree_core.proofs.tree.Tree.list.Goals as goal
 
 pub returns : goal.returns
 returns g c = λ m stands.
-    let s : StandsFor _ m = subst (λ (t : Stored). StandsFor t m) (sym c.self.view_is) stands in
+    let s : StandsFor _ m = subst (λ (t : StoredTree). StandsFor t m) (sym c.self.view_is) stands in
     c.list.ensures (directories_of m) s.hearing

@@ -2,15 +2,26 @@ use Rattle.std.proofs.Common.{refl, arith, [], false}
 use Rattle.event_directory.specs.Directories.{new_directories}
 use Rattle.event_directory.specs.Pattern.{finds}
 use Rattle.event_directory.specs.Remembered.{AreHeard, Remembered}
-use Rattle.wait_conditions.specs.Stands.{Stored as WaitsStored, WaitsFor, shown}
+use Rattle.wait_conditions.specs.Stands.{StoredWaits, WaitsFor, waits_shown}
 use Rattle.wait_conditions.specs.Watch.{new_watch}
 use Rattle.tree_core.specs.Machine.{new_machine}
 use Rattle.tree_core.specs.StandsFor.{StandsFor}
 use Rattle.tree_core.proofs.tree.Tree.new.Goals as goal
 
 -- what a new tree stores
-begins : (waits : WaitsStored) → WaitsFor waits new_watch → (directories : Remembered) → AreHeard finds directories.shown new_directories
-    → StandsFor (record { clock = 0; steps = 0; closing = false; services = []; next_sid = 1; forgotten = 0; kept = []; waits = shown waits; directories = directories.shown }) new_machine
+begins : (waits : StoredWaits) → WaitsFor waits new_watch → (directories : Remembered) → AreHeard finds directories.shown new_directories
+    → StandsFor (record {
+      clock = 0;
+      steps = 0;
+      closing = false;
+      services = [];
+      next_sid = 1;
+      forgotten = 0;
+      kept = [];
+      waits =
+          waits_shown waits;
+      directories = directories.shown;
+    }) new_machine
 begins waits empty directories heard = record {
   clock = refl;
   steps = refl;
@@ -30,11 +41,19 @@ begins waits empty directories heard = record {
 pub invariant_of-result : goal.invariant_of-result
 invariant_of-result g c =
     rw (c.new.ensures.shown, c.new-2.ensures, c.new-3.ensures.forgotten, c.new-3.ensures.kept, c.zero.ensures) (
-      record { steps = omega arith; serials = omega arith; waiters = omega (arith, c.new-4.ensures.serials); subscriptions = omega (arith, c.new-5.ensures.serials); generations = λ k d lt. absurd (omega (arith, lt)) },
+      record {
+        steps = omega arith;
+        serials = omega arith;
+        waiters = omega (arith, c.new-4.ensures.serials);
+        subscriptions =
+            omega (arith, c.new-5.ensures.serials);
+        generations = λ k d lt. absurd (omega (arith, lt));
+      },
       record { few = omega arith },
       record { order = refl; moments = λ sid. refl },
       (new_machine, begins c.new-4.result c.new-4.ensures.empty c.new-5.result c.new-5.ensures.empty),
     )
 
 pub returns : goal.returns
-returns g c = rw (c.new.ensures.shown, c.new-3.ensures.forgotten, c.new-3.ensures.kept, c.zero.ensures) (begins c.new-4.result c.new-4.ensures.empty c.new-5.result c.new-5.ensures.empty)
+returns g c = rw (c.new.ensures.shown, c.new-3.ensures.forgotten, c.new-3.ensures.kept, c.zero.ensures)
+    (begins c.new-4.result c.new-4.ensures.empty c.new-5.result c.new-5.ensures.empty)

@@ -1,5 +1,5 @@
 use Rattle.std.proofs.Common.{◌∙◌, ap, map, refl}
-use Rattle.wait_conditions.specs.Kept.{kept_of, looked}
+use Rattle.wait_conditions.specs.Kept.{waiter_view, with_state_over}
 use Rattle.wait_conditions.specs.Stands.{shown_of, AllPlaced}
 use Rattle.wait_conditions.proofs.Steps.{placed_taken, placed_idle}
 use Rattle.wait_conditions.proofs.waits.Waits.take_moment.Goals as goal
@@ -11,10 +11,12 @@ invariant_of-self-2 g c =
     placed_taken (shown_of c.self.inside.moments.shown c.self.inside.roll) new c.args.moment.now _
     (record {
       moments = c.in_ok-take.ensures.shown;
-      waiters = c.look_at_every.ensures.waiters ∙ ap (λ ms. map (looked ms) (map kept_of c.self.inside.roll.waiters.items)) c.shown-moments.ensures;
+      waiters = c.look_at_every.ensures.waiters ∙ ap
+          (λ ms. map (with_state_over ms) (map waiter_view c.self.inside.roll.waiters.items)) c.shown-moments.ensures;
       next = refl;
       released = refl;
     })
     c.self.invariant.now in
-    let both = placed_idle c.take.new.self.shown _ c.take.new.self.step (map kept_of c.look_at_every.new.waiters.items) refl c.in_ok-take.ensures.step placed in
+    let both = placed_idle c.take.new.self.shown _ c.take.new.self.step
+    (map waiter_view c.look_at_every.new.waiters.items) refl c.in_ok-take.ensures.step placed in
     record { now = both.0; prepared = both.1 }

@@ -1,0 +1,259 @@
+//! The backend of real processes.
+ghost use Rattle.std.specs.Prelude.{◌≡◌, ◌++◌, ◌∷◌, [], OnOk, OnErr, IfOk};
+
+use crate::bell::Bell;
+use crate::commands::{
+    directory_of, finish_command, is_executable, is_read, kill_command, path_of, run_command,
+};
+use crate::keeper::Keeper;
+use crate::process::ServiceProcess;
+use crate::roll::Roll;
+use crate::roster::Roster;
+use crate::start::{Program, Start, is_last};
+use order_lanes::{AskFault, Backend, Report};
+use s6_events::{Name, NoMemory, Order};
+use std::alloc::Global;
+use std::io;
+use std::io::PipeReader;
+use std::marker::Model;
+use std::process::{Child, Command, Processes, Stdio, SystemProcess};
+use std::rt::Files;
+use std::sync::{Arc, Wait};
+
+/// The number of SIGKILL.
+const SIGKILL: u8 = 9;
+
+/// A backend whose services are processes. A service's directory is the root, a slash and its name; its programs run there. Page
+/// `s6-supervise`.
+#[derive(Drop)]
+pub struct ProcessBackend<R> {
+    rt: R,
+    alloc: Global,
+    root: String,
+    roster: Arc<Roster, Global>,
+    bell: Arc<Bell, Global>,
+    processes: Vec<Arc<ServiceProcess, Global>>,
+    turn: usize,
+    roll: Roll,
+}
+
+impl<R> Model for ProcessBackend<R> {
+    ghost use Rattle.child_runner.specs.Roll.{RollView};
+
+    ghost Value = { RollView };
+
+    ghost view = { λ b. b.roll };
+}
+
+/// A command, and what has to be there that it can be started.
+#[derive(Drop)]
+struct Launch {
+    command: Command,
+    path: String,
+    is_read: bool,
+}
+
+impl<R: Drop> ProcessBackend<R> {
+    /// A backend whose children's threads this keeper starts. The services lie under `root`.
+    pub fn new(
+        rt: R,
+        alloc: Global,
+        keeper: &Keeper<R>,
+        root: &str,
+    ) -> Result<ProcessBackend<R>, NoMemory>
+        ensures { IfOk result (λ b. b ≡ record { asked = []; given = [] }) }
+    {
+        let bell = Arc::new(alloc, Bell::new())?;
+        let roster = Arc::try_clone(&keeper.roster)?;
+        Ok(ProcessBackend {
+            rt,
+            alloc,
+            root: String::from_str(alloc, root)?,
+            roster,
+            bell,
+            processes: Vec::new(alloc),
+            turn: 0,
+            roll: Roll::new(alloc),
+        })
+    }
+
+    /// The bell that rings when there is something to report. Take it before the backend is boxed.
+    pub fn bell(&self) -> Result<Arc<Bell, Global>, NoMemory> {
+        Ok(Arc::try_clone(&self.bell)?)
+    }
+}
+
+impl<R: Processes<Started = SystemProcess> + Files + Wait + Drop> ProcessBackend<R> {
+    // Starts what the launch says, or reports that it can't be started. All memory is taken before.
+    fn start(&mut self, order: &Order, start: &Start, launch: Launch) -> Result<(), NoMemory>
+        ensures added { OnOk result
+            (self.new ≡ record self.old { asked = self.old.asked ++ order.now ∷ [] }) }
+        ensures same { OnErr result (self.new ≡ self.old) }
+    {
+        let bell = Arc::try_clone(&self.bell)?;
+        let number = self.roster.take_number(&self.rt);
+        let process = Arc::new(self.alloc, ServiceProcess::new(number, start, bell))?;
+        self.processes.reserve(1)?;
+        self.roster.enter(&self.rt, &process)?;
+        if let Err(refused) = self.roll.start(order) {
+            self.roster.leave(&self.rt, number);
+            return Err(refused);
+        }
+        self.run(&process, launch);
+        self.processes.push_reserved(process);
+        Ok(())
+    }
+
+    fn run(&self, process: &ServiceProcess, launch: Launch) {
+        match self.spawn(launch) {
+            Some((child, reader)) => {
+                process.begin(&self.rt, child, reader);
+                self.roster.begin(&self.rt, process.number);
+            }
+            None => {
+                process.fail(&self.rt);
+                self.roster.leave(&self.rt, process.number);
+            }
+        }
+    }
+
+    // A child, and the end at which it is read; None where it can't be started.
+    fn spawn(&self, launch: Launch) -> Option<(Child<SystemProcess>, Option<PipeReader>)> {
+        let Launch {
+            mut command,
+            path,
+            is_read,
+        } = launch;
+        if !is_executable(&self.rt, path.as_str()) {
+            return None;
+        }
+        let mut reader = None;
+        if is_read {
+            let (ours, theirs) = io::pipe(&self.rt).ok()?;
+            command.stdout(Stdio::from(theirs));
+            reader = Some(ours);
+        }
+        let child = command.spawn(&self.rt).ok()?;
+        Some((child, reader))
+    }
+
+    // The process number of a child that still lives.
+    fn pid_of(&self, start: &Start) -> Option<u32> {
+        for process in self.processes.as_slice() {
+            if process.start == *start {
+                return process.pid(&self.rt);
+            }
+        }
+        None
+    }
+
+    // Sends a child a signal, if it still lives.
+    fn signal(&mut self, order: &Order, start: &Start, signal: u8) -> Result<(), NoMemory>
+        ensures added { OnOk result
+            (self.new ≡ record self.old { asked = self.old.asked ++ order.now ∷ [] }) }
+        ensures same { OnErr result (self.new ≡ self.old) }
+    {
+        let command = match self.pid_of(start) {
+            Some(pid) => Some(kill_command(self.alloc, pid, signal)?),
+            None => None,
+        };
+        self.roll.note(order)?;
+        if let Some(mut command) = command {
+            let _ = command.status(&self.rt);
+        }
+        Ok(())
+    }
+
+    // How `run` is started.
+    fn launch_of_run(&self, name: &Name, fd: Option<u8>) -> Result<Launch, NoMemory> {
+        let directory = directory_of(self.alloc, self.root.as_str(), name)?;
+        Ok(Launch {
+            command: run_command(self.alloc, directory.as_str(), name, fd)?,
+            path: path_of(self.alloc, directory.as_str(), &Program::Run)?,
+            is_read: is_read(fd),
+        })
+    }
+
+    // How `finish` is started.
+    fn launch_of_finish(&self, name: &Name, code: u16, signal: u8) -> Result<Launch, NoMemory> {
+        let directory = directory_of(self.alloc, self.root.as_str(), name)?;
+        Ok(Launch {
+            command: finish_command(self.alloc, directory.as_str(), name, code, signal)?,
+            path: path_of(self.alloc, directory.as_str(), &Program::Finish)?,
+            is_read: false,
+        })
+    }
+
+    fn carry_out(&mut self, order: &Order) -> Result<(), NoMemory>
+        ensures added { OnOk result
+            (self.new ≡ record self.old { asked = self.old.asked ++ order.now ∷ [] }) }
+        ensures same { OnErr result (self.new ≡ self.old) }
+    {
+        match order {
+            Order::Run(sid, generation, name, fd) => {
+                let launch = self.launch_of_run(name, *fd)?;
+                self.start(order, &Start::of_run(*sid, *generation), launch)
+            }
+            Order::Finish(sid, generation, name, code, signal) => {
+                let launch = self.launch_of_finish(name, *code, *signal)?;
+                self.start(order, &Start::of_finish(*sid, *generation), launch)
+            }
+            Order::Signal(sid, generation, signal) => {
+                self.signal(order, &Start::of_run(*sid, *generation), *signal)
+            }
+            Order::KillFinish(sid, generation) => {
+                self.signal(order, &Start::of_finish(*sid, *generation), SIGKILL)
+            }
+        }
+    }
+
+    // The next report of a child. Each child gets its turn, however much another writes.
+    fn next_report(&mut self) -> Option<Report>
+        ensures { self.new ≡ self.old }
+    {
+        let count = self.processes.len();
+        for step in 0..count {
+            let place = self.turn.wrapping_add(step) % count;
+            if let Some(report) = self.report_of(place) {
+                return Some(report);
+            }
+        }
+        None
+    }
+
+    // The next report of the child at this place.
+    fn report_of(&mut self, place: usize) -> Option<Report>
+        ensures { self.new ≡ self.old }
+    {
+        let report = self.processes.get(place)?.next_report(&self.rt)?;
+        self.turn = place.wrapping_add(1);
+        if is_last(&report) && place < self.processes.len() {
+            let _ = self.processes.remove(place);
+        }
+        Some(report)
+    }
+}
+
+impl<R: Processes<Started = SystemProcess> + Files + Wait + Drop> Backend for ProcessBackend<R> {
+    ghost asked = { λ b. b.asked };
+
+    ghost given = { λ b. b.given };
+
+    /// Starts or signals a process. `Busy` once the keeper is ending; `NoMemory` where a growth was refused, and then nothing was
+    /// done. A start that fails is accepted, and reported.
+    fn ask(&mut self, order: Order) -> Result<(), (Order, AskFault)> {
+        if self.roster.is_ending(&self.rt) {
+            return Err((order, AskFault::Busy));
+        }
+        match self.carry_out(&order) {
+            Ok(()) => Ok(()),
+            Err(_) => Err((order, AskFault::NoMemory)),
+        }
+    }
+
+    /// The next report of a process that was asked here; a report of another never leaves.
+    fn report(&mut self) -> Option<Report> {
+        let report = self.next_report()?;
+        self.roll.pass(report)
+    }
+}

@@ -1,0 +1,138 @@
+//! The commands that orders mean.
+ghost use Rattle.std.specs.Prelude.{◌≡◌, ◌++◌, IfOk, codes, string_bytes};
+ghost use Rattle.child_runner.specs.CommandLine.{line_of, run_line, plain_line, shell_line, finish_line, kill_line, redirection};
+
+use crate::start::Program;
+use s6_events::{Name, NoMemory};
+use std::alloc::Global;
+use std::os::unix::fs::PermissionsExt;
+use std::process::{Command, Stdio};
+use std::rt::Files;
+use std::{fs, str};
+
+// A name has only ASCII letters.
+fn text_of(name: &Name) -> &str
+    ensures { result.now ≡ name.now }
+{
+    match str::from_utf8(name.as_bytes()) {
+        Ok(text) => text,
+        Err(_) => "-",
+    }
+}
+
+/// Whether what the child writes is read: for a notification descriptor of 1 or 3 to 9. Page `notifywhenup`.
+pub(crate) fn is_read(fd: Option<u8>) -> bool {
+    matches!(fd, Some(1 | 3..=9))
+}
+
+/// A service's directory.
+pub(crate) fn directory_of(alloc: Global, root: &str, name: &Name) -> Result<String, NoMemory>
+    ensures { IfOk result (λ path. string_bytes path ≡ root.now ++ codes "/" ++ name.now) }
+{
+    let name = text_of(name);
+    Ok(format!(in alloc; "{root}/{name}")?)
+}
+
+// The shell's words that lead a notification descriptor to where the child's output is read.
+fn redirection_of(alloc: Global, fd: u8) -> Result<String, NoMemory>
+    ensures { IfOk result (λ text. string_bytes text ≡ redirection fd) }
+{
+    Ok(format!(in alloc; "exec \"$0\" \"$1\" {fd}>&1 1>&2")?)
+}
+
+fn plain_command(alloc: Global, directory: &str, name: &Name) -> Result<Command, NoMemory>
+    ensures { IfOk result (λ c. line_of c ≡ plain_line directory.now name.now) }
+{
+    let mut command = Command::new(alloc, "./run")?;
+    command
+        .arg(text_of(name))?
+        .current_dir(directory)?
+        .stdin(Stdio::null());
+    Ok(command)
+}
+
+fn shell_command(alloc: Global, directory: &str, name: &Name, fd: u8) -> Result<Command, NoMemory>
+    ensures { IfOk result (λ c. line_of c ≡ shell_line directory.now name.now fd) }
+{
+    let script = redirection_of(alloc, fd)?;
+    let mut command = Command::new(alloc, "/bin/sh")?;
+    command
+        .arg("-c")?
+        .arg(script.as_str())?
+        .arg("./run")?
+        .arg(text_of(name))?;
+    command.current_dir(directory)?.stdin(Stdio::null());
+    Ok(command)
+}
+
+/// `run` in the service's directory, with its name as the only argument. What it writes to the notification descriptor comes out at
+/// its standard output; under 3 to 9 a shell leads it there, which becomes `run` and so keeps the process number.
+pub(crate) fn run_command(
+    alloc: Global,
+    directory: &str,
+    name: &Name,
+    fd: Option<u8>,
+) -> Result<Command, NoMemory>
+    ensures { IfOk result (λ c. line_of c ≡ run_line directory.now name.now fd) }
+{
+    match fd {
+        Some(fd) if 3 <= fd && fd <= 9 => shell_command(alloc, directory, name, fd),
+        _ => plain_command(alloc, directory, name),
+    }
+}
+
+/// `finish` in the service's directory, with the exit code, the signal and the service's name. Page `servicedir`.
+pub(crate) fn finish_command(
+    alloc: Global,
+    directory: &str,
+    name: &Name,
+    code: u16,
+    signal: u8,
+) -> Result<Command, NoMemory>
+    ensures { IfOk result (λ c. line_of c ≡ finish_line directory.now name.now code signal) }
+{
+    let code = format!(in alloc; "{code}")?;
+    let signal = format!(in alloc; "{signal}")?;
+    let mut command = Command::new(alloc, "./finish")?;
+    command
+        .arg(code.as_str())?
+        .arg(signal.as_str())?
+        .arg(text_of(name))?;
+    command.current_dir(directory)?.stdin(Stdio::null());
+    Ok(command)
+}
+
+/// A shell that sends a process this signal.
+pub(crate) fn kill_command(alloc: Global, pid: u32, signal: u8) -> Result<Command, NoMemory>
+    ensures { IfOk result (λ c. line_of c ≡ kill_line pid signal) }
+{
+    let script = format!(in alloc; "kill -{signal} {pid}")?;
+    let mut command = Command::new(alloc, "/bin/sh")?;
+    command
+        .arg("-c")?
+        .arg(script.as_str())?
+        .stdin(Stdio::null())
+        .stderr(Stdio::null());
+    Ok(command)
+}
+
+/// The path of a program.
+pub(crate) fn path_of(
+    alloc: Global,
+    directory: &str,
+    program: &Program,
+) -> Result<String, NoMemory> {
+    let file = match program {
+        Program::Run => "run",
+        Program::Finish => "finish",
+    };
+    Ok(format!(in alloc; "{directory}/{file}")?)
+}
+
+/// Whether there is an executable file of this path. A shell that comes first would tell of its lack only by its exit code.
+pub(crate) fn is_executable<R: Files>(rt: &R, path: &str) -> bool {
+    match fs::metadata(rt, path) {
+        Ok(metadata) => metadata.is_file() && metadata.permissions().mode() & 0o111 != 0,
+        Err(_) => false,
+    }
+}

@@ -1,0 +1,168 @@
+//! Who starts the threads of children, and joins them.
+ghost use Rattle.std.specs.Prelude.{◌≡◌};
+
+use crate::commands::kill_command;
+use crate::process::ServiceProcess;
+use crate::roster::Roster;
+use crate::watching::{STACK, give_back, watch};
+use s6_events::NoMemory;
+use std::alloc::{AllocError, AllocFailed, Global};
+use std::fs::OpenOptions;
+use std::io::Write;
+use std::os::fd::RawFd;
+use std::process::Processes;
+use std::rt::Files;
+use std::sync::{Arc, Wait};
+use std::thread;
+use std::thread::{Builder, JoinHandle, Scope, Threads};
+use std::time::Clock;
+use thiserror::Error;
+
+/// Why there is no keeper.
+#[derive(Clone, Copy, Debug, PartialEq, Eq, Error)]
+pub enum KeeperFault {
+    /// A growth was refused.
+    #[error("out of memory")]
+    NoMemory = 1,
+    /// Its thread could not be started.
+    #[error("no thread")]
+    NoThread = 2,
+}
+
+impl From<AllocError> for KeeperFault {
+    fn from(_error: AllocError) -> KeeperFault {
+        KeeperFault::NoMemory
+    }
+}
+
+impl<T: Drop> From<AllocFailed<T>> for KeeperFault {
+    fn from(_failed: AllocFailed<T>) -> KeeperFault {
+        KeeperFault::NoMemory
+    }
+}
+
+/// A thread that starts the threads of each child, and joins them. Several backends may share it.
+#[derive(Drop)]
+pub struct Keeper<R> {
+    rt: R,
+    alloc: Global,
+    pub(crate) roster: Arc<Roster, Global>,
+    thread: JoinHandle<()>,
+}
+
+impl<R: Threads + Wait + Clock + Copy + Send + Sync + Drop + 'static> Keeper<R> {
+    /// Starts its thread.
+    pub fn start(rt: R, alloc: Global) -> Result<Keeper<R>, KeeperFault> {
+        let roster = Arc::new(alloc, Roster::new(alloc))?;
+        let theirs = Arc::try_clone(&roster)?;
+        match Builder::new()
+            .stack_size(STACK)
+            .spawn(&rt, move || keep(rt, theirs))
+        {
+            Ok(thread) => Ok(Keeper {
+                rt,
+                alloc,
+                roster,
+                thread,
+            }),
+            Err(_) => Err(KeeperFault::NoThread),
+        }
+    }
+}
+
+impl<R: Processes + Files + Threads + Wait + Drop> Keeper<R> {
+    /// Ends it, once its backends are given up: kills the children that still live, waits for them, and joins all threads. Until
+    /// then a backend answers Busy. Where memory for a signal is refused, it waits until that child ends by itself.
+    pub fn end(self) {
+        let Keeper {
+            rt,
+            alloc,
+            roster,
+            thread,
+        } = self;
+        roster.end(&rt);
+        for _ in 0..u64::MAX {
+            let Some(process) = roster.give_one_up(&rt) else {
+                break;
+            };
+            let _ = stop(&rt, alloc, &process);
+        }
+        thread.join(&rt);
+    }
+}
+
+// Kills a child, and wakes the thread that reads its descriptor, which another program may keep open.
+fn stop<R: Processes + Files + Wait>(
+    rt: &R,
+    alloc: Global,
+    process: &ServiceProcess,
+) -> Result<(), NoMemory> {
+    if let Some(pid) = process.pid(rt) {
+        let _ = kill_command(alloc, pid, 9)?.status(rt);
+    }
+    if let Some(descriptor) = process.reading(rt) {
+        wake(rt, alloc, descriptor)?;
+    }
+    Ok(())
+}
+
+// Writes to the pipe of this descriptor, so that a read there returns.
+fn wake<R: Files>(rt: &R, alloc: Global, descriptor: RawFd) -> Result<(), NoMemory> {
+    let path = format!(in alloc; "/proc/self/fd/{descriptor}")?;
+    if let Ok(mut pipe) = OpenOptions::new()
+        .read(true)
+        .write(true)
+        .open(rt, path.as_str())
+    {
+        let _ = pipe.write(b"\n");
+    }
+    Ok(())
+}
+
+fn keep<R: Threads + Wait + Clock + Copy + Send + Sync + Drop + 'static>(
+    rt: R,
+    roster: Arc<Roster, Global>,
+) {
+    watch_all(&rt, &roster);
+}
+
+// Starts the thread of each child that comes. The scope's end waits for those that still run.
+fn watch_all<R: Threads + Wait + Clock + Copy + Send + Sync + Drop + 'static>(
+    rt: &R,
+    roster: &Roster,
+) {
+    thread::scope(thread::scope_env(), rt, |scope| watch_in(scope, rt, roster));
+}
+
+fn watch_in<'s, E, R: Threads + Wait + Clock + Copy + Send + Sync + Drop + 'static>(
+    scope: &Scope<'s, E>,
+    rt: &'s R,
+    roster: &'s Roster,
+) {
+    for _ in rt.forever() {
+        let Some(process) = roster.next_child(rt) else {
+            break;
+        };
+        // Where it can have no thread, the child is killed.
+        if !spawn_watch(scope, rt, roster, &process) {
+            give_back(rt, &process);
+            roster.leave(rt, process.number);
+        }
+    }
+}
+
+// Starts the thread of a child. Whether there can be one.
+fn spawn_watch<'s, E, R: Threads + Wait + Clock + Copy + Send + Sync + Drop + 'static>(
+    scope: &Scope<'s, E>,
+    rt: &'s R,
+    roster: &'s Roster,
+    process: &Arc<ServiceProcess, Global>,
+) -> bool {
+    let Ok(theirs) = Arc::try_clone(process) else {
+        return false;
+    };
+    Builder::new()
+        .stack_size(STACK)
+        .spawn_scoped(scope, move || watch(*rt, roster, theirs))
+        .is_ok()
+}

@@ -1,0 +1,143 @@
+//! What is known of a child, and what of it is still to be reported.
+use crate::start::{Program, Start};
+use arrayvec::ArrayVec;
+use order_lanes::Report;
+use s6_events::Exit;
+use std::os::fd::RawFd;
+
+/// What is to be told first.
+#[derive(Clone, Copy, PartialEq, Eq, Debug)]
+enum Stage {
+    Starting,
+    /// It could not be started, which is still to be told.
+    Failed,
+    /// It lives under this process number, which is still to be told.
+    Fresh(u32),
+    /// Its start was told.
+    Living,
+}
+
+/// What is known of a child.
+#[derive(Drop)]
+pub(crate) struct Progress {
+    stage: Stage,
+    // The process number, while the system can't give it to another.
+    pid: Option<u32>,
+    // What it wrote and nobody was told yet.
+    written: ArrayVec<u8, 64>,
+    // The descriptor by which it is read.
+    reading: Option<RawFd>,
+    exit: Option<Exit>,
+    is_given_up: bool,
+}
+
+impl Progress {
+    /// Of a child that is about to start.
+    pub fn new() -> Progress {
+        Progress {
+            stage: Stage::Starting,
+            pid: None,
+            written: ArrayVec::new(),
+            reading: None,
+            exit: None,
+            is_given_up: false,
+        }
+    }
+
+    /// It could not be started.
+    pub fn fail(&mut self) {
+        self.stage = Stage::Failed;
+    }
+
+    /// It lives, and is read by this descriptor.
+    pub fn begin(&mut self, program: &Program, pid: u32, reading: Option<RawFd>) {
+        self.reading = reading;
+        self.stage = match program {
+            Program::Run => Stage::Fresh(pid),
+            Program::Finish => Stage::Living,
+        };
+        self.pid = Some(pid);
+    }
+
+    /// Its process number, where a signal to it can reach no other.
+    pub fn pid(&self) -> Option<u32> {
+        self.pid
+    }
+
+    /// It was waited for, so its number may be another's from now on.
+    pub fn lose_pid(&mut self) {
+        self.pid = None;
+    }
+
+    /// Nothing more is read.
+    pub fn stop_reading(&mut self) {
+        self.reading = None;
+    }
+
+    /// The descriptor by which it is still read.
+    pub fn reading(&self) -> Option<RawFd> {
+        self.reading
+    }
+
+    /// Whether its end can be told: all that it wrote was read, or nobody listens.
+    pub fn may_end(&self) -> bool {
+        self.reading.is_none() || self.is_given_up
+    }
+
+    pub fn end(&mut self, exit: Exit) {
+        self.exit = Some(exit);
+    }
+
+    /// Nobody listens any more. Whether that is new.
+    pub fn give_up(&mut self) -> bool {
+        let is_new = !self.is_given_up;
+        self.is_given_up = true;
+        is_new
+    }
+
+    /// Whether nobody listens any more.
+    pub fn is_given_up(&self) -> bool {
+        self.is_given_up
+    }
+
+    /// Whether what it writes is wanted no more.
+    pub fn is_over(&self) -> bool {
+        self.is_given_up || self.exit.is_some()
+    }
+
+    /// How many more bytes can wait to be told.
+    pub fn room(&self) -> usize {
+        64usize.saturating_sub(self.written.len())
+    }
+
+    /// It wrote these bytes, for which there is room.
+    pub fn write(&mut self, bytes: &[u8]) {
+        if !self.is_over() {
+            let _ = self.written.try_extend_from_slice(bytes);
+        }
+    }
+
+    /// The next thing to tell, in order: its start, what it wrote, its end.
+    pub fn next_report(&mut self, start: &Start) -> Option<Report> {
+        match self.stage {
+            Stage::Starting => None,
+            Stage::Failed => Some(Report::StartFailed(start.sid, start.generation)),
+            Stage::Fresh(pid) => {
+                self.stage = Stage::Living;
+                Some(Report::Started(start.sid, start.generation, pid))
+            }
+            Stage::Living => self.later_report(start),
+        }
+    }
+
+    fn later_report(&mut self, start: &Start) -> Option<Report> {
+        if self.written.is_empty() {
+            let exit = self.exit?;
+            return Some(start.end(exit));
+        }
+        let mut bytes = ArrayVec::new();
+        let _ = bytes.try_extend_from_slice(self.written.as_slice());
+        self.written.clear();
+        Some(Report::Notify(start.sid, start.generation, bytes))
+    }
+}

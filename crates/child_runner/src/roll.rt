@@ -1,0 +1,120 @@
+//! What a backend was asked and gave, and which starts still live.
+ghost use Rattle.std.specs.Prelude.{◌≡◌, ◌<◌, ◌++◌, ◌∷◌, [], List, length, IsTrue, Some, slice_get};
+ghost use Rattle.std.specs.Prelude.{OnOk, OnErr, IfSome, IfNone};
+ghost use Rattle.std.specs.List.{All};
+ghost use Rattle.child_runner.specs.Roll.{WasAsked, orders_in};
+ghost use Rattle.s6_events.specs.declared.order.Order.{Order as Asked};
+ghost use Rattle.order_lanes.specs.Backend.{answers, IsOfAsked};
+
+use crate::start::is_last;
+use order_lanes::Report;
+use s6_events::{NoMemory, Order};
+use std::alloc::Global;
+use std::marker::Model;
+use std::snapshot::Snapshot;
+
+/// What was asked and what was given, for contracts alone: these lists take no memory. A report is let through if it is of a start
+/// that was asked and hasn't ended.
+#[derive(Drop)]
+pub(crate) struct Roll {
+    living: Vec<Order>,
+    asked: Vec<Snapshot<Order>>,
+    given: Vec<Snapshot<Report>>,
+}
+
+impl Model for Roll {
+    ghost use Rattle.std.specs.Prelude.{map};
+    ghost use Rattle.std.specs.List.{All};
+    ghost use Rattle.child_runner.specs.Roll.{RollView, WasAsked, orders_in};
+
+    ghost Value = { RollView };
+
+    ghost view = { λ r. record { asked = orders_in r.asked.items; given = map (λ s. s.value) r.given.items } };
+
+    ghost invariant = { λ r. All (WasAsked (orders_in r.asked.items)) r.living.items };
+}
+
+// The first of these orders that the report answers.
+fn place_of(orders: &[Order], report: &Report) -> Option<usize>
+    ensures place { IfSome result (λ k. k < length orders.now) }
+    ensures answered { IfSome result (λ k. (order : Asked)
+        × (slice_get orders.now k ≡ Some order) × IsTrue (answers order report.now)) }
+{
+    for (place, order) in orders.iter().enumerate() {
+        if report.answers(order) {
+            return Some(place);
+        }
+    }
+    None
+}
+
+// The same, of starts that were asked.
+#[tactic(auto, using(crate::proofs::Kept::answered))]
+fn place_of_start(living: &[Order], report: &Report) -> Option<usize>
+    ensures place { IfSome result (λ k. k < length living.now) }
+    ensures asked { IfSome result (λ k. (asked : List Asked)
+        → All (WasAsked asked) living.now → IsOfAsked asked report.now) }
+{
+    place_of(living, report)
+}
+
+// Adds an order to the list.
+fn add(asked: &mut Vec<Snapshot<Order>>, order: &Order) -> Result<(), NoMemory>
+    ensures added { OnOk result
+        (orders_in asked.new.items ≡ orders_in asked.old.items ++ order.now ∷ []) }
+    ensures same { OnErr result (asked.new.items ≡ asked.old.items) }
+{
+    asked.push(Snapshot::of(order))?;
+    Ok(())
+}
+
+impl Roll {
+    /// Nothing was asked or given yet.
+    pub fn new(alloc: Global) -> Roll
+        ensures { result ≡ record { asked = []; given = [] } }
+    {
+        Roll {
+            living: Vec::new(alloc),
+            asked: Vec::new(alloc),
+            given: Vec::new(alloc),
+        }
+    }
+
+    /// An order was asked that starts nothing.
+    #[tactic(auto, using(crate::proofs::Kept::more_asked))]
+    pub fn note(&mut self, order: &Order) -> Result<(), NoMemory>
+        ensures added { OnOk result
+            (self.new ≡ record self.old { asked = self.old.asked ++ order.now ∷ [] }) }
+        ensures same { OnErr result (self.new ≡ self.old) }
+    {
+        add(&mut self.asked, order)?;
+        Ok(())
+    }
+
+    /// An order was asked that starts a program.
+    #[tactic(auto, using(crate::proofs::Kept::one_more_lives))]
+    pub fn start(&mut self, order: &Order) -> Result<(), NoMemory>
+        ensures added { OnOk result
+            (self.new ≡ record self.old { asked = self.old.asked ++ order.now ∷ [] }) }
+        ensures same { OnErr result (self.new ≡ self.old) }
+    {
+        self.living.reserve(1)?;
+        add(&mut self.asked, order)?;
+        self.living.push_reserved(*order);
+        Ok(())
+    }
+
+    /// Lets a report through if its start lives.
+    pub fn pass(&mut self, report: Report) -> Option<Report>
+        ensures given { IfSome result (λ r. IsOfAsked self.old.asked r
+            × (self.new ≡ record self.old { given = self.old.given ++ r ∷ [] })) }
+        ensures none { IfNone result (self.new ≡ self.old) }
+    {
+        let place = place_of_start(self.living.as_slice(), &report)?;
+        self.given.push(Snapshot::of(&report)).ok()?;
+        if is_last(&report) {
+            let _ = self.living.remove(place);
+        }
+        Some(report)
+    }
+}

@@ -1,0 +1,156 @@
+//! The children whose threads are still to be started or still run.
+use crate::process::ServiceProcess;
+use s6_events::NoMemory;
+use std::alloc::Global;
+use std::sync::{Arc, Condvar, Mutex, Wait};
+
+#[derive(Drop)]
+struct Entry {
+    process: Arc<ServiceProcess, Global>,
+    // The same, until its thread has it.
+    for_thread: Option<Arc<ServiceProcess, Global>>,
+    is_running: bool,
+}
+
+impl Entry {
+    fn needs_thread(&self) -> bool {
+        self.is_running && self.for_thread.is_some()
+    }
+}
+
+#[derive(Drop)]
+struct Entries {
+    entries: Vec<Entry>,
+    next_number: u64,
+    is_ending: bool,
+}
+
+/// The children of all backends that share a keeper.
+#[derive(Drop)]
+pub(crate) struct Roster {
+    entries: Mutex<Entries>,
+    changed: Condvar,
+}
+
+impl Entries {
+    fn place(&self, number: u64) -> Option<usize> {
+        self.entries
+            .as_slice()
+            .iter()
+            .position(|entry| entry.process.number == number)
+    }
+
+    fn place_of_next(&self) -> Option<usize> {
+        self.entries
+            .as_slice()
+            .iter()
+            .position(|entry| entry.needs_thread())
+    }
+
+    // Whether there is a child that needs a thread, or none will ever come.
+    fn has_news(&self) -> bool {
+        self.place_of_next().is_some() || (self.is_ending && self.entries.is_empty())
+    }
+
+    fn take_next(&mut self) -> Option<Arc<ServiceProcess, Global>> {
+        let place = self.place_of_next()?;
+        self.entries.get_mut(place)?.for_thread.take()
+    }
+
+    fn remove(&mut self, number: u64) {
+        if let Some(place) = self.place(number) {
+            if place < self.entries.len() {
+                let _ = self.entries.remove(place);
+            }
+        }
+    }
+
+    fn set_running(&mut self, number: u64) {
+        let Some(place) = self.place(number) else {
+            return;
+        };
+        if let Some(entry) = self.entries.get_mut(place) {
+            entry.is_running = true;
+        }
+    }
+}
+
+impl Roster {
+    /// A roster with no child.
+    pub fn new(alloc: Global) -> Roster {
+        Roster {
+            entries: Mutex::new(Entries {
+                entries: Vec::new(alloc),
+                next_number: 0,
+                is_ending: false,
+            }),
+            changed: Condvar::new(),
+        }
+    }
+
+    /// A number that no child of this roster has.
+    pub fn take_number<R: Wait>(&self, rt: &R) -> u64 {
+        let mut entries = self.entries.lock(rt);
+        let number = entries.next_number;
+        entries.next_number = number.wrapping_add(1);
+        number
+    }
+
+    /// Whether no child is taken any more.
+    pub fn is_ending<R: Wait>(&self, rt: &R) -> bool {
+        self.entries.lock(rt).is_ending
+    }
+
+    /// Enters a child that is about to start.
+    pub fn enter<R: Wait>(
+        &self,
+        rt: &R,
+        process: &Arc<ServiceProcess, Global>,
+    ) -> Result<(), NoMemory> {
+        let entry = Entry {
+            process: Arc::try_clone(process)?,
+            for_thread: Some(Arc::try_clone(process)?),
+            is_running: false,
+        };
+        self.entries.lock(rt).entries.push(entry)?;
+        Ok(())
+    }
+
+    /// The child runs, and is to get its thread.
+    pub fn begin<R: Wait>(&self, rt: &R, number: u64) {
+        self.entries.lock(rt).set_running(number);
+        self.changed.notify_all();
+    }
+
+    /// The child has ended, or never ran.
+    pub fn leave<R: Wait>(&self, rt: &R, number: u64) {
+        self.entries.lock(rt).remove(number);
+        self.changed.notify_all();
+    }
+
+    /// Waits for a child that needs its thread; None once no more will come.
+    pub fn next_child<R: Wait>(&self, rt: &R) -> Option<Arc<ServiceProcess, Global>> {
+        let entries = self.entries.lock(rt);
+        let mut entries = self
+            .changed
+            .wait_while(rt, entries, |entries| !entries.has_news());
+        entries.take_next()
+    }
+
+    /// Takes no more children. Once all have ended, there is nothing left to do.
+    pub fn end<R: Wait>(&self, rt: &R) {
+        self.entries.lock(rt).is_ending = true;
+        self.changed.notify_all();
+    }
+
+    /// A child that is given up from now on; None where each is.
+    pub fn give_one_up<R: Wait>(&self, rt: &R) -> Option<Arc<ServiceProcess, Global>> {
+        let entries = self.entries.lock(rt);
+        for entry in entries.entries.as_slice() {
+            if entry.process.give_up(rt) {
+                return Arc::try_clone(&entry.process).ok();
+            }
+        }
+        None
+    }
+}

@@ -1,0 +1,60 @@
+//! Which program was started.
+use order_lanes::Report;
+use s6_events::{Exit, Sid};
+
+/// One of a service's two programs.
+#[derive(Clone, Copy, PartialEq, Eq, Debug)]
+pub(crate) enum Program {
+    Run,
+    Finish,
+}
+
+/// A service's program, and its generation.
+#[derive(Clone, Copy, PartialEq, Eq, Debug)]
+pub(crate) struct Start {
+    pub sid: Sid,
+    pub generation: u64,
+    pub program: Program,
+}
+
+impl Start {
+    pub fn of_run(sid: Sid, generation: u64) -> Start {
+        Start {
+            sid,
+            generation,
+            program: Program::Run,
+        }
+    }
+
+    pub fn of_finish(sid: Sid, generation: u64) -> Start {
+        Start {
+            sid,
+            generation,
+            program: Program::Finish,
+        }
+    }
+
+    pub fn copied(&self) -> Start {
+        Start {
+            sid: self.sid,
+            generation: self.generation,
+            program: self.program,
+        }
+    }
+
+    /// The report of its end.
+    pub fn end(&self, exit: Exit) -> Report {
+        match self.program {
+            Program::Run => Report::Death(self.sid, self.generation, exit),
+            Program::Finish => Report::FinishEnded(self.sid, self.generation, exit),
+        }
+    }
+}
+
+/// Whether nothing comes after the report.
+pub(crate) fn is_last(report: &Report) -> bool {
+    matches!(
+        report,
+        Report::StartFailed(..) | Report::Death(..) | Report::FinishEnded(..)
+    )
+}

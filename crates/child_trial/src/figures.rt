@@ -1,0 +1,129 @@
+//! How long a start, an end and a readiness take, and what children cost.
+use crate::census::{count_descriptors, status_field};
+use crate::crowd::Tally;
+use crate::stage::Stage;
+use child_runner::Keeper;
+use order_lanes::Report;
+use std::alloc::Global;
+use std::io::{self, Write};
+use std::process::{Command, Processes, SystemProcess};
+use std::rt::Files;
+use std::sync::Wait;
+use std::thread::Threads;
+use std::time::{Clock, Instant, SystemTime, UNIX_EPOCH};
+
+/// How often each is measured.
+const TIMES: u64 = 51;
+
+// The middle one of these, in thousandths of a millisecond.
+fn write_middle(output: &mut impl Write, what: &str, micros: &mut Vec<u128>) -> io::Result<()> {
+    micros.sort_unstable();
+    let middle = micros.get(micros.len() / 2).copied().unwrap_or(0);
+    let most = micros.last().copied().unwrap_or(0);
+    writeln!(
+        output,
+        "{what}: median {middle} us, most {most} us, of {}",
+        micros.len()
+    )
+}
+
+// `fork` and `exec` of a program that does nothing, and the wait for it.
+fn measure_true<R: Processes + Clock>(rt: &R, alloc: Global) -> io::Result<Vec<u128>> {
+    let mut micros = Vec::new(alloc);
+    for _ in 0..TIMES {
+        let begin = Instant::now(rt)?;
+        let _ = Command::new(alloc, "/bin/true")?.status(rt)?;
+        micros.push(begin.elapsed(rt)?.as_micros())?;
+    }
+    Ok(micros)
+}
+
+/// What was measured of one service after the other.
+#[derive(Drop)]
+struct Times {
+    start: Vec<u128>,
+    notice: Vec<u128>,
+    death: Vec<u128>,
+}
+
+// The moment that the bytes name, in microseconds since 1970.
+fn moment_of(bytes: &[u8]) -> u128 {
+    let text = std::str::from_utf8(bytes).unwrap_or("");
+    text.trim().parse::<u128>().unwrap_or(0) / 1000
+}
+
+// From now back to a moment in microseconds since 1970.
+fn micros_since<R: Clock>(rt: &R, moment: u128) -> io::Result<u128> {
+    let now = SystemTime::now(rt)?
+        .duration_since(UNIX_EPOCH)
+        .map_or(0, |time| time.as_micros());
+    Ok(now.saturating_sub(moment))
+}
+
+impl<R: Processes<Started = SystemProcess> + Files + Wait + Clock + Drop> Stage<R> {
+    // From the order to Started, from the newline to Notify, and from the signal to Death.
+    fn measure(&mut self) -> io::Result<Times> {
+        let mut times = Times {
+            start: Vec::new(self.alloc),
+            notice: Vec::new(self.alloc),
+            death: Vec::new(self.alloc),
+        };
+        self.write("quick", "run", "date +%s%N >&3\nexec sleep 60", 0o755)?;
+        for sid in 0..TIMES {
+            let begin = Instant::now(&self.rt)?;
+            let _ = self.run(sid, "quick", Some(3))?;
+            if matches!(self.next_report(), Some(Report::Started(..))) {
+                times.start.push(begin.elapsed(&self.rt)?.as_micros())?;
+            }
+            if let Some(Report::Notify(_, _, bytes)) = self.next_report() {
+                times
+                    .notice
+                    .push(micros_since(&self.rt, moment_of(bytes.as_slice()))?)?;
+            }
+            let begin = Instant::now(&self.rt)?;
+            let _ = self.kill(sid, 9);
+            if matches!(self.next_report(), Some(Report::Death(..))) {
+                times.death.push(begin.elapsed(&self.rt)?.as_micros())?;
+            }
+        }
+        Ok(times)
+    }
+
+    // What so many children cost.
+    fn weigh(&mut self, output: &mut impl Write, crowd: u64, fd: Option<u8>) -> io::Result<()> {
+        let mut tally = Tally::new(self.alloc, crowd)?;
+        let _ = self.start_crowd(crowd, fd)?;
+        self.tally(&mut tally, crowd);
+        let threads = status_field(&self.rt, self.alloc, "Threads:")?;
+        let memory = status_field(&self.rt, self.alloc, "VmRSS:")?;
+        let descriptors = count_descriptors(&self.rt, self.alloc)?;
+        let _ = self.kill_crowd(crowd);
+        self.tally(&mut tally, crowd);
+        let is_read = fd.is_some();
+        let is_whole = tally.are_started() && tally.are_killed();
+        writeln!(
+            output,
+            "{crowd} children, read {is_read}: {threads} threads, {descriptors} descriptors, {memory} kB, all started and dead {is_whole}"
+        )
+    }
+}
+
+/// Prints all figures.
+pub fn print_all<
+    R: Processes<Started = SystemProcess> + Files + Threads + Wait + Clock + Copy + Drop,
+>(rt: &R, alloc: Global, keeper: Keeper<R>, root: &str, output: &mut impl Write) -> io::Result<()> {
+    let mut stage = Stage::new(*rt, alloc, &keeper, root)?;
+    let mut plain = measure_true(rt, alloc)?;
+    write_middle(output, "/bin/true", &mut plain)?;
+    let mut times = stage.measure()?;
+    write_middle(output, "order to Started", &mut times.start)?;
+    write_middle(output, "newline to Notify", &mut times.notice)?;
+    write_middle(output, "signal to Death", &mut times.death)?;
+    for fd in [None, Some(3)] {
+        for crowd in [1, 64, 256] {
+            stage.weigh(output, crowd, fd)?;
+        }
+    }
+    keeper.end();
+    Ok(())
+}

@@ -1,0 +1,4 @@
+pub mod Places
+pub mod Changing
+pub mod Turns
+pub mod Numbers

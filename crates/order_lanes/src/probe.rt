@@ -1,0 +1,100 @@
+//! A backend for tests, which starts nothing.
+ghost use Rattle.std.specs.Prelude.{◌≡◌, [], ◌∷◌, ◌++◌, OnOk, OnErr};
+
+use crate::backend::{AskFault, Backend};
+use crate::report::Report;
+use s6_events::{NoMemory, Order};
+use std::alloc::Global;
+use std::marker::Model;
+use std::snapshot::Snapshot;
+use std::sync::{Arc, Mutex, Wait};
+
+/// A backend that writes down what it is asked, and gives reports that were laid ready. It is Busy so often at first.
+#[derive(Drop)]
+pub struct Probe<R> {
+    rt: R,
+    waiting: Vec<Report>,
+    busy: u32,
+    asked: Vec<Order>,
+    given: Vec<Snapshot<Report>>,
+    log: Arc<Mutex<Vec<Order>>, Global>,
+}
+
+impl<R> Model for Probe<R> {
+    ghost use Rattle.std.specs.Prelude.{map};
+    ghost use Rattle.order_lanes.specs.Probe.{ProbeView};
+
+    ghost Value = { ProbeView };
+
+    ghost view = { λ p. record { asked = p.asked.items; given = map (λ s. s.value) p.given.items; busy = p.busy } };
+}
+
+impl<R> Probe<R> {
+    /// A backend that answers its first `busy` asks Busy, and writes each later order into `log` too. The reports are given in
+    /// their order.
+    pub fn new(
+        rt: R,
+        alloc: Global,
+        reports: Vec<Report>,
+        busy: u32,
+        log: Arc<Mutex<Vec<Order>>, Global>,
+    ) -> Probe<R>
+        ensures { result ≡ record { asked = []; given = []; busy = busy } }
+    {
+        let mut waiting = reports;
+        waiting.reverse();
+        Probe {
+            rt,
+            waiting,
+            busy,
+            asked: Vec::new(alloc),
+            given: Vec::new(alloc),
+            log,
+        }
+    }
+}
+
+impl<R: Wait + Drop> Probe<R> {
+    // Adds the order to both lists, or to neither.
+    fn write_down(&mut self, order: &Order) -> Result<(), NoMemory>
+        ensures added { OnOk result
+            (self.new ≡ record self.old { asked = self.old.asked ++ order.now ∷ [] }) }
+        ensures same { OnErr result (self.new ≡ self.old) }
+    {
+        self.asked.reserve(1)?;
+        self.log.lock(&self.rt).push(*order)?;
+        self.asked.push_reserved(*order);
+        Ok(())
+    }
+}
+
+impl<R: Wait + Drop> Backend for Probe<R> {
+    ghost asked = { λ p. p.asked };
+
+    ghost given = { λ p. p.given };
+
+    /// `Busy` while it is to be busy; `NoMemory` where one of the two lists can't grow, and then neither has the order.
+    fn ask(&mut self, order: Order) -> Result<(), (Order, AskFault)> {
+        if self.busy > 0 {
+            self.busy -= 1;
+            return Err((order, AskFault::Busy));
+        }
+        match self.write_down(&order) {
+            Ok(()) => Ok(()),
+            Err(_) => Err((order, AskFault::NoMemory)),
+        }
+    }
+
+    /// The first report that waits and whose start was asked. Those before it, whose start wasn't, are dropped.
+    fn report(&mut self) -> Option<Report> {
+        for _ in 0..self.waiting.len() {
+            self.given.reserve(1).ok()?;
+            let report = self.waiting.pop()?;
+            if report.is_of_asked(self.asked.as_slice()) {
+                self.given.push_reserved(Snapshot::of(&report));
+                return Some(report);
+            }
+        }
+        None
+    }
+}

@@ -1,0 +1,136 @@
+//! What is known of a service, and of it since a waiter began.
+ghost use Rattle.std.specs.Prelude.{◌≡◌, []};
+ghost use Rattle.s6_events.specs.Newest.{mark_of};
+ghost use Rattle.wait_conditions.specs.OneMore.{letter_after, ended_after, spawned_after, failed_after};
+ghost use Rattle.wait_conditions.specs.SupervisorState.{state_of, since_of, state_after, since_after};
+
+use s6_events::{Mark, Moment, Sid};
+
+/// What is known of a service.
+#[derive(Clone, Copy, Debug)]
+pub struct SupervisorState {
+    pub letter: Mark,
+    pub ended: bool,
+}
+
+/// What is known of a service since a waiter began: a start, a failure that stands.
+#[derive(Clone, Copy, Debug)]
+pub struct SinceState {
+    pub spawned: bool,
+    pub failed: bool,
+}
+
+// The mark of a service that a moment is, if it is one.
+pub fn mark_in(sid: Sid, moment: &Moment) -> Option<Mark>
+    ensures { result ≡ mark_of sid moment.now }
+{
+    match moment {
+        Moment::Event(other, mark) if other.0 == sid.0 => Some(*mark),
+        _ => None,
+    }
+}
+
+fn next_letter(mark: Option<Mark>, letter: Mark) -> Mark
+    ensures { result ≡ letter_after mark letter }
+{
+    match mark {
+        None | Some(Mark::PermanentFailure) | Some(Mark::SupervisorEnded) => letter,
+        Some(Mark::SupervisorStarted) => Mark::FinishDone,
+        Some(other) => other,
+    }
+}
+
+fn next_ended(mark: Option<Mark>, ended: bool) -> bool
+    ensures { result ≡ ended_after mark ended }
+{
+    match mark {
+        Some(Mark::SupervisorStarted) => false,
+        Some(Mark::SupervisorEnded) => true,
+        _ => ended,
+    }
+}
+
+fn next_spawned(mark: Option<Mark>, spawned: bool) -> bool
+    ensures { result ≡ spawned_after mark spawned }
+{
+    match mark {
+        Some(Mark::Spawned) => true,
+        _ => spawned,
+    }
+}
+
+fn next_failed(mark: Option<Mark>, failed: bool) -> bool
+    ensures { result ≡ failed_after mark failed }
+{
+    match mark {
+        Some(Mark::Spawned) => false,
+        Some(Mark::PermanentFailure) => true,
+        _ => failed,
+    }
+}
+
+impl SupervisorState {
+    /// Of a service with no mark.
+    pub fn unseen() -> SupervisorState
+        ensures { result ≡ state_of 0 [] }
+    {
+        SupervisorState {
+            letter: Mark::FinishDone,
+            ended: false,
+        }
+    }
+
+    /// After one more mark, if there is one.
+    pub fn after(self, mark: Option<Mark>) -> SupervisorState
+        ensures { result ≡ state_after mark self }
+    {
+        SupervisorState {
+            letter: next_letter(mark, self.letter),
+            ended: next_ended(mark, self.ended),
+        }
+    }
+}
+
+impl SinceState {
+    /// Where no moment has come.
+    pub fn fresh() -> SinceState
+        ensures { result ≡ since_of 0 [] }
+    {
+        SinceState {
+            spawned: false,
+            failed: false,
+        }
+    }
+
+    /// After one more mark, if there is one.
+    pub fn after(self, mark: Option<Mark>) -> SinceState
+        ensures { result ≡ since_after mark self }
+    {
+        SinceState {
+            spawned: next_spawned(mark, self.spawned),
+            failed: next_failed(mark, self.failed),
+        }
+    }
+}
+
+/// What the moments say of a service.
+pub fn read_state(sid: Sid, moments: &[Moment]) -> SupervisorState
+    ensures { result ≡ state_of sid moments.now }
+{
+    let mut state = SupervisorState::unseen();
+    for moment in moments {
+        state = state.after(mark_in(sid, moment));
+    }
+    state
+}
+
+/// What the moments since a waiter began say of a service.
+pub fn read_since(sid: Sid, moments: &[Moment]) -> SinceState
+    ensures { result ≡ since_of sid moments.now }
+{
+    let mut state = SinceState::fresh();
+    for moment in moments {
+        state = state.after(mark_in(sid, moment));
+    }
+    state
+}
