@@ -1,4 +1,4 @@
-use Rattle.std.proofs.Common.{◌<◌, length, ◌×◌}
+use Rattle.std.proofs.Common.{◌<◌, length}
 use Rattle.inbox.proofs.tests.hand_in_ticks.Given as goal
 
 -- each seat has submitted fewer than the number
