@@ -1,0 +1,63 @@
+//! Where texts for one connection are posted, and whoever writes them waits.
+use crate::outbox::{Outbox, PostFault};
+use std::alloc::Global;
+use std::net::Shutdown;
+use std::os::unix::net::UnixStream;
+use std::sync::{Condvar, Mutex, Wait};
+
+/// The texts for one connection. Anybody may post; one thread writes. Nothing is written while the lock is held, so a connection that
+/// stops reading keeps nobody else waiting: once more would wait than an `Outbox` holds, the connection is closed.
+#[derive(Drop)]
+pub struct Mailbox {
+    stream: UnixStream,
+    outbox: Mutex<Outbox<Global>>,
+    changed: Condvar,
+}
+
+impl Mailbox {
+    /// For a connection to which nothing was written yet.
+    pub fn new(alloc: Global, stream: UnixStream) -> Mailbox {
+        Mailbox {
+            stream,
+            outbox: Mutex::new(Outbox::new(alloc)),
+            changed: Condvar::new(),
+        }
+    }
+
+    /// The connection.
+    pub fn stream(&self) -> &UnixStream {
+        &self.stream
+    }
+
+    /// Posts a text, which is written behind all that was posted before. It waits for no reader. At `Full` and at `NoMemory` the
+    /// connection is ended, since its texts could not be whole any more.
+    pub fn post<R: Wait>(&self, rt: &R, text: &[u8]) -> Result<(), PostFault> {
+        let posted = self.outbox.lock(rt).post(text);
+        if posted.is_err() {
+            self.end(rt);
+        }
+        self.changed.notify_all();
+        posted
+    }
+
+    /// Nothing more is posted. What was posted is still written.
+    pub fn close<R: Wait>(&self, rt: &R) {
+        self.outbox.lock(rt).close();
+        self.changed.notify_all();
+    }
+
+    /// Ends the connection at once, in both directions: whoever reads or writes it comes back.
+    pub fn end<R: Wait>(&self, rt: &R) {
+        self.close(rt);
+        let _ = self.stream.shutdown(Shutdown::Both);
+    }
+
+    /// Waits until something was posted, and moves it into the text. False once nothing waits and nothing more will.
+    pub fn wait_for_text<R: Wait>(&self, rt: &R, text: &mut Vec<u8>) -> bool {
+        let mut outbox = self.changed.wait_while(rt, self.outbox.lock(rt), |outbox| {
+            outbox.is_open() && outbox.is_empty()
+        });
+        outbox.take_all(text);
+        !text.is_empty()
+    }
+}

@@ -1,0 +1,83 @@
+//! Who answers the lines of the trial: each line comes back, and what came is counted.
+use line_server::{Answers, Mailbox, Next, PostFault};
+use std::sync::{Mutex, Wait};
+
+/// What came so far.
+#[derive(Clone, Copy, Debug, PartialEq, Eq)]
+pub struct Counts {
+    pub lines: u32,
+    pub long_lines: u32,
+    /// How often so much was posted that the connection was closed.
+    pub floods: u32,
+    /// How many connections have ended.
+    pub ended: u32,
+}
+
+/// Echoes lines.
+#[derive(Drop)]
+pub struct Echo {
+    counts: Mutex<Counts>,
+}
+
+impl Echo {
+    /// Nothing has come.
+    pub fn new() -> Echo {
+        Echo {
+            counts: Mutex::new(Counts {
+                lines: 0,
+                long_lines: 0,
+                floods: 0,
+                ended: 0,
+            }),
+        }
+    }
+
+    /// What came so far.
+    pub fn counts<R: Wait>(&self, rt: &R) -> Counts {
+        *self.counts.lock(rt)
+    }
+
+    fn note<R: Wait>(&self, rt: &R, lines: u32, long_lines: u32, floods: u32, ended: u32) {
+        let mut counts = self.counts.lock(rt);
+        counts.lines = counts.lines.saturating_add(lines);
+        counts.long_lines = counts.long_lines.saturating_add(long_lines);
+        counts.floods = counts.floods.saturating_add(floods);
+        counts.ended = counts.ended.saturating_add(ended);
+    }
+}
+
+// Posts until the mailbox is full. Whether it was.
+fn flood<R: Wait>(rt: &R, mailbox: &Mailbox) -> bool {
+    let piece = [b'x'; 4096];
+    for _ in 0..1000u32 {
+        match mailbox.post(rt, &piece) {
+            Ok(()) => {}
+            Err(fault) => return fault == PostFault::Full,
+        }
+    }
+    false
+}
+
+impl Answers for Echo {
+    fn answer<R: Wait>(&self, rt: &R, _seat: usize, line: &[u8], mailbox: &Mailbox) -> Next {
+        self.note(rt, 1, 0, 0, 0);
+        if line == b"flood".as_slice() {
+            let is_full = flood(rt, mailbox);
+            self.note(rt, 0, 0, u32::from(is_full), 0);
+            return Next::Close;
+        }
+        let _ = mailbox.post(rt, b"echo ");
+        let _ = mailbox.post(rt, line);
+        let _ = mailbox.post(rt, b"\n\n");
+        Next::GoOn
+    }
+
+    fn refuse_long_line<R: Wait>(&self, rt: &R, _seat: usize, mailbox: &Mailbox) {
+        self.note(rt, 0, 1, 0, 0);
+        let _ = mailbox.post(rt, b"too long\n\n");
+    }
+
+    fn leave<R: Wait>(&self, rt: &R, _seat: usize) {
+        self.note(rt, 0, 0, 0, 1);
+    }
+}
