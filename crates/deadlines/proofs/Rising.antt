@@ -8,20 +8,20 @@ use Rattle.std.specs.List.{list_all}
 use Rattle.deadlines.specs.declared.timer.Timer.{Timer}
 use Rattle.deadlines.specs.Timers.{rises, below, above, is_timer_of, with_timer, without_timer, is_rising, due_by}
 
-and_left : (a b : Bool) → (a && b) ≡ true → a ≡ true
+pub and_left : (a b : Bool) → (a && b) ≡ true → a ≡ true
 and_left true b h = refl
 and_left false b h = h
 
-and_right : (a b : Bool) → (a && b) ≡ true → b ≡ true
+pub and_right : (a b : Bool) → (a && b) ≡ true → b ≡ true
 and_right true b h = h
 and_right false b h = search rules
 
-and_both : (a b : Bool) → a ≡ true → b ≡ true → (a && b) ≡ true
+pub and_both : (a b : Bool) → a ≡ true → b ≡ true → (a && b) ≡ true
 and_both true b h k = k
 and_both false b h k = h
 
 -- what passes a test passes a weaker one
-weaker : (p q : Timer → Bool) → ((t : Timer) → p t ≡ true → q t ≡ true) → (xs : List Timer) → list_all p xs ≡ true → list_all q xs ≡ true
+pub weaker : (p q : Timer → Bool) → ((t : Timer) → p t ≡ true → q t ≡ true) → (xs : List Timer) → list_all p xs ≡ true → list_all q xs ≡ true
 weaker p q w [] h = refl
 weaker p q w (t ∷ xs) h = and_both (q t) _ (w t (and_left (p t) _ h)) (weaker p q w xs (and_right (p t) _ h))
 

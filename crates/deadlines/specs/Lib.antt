@@ -1,3 +1,4 @@
 pub mod Timers
+pub mod Queue
 pub mod Deadlines
 pub mod DeadlinesFields

@@ -1,17 +1,19 @@
-//! The timers that are set, in rising serial, and which of them are due.
+//! The timers that are set, and which of them are due.
 ghost use Rattle.std.specs.Prelude.{◌≡◌, ◌+◌, ◌<◌, ◌≤◌, [], length, IsOk, IfOk, OnOk, OnErr, IfSome, nat_lt, take, slice_get, true, false};
 ghost use Rattle.std.specs.List.{list_all};
-ghost use Rattle.deadlines.specs.Timers.{with_timer, without_timer, with_timer_change, with_timer_changes, due_by, is_rising, is_timer_of};
+ghost use Rattle.deadlines.specs.Timers.{with_timer, without_timer, with_timer_change, with_timer_changes, due_by, is_rising, is_timer_of, rises};
 
+use crate::queue::{is_any_due, put_in, take_out};
 use crate::timer::{Timer, TimerChange};
 use s6_events::{At, NoMemory, Sid};
 use std::alloc::Allocator;
 use std::marker::Model;
 
-/// The timers that are set, at most one for a service.
+/// The timers that are set, at most one for a service: in rising serial, and once more in the order of their moments.
 #[derive(Drop)]
 pub struct Deadlines<A: Allocator> {
     timers: Vec<Timer, A>,
+    queue: Vec<Timer, A>,
 }
 
 impl<A: Allocator> Model for Deadlines<A> {
@@ -41,20 +43,32 @@ impl<A: Allocator> Model for DeadlinesPlan<A> {
     ghost view = { λ p. p.changes.items };
 }
 
+// Whether the timer is that of a service below this one.
+fn is_below(timer: &Timer, sid: Sid) -> bool
+    ensures { result ≡ nat_lt timer.now.sid sid }
+{
+    timer.sid.0 < sid.0
+}
+
 // The first place of a timer whose serial is not below this one, or the end.
 fn place_of(timers: &[Timer], sid: Sid) -> usize
+    requires { rises timers.now ≡ true }
     ensures bound { result ≤ length timers.now }
     ensures before { list_all (λ t. nat_lt t.sid sid) (take result timers.now) ≡ true }
     ensures stop { IfSome (slice_get timers.now result) (λ t. nat_lt t.sid sid ≡ false) }
 {
-    let mut place = 0;
-    for timer in timers {
-        if timer.sid.0 >= sid.0 {
-            return place;
+    let mut low = 0;
+    let mut high = timers.len();
+    while low < high {
+        let middle = low + (high - low) / 2;
+        let timer = timers[middle];
+        if is_below(&timer, sid) {
+            low = middle + 1;
+        } else {
+            high = middle;
         }
-        place += 1;
     }
-    place
+    low
 }
 
 // The timer at this place is that of the service.
@@ -71,6 +85,7 @@ impl<A: Allocator + Copy> Deadlines<A> {
     {
         Deadlines {
             timers: Vec::new(alloc),
+            queue: Vec::new(alloc),
         }
     }
 
@@ -83,6 +98,7 @@ impl<A: Allocator + Copy> Deadlines<A> {
         ensures succeeds { 0 < self.old.spare_capacity → IsOk result }
     {
         self.timers.reserve(1)?;
+        self.queue.reserve(1)?;
         self.put(sid, at);
         Ok(())
     }
@@ -96,8 +112,12 @@ impl<A: Allocator + Copy> Deadlines<A> {
         let place = place_of(&self.timers, sid);
         let timer = Timer { sid, at };
         if is_at(&self.timers, place, sid) {
+            let old = self.timers[place];
+            take_out(&mut self.queue, &old);
+            put_in(&mut self.queue, &timer);
             self.timers[place] = timer;
         } else {
+            put_in(&mut self.queue, &timer);
             self.timers.insert(place, timer).unwrap();
         }
     }
@@ -109,18 +129,22 @@ impl<A: Allocator + Copy> Deadlines<A> {
     {
         let place = place_of(&self.timers, sid);
         if is_at(&self.timers, place, sid) {
-            self.timers.remove(place);
+            let timer = self.timers.remove(place);
+            take_out(&mut self.queue, &timer);
         }
     }
 
-    /// The services whose timers are set to a moment at most `now`, in rising serial. `NoMemory` where a growth was refused; none is
-    /// asked for where no timer is due.
+    /// The services whose timers are set to a moment at most `now`, in rising serial. Where none is due, the timer of the least moment
+    /// alone is looked at, and no memory is asked for. `NoMemory` where a growth was refused.
     pub fn due<B: Allocator + Copy>(&self, alloc: B, now: At) -> Result<Vec<Sid, B>, NoMemory>
         ensures due { IfOk result (λ sids. sids.items ≡ due_by now self.now.timers) }
         ensures rising { IfOk result (λ sids. is_rising sids.items ≡ true) }
         ensures quiet { due_by now self.now.timers ≡ [] → IsOk result }
     {
         let mut sids = Vec::new(alloc);
+        if !is_any_due(&self.queue, now) {
+            return Ok(sids);
+        }
         for timer in &self.timers {
             if timer.at.millis() <= now.millis() {
                 sids.push(timer.sid)?;
@@ -141,6 +165,7 @@ impl<A: Allocator + Copy> Deadlines<A> {
         let mut planned = Vec::new(*self.timers.allocator());
         planned.reserve(changes.len())?;
         self.timers.reserve(changes.len())?;
+        self.queue.reserve(changes.len())?;
         planned.extend_from_slice(changes).unwrap();
         Ok(DeadlinesPlan { changes: planned })
     }

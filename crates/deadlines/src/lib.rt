@@ -2,6 +2,7 @@
 #![tactic(auto)]
 
 mod deadlines;
+mod queue;
 mod timer;
 
 pub use deadlines::{Deadlines, DeadlinesPlan};

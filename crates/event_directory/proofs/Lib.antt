@@ -1,6 +1,8 @@
 pub mod Heard
 pub mod Sends
 pub mod Walk
+pub mod OneText
+pub mod Kept
 pub mod Looks
 pub mod Searches
 pub mod Views

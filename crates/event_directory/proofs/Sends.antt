@@ -1,7 +1,7 @@
 -- What is stored is what the subscriptions have heard, and is so again after a letter.
 use Rattle.event_directory.specs.declared.hit.Hit.{Hit}
-use Rattle.std.proofs.Common.{true, false, None, Some, cond, subst, ◌==◌, get_or, take, suc, ◌<◌, ◌≡◌, ℕ, ◌+◌, List, [], ◌∷◌, ◌++◌, Bool, length}
-use Rattle.std.proofs.Common.{map, All, Option, refl, sym, ap, ◌∙◌, arith, option_map}
+use Rattle.std.proofs.Common.{true, false, cond, subst, ◌==◌, get_or, take, ◌<◌, ◌≡◌, ℕ, ◌+◌, List, [], ◌∷◌, ◌++◌, Bool, length}
+use Rattle.std.proofs.Common.{map, All, refl, sym, ap, ◌∙◌, arith}
 use Rattle.std.specs.List.{filter_map}
 use Rattle.std.proofs.lemmas.List.{append-nil, append_assoc, map-append, take_more}
 use Rattle.std.proofs.lemmas.List.Elements.{All-cons, All-head, All-tail}

@@ -4,9 +4,10 @@ use Rattle.std.proofs.Common.{Some, None}
 use Rattle.std.proofs.lemmas.List.{take_more, take_more_set, map-append, map-set, set-get_or, get_or-map, get_or-drop, drop-set-lt, drop-drop}
 use Rattle.std.proofs.lemmas.List.{length-drop, append-nil}
 use Rattle.std.proofs.lemmas.List.Elements.{filter_map-append}
-use Rattle.event_directory.specs.SubscriberList.{list_with_letter, hit_between}
-use Rattle.event_directory.specs.Sending.{kept_with_letter, hit_from, after_letter, hits_from}
-use Rattle.event_directory.specs.Stored.{StoredSubscription, planned_standing, prepared_standing, standing_of_stored}
+use Rattle.std.specs.List.{filter_map}
+use Rattle.event_directory.specs.SubscriberList.{hit_between}
+use Rattle.event_directory.specs.Stored.{StoredSubscription, heard_in, hit_of_reader, next_reader, next_reading}
+use Rattle.event_directory.specs.Stored.{planned_standing, prepared_standing, standing_of_stored}
 use Rattle.event_directory.specs.declared.hit.Hit.{Hit}
 
 -- the part of each element that does not change
@@ -49,71 +50,70 @@ map_twice : {X Y Z : Type 0} (f : X → Y) (g : Y → Z) (xs : List X) → map g
 map_twice f g [] = refl
 map_twice f g (x ∷ xs) = ap (λ l. g (f x) ∷ l) (map_twice f g xs)
 
-one_next : (test : List ℕ → List ℕ → Bool) (x : ℕ) (y item : StoredSubscription) → y.standing ≡ item.standing
-    → y.prepared ≡ list_with_letter (test item.standing.pattern) item.standing.repeats x item.prepared →
-    prepared_standing y ≡ kept_with_letter test x (prepared_standing item)
-one_next test x y item e p = rw (e, p) refl
+one_next : (test : List ℕ → List ℕ → Bool) (x : ℕ) (text : List ℕ) (y item : StoredSubscription) → y.standing ≡ item.standing
+    → y.prepared ≡ next_reading (test item.standing.pattern) item.standing.repeats x text item.prepared →
+    prepared_standing y ≡ next_reader test x text (prepared_standing item)
+one_next test x text y item e p = rw (e, p) refl
 
-pub walk_next : (test : List ℕ → List ℕ → Bool) (x : ℕ) (xs ys : List StoredSubscription) (i : ℕ) (y d : StoredSubscription) → i < length xs
-    → drop i xs ≡ drop i ys →
-    map prepared_standing (take i xs) ≡ after_letter test x (map prepared_standing (take i ys)) →
+pub walk_next : (test : List ℕ → List ℕ → Bool) (x : ℕ) (text : List ℕ) (xs ys : List StoredSubscription) (i : ℕ) (y d : StoredSubscription)
+    → i < length xs → drop i xs ≡ drop i ys →
+    map prepared_standing (take i xs) ≡ map (next_reader test x text) (map prepared_standing (take i ys)) →
     y.standing ≡ (get_or xs i d).standing → y.prepared
-    ≡ list_with_letter (test (get_or xs i d).standing.pattern) (get_or xs i d).standing.repeats x (get_or xs i d).prepared →
-    map prepared_standing (take (i + 1) (set xs i y)) ≡ after_letter test x (map prepared_standing (take (i + 1) ys))
-walk_next test x xs ys i y d lt rest done e p =
-    walk_done prepared_standing (λ s. kept_with_letter test x (prepared_standing s)) xs ys i y d lt rest
-    (done ∙ map_twice prepared_standing (kept_with_letter test x) (take i ys))
-    (one_next test x y (get_or xs i d) e p)
-    ∙ sym (map_twice prepared_standing (kept_with_letter test x) (take (i + 1) ys))
+    ≡ next_reading (test (get_or xs i d).standing.pattern) (get_or xs i d).standing.repeats x text (get_or xs i d).prepared →
+    map prepared_standing (take (i + 1) (set xs i y)) ≡ map (next_reader test x text) (map prepared_standing (take (i + 1) ys))
+walk_next test x text xs ys i y d lt rest done e p =
+    walk_done prepared_standing (λ s. next_reader test x text (prepared_standing s)) xs ys i y d lt rest
+    (done ∙ map_twice prepared_standing (next_reader test x text) (take i ys))
+    (one_next test x text y (get_or xs i d) e p)
+    ∙ sym (map_twice prepared_standing (next_reader test x text) (take (i + 1) ys))
 
-hits-one : (test : List ℕ → List ℕ → Bool) (x : ℕ) (ys : List StoredSubscription) (i : ℕ) (item : StoredSubscription)
-    → take (i + 1) ys ≡ take i ys ++ item ∷ [] →
-    hits_from test x (map prepared_standing (take (i + 1) ys))
-    ≡ hits_from test x (map prepared_standing (take i ys)) ++ hits_from test x (prepared_standing item ∷ [])
-hits-one test x ys i item e =
-    ap (λ l. hits_from test x (map prepared_standing l)) e ∙ ap (hits_from test x) (map-append prepared_standing (take i ys) (item ∷ []))
-    ∙ filter_map-append (hit_from test x) (map prepared_standing (take i ys)) (prepared_standing item ∷ [])
+module _ (test : List ℕ → List ℕ → Bool) (x : ℕ) (text : List ℕ) where
+  -- what the letter x, the last of the text, gives to these
+  abbrev given : List StoredSubscription → List (ℕ × Hit)
+  given ys = filter_map (hit_of_reader test x text) (map prepared_standing ys)
 
-hit-some : (test : List ℕ → List ℕ → Bool) (x : ℕ) (item : StoredSubscription) (h : Hit)
-    → hit_between x item.prepared (list_with_letter (test item.standing.pattern) item.standing.repeats x item.prepared) ≡ Some h →
-    hits_from test x (prepared_standing item ∷ []) ≡ (item.standing.id, h) ∷ []
-hit-some test x item h e = rw e refl
+  -- what it gives to one
+  abbrev one_given : StoredSubscription → Option Hit
+  one_given item = hit_between x (heard_in [] item.prepared)
+      (heard_in [] (next_reading (test item.standing.pattern) item.standing.repeats x text item.prepared))
 
-hit-none : (test : List ℕ → List ℕ → Bool) (x : ℕ) (item : StoredSubscription)
-    → hit_between x item.prepared (list_with_letter (test item.standing.pattern) item.standing.repeats x item.prepared) ≡ None →
-    hits_from test x (prepared_standing item ∷ []) ≡ []
-hit-none test x item e = rw e refl
+  hits-one : (ys : List StoredSubscription) (i : ℕ) (item : StoredSubscription) → take (i + 1) ys ≡ take i ys ++ item ∷ [] →
+      given (take (i + 1) ys) ≡ given (take i ys) ++ given (item ∷ [])
+  hits-one ys i item e =
+      ap given e ∙ ap (filter_map (hit_of_reader test x text)) (map-append prepared_standing (take i ys) (item ∷ []))
+      ∙ filter_map-append (hit_of_reader test x text) (map prepared_standing (take i ys)) (prepared_standing item ∷ [])
 
-pub walk_hit : (test : List ℕ → List ℕ → Bool) (x : ℕ) (xs ys : List StoredSubscription) (i : ℕ) (d : StoredSubscription)
-    (hits more : List (ℕ × Hit)) (id : ℕ) (o : Option Hit) (h : Hit) → i < length xs → drop i xs ≡ drop i ys →
-    hits ≡ hits_from test x (map prepared_standing (take i ys)) →
-    o ≡ hit_between x (get_or xs i d).prepared (list_with_letter (test (get_or xs i d).standing.pattern) (get_or xs i d).standing.repeats x
-    (get_or xs i d).prepared) → o ≡ Some h →
-    id ≡ (get_or xs i d).standing.id → more ≡ hits ++ (id, h) ∷ [] →
-    more ≡ hits_from test x (map prepared_standing (take (i + 1) ys))
-walk_hit test x xs ys i d hits more id o h lt rest done e p same m =
-    m ∙ ap (λ l. l ++ (id, h) ∷ []) done ∙ ap (λ n. hits_from test x (map prepared_standing (take i ys)) ++ (n, h) ∷ []) same
-    ∙ ap (λ l. hits_from test x (map prepared_standing (take i ys)) ++ l) (sym (hit-some test x (get_or xs i d) h (sym e ∙ p)))
-    ∙ sym (hits-one test x ys i (get_or xs i d) (walk_now xs ys i d lt rest))
+  hit-some : (item : StoredSubscription) (h : Hit) → one_given item ≡ Some h → given (item ∷ []) ≡ (item.standing.id, h) ∷ []
+  hit-some item h e = rw e refl
 
-pub walk_no_hit : (test : List ℕ → List ℕ → Bool) (x : ℕ) (xs ys : List StoredSubscription) (i : ℕ) (d : StoredSubscription) (hits : List (ℕ × Hit))
-    (o : Option Hit) → i < length xs → drop i xs ≡ drop i ys →
-    hits ≡ hits_from test x (map prepared_standing (take i ys)) →
-    o ≡ hit_between x (get_or xs i d).prepared (list_with_letter (test (get_or xs i d).standing.pattern) (get_or xs i d).standing.repeats x
-    (get_or xs i d).prepared) → o ≡ None →
-    hits ≡ hits_from test x (map prepared_standing (take (i + 1) ys))
-walk_no_hit test x xs ys i d hits o lt rest done e p =
-    done ∙ sym (append-nil _) ∙ ap (λ l. hits_from test x (map prepared_standing (take i ys)) ++ l)
-    (sym (hit-none test x (get_or xs i d) (sym e ∙ p)))
-    ∙ sym (hits-one test x ys i (get_or xs i d) (walk_now xs ys i d lt rest))
+  hit-none : (item : StoredSubscription) → one_given item ≡ None → given (item ∷ []) ≡ []
+  hit-none item e = rw e refl
 
-prepared_is : (y item : StoredSubscription) → y.standing ≡ item.standing → y.prepared ≡ item.standing.heard
+  pub walk_hit : (xs ys : List StoredSubscription) (i : ℕ) (d : StoredSubscription)
+      (hits more : List (ℕ × Hit)) (id : ℕ) (o : Option Hit) (h : Hit) → i < length xs → drop i xs ≡ drop i ys →
+      hits ≡ given (take i ys) → o ≡ one_given (get_or xs i d) → o ≡ Some h →
+      id ≡ (get_or xs i d).standing.id → more ≡ hits ++ (id, h) ∷ [] →
+      more ≡ given (take (i + 1) ys)
+  walk_hit xs ys i d hits more id o h lt rest done e p same m =
+      m ∙ ap (λ l. l ++ (id, h) ∷ []) done ∙ ap (λ n. given (take i ys) ++ (n, h) ∷ []) same
+      ∙ ap (λ l. given (take i ys) ++ l) (sym (hit-some (get_or xs i d) h (sym e ∙ p)))
+      ∙ sym (hits-one ys i (get_or xs i d) (walk_now xs ys i d lt rest))
+
+  pub walk_no_hit : (xs ys : List StoredSubscription) (i : ℕ) (d : StoredSubscription) (hits : List (ℕ × Hit))
+      (o : Option Hit) → i < length xs → drop i xs ≡ drop i ys →
+      hits ≡ given (take i ys) → o ≡ one_given (get_or xs i d) → o ≡ None →
+      hits ≡ given (take (i + 1) ys)
+  walk_no_hit xs ys i d hits o lt rest done e p =
+      done ∙ sym (append-nil _) ∙ ap (λ l. given (take i ys) ++ l) (sym (hit-none (get_or xs i d) (sym e ∙ p)))
+      ∙ sym (hits-one ys i (get_or xs i d) (walk_now xs ys i d lt rest))
+
+prepared_is : (y item : StoredSubscription) → y.standing ≡ item.standing → y.prepared ≡ item.standing.reading
     → prepared_standing y ≡ standing_of_stored item
 prepared_is y item e p = rw (e, p) refl
 
 pub walk_begin : (xs ys : List StoredSubscription) (i : ℕ) (y d : StoredSubscription) → i < length xs → drop i xs ≡ drop i ys
     → map prepared_standing (take i xs) ≡ map standing_of_stored (take i ys) →
-    y.standing ≡ (get_or xs i d).standing → y.prepared ≡ (get_or xs i d).standing.heard →
+    y.standing ≡ (get_or xs i d).standing → y.prepared ≡ (get_or xs i d).standing.reading →
     map prepared_standing (take (i + 1) (set xs i y)) ≡ map standing_of_stored (take (i + 1) ys)
 walk_begin xs ys i y d lt rest done e p = walk_done prepared_standing standing_of_stored xs ys i y d lt rest done
     (prepared_is y (get_or xs i d) e p)
@@ -138,3 +138,12 @@ pub walk_planned_now : (xs ys : List StoredSubscription) (i : ℕ) (y d : Stored
     map planned_standing (take (i + 1) (set xs i y)) ≡ map prepared_standing (take (i + 1) ys)
 walk_planned_now xs ys i y d lt rest done e p =
     walk_done planned_standing prepared_standing xs ys i y d lt rest done (now_planned y (get_or xs i d) e p)
+
+heard_same : (y item : StoredSubscription) → y.standing ≡ prepared_standing item → y.prepared ≡ item.prepared → prepared_standing y ≡ prepared_standing item
+heard_same y item e p = rw (e, p) refl
+
+-- what was prepared is heard, and is prepared still
+pub walk_heard : (xs ys : List StoredSubscription) (i : ℕ) (y d : StoredSubscription) → i < length xs
+    → map prepared_standing xs ≡ map prepared_standing ys → y.standing ≡ prepared_standing (get_or xs i d)
+    → y.prepared ≡ (get_or xs i d).prepared → map prepared_standing (set xs i y) ≡ map prepared_standing ys
+walk_heard xs ys i y d lt same e p = walk_same prepared_standing xs ys i y d lt same (heard_same y (get_or xs i d) e p)

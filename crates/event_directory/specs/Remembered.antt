@@ -4,6 +4,7 @@ use Rattle.std.specs.Prelude.{if◌then◌else◌}
 use Rattle.event_directory.specs.Changes.{Offer}
 use Rattle.event_directory.specs.Directories.{WrittenDirectories, subscriptions_to, is_same_source, place_now}
 use Rattle.event_directory.specs.Sending.{HaveHeard, KeptSubscription, new_kept_subscription}
+use Rattle.event_directory.specs.declared.directory_plan.DirectoriesPlan.{DirectoriesPlan}
 use Rattle.event_directory.specs.declared.source.Source.{Source}
 
 -- what the subscriptions of a source have heard
@@ -28,10 +29,15 @@ pub record DirectoriesPrepared : Type 0 where
 abbrev pub nothing_prepared : DirectoriesShown → DirectoriesPrepared
 nothing_prepared s = record { shown = s; joins = None }
 
--- what is there now, and what is prepared
+-- what is there now, what is prepared, and the number of the plan of it
 pub record Remembered : Type 0 where
   pub shown : DirectoriesShown
   pub prepared : DirectoriesPrepared
+  pub number : ℕ
+
+-- the number of a plan
+abbrev pub plan_number : {A : Type 0} → DirectoriesPlan A → ℕ
+plan_number plan = plan.number
 
 -- what the subscriptions of this source have heard
 abbrev pub kept_at : Source → List Followed → List KeptSubscription

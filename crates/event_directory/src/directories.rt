@@ -5,7 +5,7 @@ ghost use Rattle.event_directory.specs.Changes.DirectoryRequest.{no_directory_re
 ghost use Rattle.event_directory.specs.Directories.{WrittenDirectories, new_directories, list_named, matches_by, directories_after_moments};
 ghost use Rattle.event_directory.specs.Hearing.{hits_of_moments};
 ghost use Rattle.event_directory.specs.Register.{prepared_change, given_change, told_change, after_step, view_in};
-ghost use Rattle.event_directory.specs.Remembered.{AreHeard, directories_after_commit, nothing_prepared};
+ghost use Rattle.event_directory.specs.Remembered.{AreHeard, directories_after_commit, nothing_prepared, plan_number};
 ghost use Rattle.event_directory.specs.declared.directory_change.DirectoryAnswer.TheVariants as answer;
 
 use crate::directory_change::{DirectoryAnswer, DirectoryChange};
@@ -30,6 +30,8 @@ pub struct Directories<F: Finds, A: Allocator> {
     // Whether the letters of a step are prepared in it.
     is_prepared: bool,
     pending: Pending<F, A>,
+    // Of the plan that was made last; each has another.
+    number: u64,
 }
 
 impl<F: Finds, A: Allocator> Model for Directories<F, A> {
@@ -42,6 +44,7 @@ impl<F: Finds, A: Allocator> Model for Directories<F, A> {
     ghost view = { λ d. record {
       shown = shown_in d.register;
       prepared = prepared_by_pending d.pending (if d.is_prepared then prepared_in d.register else shown_in d.register);
+      number = d.number;
     } };
 
     ghost invariant = { λ d. HasRoom d.pending d.register };
@@ -58,6 +61,7 @@ impl<F: Finds, A: Allocator + Copy> Directories<F, A> {
             register: Register::new(alloc),
             is_prepared: false,
             pending: Pending::Nothing,
+            number: 0,
         }
     }
 
@@ -98,6 +102,7 @@ impl<F: Finds, A: Allocator + Copy> Directories<F, A> {
             plan.answer ≡ directory_answer (directory_request_of change.now) (directories_after_moments d moments.now)) }
         ensures prepared { OnOk result ((offer : Offer) → (d : WrittenDirectories) → AreHeard F.test self.old.shown d →
             AreHeard F.test (directories_after_commit self.new.prepared offer) (directories_after_change (directory_request_of change.now) offer (directories_after_moments d moments.now))) }
+        ensures number { IfOk result (λ plan. plan_number plan ≡ self.new.number) }
         ensures serials { OnOk result
             ((offer : Offer) → (directories_after_commit self.new.prepared offer).next
             ≤ self.old.shown.next + 1) }
@@ -125,6 +130,7 @@ impl<F: Finds, A: Allocator + Copy> Directories<F, A> {
         ensures prepared { OnOk result
             (self.new.prepared ≡ prepared_change F.test (directory_request_of change.now)
             (after_step F.test moments.now self.old.shown)) }
+        ensures number { IfOk result (λ plan. plan_number plan ≡ self.new.number) }
         ensures shown { self.new.shown ≡ self.old.shown }
         ensures idle { OnErr result (self.new.prepared ≡ nothing_prepared self.old.shown) }
         ensures quiet { moments.now ≡ [] → directory_request_of change.now ≡ no_directory_request
@@ -133,22 +139,30 @@ impl<F: Finds, A: Allocator + Copy> Directories<F, A> {
         let mut matches = Vec::new(self.register.allocator());
         self.pending = Pending::Nothing;
         self.is_prepared = false;
+        self.number = self.number.wrapping_add(1);
+        let number = self.number;
         if moments.is_empty() && asks_nothing(change) {
             return Ok(DirectoriesPlan {
                 matches,
                 answer: DirectoryAnswer::Done,
+                number,
             });
         }
         let (pending, answer) = work_out(&mut self.register, moments, change, &mut matches)?;
         self.is_prepared = true;
         self.pending = pending;
-        Ok(DirectoriesPlan { matches, answer })
+        Ok(DirectoriesPlan {
+            matches,
+            answer,
+            number,
+        })
     }
 
-    /// Makes the step that was prepared: what it gives is in its plan. A subscription that it makes takes the pattern that is
-    /// offered, and whether it repeats; where none is to be made, or none is offered, nobody subscribes. Where nothing is
-    /// prepared, nothing changes.
-    pub fn commit(&mut self, offered: Option<(F, bool)>)
+    /// Makes the step of the plan, which is the last that `prepare` gave: its number says so. It takes no memory. A subscription
+    /// that it makes takes the pattern that is offered, and whether it repeats; where none is to be made, or none is offered,
+    /// nobody subscribes. Then nothing is prepared.
+    pub fn commit(&mut self, plan: DirectoriesPlan<A>, offered: Option<(F, bool)>)
+        requires number { plan_number plan ≡ self.old.number }
         ensures after { self.new.shown
             ≡ directories_after_commit self.old.prepared
             (option_map (λ o. (F.source o.0, o.1)) offered) }
@@ -160,6 +174,7 @@ impl<F: Finds, A: Allocator + Copy> Directories<F, A> {
             self.is_prepared = false;
         }
         finish_step(&mut self.register, pending, offered);
+        drop(plan);
     }
 }
 

@@ -1,15 +1,17 @@
 //! One event directory: the subscriptions of a service's events, or of letters that are sent to it.
-ghost use Rattle.std.specs.Prelude.{◌≡◌, ◌<◌, ◌++◌, ◌∷◌, [], List, IfOk, OnOk, OnErr, IfErr, All, map, ◌+◌, take, drop, IfSome, IfNone, option_map, length, ◌==◌};
+ghost use Rattle.std.specs.Prelude.{◌≡◌, ◌<◌, ◌++◌, ◌∷◌, [], List, IfOk, OnOk, OnErr, IfErr, All, map, ◌+◌, take, drop, IfSome, IfNone, option_map, length, ◌==◌, ◌≤◌, vec_len, vec_capacity};
 ghost use Rattle.event_directory.specs.Sending.{TextSubscription, HaveHeard, after_letter, hits_from, after_letters, hits_from_letters, Sends, Prepares, left_without, new_kept_subscription, new_text_subscription, view_of, kept_without};
 ghost use Rattle.event_directory.specs.Views.{list_of_subscription};
-ghost use Rattle.event_directory.specs.Stored.{stored_of, stored_without};
+ghost use Rattle.event_directory.specs.Stored.{greatest_offset, last_letters, standing_of_stored, stored_of, stored_without};
 
 use crate::finds::Finds;
 use crate::hit::Hit;
 use crate::plan::LettersPlan;
 use crate::sub_view::SubView;
 use crate::subscription::Subscription;
-use crate::subscriptions::{begin_all, commit_all, exchange_all, prepare_all, prepare_letters};
+use crate::subscriptions::{
+    any_listens, begin_all, commit_all, greatest_offset, hear_planned_all, plan_all, prepare_all,
+};
 use s6_events::{Letter, NoMemory, SubId};
 use std::alloc::Allocator;
 use std::marker::Model;
@@ -17,28 +19,39 @@ use std::marker::Model;
 /// The subscriptions of one event directory, in the order in which they were made, so in rising serial. Page `fifodir`; that
 /// they are remembered in memory, and not in a folder of pipes, is chosen here.
 ///
+/// They have one text, in which each live subscription knows where its own begins; what lies before the first of these is
+/// dropped, and a letter that nobody hears is not kept.
+///
 /// The letters of a step are planned and then heard: `prepare` takes all memory and changes nothing that is shown, `commit`
 /// takes none. `send` does both for one letter. A call that is refused leaves the plan that stood before it: its `commit` still
 /// hears the plan's letters, and no others. How many subscriptions there may be is for the caller to say.
 #[derive(Drop)]
 pub struct Directory<F: Finds, A: Allocator> {
     subscriptions: Vec<Subscription<F, A>, A>,
+    // The letters that are heard, and after them those that are being prepared.
+    text: Vec<Letter, A>,
+    // How many are heard.
+    heard: usize,
     // Whether a plan stands that was not committed yet.
     is_planned: bool,
+    // The letters of that plan.
+    planned: Vec<Letter, A>,
 }
 
 impl<F: Finds, A: Allocator> Model for Directory<F, A> {
-    ghost use Rattle.std.specs.Prelude.{map, ◌-◌, vec_len, vec_capacity};
-    ghost use Rattle.event_directory.specs.Stored.{StoredDirectory, planned_of, prepared_standing, standing_of_stored};
+    ghost use Rattle.std.specs.Prelude.{take, ◌-◌, vec_len, vec_capacity};
+    ghost use Rattle.event_directory.specs.Stored.{StoredDirectory, IsOneText, all_prepared, all_standing, planned_of};
 
     ghost Value = { StoredDirectory };
 
     ghost view = { λ d. record {
-      standing = map standing_of_stored d.subscriptions.items;
-      prepared = map prepared_standing d.subscriptions.items;
-      planned = planned_of d.is_planned d.subscriptions.items;
+      standing = all_standing (take d.heard d.text.items) d.subscriptions.items;
+      prepared = all_prepared d.text.items d.subscriptions.items;
+      planned = planned_of d.is_planned (take d.heard d.text.items) d.planned.items d.subscriptions.items;
       room = vec_capacity d.subscriptions - vec_len d.subscriptions;
     } };
+
+    ghost invariant = { λ d. IsOneText d.text.items d.heard d.is_planned d.planned.items (vec_capacity d.text) d.subscriptions.items };
 }
 
 impl<F: Finds, A: Allocator + Copy> Directory<F, A> {
@@ -49,7 +62,10 @@ impl<F: Finds, A: Allocator + Copy> Directory<F, A> {
     {
         Directory {
             subscriptions: Vec::new(alloc),
+            text: Vec::new(alloc),
+            heard: 0,
             is_planned: false,
+            planned: Vec::new(alloc),
         }
     }
 
@@ -68,7 +84,7 @@ impl<F: Finds, A: Allocator + Copy> Directory<F, A> {
             × (self.new.standing ≡ self.old.standing)) }
         ensures still { OnErr result (self.new.planned ≡ self.old.planned) }
     {
-        if self.subscriptions.reserve(1).is_err() {
+        if self.reserve().is_err() {
             return Err(pattern);
         }
         self.join(id, pattern, repeats);
@@ -111,7 +127,10 @@ impl<F: Finds, A: Allocator + Copy> Directory<F, A> {
         subscriptions.reserve(1)?;
         Ok(Directory {
             subscriptions,
+            text: Vec::new(alloc),
+            heard: 0,
             is_planned: false,
+            planned: Vec::new(alloc),
         })
     }
 
@@ -140,7 +159,20 @@ impl<F: Finds, A: Allocator + Copy> Directory<F, A> {
         ensures hears { (subscribed : List TextSubscription) → HaveHeard F.test self.old.standing subscribed →
             HaveHeard F.test self.new.standing (left_without id subscribed) }
     {
+        self.leave(id);
+    }
+
+    // `unsubscribe`, by what is stored alone. While a plan stands, its text stays.
+    fn leave(&mut self, id: SubId)
+        ensures after { self.new.standing ≡ kept_without id self.old.standing }
+        ensures planned { self.new.planned ≡ kept_without id self.old.planned }
+    {
         drop_one(&mut self.subscriptions, id);
+        if !self.is_planned {
+            begin_all(&mut self.subscriptions);
+            self.text.truncate(self.heard);
+            self.heard = forget(&mut self.text, &self.subscriptions);
+        }
     }
 
     /// What the subscription of this serial has heard, or None where there is none.
@@ -191,24 +223,24 @@ impl<F: Finds, A: Allocator + Copy> Directory<F, A> {
         ensures err { OnErr result
             ((self.new.standing ≡ self.old.standing) × (self.new.planned ≡ self.old.planned)) }
     {
-        self.begin()?;
+        self.begin();
         let hits = self.prepare_more(letter)?;
         self.hear_prepared();
         Ok(hits)
     }
 
     // Begins to prepare: no letter is prepared.
-    pub(crate) fn begin(&mut self) -> Result<(), NoMemory>
-        ensures prepared { OnOk result (self.new.prepared ≡ self.old.standing) }
+    pub(crate) fn begin(&mut self)
+        ensures prepared { self.new.prepared ≡ self.old.standing }
         ensures same { self.new.standing ≡ self.old.standing }
         ensures planned { self.new.planned ≡ self.old.planned }
         ensures room { self.new.room ≡ self.old.room }
     {
-        begin_all(&mut self.subscriptions)?;
-        Ok(())
+        begin_all(&mut self.subscriptions);
+        self.text.truncate(self.heard);
     }
 
-    // Prepares one letter more, and says what it will give.
+    // Prepares one letter more, and says what it will give. It is not kept where nobody listens.
     pub(crate) fn prepare_more(&mut self, letter: Letter) -> Result<Vec<(SubId, Hit), A>, NoMemory>
         ensures hits { IfOk result (λ hits. hits.items
             ≡ hits_from F.test letter self.old.prepared) }
@@ -219,7 +251,11 @@ impl<F: Finds, A: Allocator + Copy> Directory<F, A> {
         ensures room { self.new.room ≡ self.old.room }
     {
         let alloc = *self.subscriptions.allocator();
-        let hits = prepare_all(alloc, &mut self.subscriptions, letter)?;
+        if !any_listens(&self.subscriptions) {
+            return Ok(Vec::new(alloc));
+        }
+        self.text.push(letter)?;
+        let hits = prepare_all(alloc, &mut self.subscriptions, &self.text, letter)?;
         Ok(hits)
     }
 
@@ -251,35 +287,25 @@ impl<F: Finds, A: Allocator + Copy> Directory<F, A> {
         ensures still { OnErr result (self.new.planned ≡ self.old.planned) }
     {
         self.reserve()?;
-        self.begin()?;
-        let hits = self.prepare_each(letters)?;
-        self.stand_by();
+        self.begin();
+        let hits = prepare_letters(self, letters)?;
+        self.stand_by()?;
         Ok(LettersPlan { hits })
     }
 
-    // Prepares several letters, and says what each will give.
-    fn prepare_each(&mut self, letters: &[Letter]) -> Result<Vec<Vec<(SubId, Hit), A>, A>, NoMemory>
-        ensures hits { IfOk result (λ hits. map (λ v. v.items) hits.items ≡
-            hits_from_letters F.test letters.now self.old.prepared) }
-        ensures prepared { OnOk result
-            (self.new.prepared ≡ after_letters F.test letters.now self.old.prepared) }
+    // What is prepared becomes the plan, with a copy of its letters.
+    fn stand_by(&mut self) -> Result<(), NoMemory>
+        ensures planned { OnOk result (self.new.planned ≡ self.old.prepared) }
+        ensures still { OnErr result (self.new.planned ≡ self.old.planned) }
         ensures same { self.new.standing ≡ self.old.standing }
-        ensures planned { self.new.planned ≡ self.old.planned }
         ensures room { self.new.room ≡ self.old.room }
     {
         let alloc = *self.subscriptions.allocator();
-        let hits = prepare_letters(alloc, &mut self.subscriptions, letters)?;
-        Ok(hits)
-    }
-
-    // What is prepared becomes the plan.
-    fn stand_by(&mut self)
-        ensures planned { self.new.planned ≡ self.old.prepared }
-        ensures same { self.new.standing ≡ self.old.standing }
-        ensures room { self.new.room ≡ self.old.room }
-    {
-        exchange_all(&mut self.subscriptions);
+        self.planned = copy_after(alloc, &self.text, self.heard)?;
+        plan_all(&mut self.subscriptions);
+        self.text.truncate(self.heard);
         self.is_planned = true;
+        Ok(())
     }
 
     /// Hears the letters of the plan that stands, and gives the hits of its plan. Then no plan stands, so that a second commit
@@ -290,11 +316,23 @@ impl<F: Finds, A: Allocator + Copy> Directory<F, A> {
         ensures hits { map (λ v. v.items) result.items ≡ plan }
         ensures room { self.new.room ≡ self.old.room }
     {
-        if self.is_planned {
-            exchange_all(&mut self.subscriptions);
-            self.hear_prepared();
-        }
+        self.hear_planned();
         plan.hits
+    }
+
+    // Hears what is planned, if a plan stands. Then none does.
+    fn hear_planned(&mut self)
+        ensures after { self.new.standing ≡ self.old.planned }
+        ensures idle { self.new.planned ≡ self.new.standing }
+        ensures room { self.new.room ≡ self.old.room }
+    {
+        if !self.is_planned {
+            return;
+        }
+        hear_planned_all(&mut self.subscriptions);
+        put_after(&mut self.text, self.heard, &self.planned);
+        self.is_planned = false;
+        self.heard = forget(&mut self.text, &self.subscriptions);
     }
 
     // Hears what is prepared. Then no plan stands.
@@ -305,7 +343,77 @@ impl<F: Finds, A: Allocator + Copy> Directory<F, A> {
     {
         commit_all(&mut self.subscriptions);
         self.is_planned = false;
+        self.heard = forget(&mut self.text, &self.subscriptions);
     }
+}
+
+// Prepares several letters, and says what each will give.
+fn prepare_letters<F: Finds, A: Allocator + Copy>(
+    directory: &mut Directory<F, A>,
+    letters: &[Letter],
+) -> Result<Vec<Vec<(SubId, Hit), A>, A>, NoMemory>
+    ensures hits { IfOk result (λ hits. map (λ v. v.items) hits.items ≡
+        hits_from_letters F.test letters.now directory.old.prepared) }
+    ensures prepared { OnOk result
+        (directory.new.prepared ≡ after_letters F.test letters.now directory.old.prepared) }
+    ensures same { directory.new.standing ≡ directory.old.standing }
+    ensures planned { directory.new.planned ≡ directory.old.planned }
+    ensures room { directory.new.room ≡ directory.old.room }
+{
+    let mut hits = Vec::new(*directory.subscriptions.allocator());
+    for letter in letters {
+        let one = directory.prepare_more(*letter)?;
+        hits.push(one)?;
+    }
+    Ok(hits)
+}
+
+// Drops the letters that nobody looks at, and says how many are left.
+fn forget<F: Finds, A: Allocator + Copy>(
+    text: &mut Vec<Letter, A>,
+    subscriptions: &[Subscription<F, A>],
+) -> usize
+    requires { greatest_offset (map standing_of_stored subscriptions.now)
+        ≤ length text.old.items }
+    ensures text { text.new.items ≡ last_letters result text.old.items }
+    ensures left { result ≡ greatest_offset (map standing_of_stored subscriptions.now) }
+{
+    let left = greatest_offset(subscriptions);
+    let gone = text.len() - left;
+    drop_front(text, gone);
+    left
+}
+
+// The letters after the first ones.
+fn copy_after<A: Allocator + Copy>(
+    alloc: A,
+    text: &[Letter],
+    heard: usize,
+) -> Result<Vec<Letter, A>, NoMemory>
+    requires { heard ≤ length text.now }
+    ensures { IfOk result (λ letters. letters.items ≡ drop heard text.now) }
+{
+    let mut letters = Vec::new(alloc);
+    letters.extend_from_slice(&text[heard..])?;
+    Ok(letters)
+}
+
+// These letters take the place of those after the first ones, in the room that there is.
+fn put_after<A: Allocator + Copy>(text: &mut Vec<Letter, A>, heard: usize, letters: &[Letter])
+    requires there { heard ≤ vec_len text.old }
+    requires room { heard + length letters.now ≤ vec_capacity text.old }
+    ensures { text.new.items ≡ take heard text.old.items ++ letters.now }
+{
+    text.truncate(heard);
+    text.extend_from_slice(letters).unwrap();
+}
+
+// Drops the first letters.
+fn drop_front<A: Allocator + Copy>(text: &mut Vec<Letter, A>, gone: usize)
+    requires { gone ≤ vec_len text.old }
+    ensures { text.new.items ≡ drop gone text.old.items }
+{
+    let _gone = text.drain(..gone);
 }
 
 // Takes the subscription of this serial out, if there is one.

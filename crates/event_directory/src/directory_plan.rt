@@ -4,11 +4,13 @@ use crate::hit::Hit;
 use s6_events::SubId;
 use std::alloc::Allocator;
 
-/// What a step gives once it is made.
+/// A step that is prepared: what it gives once it is made. `Directories::commit` takes it, and makes it.
 #[derive(Drop)]
 pub struct DirectoriesPlan<A: Allocator> {
     /// The hits of its letters: of its moments in order, and then of a message; those of one letter in rising serial.
     pub matches: Vec<(SubId, Hit), A>,
     /// What is answered to its change.
     pub answer: DirectoryAnswer,
+    // Which of the steps that its directories prepared.
+    pub(crate) number: u64,
 }

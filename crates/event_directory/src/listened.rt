@@ -17,17 +17,14 @@ use s6_events::{Letter, NoMemory, SubId};
 use std::alloc::Allocator;
 
 /// Begins to prepare: no letter is prepared.
-pub fn begin_each<F: Finds, A: Allocator + Copy>(
-    listened: &mut [SourceDirectory<F, A>],
-) -> Result<(), NoMemory>
+pub fn begin_each<F: Finds, A: Allocator + Copy>(listened: &mut [SourceDirectory<F, A>])
     ensures same { map followed_of listened.new ≡ map followed_of listened.old }
-    ensures ok { OnOk result (map followed_after listened.new ≡ map followed_of listened.old) }
+    ensures prepared { map followed_after listened.new ≡ map followed_of listened.old }
     ensures rooms { map room_of listened.new ≡ map room_of listened.old }
 {
     for directory in listened.iter_mut() {
-        directory.begin()?;
+        directory.begin();
     }
-    Ok(())
 }
 
 /// Hears what was prepared.

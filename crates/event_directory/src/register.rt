@@ -106,11 +106,11 @@ impl<F: Finds, A: Allocator + Copy> Register<F, A> {
     }
 
     /// Begins to prepare: no letter is prepared.
-    pub fn begin(&mut self) -> Result<(), NoMemory>
+    pub fn begin(&mut self)
         ensures same { without_prepared self.new ≡ without_prepared self.old }
-        ensures ok { OnOk result (self.new.prepared ≡ self.old.followed) }
+        ensures prepared { self.new.prepared ≡ self.old.followed }
     {
-        begin_each(&mut self.listened)
+        begin_each(&mut self.listened);
     }
 
     /// Prepares these moments; what they give is added to `matches`.

@@ -53,13 +53,13 @@ impl<F: Finds, A: Allocator + Copy> SourceDirectory<F, A> {
     }
 
     /// Begins to prepare: no letter is prepared.
-    pub fn begin(&mut self) -> Result<(), NoMemory>
+    pub fn begin(&mut self)
         ensures source { self.new.source ≡ self.old.source }
-        ensures prepared { OnOk result (self.new.kept.prepared ≡ self.old.kept.standing) }
+        ensures prepared { self.new.kept.prepared ≡ self.old.kept.standing }
         ensures same { self.new.kept.standing ≡ self.old.kept.standing }
         ensures room { self.new.kept.room ≡ self.old.kept.room }
     {
-        self.directory.begin()
+        self.directory.begin();
     }
 
     /// Prepares one letter more, and says what it will give.

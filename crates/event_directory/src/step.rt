@@ -109,7 +109,7 @@ fn hear_step<F: Finds, A: Allocator + Copy>(
         (matches.new.items ≡ matches.old.items
         ++ hits_of_moments F.test moments.now register.old.followed) }
 {
-    register.begin()?;
+    register.begin();
     register.hear_moments(moments, matches)
 }
 

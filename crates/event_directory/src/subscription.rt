@@ -1,7 +1,7 @@
-//! One subscription, with the text that it has not matched yet.
-ghost use Rattle.std.specs.Prelude.{◌≡◌, [], IfOk, OnOk, vec_len};
-ghost use Rattle.event_directory.specs.SubscriberList.{list_with_letter, hit_between, live_with};
-ghost use Rattle.event_directory.specs.Sending.{new_kept_subscription};
+//! One subscription: what it has heard, and where in the text of its directory its own begins.
+ghost use Rattle.std.specs.Prelude.{◌≡◌, ◌<◌, ◌≤◌, ◌+◌, [], IfOk, OnOk, length, vec_len};
+ghost use Rattle.event_directory.specs.SubscriberList.{hit_between, is_live};
+ghost use Rattle.event_directory.specs.Stored.{heard_in, live_offset, new_reader, new_reading, next_reading};
 ghost use Rattle.event_directory.specs.declared.sub_view.State.TheVariants as state;
 
 use crate::finds::Finds;
@@ -20,7 +20,7 @@ pub struct Draft<A: Allocator> {
     // The letters at which its texts will match, after those that it has heard.
     letters: Vec<Letter, A>,
     state: State,
-    text: Vec<Letter, A>,
+    offset: usize,
 }
 
 impl<A: Allocator> Draft<A> {
@@ -30,13 +30,13 @@ impl<A: Allocator> Draft<A> {
         A: Copy,
         ensures letters { result.letters.items ≡ [] }
         ensures state { result.state ≡ state.Live }
-        ensures text { result.text.items ≡ [] }
+        ensures offset { result.offset ≡ 0 }
         ensures len { vec_len result.letters ≡ 0 }
     {
         Draft {
             letters: Vec::new(alloc),
             state: State::Live,
-            text: Vec::new(alloc),
+            offset: 0,
         }
     }
 }
@@ -51,8 +51,8 @@ pub struct Subscription<F: Finds, A: Allocator> {
     // There is room in it for the letters of each draft.
     letters: Vec<Letter, A>,
     state: State,
-    // The letters since its last match, while it is live.
-    text: Vec<Letter, A>,
+    // How far from the end of its directory's text its own begins: the letters since its last match, while it is live.
+    offset: usize,
     prepared: Draft<A>,
     planned: Draft<A>,
 }
@@ -68,17 +68,17 @@ impl<F: Finds, A: Allocator> Model for Subscription<F, A> {
         id = s.id;
         pattern = F.source s.pattern;
         repeats = s.repeats;
-        heard = record { letters = s.letters.items; state = s.state; text = s.text.items };
+        reading = record { letters = s.letters.items; state = s.state; offset = s.offset };
       };
       prepared = record {
         letters = s.letters.items ++ s.prepared.letters.items;
         state = s.prepared.state;
-        text = s.prepared.text.items;
+        offset = s.prepared.offset;
       };
       planned = record {
         letters = s.letters.items ++ s.planned.letters.items;
         state = s.planned.state;
-        text = s.planned.text.items;
+        offset = s.planned.offset;
       };
     } };
 
@@ -89,8 +89,9 @@ impl<F: Finds, A: Allocator> Model for Subscription<F, A> {
 impl<F: Finds, A: Allocator + Copy> Subscription<F, A> {
     /// A subscription from now on.
     pub fn new(alloc: A, id: SubId, pattern: F, repeats: bool) -> Subscription<F, A>
-        ensures standing { result.standing ≡ new_kept_subscription id (F.source pattern) repeats }
-        ensures planned { result.planned ≡ live_with [] }
+        ensures standing { result.standing ≡ new_reader id (F.source pattern) repeats }
+        ensures prepared { result.prepared ≡ new_reading }
+        ensures planned { result.planned ≡ new_reading }
     {
         Subscription {
             id,
@@ -98,7 +99,7 @@ impl<F: Finds, A: Allocator + Copy> Subscription<F, A> {
             repeats,
             letters: Vec::new(alloc),
             state: State::Live,
-            text: Vec::new(alloc),
+            offset: 0,
             prepared: Draft::new(alloc),
             planned: Draft::new(alloc),
         }
@@ -113,55 +114,74 @@ impl<F: Finds, A: Allocator + Copy> Subscription<F, A> {
 
     /// The letters at which its texts matched.
     pub fn letters(&self) -> &[Letter]
-        ensures { result.now ≡ self.now.standing.heard.letters }
+        ensures { result.now ≡ self.now.standing.reading.letters }
     {
         &self.letters
     }
 
     /// Whether it still listens.
     pub fn state(&self) -> State
-        ensures { result ≡ self.now.standing.heard.state }
+        ensures { result ≡ self.now.standing.reading.state }
     {
         self.state
     }
 
+    /// From which place on, from the end of its directory's text, it looks at it.
+    pub fn live_offset(&self) -> usize
+        ensures { result ≡ live_offset self.now.standing.reading }
+    {
+        if self.state == State::Live {
+            self.offset
+        } else {
+            0
+        }
+    }
+
+    /// Whether it looks at the next letter that is prepared.
+    pub fn listens(&self) -> bool
+        ensures { result ≡ is_live self.now.prepared.state }
+    {
+        self.prepared.state == State::Live
+    }
+
     /// Begins to prepare: no letter is prepared.
-    pub fn begin(&mut self) -> Result<(), NoMemory>
+    pub fn begin(&mut self)
         ensures same { self.new.standing ≡ self.old.standing }
         ensures planned { self.new.planned ≡ self.old.planned }
-        ensures ok { OnOk result (self.new.prepared ≡ self.old.standing.heard) }
+        ensures prepared { self.new.prepared ≡ self.old.standing.reading }
     {
         self.prepared.letters.clear();
         self.prepared.state = self.state;
-        self.prepared.text.clear();
-        self.prepared.text.extend_from_slice(&self.text)?;
-        Ok(())
+        self.prepared.offset = self.offset;
     }
 
-    /// Prepares one letter more, and says what it will give.
-    pub fn prepare(&mut self, letter: Letter) -> Result<Option<Hit>, NoMemory>
+    /// Prepares the last letter of the text, and says what it will give.
+    pub fn prepare(&mut self, text: &[Letter], letter: Letter) -> Result<Option<Hit>, NoMemory>
+        requires { live_offset self.old.prepared < length text.now }
         ensures same { self.new.standing ≡ self.old.standing }
         ensures planned { self.new.planned ≡ self.old.planned }
-        ensures hit { IfOk result (λ hit. hit ≡ hit_between letter self.old.prepared
-            (list_with_letter (F.test self.old.standing.pattern) self.old.standing.repeats letter self.old.prepared)) }
+        ensures within { live_offset self.new.prepared ≤ live_offset self.old.prepared + 1 }
+        ensures hit { IfOk result (λ hit. hit ≡ hit_between letter (heard_in [] self.old.prepared) (heard_in []
+            (next_reading (F.test self.old.standing.pattern) self.old.standing.repeats letter text.now self.old.prepared))) }
         ensures next { OnOk result (self.new.prepared ≡
-            list_with_letter (F.test self.old.standing.pattern) self.old.standing.repeats letter self.old.prepared) }
+            next_reading (F.test self.old.standing.pattern) self.old.standing.repeats letter text.now self.old.prepared) }
     {
         if self.prepared.state != State::Live {
             return Ok(None);
         }
-        if self.prepared.text.len() >= TEXT_LIMIT {
+        if self.prepared.offset >= TEXT_LIMIT {
             self.prepared.state = State::Overlong;
-            self.prepared.text.clear();
+            self.prepared.offset = 0;
             return Ok(Some(Hit::Overlong));
         }
-        self.prepared.text.push(letter)?;
-        if !self.pattern.finds(&self.prepared.text)? {
+        let offset = self.prepared.offset + 1;
+        if !self.pattern.finds(&text[text.len() - offset..])? {
+            self.prepared.offset = offset;
             return Ok(None);
         }
         self.letters.reserve(self.prepared.letters.len() + 1)?;
         self.prepared.letters.push(letter)?;
-        self.prepared.text.clear();
+        self.prepared.offset = 0;
         if !self.repeats {
             self.prepared.state = State::Done;
         }
@@ -179,7 +199,8 @@ impl<F: Finds, A: Allocator + Copy> Subscription<F, A> {
 
     /// Hears what was prepared; what was planned is forgotten.
     pub fn commit(&mut self)
-        ensures { self.new.standing ≡ record self.old.standing { heard = self.old.prepared } }
+        ensures standing { self.new.standing ≡ record self.old.standing { reading = self.old.prepared } }
+        ensures prepared { self.new.prepared ≡ self.old.prepared }
     {
         self.planned.letters.clear();
         match self.letters.append(&mut self.prepared.letters) {
@@ -187,6 +208,6 @@ impl<F: Finds, A: Allocator + Copy> Subscription<F, A> {
             Err(_) => unreachable!(),
         }
         self.state = self.prepared.state;
-        std::mem::swap(&mut self.text, &mut self.prepared.text);
+        self.offset = self.prepared.offset;
     }
 }

@@ -1,7 +1,8 @@
 //! All subscriptions of one directory.
-ghost use Rattle.std.specs.Prelude.{◌≡◌, IfOk, OnOk, map};
-ghost use Rattle.event_directory.specs.Sending.{after_letter, hits_from, after_letters, hits_from_letters};
-ghost use Rattle.event_directory.specs.Stored.{planned_standing, prepared_standing, standing_of_stored};
+ghost use Rattle.std.specs.Prelude.{◌≡◌, ◌<◌, ◌≤◌, IfOk, OnOk, length, map};
+ghost use Rattle.std.specs.List.{filter_map, list_any};
+ghost use Rattle.event_directory.specs.SubscriberList.{is_live};
+ghost use Rattle.event_directory.specs.Stored.{greatest_offset, hit_of_reader, next_reader, planned_standing, prepared_standing, standing_of_stored};
 
 use crate::finds::Finds;
 use crate::hit::Hit;
@@ -10,40 +11,60 @@ use s6_events::{Letter, NoMemory, SubId};
 use std::alloc::Allocator;
 
 /// Begins to prepare: no letter is prepared.
-pub fn begin_all<F: Finds, A: Allocator + Copy>(
-    subscriptions: &mut [Subscription<F, A>],
-) -> Result<(), NoMemory>
+pub fn begin_all<F: Finds, A: Allocator + Copy>(subscriptions: &mut [Subscription<F, A>])
     ensures same { map standing_of_stored subscriptions.new
         ≡ map standing_of_stored subscriptions.old }
     ensures planned { map planned_standing subscriptions.new
         ≡ map planned_standing subscriptions.old }
-    ensures ok { OnOk result (map prepared_standing subscriptions.new
-        ≡ map standing_of_stored subscriptions.old) }
+    ensures prepared { map prepared_standing subscriptions.new
+        ≡ map standing_of_stored subscriptions.old }
 {
     for subscription in subscriptions.iter_mut() {
-        subscription.begin()?;
+        subscription.begin();
     }
-    Ok(())
 }
 
-/// Prepares one letter more, and says what it will give, in the order of the subscriptions.
+/// From which place on, from the end of the text, somebody looks at it.
+pub fn greatest_offset<F: Finds, A: Allocator + Copy>(subscriptions: &[Subscription<F, A>]) -> usize
+    ensures { result ≡ greatest_offset (map standing_of_stored subscriptions.now) }
+{
+    let mut greatest = 0;
+    for subscription in subscriptions {
+        greatest = subscription.live_offset().max(greatest);
+    }
+    greatest
+}
+
+/// Whether somebody looks at the next letter that is prepared.
+pub fn any_listens<F: Finds, A: Allocator + Copy>(subscriptions: &[Subscription<F, A>]) -> bool
+    ensures { result ≡ list_any (λ s. is_live s.prepared.state) subscriptions.now }
+{
+    subscriptions
+        .iter()
+        .any(|subscription| subscription.listens())
+}
+
+/// Prepares the last letter of the text, and says what it will give, in the order of the subscriptions.
 pub fn prepare_all<F: Finds, A: Allocator + Copy>(
     alloc: A,
     subscriptions: &mut [Subscription<F, A>],
+    text: &[Letter],
     letter: Letter,
 ) -> Result<Vec<(SubId, Hit), A>, NoMemory>
+    requires { greatest_offset (map prepared_standing subscriptions.old) < length text.now }
     ensures same { map standing_of_stored subscriptions.new
         ≡ map standing_of_stored subscriptions.old }
     ensures planned { map planned_standing subscriptions.new
         ≡ map planned_standing subscriptions.old }
+    ensures within { greatest_offset (map prepared_standing subscriptions.new) ≤ length text.now }
     ensures next { OnOk result (map prepared_standing subscriptions.new
-        ≡ after_letter F.test letter (map prepared_standing subscriptions.old)) }
+        ≡ map (next_reader F.test letter text.now) (map prepared_standing subscriptions.old)) }
     ensures hits { IfOk result (λ hits. hits.items
-        ≡ hits_from F.test letter (map prepared_standing subscriptions.old)) }
+        ≡ filter_map (hit_of_reader F.test letter text.now) (map prepared_standing subscriptions.old)) }
 {
     let mut hits = Vec::new(alloc);
     for subscription in subscriptions.iter_mut() {
-        match subscription.prepare(letter)? {
+        match subscription.prepare(text, letter)? {
             Some(hit) => hits.push((subscription.id(), hit))?,
             None => {}
         }
@@ -51,31 +72,8 @@ pub fn prepare_all<F: Finds, A: Allocator + Copy>(
     Ok(hits)
 }
 
-/// Prepares several letters, and says what each will give.
-pub fn prepare_letters<F: Finds, A: Allocator + Copy>(
-    alloc: A,
-    subscriptions: &mut [Subscription<F, A>],
-    letters: &[Letter],
-) -> Result<Vec<Vec<(SubId, Hit), A>, A>, NoMemory>
-    ensures same { map standing_of_stored subscriptions.new
-        ≡ map standing_of_stored subscriptions.old }
-    ensures planned { map planned_standing subscriptions.new
-        ≡ map planned_standing subscriptions.old }
-    ensures next { OnOk result (map prepared_standing subscriptions.new
-        ≡ after_letters F.test letters.now (map prepared_standing subscriptions.old)) }
-    ensures hits { IfOk result (λ hits. map (λ v. v.items) hits.items
-        ≡ hits_from_letters F.test letters.now (map prepared_standing subscriptions.old)) }
-{
-    let mut hits = Vec::new(alloc);
-    for letter in letters {
-        let one = prepare_all(alloc, subscriptions, *letter)?;
-        hits.push(one)?;
-    }
-    Ok(hits)
-}
-
-/// What was prepared becomes what is planned, and the other way round.
-pub fn exchange_all<F: Finds, A: Allocator + Copy>(subscriptions: &mut [Subscription<F, A>])
+// What was prepared becomes what is planned, and the other way round.
+fn exchange_all<F: Finds, A: Allocator + Copy>(subscriptions: &mut [Subscription<F, A>])
     ensures same { map standing_of_stored subscriptions.new
         ≡ map standing_of_stored subscriptions.old }
     ensures prepared { map prepared_standing subscriptions.new
@@ -88,9 +86,36 @@ pub fn exchange_all<F: Finds, A: Allocator + Copy>(subscriptions: &mut [Subscrip
     }
 }
 
+/// What was prepared becomes the plan, and nothing is prepared.
+pub fn plan_all<F: Finds, A: Allocator + Copy>(subscriptions: &mut [Subscription<F, A>])
+    ensures same { map standing_of_stored subscriptions.new
+        ≡ map standing_of_stored subscriptions.old }
+    ensures planned { map planned_standing subscriptions.new
+        ≡ map prepared_standing subscriptions.old }
+    ensures prepared { map prepared_standing subscriptions.new
+        ≡ map standing_of_stored subscriptions.old }
+{
+    exchange_all(subscriptions);
+    begin_all(subscriptions);
+}
+
+/// Hears what was planned.
+pub fn hear_planned_all<F: Finds, A: Allocator + Copy>(subscriptions: &mut [Subscription<F, A>])
+    ensures standing { map standing_of_stored subscriptions.new
+        ≡ map planned_standing subscriptions.old }
+    ensures prepared { map prepared_standing subscriptions.new
+        ≡ map planned_standing subscriptions.old }
+{
+    exchange_all(subscriptions);
+    commit_all(subscriptions);
+}
+
 /// Hears what was prepared; what was planned is forgotten.
 pub fn commit_all<F: Finds, A: Allocator + Copy>(subscriptions: &mut [Subscription<F, A>])
-    ensures { map standing_of_stored subscriptions.new ≡ map prepared_standing subscriptions.old }
+    ensures standing { map standing_of_stored subscriptions.new
+        ≡ map prepared_standing subscriptions.old }
+    ensures prepared { map prepared_standing subscriptions.new
+        ≡ map prepared_standing subscriptions.old }
 {
     for subscription in subscriptions.iter_mut() {
         subscription.commit();

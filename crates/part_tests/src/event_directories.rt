@@ -2,8 +2,8 @@
 ghost use Rattle.std.specs.Prelude.{◌≤◌, ◌<◌, ◌+◌, ◌^◌, nat_le, length, sum};
 
 use event_directory::{
-    Directories, DirectoriesPlan, Directory, DirectoryAnswer, DirectoryChange, DirectoryFault,
-    Finds, Hit, Message, Pattern, PatternFault, Source, State,
+    Directories, Directory, DirectoryAnswer, DirectoryChange, DirectoryFault, Finds, Hit, Message,
+    Pattern, PatternFault, Source, State,
 };
 use linked_list_allocator::LocalHeap;
 use s6_events::{Letter, Mark, Moment, Name, NoMemory, Sid, SubId};
@@ -261,28 +261,33 @@ fn a_plan_is_heard_once(rt: HostRuntime) -> Result<(), Fail> {
     Ok(())
 }
 
+// What a step gave, and how its change was answered.
+type Given<A> = (Vec<(SubId, Hit), A>, DirectoryAnswer);
+
 // A step, prepared and made.
 fn step<A: Allocator + Copy>(
     directories: &mut Directories<AtLeast, A>,
     moments: &[Moment],
     change: &DirectoryChange<'_>,
     offered: Option<(AtLeast, bool)>,
-) -> Result<DirectoriesPlan<A>, NoMemory>
+) -> Result<Given<A>, NoMemory>
     requires { directories.old.shown.next < 2 ^ 63 }
     ensures { directories.new.shown.next ≤ directories.old.shown.next + 1 }
 {
     let plan = directories.prepare(moments, change)?;
-    directories.commit(offered);
-    Ok(plan)
+    let alloc = *plan.matches.allocator();
+    let given = (plan.matches.as_slice().to_vec(alloc)?, plan.answer);
+    directories.commit(plan, offered);
+    Ok(given)
 }
 
 // Whether a step was answered so, and gave these matches.
 fn gave<A: Allocator + Copy>(
-    plan: &DirectoriesPlan<A>,
+    given: &Given<A>,
     answer: DirectoryAnswer,
     matches: &[(SubId, Hit)],
 ) -> bool {
-    plan.answer == answer && plan.matches.as_slice() == matches
+    given.1 == answer && given.0.as_slice() == matches
 }
 
 // Whether a subscription stands so.

@@ -114,6 +114,24 @@ fn a_history_is_the_list_of_its_pushes(rt: HostRuntime) -> Result<(), Fail> {
     Ok(())
 }
 
+#[test]
+fn forgotten_places_of_the_history(rt: HostRuntime) -> Result<(), Fail> {
+    let mut history = History::new(rt.alloc());
+    let plan = history.prepare(&[FIRST, SECOND, THIRD, FIRST, SECOND])?;
+    history.commit(plan);
+    history.forget(3);
+    let kept = [FIRST, SECOND];
+    let end = history.from(5).ok_or("the end")?;
+    assert_eq!(rt; history.from(3).ok_or("place 3")?, kept.as_slice());
+    assert!(rt; end.is_empty() && history.from(2).is_none() && history.from(6).is_none());
+    assert_eq!(rt; history.len(), 5);
+    history.forget(2);
+    assert_eq!(rt; history.from(3).ok_or("place 3")?, kept.as_slice());
+    history.forget(9);
+    assert!(rt; history.from(4).is_none() && history.from(5).is_some() && history.len() == 5);
+    Ok(())
+}
+
 // Pushes a moment and then nine more, as far as memory goes; how many are in the history then.
 fn pushed<A: Allocator + Copy>(alloc: A) -> u64 {
     let mut history = History::new(alloc);

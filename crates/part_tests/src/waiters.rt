@@ -347,12 +347,10 @@ fn takes_step(
     let before = stands(waits);
     let plan = waits.prepare(&moments_of(alloc, moments)?, change)?;
     let shown = stands(waits);
-    waits.commit();
+    let told = plan.released() == *released && plan.answer() == *answer;
+    waits.commit(plan);
     assert!(rt;
-        plan.released.as_slice() == *released
-            && plan.answer == *answer
-            && shown == before
-            && stands(waits) == *after,
+        told && shown == before && stands(waits) == *after,
         "{moments} {answer:?}"
     );
     Ok(())
@@ -448,12 +446,16 @@ fn step_on<A: Allocator + Copy>(alloc: A) -> Ending {
     let before = stands(&waits);
     let moments: &[Moment] = &[Moment::Event(Sid(1), Mark::Spawned)];
     let change = WaitChange::Add(Condition::Up, Mode::All, &[Sid(1)], 0, At::zero());
-    let released = match waits.prepare(moments, &change) {
-        Ok(plan) => plan.released.len(),
+    let plan = waits.prepare(moments, &change);
+    let shown = stands(&waits) == before;
+    let released = match plan {
+        Ok(plan) => {
+            let released = plan.released().len();
+            waits.commit(plan);
+            released
+        }
         Err(_) => 0,
     };
-    let shown = stands(&waits) == before;
-    waits.commit();
     match (shown, released) {
         (true, 0) if stands(&waits) == before => Ending::Refused,
         (true, 1) => Ending::Made,

@@ -1,16 +1,19 @@
 //! The list of all moments, of which the first may be forgotten.
-ghost use Rattle.std.specs.Prelude.{◌≡◌, ◌==◌, ◌+◌, ◌^◌, ◌<◌, ◌≤◌, ◌++◌, ◌∷◌, [], length, vec_len, vec_capacity, IsOk, IfOk, OnOk, OnErr, option_map};
-ghost use Rattle.s6_events.specs.History.{end_of, from_place};
+ghost use Rattle.std.specs.Prelude.{◌≡◌, ◌==◌, ◌+◌, ◌-◌, ◌^◌, ◌<◌, ◌≤◌, ◌++◌, ◌∷◌, [], length, drop, vec_len, vec_capacity, IsOk, IfOk, OnOk, OnErr, option_map};
+ghost use Rattle.s6_events.specs.History.{end_of, from_place, forgotten_by};
 
 use crate::moment::Moment;
 use crate::no_memory::NoMemory;
 use std::alloc::Allocator;
 use std::marker::Model;
 
-/// All moments since it was made, in the order in which they were pushed; places count from 0.
+/// The moments since it was made, in the order in which they were pushed; places count from 0. The first of them may be forgotten.
 #[derive(Drop)]
 pub struct History<A: Allocator> {
-    forgotten: u64,
+    // So many lie in `moments` no more.
+    dropped: u64,
+    // So many of those that lie there are forgotten, and are dropped when they are half of them.
+    skipped: usize,
     moments: Vec<Moment, A>,
 }
 
@@ -48,7 +51,8 @@ impl<A: Allocator + Copy> History<A> {
         ensures kept { result.kept ≡ [] }
     {
         History {
-            forgotten: 0,
+            dropped: 0,
+            skipped: 0,
             moments: Vec::new(alloc),
         }
     }
@@ -58,7 +62,15 @@ impl<A: Allocator + Copy> History<A> {
         ensures value { result ≡ end_of self.now }
         ensures bound { result < 2 ^ 63 }
     {
-        self.forgotten + self.moments.len() as u64
+        self.dropped + self.moments.len() as u64
+    }
+
+    // How many are forgotten.
+    fn start(&self) -> u64
+        ensures value { result ≡ self.now.forgotten }
+        ensures bound { result ≤ end_of self.now }
+    {
+        self.dropped + self.skipped as u64
     }
 
     /// Whether no moment was pushed.
@@ -86,14 +98,47 @@ impl<A: Allocator + Copy> History<A> {
     pub fn from(&self, place: u64) -> Option<&[Moment]>
         ensures { option_map (λ s. s.now) result ≡ from_place self.now place }
     {
-        if place < self.forgotten {
+        let start = self.start();
+        if place < start {
             return None;
         }
-        let skipped = (place - self.forgotten) as usize;
-        if skipped > self.moments.len() {
+        let kept = &self.moments[self.skipped..];
+        let before = (place - start) as usize;
+        if before > kept.len() {
             return None;
         }
-        Some(&self.moments[skipped..])
+        Some(&kept[before..])
+    }
+
+    /// Forgets the moments before a place; past the end, all of them. Those that were forgotten stay so.
+    pub fn forget(&mut self, place: u64)
+        ensures forgotten { self.new.forgotten ≡ forgotten_by self.old place }
+        ensures kept { self.new.kept ≡ drop (forgotten_by self.old place - self.old.forgotten) self.old.kept }
+        ensures end { end_of self.new ≡ end_of self.old }
+        ensures room { self.old.spare_capacity ≤ self.new.spare_capacity }
+    {
+        let end = self.len();
+        let start = self.start();
+        let place = place.min(end);
+        if place > start {
+            self.skipped += (place - start) as usize;
+            if self.skipped * 2 >= self.moments.len() {
+                self.drop_skipped();
+            }
+        }
+    }
+
+    // Those that are forgotten lie in the vector no more.
+    fn drop_skipped(&mut self)
+        ensures forgotten { self.new.forgotten ≡ self.old.forgotten }
+        ensures kept { self.new.kept ≡ self.old.kept }
+        ensures room { self.old.spare_capacity ≤ self.new.spare_capacity }
+    {
+        let kept = self.moments.len() - self.skipped;
+        self.moments.rotate_left(self.skipped);
+        self.moments.truncate(kept);
+        self.dropped += self.skipped as u64;
+        self.skipped = 0;
     }
 
     /// Makes room for these pushes, and changes nothing else: a plan that was made before keeps its room, also where this one is

@@ -1,13 +1,11 @@
 -- A step that was worked out, and the places for it.
-use Rattle.std.proofs.Common.{rules, ◌≡◌, ◌∙◌, ◌≤◌, ℕ, List, length, sym, ap, subst, arith}
+use Rattle.std.proofs.Common.{rules, ◌≡◌, ◌∙◌, ℕ, List, sym, ap, subst}
 use Rattle.std.specs.Prelude.{Result, Ok, Err, OnOk, IsOk}
 use Rattle.supervise_core.specs.Service.{Supervised}
 use Rattle.svscan_core.specs.declared.pending.Pending.{Pending}
-use Rattle.svscan_core.specs.declared.moves.ChangedService.{ChangedService}
-use Rattle.svscan_core.specs.Moving.{KeepNames, with_changes}
-use Rattle.svscan_core.specs.Pending.{registry_prepared, IsBlank}
-use Rattle.svscan_core.specs.Registry.{RegistryPrepared, result_of}
-use Rattle.svscan_core.specs.RegistryFields.{IsSoundTable}
+use Rattle.svscan_core.specs.Moving.{with_changes}
+use Rattle.svscan_core.specs.Pending.{planned_of, IsBlank}
+use Rattle.svscan_core.specs.Registry.{RegistryPrepared, registry_prepared, result_of, idle_of, IsSoundTable}
 use Rattle.svscan_core.specs.Sound.{IsSound}
 use Rattle.svscan_core.specs.Table.{charts_of}
 use Rattle.supervise_core.specs.declared.change.Change.{Change}
@@ -45,23 +43,20 @@ sound_work p work now next services s e =
       order = work_numbers work now (charts_of services) next s.order;
     })
 
--- where nothing is prepared, a commit leaves the table
-pub blank_services : {A : Type 0} (services : List Supervised) (next : ℕ) (p : Pending A) → IsBlank next p
-    → (registry_prepared services p).services ≡ services
-blank_services services next p b =
-    nothing_dropped _ p.scan.dropped.items p.scan.added.items b.dropped b.added ∙ ap (λ ts. with_changes services ts) b.touched
-
-pub blank_sound : {A : Type 0} (services : List Supervised) (next : ℕ) (p : Pending A) → IsBlank next p → IsSound next (charts_of services)
-    → IsSoundTable (registry_prepared services p)
-blank_sound services next p b s =
-    subst (λ (n : ℕ). IsSound n (charts_of (registry_prepared services p).services)) (sym b.next_sid)
-    (subst (λ (ss : List Supervised). IsSound next (charts_of ss)) (sym (blank_services services next p b)) s)
-
-pub blank_places : {A : Type 0} (services : List Supervised) (next : ℕ) (p : Pending A) → IsBlank next p → KeepNames services p.moves.touched.items
-blank_places services next p b = subst (λ (ts : List ChangedService). KeepNames services ts) (sym b.touched) tt
-
-pub blank_room : {A : Type 0} (room next : ℕ) (p : Pending A) → IsBlank next p → length p.scan.added.items ≤ room
-blank_room room next p b = let none : length p.scan.added.items ≡ 0 = ap length b.added in omega (arith, none)
+-- a step that is not begun leaves the table
+pub blank_idle : {A : Type 0} (services : List Supervised) (next : ℕ) (p : Pending A) → IsBlank next p
+    → registry_prepared services (planned_of p) ≡ idle_of (record { services = services; next_sid = next })
+blank_idle services next p b = λ i. record {
+  services = (nothing_dropped (with_changes services p.moves.touched.items) p.scan.dropped.items p.scan.added.items b.dropped b.added
+      ∙ ap (λ ts. with_changes services ts) b.touched) i;
+  next_sid = b.next_sid i;
+  events = b.events i;
+  orders = b.orders i;
+  stale = b.stale i;
+  dropped = b.dropped_sids i;
+  listed = b.listed i;
+  timers = b.timers i;
+}
 
 pub sound_change : (sid : ℕ) (change : Change) (now next : ℕ) (cs : List ChartState) → IsSound next cs
     → IsSound next (services_after (change_move_at sid change now) cs)

@@ -16,4 +16,5 @@ pub mod Adding
 pub mod Asked
 pub mod Registry
 pub mod Pending
+pub mod PlanFields
 pub mod RegistryFields

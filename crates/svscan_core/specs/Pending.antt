@@ -1,26 +1,34 @@
--- A step under way, as a registry has it.
+-- A step under way, as it is worked out.
 use Rattle.std.specs.Prelude.{◌≡◌, ℕ, List, [], ◌++◌, map, false}
-use Rattle.supervise_core.specs.Service.{Supervised}
+use Rattle.svscan_core.specs.declared.moves.Moves.{Moves}
 use Rattle.svscan_core.specs.declared.pending.Pending.{Pending}
+use Rattle.svscan_core.specs.declared.scan.Scanning.{Scanning}
+use Rattle.deadlines.specs.declared.timer.TimerChange.{TimerChange}
 use Rattle.deadlines.specs.declared.timer.TimerChange.TheVariants.{Clear}
 use Rattle.svscan_core.specs.Moving.{timers_of}
 use Rattle.svscan_core.specs.Table.{charts_of}
 use Rattle.svscan_core.specs.Timers.{timer_change_of}
-use Rattle.svscan_core.specs.Registry.{RegistryPrepared}
-use Rattle.svscan_core.specs.Scanning.{prepared_services}
+use Rattle.svscan_core.specs.Registry.{PlannedStep}
 
-abbrev pub registry_prepared : {A : Type 0} → List Supervised → Pending A → RegistryPrepared
-registry_prepared services p = record {
-  services = prepared_services services p.moves.touched.items p.scan.dropped.items p.scan.added.items;
+-- what it changes and gives
+abbrev pub planned_of : {A : Type 0} → Pending A → PlannedStep
+planned_of p = record {
+  touched = p.moves.touched.items;
+  dropped_names = p.scan.dropped.items;
+  added = p.scan.added.items;
   next_sid = p.scan.next_sid;
   events = p.moves.events.items;
   orders = p.moves.orders.items;
   stale = p.stale;
   dropped = p.scan.dropped_sids.items;
   listed = p.scan.listed.items;
-  timers = timers_of p.moves.touched.items
-      ++ (map (λ sid. Clear sid) p.scan.dropped_sids.items ++ map timer_change_of (charts_of p.scan.added.items));
+  timers = p.timers.items;
 }
+
+-- what it does to the timers: of the services that it gives something, of those that leave, and of those that come
+abbrev pub step_timers : {A : Type 0} → Moves A → Scanning A → List TimerChange
+step_timers moves scan = timers_of moves.touched.items
+    ++ (map (λ sid. Clear sid) scan.dropped_sids.items ++ map timer_change_of (charts_of scan.added.items))
 
 -- nothing is worked out yet, where this is the next serial
 pub record IsBlank {A : Type 0} (next : ℕ) (p : Pending A) : Type 0 where
@@ -33,3 +41,4 @@ pub record IsBlank {A : Type 0} (next : ℕ) (p : Pending A) : Type 0 where
   pub listed : p.scan.listed.items ≡ []
   pub next_sid : p.scan.next_sid ≡ next
   pub stale : p.stale ≡ false
+  pub timers : p.timers.items ≡ []

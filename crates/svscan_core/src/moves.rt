@@ -17,7 +17,6 @@ use super::event::Event;
 use super::place::place_of;
 use super::slots::Slots;
 use super::visit::{Visit, take};
-use arrayvec::ArrayVec;
 use s6_events::{At, Exit, Mark, NoMemory, Order, Sid};
 use std::alloc::Allocator;
 use supervise_core::{Change, Out, ServiceState};
@@ -31,14 +30,13 @@ pub struct ChangedService {
     pub death: Option<(At, Exit)>,
 }
 
-/// The services that a step changes, and what it gives. The lists keep their memory from step to step.
+/// The services that a step changes, and what it gives. The lists keep their memory from step to step. What a change of one service
+/// gives is handed in where it is to lie (`out`): it is large, and a step is moved.
 #[derive(Drop)]
 pub struct Moves<A: Allocator> {
     pub touched: Vec<ChangedService, A>,
     pub events: Vec<Event, A>,
-    pub orders: ArrayVec<Order, 256>,
-    // What the last change of a service gave.
-    out: Out,
+    pub orders: Vec<Order, A>,
 }
 
 /// The service at a place, as the step has it so far.
@@ -74,16 +72,6 @@ fn add_events<A: Allocator>(
     Ok(())
 }
 
-// Adds orders; there is room for them.
-fn add_orders(orders: &mut ArrayVec<Order, 256>, more: &[Order])
-    requires { length orders.old.items + length more.now ≤ 256 }
-    ensures { orders.new.items ≡ orders.old.items ++ more.now }
-{
-    if orders.try_extend_from_slice(more).is_err() {
-        unreachable!()
-    }
-}
-
 impl<A: Allocator + Copy> Moves<A> {
     /// Nothing yet.
     pub fn new(alloc: A) -> Moves<A>
@@ -94,8 +82,7 @@ impl<A: Allocator + Copy> Moves<A> {
         Moves {
             touched: Vec::new(alloc),
             events: Vec::new(alloc),
-            orders: ArrayVec::new(),
-            out: Out::new(),
+            orders: Vec::new(alloc),
         }
     }
 
@@ -112,7 +99,6 @@ impl<A: Allocator + Copy> Moves<A> {
 
     /// Adds the marks and orders of a service.
     pub fn give(&mut self, sid: Sid, out: &Out) -> Result<(), NoMemory>
-        requires { length self.old.orders.items + length out.now.orders.items ≤ 256 }
         ensures touched { self.new.touched.items ≡ self.old.touched.items }
         ensures events { OnOk result
             (self.new.events.items ≡ self.old.events.items
@@ -120,7 +106,7 @@ impl<A: Allocator + Copy> Moves<A> {
         ensures orders { OnOk result
             (self.new.orders.items ≡ self.old.orders.items ++ out.now.orders.items) }
     {
-        add_orders(&mut self.orders, out.orders.as_slice());
+        self.orders.extend_from_slice(out.orders.as_slice())?;
         add_events(&mut self.events, sid, out.events.as_slice())
     }
 
@@ -130,20 +116,19 @@ impl<A: Allocator + Copy> Moves<A> {
         place: usize,
         standing: ServiceState,
         death: Option<(At, Exit)>,
+        out: &Out,
     ) -> Result<(), NoMemory>
-        requires { length self.old.orders.items + length self.old.out.orders.items ≤ 256 }
         ensures touched { OnOk result
             (self.new.touched.items ≡ self.old.touched.items
             ++ (record { place = place; standing = standing; death = death }) ∷ []) }
         ensures events { OnOk result
             (self.new.events.items ≡ self.old.events.items
-            ++ map (service_mark standing.chart.sid) self.old.out.events.items) }
+            ++ map (service_mark standing.chart.sid) out.now.events.items) }
         ensures orders { OnOk result
-            (self.new.orders.items ≡ self.old.orders.items ++ self.old.out.orders.items) }
+            (self.new.orders.items ≡ self.old.orders.items ++ out.now.orders.items) }
     {
-        add_orders(&mut self.orders, self.out.orders.as_slice());
-        let marks = self.out.events.as_slice();
-        add_events(&mut self.events, standing.sid(), marks)?;
+        self.orders.extend_from_slice(out.orders.as_slice())?;
+        add_events(&mut self.events, standing.sid(), out.events.as_slice())?;
         self.touched.push(ChangedService {
             place,
             standing,
@@ -159,8 +144,8 @@ impl<A: Allocator + Copy> Moves<A> {
         visit: Visit,
         place: usize,
         now: At,
+        out: &mut Out,
     ) -> Result<(), NoMemory>
-        requires orders { length self.old.orders.items + 2 ≤ 256 }
         requires next { (c : ChartState)
             → slice_get (charts_of (with_changes slots.now.services self.old.touched.items)) place
             ≡ Some c → c.generation + 1 < 2 ^ 64 }
@@ -186,14 +171,19 @@ impl<A: Allocator + Copy> Moves<A> {
             return Ok(());
         }
         let mut after = before;
-        visit.make(&mut after, now, &mut self.out);
-        self.touch(place, after, None)?;
+        visit.make(&mut after, now, out);
+        self.touch(place, after, None, out)?;
         Ok(())
     }
 
     /// Each service in turn takes it.
-    pub fn visit_all(&mut self, slots: &Slots<A>, visit: Visit, now: At) -> Result<(), NoMemory>
-        requires orders { length self.old.orders.items + 2 * length slots.now.services ≤ 256 }
+    pub fn visit_all(
+        &mut self,
+        slots: &Slots<A>,
+        visit: Visit,
+        now: At,
+        out: &mut Out,
+    ) -> Result<(), NoMemory>
         requires generations { All (λ c. c.generation + 1 < 2 ^ 64)
             (charts_of (with_changes slots.now.services self.old.touched.items)) }
         requires order { is_rising (serials_of
@@ -210,7 +200,7 @@ impl<A: Allocator + Copy> Moves<A> {
             ≤ length self.old.orders.items + length slots.now.services) }
     {
         for place in 0..slots.len() {
-            self.visit_at(slots, visit, place, now)?;
+            self.visit_at(slots, visit, place, now, out)?;
         }
         Ok(())
     }
@@ -222,8 +212,8 @@ impl<A: Allocator + Copy> Moves<A> {
         place: usize,
         change: &Change,
         now: At,
+        out: &mut Out,
     ) -> Result<bool, NoMemory>
-        requires orders { length self.old.orders.items + most_orders change.now ≤ 256 }
         requires next { (c : ChartState)
             → slice_get (charts_of (with_changes slots.now.services self.old.touched.items)) place
             ≡ Some c → c.generation + 1 < 2 ^ 64 }
@@ -245,9 +235,9 @@ impl<A: Allocator + Copy> Moves<A> {
             return Ok(false);
         };
         let mut after = before;
-        take(&mut after, change, now, &mut self.out);
-        let stale = self.out.stale;
-        self.touch(place, after, change.death(stale, now))?;
+        take(&mut after, change, now, out);
+        let stale = out.stale;
+        self.touch(place, after, change.death(stale, now), out)?;
         Ok(stale)
     }
 
@@ -258,8 +248,8 @@ impl<A: Allocator + Copy> Moves<A> {
         sid: Sid,
         change: &Change,
         now: At,
+        out: &mut Out,
     ) -> Result<bool, NoMemory>
-        requires orders { length self.old.orders.items + most_orders change.now ≤ 256 }
         requires generations { All (λ c. c.generation + 1 < 2 ^ 64)
             (charts_of (with_changes slots.now.services self.old.touched.items)) }
         requires order { is_rising (serials_of (charts_of slots.now.services)) ≡ true }
@@ -280,7 +270,7 @@ impl<A: Allocator + Copy> Moves<A> {
         let Some(place) = place_of(slots, sid) else {
             return Ok(false);
         };
-        let stale = self.change_at(slots, place, change, now)?;
+        let stale = self.change_at(slots, place, change, now, out)?;
         Ok(stale)
     }
 }

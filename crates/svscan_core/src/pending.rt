@@ -12,8 +12,8 @@ ghost use Rattle.svscan_core.specs.Deaths.{deaths_given, KeepTallied};
 ghost use Rattle.svscan_core.specs.Moves.{moment_of, services_after};
 ghost use Rattle.svscan_core.specs.Moving.{with_changes, timers_of, step_so_far, KeepNames, Takes};
 ghost use Rattle.svscan_core.specs.Names.{repeats_name};
-ghost use Rattle.svscan_core.specs.Pending.{registry_prepared, IsBlank};
-ghost use Rattle.svscan_core.specs.Registry.{result_of};
+ghost use Rattle.svscan_core.specs.Pending.{planned_of, step_timers, IsBlank};
+ghost use Rattle.svscan_core.specs.Registry.{registry_prepared, result_of};
 ghost use Rattle.svscan_core.specs.Sound.{AllAgree, IsNumbered};
 ghost use Rattle.svscan_core.specs.Table.{charts_of, names_of, serials_of};
 ghost use Rattle.deadlines.specs.declared.timer.TimerChange.TheVariants.{Clear};
@@ -29,7 +29,7 @@ use super::work::ServiceWork;
 use deadlines::TimerChange;
 use s6_events::{At, NoMemory, Sid};
 use std::alloc::Allocator;
-use supervise_core::ChartState;
+use supervise_core::{ChartState, Out};
 
 /// A step that is worked out, before anything is changed: what the services get, which leave and which come, and what is answered.
 /// The lists keep their memory from step to step.
@@ -38,6 +38,8 @@ pub struct Pending<A: Allocator> {
     pub moves: Moves<A>,
     pub scan: Scanning<A>,
     pub stale: bool,
+    /// What the step does to the timers, once it is worked out.
+    pub timers: Vec<TimerChange, A>,
 }
 
 // The moment of a timer, where it can come.
@@ -60,6 +62,43 @@ fn timer_change(chart: &ChartState) -> TimerChange
     }
 }
 
+// Whether no service is given anything, leaves or comes.
+fn is_blank<A: Allocator + Copy>(moves: &Moves<A>, scan: &Scanning<A>) -> bool
+    ensures touched { result ≡ true → moves.now.touched.items ≡ [] }
+    ensures dropped { result ≡ true → scan.now.dropped_sids.items ≡ [] }
+    ensures added { result ≡ true → scan.now.added.items ≡ [] }
+    ensures blank { moves.now.touched.items ≡ [] → scan.now.dropped_sids.items ≡ []
+        → scan.now.added.items ≡ [] → result ≡ true }
+{
+    moves.touched.is_empty() && scan.dropped_sids.is_empty() && scan.added.is_empty()
+}
+
+// Lists what the step does to the timers: of the services that it gives something, of those that leave, and of those that come.
+fn list_timers<A: Allocator + Copy>(
+    moves: &Moves<A>,
+    scan: &Scanning<A>,
+    timers: &mut Vec<TimerChange, A>,
+) -> Result<(), NoMemory>
+    ensures timers { OnOk result (timers.new.items ≡ step_timers moves.now scan.now) }
+    ensures quiet { moves.now.touched.items ≡ [] → scan.now.dropped_sids.items ≡ []
+        → scan.now.added.items ≡ [] → IsOk result }
+{
+    timers.clear();
+    if is_blank(moves, scan) {
+        return Ok(());
+    }
+    for touched in moves.touched.as_slice() {
+        timers.push(timer_change(&touched.standing.chart()))?;
+    }
+    for sid in scan.dropped_sids.as_slice() {
+        timers.push(TimerChange::Clear(*sid))?;
+    }
+    for service in scan.added.as_slice() {
+        timers.push(timer_change(&service.chart()))?;
+    }
+    Ok(())
+}
+
 impl<A: Allocator + Copy> Pending<A> {
     /// Nothing yet.
     pub fn new(alloc: A, next_sid: u64) -> Pending<A>
@@ -69,6 +108,7 @@ impl<A: Allocator + Copy> Pending<A> {
             moves: Moves::new(alloc),
             scan: Scanning::new(alloc, next_sid),
             stale: false,
+            timers: Vec::new(alloc),
         }
     }
 
@@ -79,46 +119,17 @@ impl<A: Allocator + Copy> Pending<A> {
         self.moves.clear();
         self.scan.clear(next_sid);
         self.stale = false;
-    }
-
-    // Whether no service is given anything, leaves or comes.
-    fn is_blank(&self) -> bool
-        ensures touched { result ≡ true → self.now.moves.touched.items ≡ [] }
-        ensures dropped { result ≡ true → self.now.scan.dropped_sids.items ≡ [] }
-        ensures added { result ≡ true → self.now.scan.added.items ≡ [] }
-        ensures blank { self.now.moves.touched.items ≡ [] → self.now.scan.dropped_sids.items ≡ []
-            → self.now.scan.added.items ≡ [] → result ≡ true }
-    {
-        self.moves.touched.is_empty()
-            && self.scan.dropped_sids.is_empty()
-            && self.scan.added.is_empty()
-    }
-
-    /// What the step does to the timers: of the services that it gives something, of those that leave, and of those that come.
-    pub fn timers(&self, alloc: A) -> Result<Vec<TimerChange, A>, NoMemory>
-        ensures changes { IfOk result (λ changes. changes.items ≡ timers_of self.now.moves.touched.items
-            ++ (map (λ sid. Clear sid) self.now.scan.dropped_sids.items ++ map timer_change_of (charts_of self.now.scan.added.items))) }
-        ensures quiet { self.now.moves.touched.items ≡ [] → self.now.scan.dropped_sids.items ≡ []
-            → self.now.scan.added.items ≡ [] → IsOk result }
-    {
-        if self.is_blank() {
-            return Ok(Vec::new(alloc));
-        }
-        let mut changes = Vec::new(alloc);
-        for touched in self.moves.touched.as_slice() {
-            changes.push(timer_change(&touched.standing.chart()))?;
-        }
-        for sid in self.scan.dropped_sids.as_slice() {
-            changes.push(TimerChange::Clear(*sid))?;
-        }
-        for service in self.scan.added.as_slice() {
-            changes.push(timer_change(&service.chart()))?;
-        }
-        Ok(changes)
+        self.timers.clear();
     }
 
     // The work is done on the services as the step has them so far.
-    fn do_work(&mut self, slots: &Slots<A>, work: &ServiceWork, now: At) -> Result<(), NoMemory>
+    fn do_work(
+        &mut self,
+        slots: &Slots<A>,
+        work: &ServiceWork,
+        now: At,
+        out: &mut Out,
+    ) -> Result<(), NoMemory>
         requires dropped { self.old.scan.dropped.items ≡ [] }
         requires dropped_sids { self.old.scan.dropped_sids.items ≡ [] }
         requires added { self.old.scan.added.items ≡ [] }
@@ -141,37 +152,38 @@ impl<A: Allocator + Copy> Pending<A> {
             (with_changes slots.now.services self.old.moves.touched.items))
             ≡ names_of (charts_of slots.now.services) }
         requires listing { IsOrderly self.old.scan.next_sid (work_asked work.now) }
-        ensures worked { OnOk result (result_of (registry_prepared slots.now.services self.new) ≡ with_earlier self.old.moves.events.items self.old.moves.orders.items
+        ensures worked { OnOk result (result_of (registry_prepared slots.now.services (planned_of self.new)) ≡ with_earlier self.old.moves.events.items self.old.moves.orders.items
             (work_result (work_asked work.now) now (charts_of (with_changes slots.now.services self.old.moves.touched.items)) self.old.scan.next_sid)) }
         ensures agrees { OnOk result ((history : List Moment) → clock_of history ≡ now
             → AllAgree (with_changes slots.now.services self.old.moves.touched.items)
             (history ++ map moment_of self.old.moves.events.items)
-            → AllAgree (registry_prepared slots.now.services self.new).services
+            → AllAgree (registry_prepared slots.now.services (planned_of self.new)).services
             (history ++ map moment_of self.new.moves.events.items)) }
-        ensures tallies { OnOk result (KeepTallied self.old.scan.next_sid (with_changes slots.now.services self.old.moves.touched.items) (registry_prepared slots.now.services self.new).services
+        ensures tallies { OnOk result (KeepTallied self.old.scan.next_sid (with_changes slots.now.services self.old.moves.touched.items) (registry_prepared slots.now.services (planned_of self.new)).services
             (deaths_given (work_asked work.now) now (charts_of (with_changes slots.now.services self.old.moves.touched.items)))) }
         ensures timers { OnOk result ((timers : List Timer) → TimersAgree (with_timer_changes (timers_of self.old.moves.touched.items) timers) (charts_of (with_changes slots.now.services self.old.moves.touched.items))
-            → TimersAgree (with_timer_changes
-            (registry_prepared slots.now.services self.new).timers timers)
-            (charts_of (registry_prepared slots.now.services self.new).services)) }
+            → TimersAgree (with_timer_changes (step_timers self.new.moves self.new.scan) timers)
+            (charts_of (registry_prepared slots.now.services (planned_of self.new)).services)) }
         ensures touched { KeepNames slots.now.services self.old.moves.touched.items
             → OnOk result (KeepNames slots.now.services self.new.moves.touched.items) }
         ensures added { OnOk result (length self.new.scan.added.items ≤ 64) }
+        ensures most { OnOk result (length self.new.moves.orders.items ≤ 256) }
         ensures quiet { work_asked work.now ≡ do_nothing → IsOk result }
         ensures still { work_asked work.now ≡ do_nothing → self.new ≡ self.old }
     {
         match work {
             ServiceWork::Nothing => Ok(()),
             ServiceWork::Change(sid, change) => {
-                self.stale = self.moves.change_one(slots, *sid, change, now)?;
+                self.stale = self.moves.change_one(slots, *sid, change, now, out)?;
                 Ok(())
             }
             ServiceWork::Command(order) => {
-                self.moves.visit_all(slots, Visit::Command(*order), now)?;
+                self.moves
+                    .visit_all(slots, Visit::Command(*order), now, out)?;
                 Ok(())
             }
             ServiceWork::Listing(listing) => {
-                plan_scan(slots, &mut self.moves, &mut self.scan, listing, now)?;
+                plan_scan(slots, &mut self.moves, &mut self.scan, listing, now, out)?;
                 Ok(())
             }
         }
@@ -184,6 +196,7 @@ impl<A: Allocator + Copy> Pending<A> {
         next_sid: u64,
         work: &ServiceWork,
         now: At,
+        out: &mut Out,
     ) -> Result<(), NoMemory>
         requires few { length slots.now.services ≤ 64 }
         requires generations { All (λ c. c.generation + 1 < 2 ^ 64) (charts_of slots.now.services) }
@@ -191,24 +204,26 @@ impl<A: Allocator + Copy> Pending<A> {
         requires names { repeats_name (names_of (charts_of slots.now.services)) ≡ false }
         requires listing { IsOrderly next_sid (work_asked work.now) }
         ensures worked { OnOk result
-            (result_of (registry_prepared slots.now.services self.new)
+            (result_of (registry_prepared slots.now.services (planned_of self.new))
             ≡ work_result (work_asked work.now) now (charts_of slots.now.services) next_sid) }
         ensures agrees { OnOk result ((history : List Moment) → clock_of history ≡ now → AllAgree slots.now.services history
-            → AllAgree (registry_prepared slots.now.services self.new).services
+            → AllAgree (registry_prepared slots.now.services (planned_of self.new)).services
             (history ++ map moment_of self.new.moves.events.items)) }
         ensures tallies { OnOk result
             (KeepTallied next_sid slots.now.services
-            (registry_prepared slots.now.services self.new).services
+            (registry_prepared slots.now.services (planned_of self.new)).services
             (deaths_given (work_asked work.now) now (charts_of slots.now.services))) }
         ensures timers { OnOk result ((timers : List Timer) → TimersAgree timers (charts_of slots.now.services)
             → TimersAgree (with_timer_changes
-            (registry_prepared slots.now.services self.new).timers timers)
-            (charts_of (registry_prepared slots.now.services self.new).services)) }
+            (registry_prepared slots.now.services (planned_of self.new)).timers timers)
+            (charts_of (registry_prepared slots.now.services (planned_of self.new)).services)) }
         ensures touched { OnOk result (KeepNames slots.now.services self.new.moves.touched.items) }
         ensures added { OnOk result (length self.new.scan.added.items ≤ 64) }
+        ensures most { OnOk result (length self.new.moves.orders.items ≤ 256) }
     {
         self.clear(next_sid);
-        self.do_work(slots, work, now)?;
+        self.do_work(slots, work, now, out)?;
+        list_timers(&self.moves, &self.scan, &mut self.timers)?;
         Ok(())
     }
 
@@ -220,6 +235,7 @@ impl<A: Allocator + Copy> Pending<A> {
         due: &[Sid],
         work: &ServiceWork,
         now: At,
+        out: &mut Out,
     ) -> Result<(), NoMemory>
         requires few { length slots.now.services ≤ 64 }
         requires generations { All (λ c. c.generation + 2 < 2 ^ 64) (charts_of slots.now.services) }
@@ -228,26 +244,28 @@ impl<A: Allocator + Copy> Pending<A> {
         requires due { AreDue due.now now (charts_of slots.now.services) }
         requires listing { IsOrderly next_sid (work_asked work.now) }
         ensures worked { OnOk result
-            (result_of (registry_prepared slots.now.services self.new)
+            (result_of (registry_prepared slots.now.services (planned_of self.new))
             ≡ step_result (work_asked work.now) now (charts_of slots.now.services) next_sid) }
         ensures agrees { OnOk result ((history : List Moment) → clock_of history ≡ now → AllAgree slots.now.services history
-            → AllAgree (registry_prepared slots.now.services self.new).services
+            → AllAgree (registry_prepared slots.now.services (planned_of self.new)).services
             (history ++ map moment_of self.new.moves.events.items)) }
-        ensures tallies { OnOk result (KeepTallied next_sid slots.now.services (registry_prepared slots.now.services self.new).services
+        ensures tallies { OnOk result (KeepTallied next_sid slots.now.services (registry_prepared slots.now.services (planned_of self.new)).services
             (deaths_given (work_asked work.now) now (services_after (fire_move now) (charts_of slots.now.services)))) }
         ensures timers { OnOk result ((timers : List Timer) → TimersAgree timers (charts_of slots.now.services)
             → TimersAgree (with_timer_changes
-            (registry_prepared slots.now.services self.new).timers timers)
-            (charts_of (registry_prepared slots.now.services self.new).services)) }
+            (registry_prepared slots.now.services (planned_of self.new)).timers timers)
+            (charts_of (registry_prepared slots.now.services (planned_of self.new)).services)) }
         ensures touched { OnOk result (KeepNames slots.now.services self.new.moves.touched.items) }
         ensures added { OnOk result (length self.new.scan.added.items ≤ 64) }
+        ensures most { OnOk result (length self.new.moves.orders.items ≤ 256) }
         ensures quiet { due.now ≡ [] → work_asked work.now ≡ do_nothing → IsOk result }
         ensures blank { due.now ≡ [] → work_asked work.now ≡ do_nothing
             → OnOk result (IsBlank next_sid self.new) }
     {
         self.clear(next_sid);
-        fire_due(slots, &mut self.moves, due, now)?;
-        self.do_work(slots, work, now)?;
+        fire_due(slots, &mut self.moves, due, now, out)?;
+        self.do_work(slots, work, now, out)?;
+        list_timers(&self.moves, &self.scan, &mut self.timers)?;
         Ok(())
     }
 }
@@ -258,10 +276,10 @@ fn fire_due<A: Allocator + Copy>(
     moves: &mut Moves<A>,
     due: &[Sid],
     now: At,
+    out: &mut Out,
 ) -> Result<(), NoMemory>
     requires due { AreDue due.now now
         (charts_of (with_changes slots.now.services moves.old.touched.items)) }
-    requires orders { length moves.old.orders.items + 2 * length slots.now.services ≤ 256 }
     requires generations { All (λ c. c.generation + 1 < 2 ^ 64)
         (charts_of (with_changes slots.now.services moves.old.touched.items)) }
     requires order { is_rising (serials_of
@@ -278,5 +296,5 @@ fn fire_due<A: Allocator + Copy>(
     if due.is_empty() {
         return Ok(());
     }
-    moves.visit_all(slots, Visit::Fire, now)
+    moves.visit_all(slots, Visit::Fire, now, out)
 }

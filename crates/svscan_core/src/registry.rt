@@ -13,8 +13,8 @@ ghost use Rattle.svscan_core.specs.Moves.{service_mark, moment_of, services_afte
 ghost use Rattle.svscan_core.specs.Listing.{names_in};
 ghost use Rattle.svscan_core.specs.Names.{repeats_name};
 ghost use Rattle.svscan_core.specs.Scan.{after_scan, dropped_by};
-ghost use Rattle.svscan_core.specs.Pending.{IsBlank};
-ghost use Rattle.svscan_core.specs.Registry.{table_of, result_of, IsIdle};
+ghost use Rattle.svscan_core.specs.Pending.{planned_of};
+ghost use Rattle.svscan_core.specs.Registry.{registry_prepared, table_of, result_of, idle_of, Fits};
 ghost use Rattle.svscan_core.specs.Sound.{AllAgree, IsSound};
 ghost use Rattle.svscan_core.specs.Table.{new_table, charts_of};
 ghost use Rattle.svscan_core.specs.Timers.{TimersAgree};
@@ -22,14 +22,13 @@ ghost use Rattle.svscan_core.specs.Work.{AreDue, change_move_at, command_move, s
 ghost use Rattle.svscan_core.specs.Work.Work.{do_nothing};
 
 use super::commit::commit_changes;
-use super::entry::{Entry, Listed, ScanOrder};
-use super::event::Event;
+use super::entry::{Entry, ScanOrder};
 use super::pending::Pending;
+use super::plan::{Answer, RegistryPlan};
 use super::slots::Slots;
 use super::table::{self, find_sid, nth_sid};
 use super::work::ServiceWork;
-use deadlines::TimerChange;
-use s6_events::{At, Name, NoMemory, Order, Sid};
+use s6_events::{At, Name, NoMemory, Sid};
 use std::alloc::Allocator;
 use std::marker::Model;
 use supervise_core::{Change, Out, Service, ServiceState};
@@ -44,7 +43,9 @@ mod tests;
 pub struct Registry<A: Allocator> {
     slots: Slots<A>,
     next_sid: u64,
-    pending: Pending<A>,
+    // The memory for the next step, and for what a change of one service gives.
+    spare: Pending<A>,
+    out: Out,
 }
 
 impl<A: Allocator> Model for Registry<A> {
@@ -59,50 +60,42 @@ impl<A: Allocator> Model for Registry<A> {
     ghost invariant = { IsSoundRegistry };
 }
 
-/// What a scan, or an order of all services, gives: the marks and orders of each service in the order made, the serials that were
-/// dropped, and what became of each listed name for which no service stood.
-#[derive(Drop)]
-pub struct Answer<A: Allocator> {
-    pub events: Vec<Event, A>,
-    pub orders: Vec<Order, A>,
-    pub dropped: Vec<Sid, A>,
-    pub listed: Vec<Listed, A>,
-}
-
-// What was worked out gets its places; where any memory was refused, nothing is prepared.
+// What was worked out gets its places, and is a plan with its memory; where any memory was refused, nothing is left of it.
 fn settle<A: Allocator + Copy>(
     slots: &mut Slots<A>,
-    pending: &mut Pending<A>,
+    spare: &mut Pending<A>,
     next_sid: u64,
     attempt: Result<(), NoMemory>,
-) -> Result<(), NoMemory>
+) -> Result<RegistryPlan<A>, NoMemory>
+    requires { OnOk attempt (length spare.old.moves.orders.items ≤ 256) }
     ensures services { slots.new.services ≡ slots.old.services }
     ensures ok { OnOk result (IsOk attempt) }
-    ensures same { OnOk result (pending.new ≡ pending.old) }
-    ensures room { OnOk result (length pending.old.scan.added.items ≤ slots.new.room) }
-    ensures blank { OnErr result (IsBlank next_sid pending.new) }
-    ensures quiet { IsOk attempt → pending.old.scan.added.items ≡ [] → IsOk result }
+    ensures same { IfOk result (λ plan. plan ≡ planned_of spare.old) }
+    ensures room { OnOk result (length spare.old.scan.added.items ≤ slots.new.room) }
+    ensures quiet { IsOk attempt → spare.old.scan.added.items ≡ [] → IsOk result }
 {
-    let settled = match attempt {
-        Ok(()) => slots.reserve(pending.scan.added.len()),
-        Err(refused) => Err(refused),
-    };
-    if settled.is_err() {
-        pending.clear(next_sid);
+    if let Err(refused) = attempt {
+        spare.clear(next_sid);
+        return Err(refused);
     }
-    settled
+    if let Err(refused) = slots.reserve(spare.scan.added.len()) {
+        spare.clear(next_sid);
+        return Err(refused);
+    }
+    let blank = Pending::new(slots.allocator(), next_sid);
+    Ok(RegistryPlan::of(std::mem::replace(spare, blank)))
 }
 
 impl<A: Allocator + Copy> Registry<A> {
     /// No service; the first one gets the serial 1.
     pub fn new(alloc: A) -> Registry<A>
         ensures shown { result.shown ≡ new_table }
-        ensures idle { IsIdle result }
     {
         Registry {
             slots: Slots::new(alloc),
             next_sid: 1,
-            pending: Pending::new(alloc, 1),
+            spare: Pending::new(alloc, 1),
+            out: Out::new(),
         }
     }
 
@@ -174,7 +167,7 @@ impl<A: Allocator + Copy> Registry<A> {
     }
 
     /// The service of this serial takes a change, at once, and no other one does; None where none has the serial, and then nothing
-    /// changes. What was prepared is prepared no more.
+    /// changes.
     pub fn change(&mut self, sid: Sid, change: &Change, now: At) -> Option<Out>
         requires { All (λ c. c.generation + 1 < 2 ^ 64) (charts_of self.old.shown.services) }
         ensures services { charts_of self.new.shown.services
@@ -200,51 +193,62 @@ impl<A: Allocator + Copy> Registry<A> {
         ensures tallies { KeepTallied self.old.shown.next_sid self.old.shown.services
             self.new.shown.services (deaths_after (change_move_at sid change.now now)
             (charts_of self.old.shown.services)) }
-        ensures idle { IsIdle self.new }
     {
-        let out = table::change(&mut self.slots, sid, change, now);
-        self.pending.clear(self.next_sid);
-        out
+        table::change(&mut self.slots, sid, change, now)
     }
 
     /// Works out a step: each service whose timer is due takes its rule, and then the work is done. These are the serials of the
-    /// services whose timers are due. Nothing that is shown changes. `NoMemory` where a growth was refused; then nothing is prepared.
-    pub fn prepare(&mut self, due: &[Sid], work: &ServiceWork, now: At) -> Result<(), NoMemory>
+    /// services whose timers are due. Nothing that is shown changes, and the plan fits what is shown until something does. `NoMemory`
+    /// where a growth was refused.
+    pub fn prepare(
+        &mut self,
+        due: &[Sid],
+        work: &ServiceWork,
+        now: At,
+    ) -> Result<RegistryPlan<A>, NoMemory>
         requires due { AreDue due.now now (charts_of self.old.shown.services) }
         requires listing { IsOrderly self.old.shown.next_sid (work_asked work.now) }
         requires generations { All (λ c. c.generation + 2 < 2 ^ 64)
             (charts_of self.old.shown.services) }
         ensures shown { self.new.shown ≡ self.old.shown }
-        ensures prepared { OnOk result
-            (result_of self.new.prepared
+        ensures fits { IfOk result (λ plan. Fits self.new plan) }
+        ensures prepared { IfOk result
+            (λ plan. result_of (registry_prepared self.new.shown.services plan)
             ≡ step_result (work_asked work.now) now
             (charts_of self.old.shown.services) self.old.shown.next_sid) }
-        ensures agrees { OnOk result ((history : List Moment) → clock_of history ≡ now → AllAgree self.old.shown.services history
-            → AllAgree self.new.prepared.services
-            (history ++ map moment_of self.new.prepared.events)) }
-        ensures tallies { OnOk result (KeepTallied self.old.shown.next_sid self.old.shown.services self.new.prepared.services
-            (deaths_given (work_asked work.now) now (services_after (fire_move now) (charts_of self.old.shown.services)))) }
-        ensures timers { OnOk result ((timers : List Timer) → TimersAgree timers (charts_of self.old.shown.services)
-            → TimersAgree (with_timer_changes self.new.prepared.timers timers)
-            (charts_of self.new.prepared.services)) }
-        ensures idle { OnErr result (IsIdle self.new) }
+        ensures agrees { IfOk result (λ plan. (history : List Moment) → clock_of history ≡ now
+            → AllAgree self.old.shown.services history
+            → AllAgree (registry_prepared self.new.shown.services plan).services
+            (history ++ map moment_of plan.events)) }
+        ensures tallies { IfOk result (λ plan. KeepTallied self.old.shown.next_sid
+            self.old.shown.services (registry_prepared self.new.shown.services plan).services
+            (deaths_given (work_asked work.now) now
+            (services_after (fire_move now) (charts_of self.old.shown.services)))) }
+        ensures timers { IfOk result (λ plan. (timers : List Timer)
+            → TimersAgree timers (charts_of self.old.shown.services)
+            → TimersAgree (with_timer_changes plan.timers timers)
+            (charts_of (registry_prepared self.new.shown.services plan).services)) }
         ensures quiet { due.now ≡ [] → work_asked work.now ≡ do_nothing → IsOk result }
         ensures still { due.now ≡ [] → work_asked work.now ≡ do_nothing
-            → (IsIdle self.new) × (self.new.prepared.timers ≡ []) }
+            → IfOk result (λ plan. registry_prepared self.new.shown.services plan
+            ≡ idle_of self.new.shown) }
     {
+        let out = &mut self.out;
         let worked = self
-            .pending
-            .work_out(&self.slots, self.next_sid, due, work, now);
-        settle(&mut self.slots, &mut self.pending, self.next_sid, worked)?;
-        Ok(())
+            .spare
+            .work_out(&self.slots, self.next_sid, due, work, now, out);
+        let plan = settle(&mut self.slots, &mut self.spare, self.next_sid, worked)?;
+        Ok(plan)
     }
 
-    /// Makes the step that was prepared; what it gives has to be read before.
-    pub fn commit(&mut self)
-        ensures shown { self.new.shown ≡ table_of self.old.prepared }
-        ensures idle { IsIdle self.new }
+    /// Makes a step that this registry worked out, where nothing that is shown has changed since. It takes no memory, and keeps that of
+    /// the plan for the next step.
+    pub fn commit(&mut self, plan: RegistryPlan<A>)
+        requires { Fits self.old plan }
+        ensures { self.new.shown ≡ table_of (registry_prepared self.old.shown.services plan) }
     {
-        let Pending { moves, scan, .. } = &mut self.pending;
+        let mut pending = plan.into_pending();
+        let Pending { moves, scan, .. } = &mut pending;
         commit_changes(
             &mut self.slots,
             moves.touched.as_slice(),
@@ -252,93 +256,42 @@ impl<A: Allocator + Copy> Registry<A> {
             &mut scan.added,
         );
         self.next_sid = scan.next_sid;
-        self.pending.clear(self.next_sid);
+        self.keep(pending);
     }
 
-    /// The marks that were prepared, in the order made.
-    pub fn events(&self) -> &[Event]
-        ensures { result.now ≡ self.now.prepared.events }
+    // The memory of a step serves the next one.
+    fn keep(&mut self, pending: Pending<A>)
+        ensures { self.new ≡ self.old }
     {
-        self.pending.moves.events.as_slice()
-    }
-
-    /// The orders that were prepared, in the order made: at most 256.
-    pub fn orders(&self) -> &[Order]
-        ensures orders { result.now ≡ self.now.prepared.orders }
-        ensures few { length result.now ≤ 256 }
-    {
-        self.pending.moves.orders.as_slice()
-    }
-
-    /// Whether what was prepared is a report that was stale.
-    pub fn is_stale(&self) -> bool
-        ensures { result ≡ self.now.prepared.stale }
-    {
-        self.pending.stale
-    }
-
-    /// The serials of the services that a commit will drop, which rise.
-    pub fn dropped(&self) -> &[Sid]
-        ensures { result.now ≡ self.now.prepared.dropped }
-    {
-        self.pending.scan.dropped_sids.as_slice()
-    }
-
-    /// What becomes of each listed name for which no service stood, in the order of the names' bytes.
-    pub fn listed(&self) -> &[Listed]
-        ensures { result.now ≡ self.now.prepared.listed }
-    {
-        self.pending.scan.listed.as_slice()
-    }
-
-    /// What a commit does to the timers: deadlines that agree with the services agree with them after it, once these changes are made.
-    /// `NoMemory` where memory for the list is refused.
-    pub fn timers(&self) -> Result<Vec<TimerChange, A>, NoMemory>
-        ensures changes { IfOk result (λ changes. changes.items ≡ self.now.prepared.timers) }
-        ensures quiet { self.now.prepared.timers ≡ [] → IsOk result }
-    {
-        self.pending.timers(self.slots.allocator())
+        self.spare = pending;
+        self.spare.clear(self.next_sid);
     }
 
     // Works out the work alone, with no timers.
-    fn prepare_alone(&mut self, work: &ServiceWork, now: At) -> Result<(), NoMemory>
+    fn prepare_alone(&mut self, work: &ServiceWork, now: At) -> Result<RegistryPlan<A>, NoMemory>
         requires listing { IsOrderly self.old.shown.next_sid (work_asked work.now) }
         requires generations { All (λ c. c.generation + 1 < 2 ^ 64)
             (charts_of self.old.shown.services) }
         ensures shown { self.new.shown ≡ self.old.shown }
-        ensures prepared { OnOk result
-            (result_of self.new.prepared
+        ensures fits { IfOk result (λ plan. Fits self.new plan) }
+        ensures prepared { IfOk result
+            (λ plan. result_of (registry_prepared self.new.shown.services plan)
             ≡ work_result (work_asked work.now) now
             (charts_of self.old.shown.services) self.old.shown.next_sid) }
-        ensures agrees { OnOk result ((history : List Moment) → clock_of history ≡ now → AllAgree self.old.shown.services history
-            → AllAgree self.new.prepared.services
-            (history ++ map moment_of self.new.prepared.events)) }
-        ensures tallies { OnOk result
-            (KeepTallied self.old.shown.next_sid self.old.shown.services self.new.prepared.services
+        ensures agrees { IfOk result (λ plan. (history : List Moment) → clock_of history ≡ now
+            → AllAgree self.old.shown.services history
+            → AllAgree (registry_prepared self.new.shown.services plan).services
+            (history ++ map moment_of plan.events)) }
+        ensures tallies { IfOk result (λ plan. KeepTallied self.old.shown.next_sid
+            self.old.shown.services (registry_prepared self.new.shown.services plan).services
             (deaths_given (work_asked work.now) now (charts_of self.old.shown.services))) }
-        ensures idle { OnErr result (IsIdle self.new) }
     {
+        let out = &mut self.out;
         let worked = self
-            .pending
-            .work_alone(&self.slots, self.next_sid, work, now);
-        settle(&mut self.slots, &mut self.pending, self.next_sid, worked)?;
-        Ok(())
-    }
-
-    // What was prepared is answered.
-    fn answer(&self) -> Result<Answer<A>, NoMemory>
-        ensures events { IfOk result (λ answer. answer.events.items ≡ self.now.prepared.events) }
-        ensures orders { IfOk result (λ answer. answer.orders.items ≡ self.now.prepared.orders) }
-        ensures dropped { IfOk result (λ answer. answer.dropped.items ≡ self.now.prepared.dropped) }
-        ensures listed { IfOk result (λ answer. answer.listed.items ≡ self.now.prepared.listed) }
-    {
-        let alloc = self.slots.allocator();
-        Ok(Answer {
-            events: self.events().to_vec(alloc)?,
-            orders: self.orders().to_vec(alloc)?,
-            dropped: self.dropped().to_vec(alloc)?,
-            listed: self.listed().to_vec(alloc)?,
-        })
+            .spare
+            .work_alone(&self.slots, self.next_sid, work, now, out);
+        let plan = settle(&mut self.slots, &mut self.spare, self.next_sid, worked)?;
+        Ok(plan)
     }
 
     // The work is done at once.
@@ -377,17 +330,15 @@ impl<A: Allocator + Copy> Registry<A> {
             (KeepTallied self.old.shown.next_sid self.old.shown.services self.new.shown.services
             (deaths_given (work_asked work.now) now (charts_of self.old.shown.services))) }
         ensures unchanged { OnErr result (self.new.shown ≡ self.old.shown) }
-        ensures idle { IsIdle self.new }
     {
-        self.prepare_alone(work, now)?;
-        let answer = self.answer();
-        match answer {
+        let plan = self.prepare_alone(work, now)?;
+        match plan.answer(self.slots.allocator()) {
             Ok(answer) => {
-                self.commit();
+                self.commit(plan);
                 Ok(answer)
             }
             Err(refused) => {
-                self.pending.clear(self.next_sid);
+                self.keep(plan.into_pending());
                 Err(refused)
             }
         }
@@ -396,7 +347,7 @@ impl<A: Allocator + Copy> Registry<A> {
     /// Takes a listing of the scan directory, at once: each service whose name is listed becomes active and takes the configuration
     /// that was read, each other one becomes inactive; an inactive one whose supervisor has ended is dropped; and each name for which
     /// no service stands gets one, in the order of the names' bytes. No name stands in the listing twice. `NoMemory` where a growth was
-    /// refused; then nothing that is shown changes. Either way nothing is prepared afterwards. Page `s6-svscan`.
+    /// refused; then nothing that is shown changes. Page `s6-svscan`.
     pub fn scan(&mut self, listing: &[Entry], now: At) -> Result<Answer<A>, NoMemory>
         requires listing { repeats_name (names_in listing.now) ≡ false }
         requires generations { All (λ c. c.generation + 1 < 2 ^ 64)
@@ -432,14 +383,13 @@ impl<A: Allocator + Copy> Registry<A> {
             (KeepTallied self.old.shown.next_sid self.old.shown.services self.new.shown.services
             []) }
         ensures unchanged { OnErr result (self.new.shown ≡ self.old.shown) }
-        ensures idle { IsIdle self.new }
     {
         let work = ServiceWork::Listing(listing);
         self.make(&work, now)
     }
 
     /// Takes an order of all services, at once: nuke gives each inactive service the letters `x` and `d`; terminate makes each
-    /// service inactive and gives it both. `NoMemory` where a growth was refused; then nothing that is shown changes. Either way nothing is prepared afterwards. Page
+    /// service inactive and gives it both. `NoMemory` where a growth was refused; then nothing that is shown changes. Page
     /// `s6-svscanctl`; which letters they get is chosen here.
     pub fn control(&mut self, order: ScanOrder, now: At) -> Result<Answer<A>, NoMemory>
         requires generations { All (λ c. c.generation + 1 < 2 ^ 64)
@@ -463,7 +413,6 @@ impl<A: Allocator + Copy> Registry<A> {
             (KeepTallied self.old.shown.next_sid self.old.shown.services self.new.shown.services
             []) }
         ensures unchanged { OnErr result (self.new.shown ≡ self.old.shown) }
-        ensures idle { IsIdle self.new }
     {
         self.make(&ServiceWork::Command(order), now)
     }

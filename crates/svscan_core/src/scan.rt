@@ -28,7 +28,7 @@ use super::visit::Visit;
 use s6_events::{At, Name, NoMemory, Sid};
 use servicedir::Config;
 use std::alloc::Allocator;
-use supervise_core::{ChartState, Phase, Service};
+use supervise_core::{ChartState, Out, Phase, Service};
 
 // The most services that stand.
 const SERVICE_LIMIT: usize = 64;
@@ -143,7 +143,6 @@ impl<A: Allocator + Copy> Scanning<A> {
         config: Config,
         now: At,
     ) -> Result<(), NoMemory>
-        requires orders { length moves.old.orders.items + 1 ≤ 256 }
         requires next { self.old.next_sid + 1 < 2 ^ 64 }
         ensures state { OnOk result
             ((retained : List ChartState)
@@ -182,7 +181,6 @@ impl<A: Allocator + Copy> Scanning<A> {
         now: At,
     ) -> Result<(), NoMemory>
         requires few { retained + length self.old.added.items ≤ 64 }
-        requires orders { length moves.old.orders.items + 1 ≤ 256 }
         requires next { self.old.next_sid + 1 < 2 ^ 64 }
         ensures state { OnOk result
             ((services : List ChartState) → length services ≡ retained
@@ -220,7 +218,6 @@ impl<A: Allocator + Copy> Scanning<A> {
         now: At,
     ) -> Result<(), NoMemory>
         requires few { retained + length self.old.added.items ≤ 64 }
-        requires orders { length moves.old.orders.items + 1 ≤ 256 }
         requires next { self.old.next_sid + 1 < 2 ^ 64 }
         ensures state { OnOk result ((services : List ChartState) → length services ≡ retained
             → stands name.now (services ++ charts_of self.old.added.items)
@@ -257,7 +254,6 @@ impl<A: Allocator + Copy> Scanning<A> {
     ) -> Result<(), NoMemory>
         requires once { repeats_name names.now ≡ false }
         requires few { retained + length self.old.added.items ≤ 64 }
-        requires orders { length moves.old.orders.items ≤ 64 }
         requires next { self.old.next_sid + 65 < 2 ^ 64 }
         ensures state { OnOk result ((services : List ChartState) → length services ≡ retained
             → ((name : List ℕ) → lists names.now name ≡ true
@@ -292,6 +288,7 @@ pub fn plan_scan<A: Allocator + Copy>(
     scan: &mut Scanning<A>,
     listing: &[Entry],
     now: At,
+    out: &mut Out,
 ) -> Result<(), NoMemory>
     requires dropped { scan.old.dropped.items ≡ [] }
     requires dropped_sids { scan.old.dropped_sids.items ≡ [] }
@@ -305,7 +302,6 @@ pub fn plan_scan<A: Allocator + Copy>(
     requires stand { names_of (charts_of (with_changes slots.now.services moves.old.touched.items))
         ≡ names_of (charts_of slots.now.services) }
     requires listing { repeats_name (names_in listing.now) ≡ false }
-    requires room { length moves.old.orders.items ≤ 64 }
     requires next { scan.old.next_sid + 65 < 2 ^ 64 }
     requires generations { All (λ c. c.generation + 1 < 2 ^ 64)
         (charts_of (with_changes slots.now.services moves.old.touched.items)) }
@@ -352,8 +348,9 @@ pub fn plan_scan<A: Allocator + Copy>(
     ensures names { KeepNames slots.now.services moves.old.touched.items
         → OnOk result (KeepNames slots.now.services moves.new.touched.items) }
     ensures few { OnOk result (length scan.new.added.items ≤ 64) }
+    ensures most { OnOk result (length moves.new.orders.items ≤ length moves.old.orders.items + 64) }
 {
-    moves.visit_all(slots, Visit::Look(listing), now)?;
+    moves.visit_all(slots, Visit::Look(listing), now, out)?;
     let retained = plan_drops(slots, moves.touched.as_slice(), scan)?;
     let sorted = sort_listing(slots.allocator(), listing)?;
     let names = sorted.names.as_slice();

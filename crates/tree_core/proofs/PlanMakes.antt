@@ -118,9 +118,9 @@ pub record Makes {A : Type 0} (now : ℕ) (pr : PresentState) (input : Input A) 
   pub orders : effect.orders.items ≡ prepared.orders
   pub matched : effect.matched.items ≡ map as_match matches
   pub released : effect.released.items ≡ map as_release given ++ map as_release (released_by_answer told.waiters)
-  pub moments : plan.moments.items ≡ clock_moments pr.clock input.at ++ map moment_of prepared.events
-  pub listens : Listens pr.waits later plan.moments.items (chosen_change now choice) given told.waiters
-  pub hears_letters : HearsLetters pr.directories directories plan.moments.items (chosen_ask choice) matches told.directories
+  pub moments : plan.history ≡ clock_moments pr.clock input.at ++ map moment_of prepared.events
+  pub listens : Listens pr.waits later plan.history (chosen_change now choice) given told.waiters
+  pub hears_letters : HearsLetters pr.directories directories plan.history (chosen_ask choice) matches told.directories
   pub agrees : (history : List Moment) → clock_of history ≡ now → AllAgree pr.services history
       → AllAgree prepared.services (history ++ map moment_of prepared.events)
   pub tallies : KeepTallied pr.next_sid pr.services prepared.services
@@ -168,21 +168,21 @@ plan_makes {A} pr input plan prepared later directories effect choice left p old
     ap (λ w. old.deaths ++ deaths_given w now (services_after (fire_move now) cs)) (sym chosen.work) in
     let marks : prepared.events ≡ events_after (fire_move now) cs ++ (act_result input.act fired).work.events =
     ap (λ (w : WorkResult). w.events) work in
-    let joined : plan.moments.items ≡ clock_moments pr.clock input.at
+    let joined : plan.history ≡ clock_moments pr.clock input.at
     ++ map moment_of (events_after (fire_move now) cs ++ (act_result input.act fired).work.events) =
     p.moments ∙ ap (λ e. clock_moments pr.clock input.at ++ map moment_of e) marks in
-    let past : old.history ++ plan.moments.items ≡ done.history =
+    let past : old.history ++ plan.history ≡ done.history =
     ap (λ ms. old.history ++ ms) joined ∙ regrouped old.history (clock_moments pr.clock input.at) (events_after (fire_move now) cs) _ in
-    let at : watch_at (old.history ++ plan.moments.items) fired ≡ watch_of done = ap (λ h. watch_at h fired) past in
-    let there : directories_after_moments (directories_of m) plan.moments.items ≡ directories_of done =
-    directories_join (directories_of m) plan.moments.items ∙ ap (λ h. directories_at h fired) past in
+    let at : watch_at (old.history ++ plan.history) fired ≡ watch_of done = ap (λ h. watch_at h fired) past in
+    let there : directories_after_moments (directories_of m) plan.history ≡ directories_of done =
+    directories_join (directories_of m) plan.history ∙ ap (λ h. directories_at h fired) past in
     let ask : Ask = ask_of input.act fired in
     let change : WaitRequest = chosen_change now choice in
-    let told : p.told ≡ answers_at (old.history ++ plan.moments.items) fired choice =
+    let told : p.told ≡ answers_at (old.history ++ plan.history) fired choice =
     λ i. record {
-      waiters = (p.listens.answer (watch_of m) kept ∙ ap (λ w. wait_answer w change) (moments_join (watch_of m) plan.moments.items)) i;
+      waiters = (p.listens.answer (watch_of m) kept ∙ ap (λ w. wait_answer w change) (moments_join (watch_of m) plan.history)) i;
       directories = (p.hears_letters.answer (directories_of m) heard
-          ∙ ap (directory_answer (chosen_ask choice)) (directories_join (directories_of m) plan.moments.items)) i;
+          ∙ ap (directory_answer (chosen_ask choice)) (directories_join (directories_of m) plan.history)) i;
     } in
     record {
       clock = p.now_is ∙ sym (ap (λ s. s.machine.clock) t);
@@ -199,21 +199,21 @@ plan_makes {A} pr input plan prepared later directories effect choice left p old
                 ∙ (reply_alone choice pr.services (events_after (fire_move now) cs) (orders_after (fire_move now) cs)
                 (act_result input.act fired).work p.told
                 ∙ (ap (chosen_reply choice pr.services (act_result input.act fired).work) told
-                ∙ sym (chosen.reply (old.history ++ plan.moments.items)))))) i;
+                ∙ sym (chosen.reply (old.history ++ plan.history)))))) i;
             events = (p.events ∙ marks) i;
             orders = (p.orders ∙ ap (λ (w : WorkResult). w.orders) work) i;
             matched =
                 (p.matched
                 ∙ (ap (map as_match) (p.hears_letters.matched (directories_of m) heard)
-                ∙ (map-append as_match (matches_by finds (directories_of m) plan.moments.items)
-                (matches_of finds (chosen_ask choice) (directories_after_moments (directories_of m) plan.moments.items))
+                ∙ (map-append as_match (matches_by finds (directories_of m) plan.history)
+                (matches_of finds (chosen_ask choice) (directories_after_moments (directories_of m) plan.history))
                 ∙ λ j. map as_match (matches_by finds (directories_of m) (joined j))
                 ++ map as_match (matches_of finds (sym chosen.asks j) (there j))))) i;
             released =
                 (p.released
                 ∙ λ j. map as_release ((p.listens.released (watch_of m) kept ∙ ap (releases_by (watch_of m)) joined) j)
                 ++ map as_release ((ap (λ (x : ListenersAnswer). released_by_answer x.waiters) told
-                ∙ (chosen.hears.at_once (old.history ++ plan.moments.items) ∙ ap (released_at_once ask) at)) j)) i;
+                ∙ (chosen.hears.at_once (old.history ++ plan.history) ∙ ap (released_at_once ask) at)) j)) i;
           })
           ∙ sym (ap (λ s. s.outcome) t);
       agrees =
@@ -232,8 +232,8 @@ plan_makes {A} pr input plan prepared later directories effect choice left p old
           (fired_numbers now pr.next_sid cs p.sound.order) numbered));
       waiting =
           subst (WaitsStandFor later)
-          (ap (λ w. waits_after_change w change) (moments_join (watch_of m) plan.moments.items)
-          ∙ (chosen.hears.after (old.history ++ plan.moments.items)
+          (ap (λ w. waits_after_change w change) (moments_join (watch_of m) plan.history)
+          ∙ (chosen.hears.after (old.history ++ plan.history)
           ∙ (ap (watch_after ask) at
           ∙ ((λ i. record {
             history = history_stays ask (watch_of done) i;

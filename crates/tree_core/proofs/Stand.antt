@@ -1,6 +1,6 @@
 -- What makes the step of an input stands for the machine after it.
-use Rattle.std.proofs.Common.{◌≡◌, ◌+◌, ◌*◌, ◌<◌, ◌≤◌, ◌++◌, List, [], drop, max, ℕ, arith, length, sym, ap, ◌∙◌, subst}
-use Rattle.std.proofs.lemmas.List.{length-append, drop-append-le}
+use Rattle.std.proofs.Common.{◌≡◌, ◌+◌, ◌-◌, ◌*◌, ◌<◌, ◌≤◌, ◌++◌, ◌∷◌, List, [], drop, map, max, min, ℕ, arith, length, sym, ap, ◌∙◌, subst}
+use Rattle.std.proofs.lemmas.List.{length-append, length-drop, drop-append-le, drop-drop}
 use Rattle.event_directory.specs.Pattern.{finds}
 use Rattle.event_directory.specs.Remembered.{AreHeard, DirectoriesPrepared, DirectoriesShown, directories_after_commit}
 use Rattle.s6_events.specs.At.{last_moment}
@@ -11,7 +11,11 @@ use Rattle.supervise_core.specs.Service.{Supervised}
 use Rattle.tree_core.specs.declared.input.Input.{Input}
 use Rattle.tree_core.specs.declared.plan.StepPlan.{StepPlan}
 use Rattle.tree_core.specs.Effect.{outcome_of}
-use Rattle.wait_conditions.specs.Stands.{WaitsShown, WaitsStandFor}
+use Rattle.wait_conditions.specs.Kept.{StoredWaiter, NoneBegan}
+use Rattle.wait_conditions.specs.Stands.{WaitsShown, WaitsStandFor, stored_waiter, needed_from}
+use Rattle.wait_conditions.proofs.Oldest.{least_needed, within_end}
+use Rattle.wait_conditions.specs.Watch.{WrittenWaiter}
+use Rattle.std.proofs.lemmas.List.Elements.{All-cons, All-head, All-tail}
 use Rattle.tree_core.specs.Acts.{offer_of}
 use Rattle.tree_core.specs.Machine.{Machine, directories_of, watch_of}
 use Rattle.tree_core.specs.Plan.{PresentState, present_state, IsNow, IsQuiet, Plans}
@@ -19,7 +23,7 @@ use Rattle.tree_core.specs.Run.{after, outcome}
 use Rattle.std.specs.Prelude.{All, get_or}
 use Rattle.supervise_core.specs.declared.chart.ChartState.{ChartState}
 use Rattle.tree_core.specs.Sound.{IsCounted, IsRecorded}
-use Rattle.tree_core.specs.StandsFor.{StoredTree, StandsFor}
+use Rattle.tree_core.specs.StandsFor.{StoredTree, StandsFor, IsCut}
 use Rattle.svscan_core.specs.Timers.{TimersAgree}
 use Rattle.svscan_core.specs.Registry.{RegistryPrepared}
 use Rattle.svscan_core.specs.Deaths.{AllTallied, AllBefore}
@@ -61,10 +65,30 @@ pub record Installs {A : Type 0} (t new : StoredTree) (plan : StepPlan A) (prepa
   pub closing : new.closing ≡ plan.closing
   pub services : new.services ≡ prepared.services
   pub next_sid : new.next_sid ≡ prepared.next_sid
-  pub forgotten : new.forgotten ≡ t.forgotten
-  pub kept : new.kept ≡ t.kept ++ plan.moments.items
+  pub forgotten : t.forgotten ≤ new.forgotten
+  pub within : new.forgotten ≤ t.forgotten + length (t.kept ++ plan.history)
+  pub kept : new.kept ≡ drop (new.forgotten - t.forgotten) (t.kept ++ plan.history)
   pub waits : new.waits ≡ later
   pub directories : new.directories ≡ heard
+
+-- the kept moments and those of the step are what the history after it has behind the forgotten ones
+behind : {A : Type 0} (t : StoredTree) (m n : Machine) (plan : StepPlan A) → m.history ++ plan.history ≡ n.history → StandsFor t m
+    → drop t.forgotten n.history ≡ t.kept ++ plan.history
+behind t m n plan e s =
+    subst (λ (h : List Moment). drop t.forgotten h ≡ t.kept ++ plan.history) e
+    (drop-append-le t.forgotten m.history plan.history s.forgotten ∙ ap (λ h. h ++ plan.history) s.kept)
+
+-- more of them may be forgotten
+dropped_more : (old new : ℕ) (kept whole : List Moment) → drop old whole ≡ kept → old ≤ new → drop new whole ≡ drop (new - old) kept
+dropped_more old new kept whole e le =
+    let total : old + (new - old) ≡ new = omega (arith, le) in
+    ap (λ n. drop n whole) (sym total) ∙ (sym (drop-drop (new - old) old whole) ∙ ap (drop (new - old)) e)
+
+kept_within : (old new : ℕ) (kept whole : List Moment) → drop old whole ≡ kept → (n : ℕ) → n ≡ length whole → old ≤ n
+    → new ≤ old + length kept → new ≤ length whole
+kept_within old new kept whole e n size le within =
+    let rest : length kept ≡ length whole - old = ap length (sym e) ∙ length-drop old whole in
+    omega (arith, rest, size, le, within)
 
 pub stands_after : {A : Type 0} (t new : StoredTree) (input : Input A) (plan : StepPlan A) (prepared : RegistryPrepared) (later : WaitsShown)
     (directories : DirectoriesPrepared) (effect : Effect A) → PlansAll t input plan prepared later directories effect
@@ -79,11 +103,11 @@ stands_after {A} t new input plan prepared later directories effect plans n m s 
         closing = sym (n.closing ∙ p.closing);
         services = sym p.services ∙ ap charts_of (sym n.services);
         next_sid = sym (n.next_sid ∙ p.next_sid);
-        forgotten = omega (arith, n.forgotten, ap length p.history, length-append m.history plan.moments.items, s.forgotten);
-        kept =
-            rw (n.forgotten, n.kept)
-            (subst (λ (h : List Moment). drop t.forgotten h ≡ t.kept ++ plan.moments.items) p.history
-            (drop-append-le t.forgotten m.history plan.moments.items s.forgotten ∙ ap (λ h. h ++ plan.moments.items) s.kept));
+        forgotten = kept_within t.forgotten new.forgotten (t.kept ++ plan.history) (after m input).history
+            (behind t m (after m input) plan p.history s) (length (m.history ++ plan.history)) (ap length p.history)
+            (omega (arith, length-append m.history plan.history, s.forgotten)) n.within;
+        kept = dropped_more t.forgotten new.forgotten (t.kept ++ plan.history) (after m input).history (behind t m (after m input) plan p.history s)
+            n.forgotten ∙ sym n.kept;
         agrees = subst (λ (ss : List Supervised). AllAgree ss (after m input).history) (sym n.services)
             (subst (AllAgree prepared.services) p.history p.agrees);
         tallies = subst (λ (ss : List Supervised). AllTallied ss (after m input).deaths) (sym n.services) p.tallies;
@@ -106,10 +130,10 @@ for_quiet {A} t seen input now ts due Given same later bound agree is there give
 
 -- the history with the moments of a planned step
 pub recorded_after : {A : Type 0} (t : StoredTree) (plan : StepPlan A) (forgotten : ℕ) (kept : List Moment) → IsRecorded t.steps t.forgotten t.kept
-    → length plan.moments.items ≤ 1024 → forgotten ≡ t.forgotten → kept ≡ t.kept ++ plan.moments.items
+    → length plan.history ≤ 1024 → forgotten + length kept ≡ t.forgotten + length (t.kept ++ plan.history)
     → IsRecorded (t.steps + 1) forgotten kept
-recorded_after t plan forgotten kept r few same more = record {
-  few = rw (same, more) (omega (arith, length-append t.kept plan.moments.items, r.few, few));
+recorded_after t plan forgotten kept r few same = record {
+  few = omega (arith, same, length-append t.kept plan.history, r.few, few);
 }
 
 -- its numbers after a step
@@ -125,3 +149,69 @@ counted_after taken next new_next waiter new_waiter subscription new_subscriptio
   subscriptions = let was = c.subscriptions in omega (arith, was, another);
   generations = λ k d lt. let here : (get_or new k d).generation ≤ 2 * taken + 2 = grows (2 * taken) c.generations k d lt in omega arith;
 }
+
+-- how many moments a machine has for which a tree stands
+pub counts_all : (t : StoredTree) (m : Machine) → StandsFor t m → t.waits.count ≡ t.forgotten + length t.kept
+counts_all t m s =
+    let count : length m.history ≡ t.waits.count = s.waiting.count in
+    let rest : length t.kept ≡ length m.history - t.forgotten = ap length (sym s.kept) ∙ length-drop t.forgotten m.history in
+    omega (arith, count, rest, s.forgotten)
+
+all_begun : (h : List Moment) (ps : List WrittenWaiter) → All (λ p. p.place ≤ length h) ps
+    → All (λ (k : StoredWaiter). k.place ≤ length h) (map (stored_waiter h) ps)
+all_begun h [] a = λ k d lt. absurd (omega (arith, lt))
+all_begun h (p ∷ ps) a =
+    All-cons (λ (k : StoredWaiter). k.place ≤ length h) (stored_waiter h p) (map (stored_waiter h) ps)
+    (All-head (λ (q : WrittenWaiter). q.place ≤ length h) p ps a)
+    (all_begun h ps (All-tail (λ (q : WrittenWaiter). q.place ≤ length h) p ps a))
+
+-- each waiter began within them
+pub began_within : (t : StoredTree) (m : Machine) → StandsFor t m → All (λ k. k.place ≤ t.waits.count) t.waits.waiters
+began_within t m s =
+    rw (s.waiting.waiters, ← s.waiting.count) (all_begun m.history m.waiters s.waiting.placed)
+
+-- what is forgotten where moments are needed from a place on
+pub cut_at : (forgotten place end : ℕ) → forgotten ≤ place → place ≤ end → max forgotten (min place end) ≡ place
+cut_at forgotten place end le within = omega (arith, le, within)
+
+-- what is left where the history takes the moments of a step and is cut at a place
+pub record CutParts (t : StoredTree) (moments : List Moment) (forgotten : ℕ) (kept : List Moment) : Type 0 where
+  pub since : t.forgotten ≤ forgotten
+  pub within : forgotten ≤ t.forgotten + length (t.kept ++ moments)
+  pub left : kept ≡ drop (forgotten - t.forgotten) (t.kept ++ moments)
+  pub size : forgotten + length kept ≡ t.forgotten + length (t.kept ++ moments)
+
+cut_whole : (t : StoredTree) (moments : List Moment) (forgotten place : ℕ) (kept : List Moment)
+    → forgotten ≡ max t.forgotten (min place (t.forgotten + length (t.kept ++ moments)))
+    → kept ≡ drop (forgotten - t.forgotten) (t.kept ++ moments) → CutParts t moments forgotten kept
+cut_whole t moments forgotten place kept e f =
+    let rest : length kept ≡ length (t.kept ++ moments) - (forgotten - t.forgotten) =
+    ap length f ∙ length-drop (forgotten - t.forgotten) (t.kept ++ moments) in
+    record { since = omega (arith, e); within = omega (arith, e); left = f; size = omega (arith, e, rest) }
+
+pub cut_parts : (t : StoredTree) (moments : List Moment) (before forgotten place : ℕ) (all kept : List Moment) → before ≡ t.forgotten
+    → all ≡ t.kept ++ moments → forgotten ≡ max before (min place (before + length all))
+    → kept ≡ drop (max before (min place (before + length all)) - before) all → CutParts t moments forgotten kept
+cut_parts t moments before forgotten place all kept b a e f =
+    cut_whole t moments forgotten place kept
+    (e ∙ λ i. max (b i) (min place (b i + length (a i))))
+    (f ∙ (ap (λ n. drop (n - before) all) (sym e) ∙ λ i. drop (forgotten - b i) (a i)))
+
+-- it is cut where moments are needed
+pub is_cut : (t n : StoredTree) (moments : List Moment) (before place : ℕ) (all : List Moment) (m : Machine) → StandsFor n m
+    → before ≡ t.forgotten → all ≡ t.kept ++ moments → n.forgotten ≡ max before (min place (before + length all))
+    → n.kept ≡ drop (max before (min place (before + length all)) - before) all → place ≡ needed_from n.waits
+    → NoneBegan t.forgotten n.waits.waiters → IsCut n
+is_cut t n moments before place all m s b a e f is none =
+    let parts = cut_parts t moments before n.forgotten place all n.kept b a e f in
+    let count = counts_all n m s in
+    let size = ap length a in
+    let end : n.waits.count ≡ before + length all = omega (arith, count, parts.size, size, b) in
+    let least : t.forgotten ≤ needed_from n.waits =
+    least_needed n.waits.waiters n.waits.count t.forgotten none (omega (arith, end, b)) in
+    let within : needed_from n.waits ≤ n.waits.count =
+    within_end n.waits.waiters n.waits.count n.waits.count (began_within n m s) (omega arith) in
+    record {
+      cut = e ∙ (cut_at before place (before + length all) (omega (arith, least, is, b)) (omega (arith, within, is, end)) ∙ is);
+      count = count;
+    }

@@ -306,9 +306,9 @@ pub record Plans {A : Type 0} (m : Machine) (input : Input A) (plan : StepPlan A
   pub closing : plan.closing ≡ (step m input).machine.closing
   pub services : charts_of prepared.services ≡ (step m input).machine.services
   pub next_sid : prepared.next_sid ≡ (step m input).machine.next_sid
-  pub history : m.history ++ plan.moments.items ≡ (step m input).machine.history
+  pub history : m.history ++ plan.history ≡ (step m input).machine.history
   pub outcome : outcome_of effect ≡ (step m input).outcome
-  pub agrees : AllAgree prepared.services (m.history ++ plan.moments.items)
+  pub agrees : AllAgree prepared.services (m.history ++ plan.history)
   pub tallies : AllTallied prepared.services (step m input).machine.deaths
   pub numbered : AllBefore prepared.next_sid (step m input).machine.deaths
   pub waiting : WaitsStandFor waits (watch_of (step m input).machine)

@@ -1,11 +1,11 @@
 -- Which machines a tree stands for.
-use Rattle.std.specs.Prelude.{◌≡◌, ℕ, ◌≤◌, List, length, drop, Bool}
+use Rattle.std.specs.Prelude.{◌≡◌, ℕ, ◌+◌, ◌≤◌, List, length, drop, Bool}
 use Rattle.event_directory.specs.Pattern.{finds}
 use Rattle.event_directory.specs.Remembered.{AreHeard, DirectoriesShown}
 use Rattle.s6_events.specs.Clock.{clock_of}
 use Rattle.s6_events.specs.declared.moment.Moment.{Moment}
 use Rattle.supervise_core.specs.Service.{Supervised}
-use Rattle.wait_conditions.specs.Stands.{WaitsShown, WaitsStandFor}
+use Rattle.wait_conditions.specs.Stands.{WaitsShown, WaitsStandFor, needed_from}
 use Rattle.tree_core.specs.Machine.{Machine, directories_of, watch_of}
 use Rattle.svscan_core.specs.Deaths.{AllTallied, AllBefore}
 use Rattle.svscan_core.specs.Sound.{AllAgree}
@@ -41,3 +41,8 @@ pub record StandsFor (t : StoredTree) (m : Machine) : Type 0 where
   pub reading : m.clock ≡ clock_of m.history
   pub waiting : WaitsStandFor t.waits (watch_of m)
   pub hearing : AreHeard finds t.directories (directories_of m)
+
+-- the history keeps no moment before the place of the oldest waiter that waits still, and none where none does
+pub record IsCut (t : StoredTree) : Type 0 where
+  pub cut : t.forgotten ≡ needed_from t.waits
+  pub count : t.waits.count ≡ t.forgotten + length t.kept

@@ -129,15 +129,16 @@ impl<A: Allocator + Copy> Effect<A> {
         ensures matched { self.new.matched.items ≡ self.old.matched.items }
         ensures released { OnOk result (self.new.released.items
             ≡ self.old.released.items ++
-            (map as_release plan.now.released.items
+            (map as_release plan.now.released
             ++ map as_release (released_by_answer plan.now.answer))) }
-        ensures quiet { plan.now.released.items ≡ [] → released_by_answer plan.now.answer ≡ []
+        ensures quiet { plan.now.released ≡ [] → released_by_answer plan.now.answer ≡ []
             → IsOk result }
     {
-        for (waiter, verdict) in plan.released.as_slice() {
-            self.release(*waiter, *verdict)?;
+        for pair in plan.released() {
+            self.release(pair.0, pair.1)?;
         }
-        if let WaitAnswer::Added(waiter, Some(verdict)) = &plan.answer {
+        let answer = plan.answer();
+        if let WaitAnswer::Added(waiter, Some(verdict)) = &answer {
             self.release(*waiter, *verdict)?;
         }
         Ok(())

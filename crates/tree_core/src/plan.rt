@@ -3,16 +3,16 @@ ghost use Rattle.std.specs.Prelude.{ℕ, false, ◌≡◌, ◌+◌, ◌*◌, ◌
 ghost use Rattle.deadlines.specs.declared.timer.Timer.{Timer};
 ghost use Rattle.deadlines.specs.Timers.{with_timer_changes};
 ghost use Rattle.event_directory.specs.Changes.{Offer};
-ghost use Rattle.event_directory.specs.Remembered.{directories_after_commit};
+ghost use Rattle.event_directory.specs.Remembered.{directories_after_commit, plan_number};
 ghost use Rattle.s6_events.specs.At.{last_moment};
 ghost use Rattle.svscan_core.specs.Moves.{moment_of};
 ghost use Rattle.svscan_core.specs.Table.{charts_of};
 ghost use Rattle.svscan_core.specs.Timers.{TimersAgree};
-ghost use Rattle.svscan_core.specs.Registry.{result_of};
+ghost use Rattle.svscan_core.specs.Registry.{Fits, registry_prepared, result_of};
 ghost use Rattle.svscan_core.specs.Work.{AreDue, closing_after};
 ghost use Rattle.tree_core.specs.Acts.{tally_reply};
 ghost use Rattle.tree_core.specs.Machine.{Machine};
-ghost use Rattle.wait_conditions.specs.Stands.{waits_shown};
+ghost use Rattle.wait_conditions.specs.Stands.{WaitsShown, FitsWaits, MakesPlan, waits_shown};
 ghost use Rattle.tree_core.specs.Plan.{present_state, chosen_of, lists_more, tally_in, chosen_work, chosen_reply, waiter_reply, directory_reply, IsNow, Plans, IsQuiet};
 ghost use Rattle.tree_core.specs.Step.{clock_moments, step_limit};
 
@@ -20,21 +20,23 @@ use super::choice::{Choice, choose};
 use super::effect::Effect;
 use super::input::Input;
 use super::reply::{Refusal, Reply, ScanReport, TallyReport};
-use deadlines::TimerChange;
-use event_directory::{Directories, DirectoryAnswer, DirectoryFault, Pattern};
-use s6_events::{At, Moment, Name, NoMemory, Sid};
+use deadlines::{Deadlines, DeadlinesPlan};
+use event_directory::{Directories, DirectoriesPlan, DirectoryAnswer, DirectoryFault, Pattern};
+use s6_events::{At, History, HistoryPlan, Moment, Name, NoMemory, Sid};
 use std::alloc::Allocator;
-use svscan_core::{Event, Registry, ScanOrder};
-use wait_conditions::{WaitAnswer, Waits};
+use svscan_core::{Event, Registry, RegistryPlan, ScanOrder};
+use wait_conditions::{WaitAnswer, Waits, WaitsPlan};
 
-/// A step that is known before anything is changed; what becomes of the services, the waiters and the event
-/// directories lies in these.
+/// A step that is known before anything is changed: the clock and whether the tree is closing after it, and the plan of each part.
 #[derive(Drop)]
 pub struct StepPlan<A: Allocator> {
     pub now: At,
     pub closing: bool,
-    pub moments: Vec<Moment, A>,
-    pub timers: Vec<TimerChange, A>,
+    pub services: RegistryPlan<A>,
+    pub timers: DeadlinesPlan<A>,
+    pub history: HistoryPlan<A>,
+    pub waiters: WaitsPlan<A>,
+    pub letters: DirectoriesPlan<A>,
 }
 
 /// The later of two moments.
@@ -112,22 +114,23 @@ fn directory_reply<A: Allocator>(told: &DirectoryAnswer) -> Reply<A>
 fn reply_to<A: Allocator + Copy>(
     alloc: A,
     registry: &Registry<A>,
+    plan: &RegistryPlan<A>,
     choice: &Choice,
     waiters: &WaitAnswer,
     directories: &DirectoryAnswer,
 ) -> Result<Reply<A>, NoMemory>
     ensures reply { IfOk result (λ reply. reply
         ≡ chosen_reply (chosen_of choice.now) registry.now.shown.services
-        (result_of registry.now.prepared)
+        (result_of (registry_prepared registry.now.shown.services plan.now))
         (record { waiters = waiters.now; directories = directories.now })) }
     ensures quiet { lists_more (chosen_of choice.now) ≡ false → IsOk result }
 {
     Ok(match choice {
         Choice::Refuse(why) => Reply::Refused(*why),
-        Choice::Report(_, _) if registry.is_stale() => Reply::Refused(Refusal::Stale),
+        Choice::Report(_, _) if plan.is_stale() => Reply::Refused(Refusal::Stale),
         Choice::Listing(_) => Reply::Scanned(ScanReport::new(
-            registry.dropped().to_vec(alloc)?,
-            registry.listed().to_vec(alloc)?,
+            plan.dropped().to_vec(alloc)?,
+            plan.listed().to_vec(alloc)?,
         )),
         Choice::Show(row) => Reply::Row(*row),
         Choice::Tally(name) => tally_of(alloc, registry, *name)?,
@@ -150,10 +153,12 @@ fn closes(choice: &Choice, closing: bool) -> bool
     closing || matches!(choice, Choice::Command(ScanOrder::Terminate))
 }
 
-/// The step of an input, from the serials of the services whose timers are due: the table, the waiters and the event directories
-/// prepare it, and the effect is filled.
+/// The step of an input, at this moment and from the serials of the services whose timers are due: each part prepares its own, and the
+/// effect is filled.
 pub fn plan_step<A: Allocator + Copy>(
     registry: &mut Registry<A>,
+    deadlines: &mut Deadlines<A>,
+    history: &mut History<A>,
     waits: &mut Waits<A>,
     directories: &mut Directories<Pattern, A>,
     clock: At,
@@ -173,45 +178,67 @@ pub fn plan_step<A: Allocator + Copy>(
     requires matched { effect.old.matched.items ≡ [] }
     requires released { effect.old.released.items ≡ [] }
     ensures shown { registry.new.shown ≡ registry.old.shown }
+    ensures set { deadlines.new.timers ≡ deadlines.old.timers }
+    ensures forgotten { history.new.forgotten ≡ history.old.forgotten }
+    ensures kept { history.new.kept ≡ history.old.kept }
     ensures waits { waits_shown waits.new ≡ waits_shown waits.old }
     ensures directories { directories.new.shown ≡ directories.old.shown }
-    ensures step { IfOk result (λ plan. (steps : ℕ) → steps < step_limit → (m : Machine) → IsNow (present_state clock steps closing registry.old.shown.services registry.old.shown.next_sid (waits_shown waits.old) directories.old.shown) m
-        → Plans m input.now plan registry.new.prepared waits.new.prepared directories.new.prepared
-        effect.new) }
-    ensures grows { OnOk result ((n : ℕ)
+    ensures step { IfOk result (λ plan. (steps : ℕ) → steps < step_limit → (m : Machine)
+        → IsNow (present_state clock steps closing registry.old.shown.services registry.old.shown.next_sid (waits_shown waits.old) directories.old.shown) m
+        → (later : WaitsShown) → MakesPlan plan.waiters (waits_shown waits.old) later
+        → Plans m input.now plan (registry_prepared registry.new.shown.services plan.services) later
+        directories.new.prepared effect.new) }
+    ensures fits { IfOk result (λ plan. Fits registry.new plan.services) }
+    ensures room { IfOk result (λ plan. length plan.history ≤ history.new.spare_capacity) }
+    ensures timer_room { IfOk result (λ plan. length plan.timers ≤ deadlines.new.spare_capacity) }
+    ensures waiter_room { IfOk result (λ plan. FitsWaits plan.waiters waits.new) }
+    ensures number { IfOk result (λ plan. plan_number plan.letters ≡ directories.new.number) }
+    ensures grows { IfOk result (λ plan. (n : ℕ)
         → All (λ c. c.generation ≤ n) (charts_of registry.old.shown.services)
-        → All (λ c. c.generation ≤ n + 2) (charts_of registry.new.prepared.services)) }
-    ensures next { OnOk result (registry.new.prepared.next_sid ≤ registry.old.shown.next_sid + 64) }
-    ensures waiters { OnOk result (waits.new.prepared.next ≤ waits.old.next + 1) }
+        → All (λ c. c.generation ≤ n + 2)
+        (charts_of (registry_prepared registry.new.shown.services plan.services).services)) }
+    ensures next { IfOk result (λ plan. plan.services.next_sid ≤ registry.old.shown.next_sid + 64) }
+    ensures waiters { IfOk result (λ plan. plan.waiters.next ≤ waits.old.next + 1) }
     ensures subscriptions { OnOk result
         ((offer : Offer) → (directories_after_commit directories.new.prepared offer).next
         ≤ directories.old.shown.next + 1) }
-    ensures count { IfOk result (λ plan. length plan.moments.items ≤ 1024) }
+    ensures count { IfOk result (λ plan. length plan.history ≤ 1024) }
     ensures timers { IfOk result
         (λ plan. (timers : List Timer) → TimersAgree timers (charts_of registry.old.shown.services)
-        → TimersAgree (with_timer_changes plan.timers.items timers)
-        (charts_of registry.new.prepared.services)) }
+        → TimersAgree (with_timer_changes plan.timers timers)
+        (charts_of (registry_prepared registry.new.shown.services plan.services).services)) }
     ensures quiet { IsQuiet input.now clock (charts_of registry.old.shown.services) → due.now ≡ []
-        → IsOkAnd result (λ plan. (plan.moments.items ≡ []) × (plan.timers.items ≡ [])) }
+        → IsOk result }
 {
     let alloc = registry.allocator();
     let _count = registry.len();
     let now = later(clock, input.at);
     let choice = choose(alloc, registry, &input.act, closing, now)?;
-    registry.prepare(due, &choice.work(), now)?;
-    let moments = moments_of(alloc, clock, input.at, registry.events())?;
+    let services = registry.prepare(due, &choice.work(), now)?;
+    let moments = moments_of(alloc, clock, input.at, services.events())?;
     let joining = moments.as_slice();
-    let listened = waits.prepare(joining, &choice.wait_change(now))?;
-    let heard = directories.prepare(joining, &choice.directory_change())?;
-    effect.reply = reply_to(alloc, registry, &choice, &listened.answer, &heard.answer)?;
-    effect.tell(registry.events(), registry.orders())?;
-    effect.match_all(&heard)?;
-    effect.release_all(&listened)?;
-    let timers = registry.timers()?;
+    let waiters = waits.prepare(joining, &choice.wait_change(now))?;
+    let letters = directories.prepare(joining, &choice.directory_change())?;
+    let history = history.prepare(joining)?;
+    let timers = deadlines.prepare(services.timers())?;
+    effect.reply = reply_to(
+        alloc,
+        registry,
+        &services,
+        &choice,
+        &waiters.answer(),
+        &letters.answer,
+    )?;
+    effect.tell(services.events(), services.orders())?;
+    effect.match_all(&letters)?;
+    effect.release_all(&waiters)?;
     Ok(StepPlan {
         now,
         closing: closes(&choice, closing),
-        moments,
+        services,
         timers,
+        history,
+        waiters,
+        letters,
     })
 }

@@ -91,29 +91,28 @@ impl<A: Allocator + Copy> Tree<A> {
         let _count = self.registry.len();
         let now = later(self.clock, input.at);
         let due = self.deadlines.due(self.registry.allocator(), now)?;
-        let registry = &mut self.registry;
-        let waits = &mut self.waits;
-        let directories = &mut self.directories;
         let plan = plan_step(
-            registry,
-            waits,
-            directories,
+            &mut self.registry,
+            &mut self.deadlines,
+            &mut self.history,
+            &mut self.waits,
+            &mut self.directories,
             self.clock,
             self.closing,
             due.as_slice(),
             input,
             effect,
         )?;
-        let moments = self.history.prepare(plan.moments.as_slice())?;
-        let timers = self.deadlines.prepare(plan.timers.as_slice())?;
         self.clock = plan.now;
         self.steps += 1;
         self.closing = plan.closing;
-        self.registry.commit();
-        self.deadlines.commit(timers);
-        self.history.commit(moments);
-        self.waits.commit();
-        self.directories.commit(take_offer(&mut input.act));
+        self.registry.commit(plan.services);
+        self.deadlines.commit(plan.timers);
+        self.history.commit(plan.history);
+        self.waits.commit(plan.waiters);
+        self.directories
+            .commit(plan.letters, take_offer(&mut input.act));
+        self.history.forget(self.waits.needed_from());
         Ok(())
     }
 

@@ -1,8 +1,13 @@
 pub mod Pushed
 pub mod Standings
-pub mod InPlace
-pub mod StandsAfter
+pub mod Watched
+pub mod Counted
 pub mod Least
+pub mod OneMore
+pub mod InPlace
 pub mod Named
-pub mod Steps
-pub mod Calm
+pub mod Stepping
+pub mod Changing
+pub mod Runs
+pub mod Leaving
+pub mod Oldest

@@ -1,11 +1,12 @@
 -- A waiter that is looked for, or taken out, by its serial.
-use Rattle.std.proofs.Common.{◌≡◌, ◌==◌, ◌<◌, ◌≤◌, not, ℕ, List, [], ◌∷◌, Bool, true, false, Option, Some, cond, length, map, filter, find, refl}
+use Rattle.std.proofs.Common.{◌≡◌, ◌==◌, ◌<◌, ◌≤◌, not, ℕ, List, [], ◌∷◌, Bool, true, false, Option, None, Some, is_some, cond, length, map, filter, find, refl}
 use Rattle.std.proofs.Common.{sym, ap, ◌∙◌, option_map}
 use Rattle.std.proofs.lemmas.List.{length-map}
 use Rattle.std.proofs.lemmas.List.Elements.{All-filter}
 use Rattle.s6_events.proofs.Rising.{rising_left}
 use Rattle.s6_events.specs.declared.moment.Moment.{Moment}
 use Rattle.wait_conditions.specs.declared.waiter.Waiter.{Waiter}
+use Rattle.wait_conditions.specs.States.{state_in}
 use Rattle.wait_conditions.specs.Kept.{waiter_view, is_other, standing_stored, standing_kept}
 use Rattle.wait_conditions.specs.Stands.{WaitsShown, stored_waiter, WaitsStandFor, CancelsWaiter}
 use Rattle.wait_conditions.specs.Watch.{WrittenWaiter, Watch, is_waiter_of, waiter_state, state_named, after_cancel}
@@ -32,7 +33,8 @@ written_left id h ps = filter-map (stored_waiter h) (is_other id) (λ p. not (is
 
 pub cancels_after : (s new : WaitsShown) (id : ℕ) → CancelsWaiter s new id → (w : Watch) → WaitsStandFor s w → WaitsStandFor new (after_cancel w id)
 cancels_after s new id c w st = record {
-  moments = st.moments ∙ sym c.moments;
+  count = st.count ∙ sym c.count;
+  states = λ sid. ap (λ runs. state_in runs sid) c.states ∙ st.states sid;
   waiters = c.waiters ∙ (ap (filter (is_other id)) st.waiters ∙ written_left id w.history w.waiters);
   next = st.next ∙ sym c.next;
   placed = All-filter (λ p. not (is_waiter_of id p)) (λ p. p.place ≤ length w.history) w.waiters st.placed;
@@ -61,3 +63,9 @@ result_is s id w st = ap (standing_kept id) st.waiters ∙ standing_written id w
 
 pub count_is : (s : WaitsShown) (w : Watch) → WaitsStandFor s w → length s.waiters ≡ length w.waiters
 count_is s w st = ap length st.waiters ∙ length-map w.waiters (stored_waiter w.history)
+
+-- a waiter stands, whatever is known of it
+pub stands_still : (id : ℕ) (h h' : List Moment) (o : Option WrittenWaiter)
+    → is_some (option_map (waiter_state h) o) ≡ is_some (option_map (waiter_state h') o)
+stands_still id h h' None = refl
+stands_still id h h' (Some p) = refl

@@ -5,12 +5,15 @@ pub mod Verdict
 pub mod Release
 pub mod OneMore
 pub mod SupervisorState
-pub mod Waiter
+pub mod Watched
+pub mod Counts
 pub mod Watch
 pub mod Kept
+pub mod States
 pub mod Refusal
 pub mod Steps
-pub mod MomentList
 pub mod Stands
+pub mod Planning
 pub mod WaitsFields
+pub mod PlanFields
 pub mod Laws

@@ -1,109 +1,172 @@
 -- Which waiters, as they are written down, the stored ones stand for.
-use Rattle.std.specs.Prelude.{◌≡◌, ℕ, ◌+◌, ◌<◌, ◌≤◌, Option, List, [], ◌∷◌, ◌++◌, All, length, map, filter}
-use Rattle.std.specs.List.{filter_map}
+use Rattle.std.specs.Prelude.{◌≡◌, ℕ, ◌+◌, ◌*◌, ◌<◌, ◌≤◌, ◌^◌, List, [], ◌∷◌, ◌++◌, Bool, false, true, Option, Some, None}
+use Rattle.std.specs.Prelude.{All, length, map, filter, take, drop, ⊤}
 use Rattle.s6_events.specs.Rising.{AreRising}
 use Rattle.s6_events.specs.declared.moment.Moment.{Moment}
+use Rattle.wait_conditions.specs.declared.service_states.StateRun.{StateRun}
+use Rattle.wait_conditions.specs.declared.supervisor_state.SupervisorState.{SupervisorState}
+use Rattle.wait_conditions.specs.declared.verdict.Verdict.{Verdict}
+use Rattle.wait_conditions.specs.declared.verdict.WaitState.{WaitState}
 use Rattle.wait_conditions.specs.declared.verdict.WaitState.TheVariants.{Waiting}
+use Rattle.wait_conditions.specs.declared.wait_change.WaitAnswer.{WaitAnswer}
+use Rattle.wait_conditions.specs.Kept.{StoredWaiter, watched_while, judged, with_moments, is_other, oldest_place}
+use Rattle.wait_conditions.specs.States.{state_in, state_over}
+use Rattle.wait_conditions.specs.Steps.WaitRequest.{add_one}
+use Rattle.wait_conditions.specs.Steps.{WaitRequest, waits_after_moments, waits_after_change, wait_answer}
+use Rattle.wait_conditions.specs.SupervisorState.{state_of, since_of}
 use Rattle.wait_conditions.specs.Verdict.{WaitTerms}
 use Rattle.wait_conditions.specs.Watch.{WrittenWaiter, Watch, waiter_serials, waiter_state, new_release}
-use Rattle.wait_conditions.specs.declared.verdict.Verdict.{Verdict}
-use Rattle.wait_conditions.specs.Kept.{StoredWaiter, waiter_view, with_state_over, release_seen, is_other}
-use Rattle.wait_conditions.specs.declared.roll.Roll.{Roll}
-use Rattle.wait_conditions.specs.declared.wait_change.WaitAnswer.{WaitAnswer}
-use Rattle.wait_conditions.specs.Steps.{WaitRequest, releases_by, waits_after_moments, waits_after_change, wait_answer}
+use Rattle.wait_conditions.specs.Watched.{watched_as, watched_over}
 
--- all moments, the waiters and the next serial
+-- how many moments came, what is known of the services, the waiters and the next serial
 pub record WaitsShown : Type 0 where
-  pub moments : List Moment
+  pub count : ℕ
+  pub states : List StateRun
   pub waiters : List StoredWaiter
   pub next : ℕ
 
--- the same, and beside it what will be there once the step that is prepared is made
+-- the same, and how many more waiters and runs fit with no growth
 pub record StoredWaits : Type 0 where
-  pub moments : List Moment
+  pub count : ℕ
+  pub states : List StateRun
   pub waiters : List StoredWaiter
   pub next : ℕ
-  pub prepared : WaitsShown
+  pub spare_waiters : ℕ
+  pub spare_runs : ℕ
 
--- what is there now
+-- without the room
 abbrev pub waits_shown : StoredWaits → WaitsShown
-waits_shown s = record { moments = s.moments; waiters = s.waiters; next = s.next }
+waits_shown s = record { count = s.count; states = s.states; waiters = s.waiters; next = s.next }
 
--- nothing is prepared: a commit would leave all as it is
-abbrev pub IsIdle : StoredWaits → Type 0
-IsIdle s = s.prepared ≡ waits_shown s
+-- the place from which on moments are needed: that of the oldest waiter that waits still, and the end where none does
+abbrev pub place_or_end : Option ℕ → ℕ → ℕ
+place_or_end None count = count
+place_or_end (Some place) count = place
 
--- the waiters of a roll, and these moments
-abbrev pub shown_of : {A : Type 0} → List Moment → Roll A → WaitsShown
-shown_of moments roll = record { moments = moments; waiters = map waiter_view roll.waiters.items; next = roll.next }
+abbrev pub needed_from : WaitsShown → ℕ
+needed_from s = place_or_end (oldest_place s.waiters) s.count
 
--- each waiter began within the moments
-abbrev pub AllPlaced : WaitsShown → Type 0
-AllPlaced s = All (λ k. k.place ≤ length s.moments) s.waiters
+-- what is to be stored of a waiter, where it stands so
+abbrev pub stored_as : WaitState → List Moment → WrittenWaiter → StoredWaiter
+stored_as standing history p = record {
+  id = p.id;
+  condition = p.asked.condition;
+  mode = p.asked.mode;
+  deadline = p.asked.deadline;
+  place = p.place;
+  watched = watched_while standing
+      (map (watched_over p.asked.condition (take p.place history) (drop p.place history)) p.asked.sids);
+  standing = standing;
+}
 
--- what is to be stored of a waiter
+-- what is to be stored of a waiter, once these moments have come
 abbrev pub stored_waiter : List Moment → WrittenWaiter → StoredWaiter
-stored_waiter history p = record { id = p.id; asked = p.asked; place = p.place; standing = waiter_state history p }
+stored_waiter history p = stored_as (waiter_state history p) history p
 
--- the moments are all moments, each waiter stands where it is to stand, and the serials rise, up to the next one
+-- so many moments came, of each service is known what they say, of each waiter is stored what they say, and the serials rise, up to
+-- the next one
 pub record WaitsStandFor (s : WaitsShown) (w : Watch) : Type 0 where
-  pub moments : w.history ≡ s.moments
+  pub count : length w.history ≡ s.count
+  pub states : (sid : ℕ) → state_in s.states sid ≡ state_of sid w.history
   pub waiters : s.waiters ≡ map (stored_waiter w.history) w.waiters
   pub next : w.next ≡ s.next
   pub placed : All (λ p. p.place ≤ length w.history) w.waiters
   pub rising : AreRising (waiter_serials w.waiters)
   pub below : All (λ p. p.id < w.next) w.waiters
 
--- what is there now stands for these waiters
+-- what is there stands for these waiters
 abbrev pub WaitsFor : StoredWaits → Watch → Type 0
 WaitsFor s w = WaitsStandFor (waits_shown s) w
 
--- one more moment, as it is stored: it joins the moments, and each waiter is looked at
-pub record TakesMoment (old new : WaitsShown) (m : Moment) (given : List (ℕ × Verdict)) : Type 0 where
-  pub moments : new.moments ≡ old.moments ++ m ∷ []
-  pub waiters : new.waiters ≡ map (with_state_over new.moments) old.waiters
-  pub next : new.next ≡ old.next
-  pub released : given ≡ filter_map (release_seen new.moments) old.waiters
+-- a waiter as it is made: it knows what is known of its services, and takes its verdict at once
+abbrev pub new_stored_waiter : ℕ → ℕ → WaitTerms → (ℕ → SupervisorState) → StoredWaiter
+new_stored_waiter id place asked states = judged false (record {
+  id = id;
+  condition = asked.condition;
+  mode = asked.mode;
+  deadline = asked.deadline;
+  place = place;
+  watched = map (λ sid. watched_as asked.condition sid (states sid) (since_of sid [])) asked.sids;
+  standing = Waiting;
+})
 
--- a waiter as it is made: it is looked at once, over no moment
-abbrev pub new_stored_waiter : WaitsShown → WaitTerms → StoredWaiter
-new_stored_waiter s asked = with_state_over s.moments
-    (record { id = s.next; asked = asked; place = length s.moments; standing = Waiting })
+-- what becomes of the list of waiters after the moments of a step
+pub data ListChange : Type 0 where
+  stay : ListChange
+  join : StoredWaiter → ListChange
+  leave : ℕ → ListChange
+
+abbrev pub with_list_change : ListChange → List StoredWaiter → List StoredWaiter
+with_list_change stay ks = ks
+with_list_change (join k) ks = ks ++ k ∷ []
+with_list_change (leave id) ks = filter (is_other id) ks
+
+-- for how many more waiters there must be room
+abbrev pub joining : ListChange → ℕ
+joining (join k) = 1
+joining change = 0
+
+-- for how many more waiters a request may want room
+abbrev pub adding : WaitRequest → ℕ
+adding (add_one asked) = 1
+adding request = 0
+
+-- a plan of a step: its answers, the moments that the waiters are to take in, what then becomes of the list of them, the next
+-- serial, and whether the moments leave all waiters as they are
+pub record PlannedWaits : Type 0 where
+  pub released : List (ℕ × Verdict)
+  pub answer : WaitAnswer
+  pub moments : List Moment
+  pub change : ListChange
+  pub next : ℕ
+  pub leaves_all : Bool
+
+-- what moments, and then a change of the list and a next serial, make of what is there
+pub record MakesStep (ms : List Moment) (change : ListChange) (next : ℕ) (old new : WaitsShown) : Type 0 where
+  pub count : new.count ≡ old.count + length ms
+  pub states : (sid : ℕ) → state_in new.states sid ≡ state_over sid ms (state_in old.states sid)
+  pub waiters : new.waiters ≡ with_list_change change (map (with_moments ms) old.waiters)
+  pub next_is : new.next ≡ next
+
+-- what a plan makes of what is there
+abbrev pub MakesPlan : PlannedWaits → WaitsShown → WaitsShown → Type 0
+MakesPlan p old new = MakesStep p.moments p.change p.next old new
+
+-- a waiter that joins begins after all moments
+abbrev pub JoinsAt : ℕ → ListChange → Type 0
+JoinsAt count (join k) = k.place ≡ count
+JoinsAt count change = ⊤
+
+-- the plan fits what is there: there is room for it, and where it says so, its moments leave all waiters as they are
+pub record FitsWaits (p : PlannedWaits) (s : StoredWaits) : Type 0 where
+  pub count : s.count + length p.moments < 2 ^ 63
+  pub runs : 2 * length p.moments ≤ s.spare_runs
+  pub waiters : joining p.change ≤ s.spare_waiters
+  pub place : JoinsAt (s.count + length p.moments) p.change
+  pub calm : p.leaves_all ≡ true → map (with_moments p.moments) s.waiters ≡ s.waiters
+
+-- after these moments, that is the change which is asked for, and so it is answered
+pub record PlansChange (old : WaitsShown) (ms : List Moment) (request : WaitRequest) (told : WaitAnswer)
+    (change : ListChange) (next : ℕ) : Type 0 where
+  pub answer : (w : Watch) → WaitsStandFor old w → told ≡ wait_answer (waits_after_moments w ms) request
+  pub stands : (w : Watch) → WaitsStandFor old w → (new : WaitsShown) → MakesStep ms change next old new
+      → WaitsStandFor new (waits_after_change (waits_after_moments w ms) request)
+  pub serial : next ≤ old.next + 1
 
 -- a waiter that is made, as it is stored
 pub record AddsWaiter (old new : WaitsShown) (asked : WaitTerms) (id : ℕ) (given : Option Verdict) : Type 0 where
-  pub moments : new.moments ≡ old.moments
-  pub waiters : new.waiters ≡ old.waiters ++ new_stored_waiter old asked ∷ []
+  pub count : new.count ≡ old.count
+  pub states : new.states ≡ old.states
+  pub waiters : new.waiters
+      ≡ old.waiters ++ new_stored_waiter old.next old.count asked (state_in old.states) ∷ []
   pub next : new.next ≡ old.next + 1
   pub serial : id ≡ old.next
-  pub verdict : given ≡ new_release Waiting (new_stored_waiter old asked).standing
+  pub verdict : given ≡ new_release Waiting
+      (new_stored_waiter old.next old.count asked (state_in old.states)).standing
 
 -- a waiter that is cancelled, as it is stored
 pub record CancelsWaiter (old new : WaitsShown) (id : ℕ) : Type 0 where
-  pub moments : new.moments ≡ old.moments
+  pub count : new.count ≡ old.count
+  pub states : new.states ≡ old.states
   pub waiters : new.waiters ≡ filter (is_other id) old.waiters
   pub next : new.next ≡ old.next
-
--- the moments of a step: what is there after them, and all their releases
-pub record TakesMoments (old new : WaitsShown) (ms : List Moment) (given : List (ℕ × Verdict)) : Type 0 where
-  pub stands : (w : Watch) → WaitsStandFor old w → WaitsStandFor new (waits_after_moments w ms)
-  pub released : (w : Watch) → WaitsStandFor old w → given ≡ releases_by w ms
-  pub placed : AllPlaced new
-  pub next : new.next ≡ old.next
-
--- the change of a step: what is there after it, and its answer
-pub record MakesChange (old new : WaitsShown) (change : WaitRequest) (told : WaitAnswer) : Type 0 where
-  pub stands : (w : Watch) → WaitsStandFor old w → WaitsStandFor new (waits_after_change w change)
-  pub answer : (w : Watch) → WaitsStandFor old w → told ≡ wait_answer w change
-  pub placed : AllPlaced old → AllPlaced new
-  pub next : new.next ≤ old.next + 1
-
--- a whole step
-pub record MakesStep (old new : WaitsShown) (ms : List Moment) (change : WaitRequest) (given : List (ℕ × Verdict))
-    (told : WaitAnswer) : Type 0 where
-  pub stands : (w : Watch) → WaitsStandFor old w
-      → WaitsStandFor new (waits_after_change (waits_after_moments w ms) change)
-  pub released : (w : Watch) → WaitsStandFor old w → given ≡ releases_by w ms
-  pub answer : (w : Watch) → WaitsStandFor old w → told ≡ wait_answer (waits_after_moments w ms) change
-  pub placed : AllPlaced new
-  pub next : new.next ≤ old.next + 1

@@ -2,20 +2,21 @@
 #![tactic(auto)]
 
 mod add_fault;
+mod counts;
 mod failure;
 mod judging;
 pub mod laws;
-mod looking;
-mod moments;
+mod planning;
 mod refusing;
-mod roll;
-mod step;
+mod releasing;
+mod service_states;
 mod supervisor_state;
 mod verdict;
 mod wait_change;
 mod wait_plan;
 mod waiter;
 mod waits;
+mod watched_service;
 
 pub use add_fault::AddFault;
 pub use verdict::{Verdict, WaitState};

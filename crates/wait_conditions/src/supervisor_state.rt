@@ -7,7 +7,7 @@ ghost use Rattle.wait_conditions.specs.SupervisorState.{state_of, since_of, stat
 use s6_events::{Mark, Moment, Sid};
 
 /// What is known of a service.
-#[derive(Clone, Copy, Debug)]
+#[derive(Clone, Copy, Debug, PartialEq, Eq)]
 pub struct SupervisorState {
     pub letter: Mark,
     pub ended: bool,
@@ -111,26 +111,4 @@ impl SinceState {
             failed: next_failed(mark, self.failed),
         }
     }
-}
-
-/// What the moments say of a service.
-pub fn read_state(sid: Sid, moments: &[Moment]) -> SupervisorState
-    ensures { result ≡ state_of sid moments.now }
-{
-    let mut state = SupervisorState::unseen();
-    for moment in moments {
-        state = state.after(mark_in(sid, moment));
-    }
-    state
-}
-
-/// What the moments since a waiter began say of a service.
-pub fn read_since(sid: Sid, moments: &[Moment]) -> SinceState
-    ensures { result ≡ since_of sid moments.now }
-{
-    let mut state = SinceState::fresh();
-    for moment in moments {
-        state = state.after(mark_in(sid, moment));
-    }
-    state
 }

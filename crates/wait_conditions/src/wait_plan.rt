@@ -1,29 +1,56 @@
-//! What a prepared step of the waiters gives.
-ghost use Rattle.std.specs.Prelude.{◌≡◌, []};
-ghost use Rattle.wait_conditions.specs.declared.wait_change.WaitAnswer.TheVariants as answer;
+//! A step of the waiters that is worked out and not made yet.
+ghost use Rattle.std.specs.Prelude.{◌≡◌};
 
 use crate::verdict::Verdict;
 use crate::wait_change::WaitAnswer;
-use s6_events::WaitId;
+use crate::waiter::Waiter;
+use s6_events::{Moment, WaitId};
 use std::alloc::Allocator;
+use std::marker::Model;
 
-/// What a step of the waiters gives once it is made: the releases by its moments, by moment and then in rising serial, and the
-/// answer to its change.
+/// What becomes of the list of waiters after the moments of a step.
+#[derive(Drop)]
+pub enum PlannedChange {
+    Stay,
+    Join(Waiter),
+    Leave(WaitId),
+}
+
+/// A step of the waiters that is worked out and not made yet: what it gives, and all that `Waits::commit` needs to make it.
 #[derive(Drop)]
 pub struct WaitsPlan<A: Allocator> {
-    pub released: Vec<(WaitId, Verdict), A>,
-    pub answer: WaitAnswer,
+    pub(crate) released: Vec<(WaitId, Verdict), A>,
+    pub(crate) answer: WaitAnswer,
+    pub(crate) moments: Vec<Moment, A>,
+    pub(crate) change: PlannedChange,
+    pub(crate) next: u64,
+    pub(crate) leaves_all: bool,
+}
+
+impl<A: Allocator> Model for WaitsPlan<A> {
+    ghost use Rattle.wait_conditions.specs.Stands.{PlannedWaits};
+
+    ghost Value = { PlannedWaits };
+
+    ghost use Rattle.wait_conditions.specs.PlanFields.{plan_view, IsSoundPlan};
+
+    ghost view = { plan_view };
+
+    ghost invariant = { IsSoundPlan };
 }
 
 impl<A: Allocator> WaitsPlan<A> {
-    // Of a step that does nothing.
-    pub(crate) fn empty(alloc: A) -> WaitsPlan<A>
-        ensures released { result.released.items ≡ [] }
-        ensures answer { result.answer ≡ answer.Nothing }
+    /// The releases by the moments of the step, by moment and then in rising serial.
+    pub fn released(&self) -> &[(WaitId, Verdict)]
+        ensures { result.now ≡ self.now.released }
     {
-        WaitsPlan {
-            released: Vec::new(alloc),
-            answer: WaitAnswer::Nothing,
-        }
+        self.released.as_slice()
+    }
+
+    /// The answer to its change.
+    pub fn answer(&self) -> WaitAnswer
+        ensures { result ≡ self.now.answer }
+    {
+        self.answer
     }
 }

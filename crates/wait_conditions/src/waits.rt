@@ -1,41 +1,50 @@
 //! The waiters of all services.
-ghost use Rattle.std.specs.Prelude.{◌≡◌, ◌≤◌, ◌<◌, ◌+◌, ◌^◌, [], IfOk, IfErr, OnOk, OnErr, IsOkAnd, None, is_some, length};
-ghost use Rattle.wait_conditions.specs.Kept.{standing_kept};
+ghost use Rattle.std.specs.Prelude.{◌≡◌, ◌≤◌, ◌<◌, ◌+◌, ◌*◌, ◌^◌, [], ◌∷◌, IfOk, IfErr, IsOk, OnOk, OnErr, IsOkAnd, All, None, ℕ, is_some, length, map, filter};
+ghost use Rattle.std.specs.List.{filter_map};
+ghost use Rattle.wait_conditions.specs.Kept.{waiter_view, standing_stored, standing_kept, is_other, lower, oldest_place, NoneBegan, release_seen, releases_seen};
+ghost use Rattle.wait_conditions.specs.PlanFields.{list_change_of, JoinsCounted};
 ghost use Rattle.wait_conditions.specs.Refusal.{add_refusal, fault_told, deadline_of};
-ghost use Rattle.wait_conditions.specs.Stands.{WaitsFor, WaitsStandFor, TakesMoment, AddsWaiter, CancelsWaiter, MakesStep, IsIdle, waits_shown};
+ghost use Rattle.wait_conditions.specs.Stands.{WaitsFor, WaitsShown, WaitsStandFor, AddsWaiter, CancelsWaiter, FitsWaits, MakesPlan, MakesStep, PlansChange, waits_shown, needed_from, place_or_end, joining, adding, JoinsAt};
+ghost use Rattle.wait_conditions.specs.Stands.ListChange.{stay};
+ghost use Rattle.wait_conditions.specs.declared.wait_plan.PlannedChange.TheVariants.{Stay};
 ghost use Rattle.wait_conditions.specs.Steps.{wait_request_of, releases_by, waits_after_moments, waits_after_change, wait_answer};
-ghost use Rattle.wait_conditions.specs.Steps.WaitRequest.{no_wait_request};
+ghost use Rattle.wait_conditions.specs.Steps.WaitRequest.{no_wait_request, add_one, cancel_one};
 ghost use Rattle.wait_conditions.specs.declared.verdict.WaitState.TheVariants.{Waiting};
 ghost use Rattle.wait_conditions.specs.declared.wait_change.WaitAnswer.TheVariants as answer;
+ghost use Rattle.wait_conditions.specs.WaitsFields.{IsCounted};
 ghost use Rattle.wait_conditions.specs.Watch.{Watch, new_watch, releases, waits_after_moment, after_add, after_cancel, state_named};
 ghost use Rattle.wait_conditions.specs.Watch.{wait_terms, new_waiter, new_release, waiter_state};
 
 use crate::add_fault::AddFault;
-use crate::looking::look_at_every;
-use crate::moments::Moments;
-use crate::roll::Roll;
-use crate::step::{is_calm, work_out};
+use crate::planning::{copy_concerned, release_all};
+use crate::refusing::{deadline_for, refusal_for};
+use crate::releasing::{take_in_all, take_in_by_each};
+use crate::service_states::ServiceStates;
 use crate::verdict::{Verdict, WaitState};
-use crate::wait_change::WaitChange;
-use crate::wait_plan::WaitsPlan;
+use crate::wait_change::{WaitAnswer, WaitChange};
+use crate::wait_plan::{PlannedChange, WaitsPlan};
+use crate::waiter::{Waiter, new_waiter, release_at_once};
 use s6_events::{At, Condition, Mode, Moment, NoMemory, Sid, WaitId};
 use std::alloc::Allocator;
 use std::marker::Model;
 
-/// The waiters that stand, at most 256, and all moments that were handed in. Pages `s6-svwait` and `s6-svlisten`; that the
-/// history alone says when a waiter is released is chosen here.
+/// The most moments that are counted: 2^63.
+const COUNT_LIMIT: u64 = 9_223_372_036_854_775_808;
+
+/// The waiters that stand, at most 256, and what is known of every service. Pages `s6-svwait` and `s6-svlisten`; that the history
+/// alone says when a waiter is released is chosen here.
 ///
-/// A step is worked out first (`prepare`), which changes nothing that is shown, and then made (`commit`), which takes no memory;
-/// or one thing alone is done at once (`add`, `moment`, `cancel`), and then nothing is prepared any more. The waiters of a step
-/// are worked out on a copy, which is made where one waits or the step changes any.
+/// A step is worked out first (`prepare`), which changes nothing that is shown, and its plan is then made (`commit`); or one thing
+/// alone is done at once (`add`, `moment`, `cancel`).
 ///
-/// Each moment is kept, and at each moment the verdict of each waiter that waits is read from all of them.
+/// No moment is kept. Each waiter that waits counts those of its services that hold and those that fail, and a moment changes the
+/// waiters that it concerns: those of its service, or those of which it reaches the deadline.
 #[derive(Drop)]
 pub struct Waits<A: Allocator> {
-    moments: Moments<A>,
-    roll: Roll<A>,
-    // The waiters that the prepared step leaves, where it looks at any or changes any.
-    later: Option<Roll<A>>,
+    count: u64,
+    states: ServiceStates<A>,
+    waiters: Vec<Waiter, A>,
+    next: u64,
 }
 
 impl<A: Allocator> Model for Waits<A> {
@@ -55,12 +64,12 @@ impl<A: Allocator + Copy> Waits<A> {
     pub fn new(alloc: A) -> Waits<A>
         ensures empty { WaitsFor result new_watch }
         ensures serials { result.next ≡ 1 }
-        ensures idle { IsIdle result }
     {
         Waits {
-            moments: Moments::new(alloc),
-            roll: Roll::new(alloc),
-            later: None,
+            count: 0,
+            states: ServiceStates::new(alloc),
+            waiters: Vec::new(alloc),
+            next: 1,
         }
     }
 
@@ -75,7 +84,20 @@ impl<A: Allocator + Copy> Waits<A> {
     fn stored_result(&self, id: WaitId) -> Option<WaitState>
         ensures { result ≡ standing_kept id self.now.waiters }
     {
-        self.roll.standing(id)
+        find_standing(&self.waiters, id)
+    }
+
+    /// The place of the moment from which on a history is needed: how many had come when the oldest waiter that waits still was
+    /// made, or all of them where none waits. What came before may be forgotten.
+    pub fn needed_from(&self) -> u64
+        ensures value { result ≡ needed_from (waits_shown self.now) }
+        ensures least { (place : ℕ) → NoneBegan place self.now.waiters → place ≤ self.now.count
+            → place ≤ result }
+        ensures needed { NoneBegan result self.now.waiters }
+        ensures within { (end : ℕ) → All (λ k. k.place ≤ end) self.now.waiters → self.now.count ≤ end
+            → result ≤ end }
+    {
+        place_or_end(oldest_of(&self.waiters), self.count)
     }
 
     /// Makes a waiter for these services, 1 to 16, each named once. Its deadline is `timeout` milliseconds after `start`, and with
@@ -101,7 +123,6 @@ impl<A: Allocator + Copy> Waits<A> {
             → fault ≡ fault_told (add_refusal (length w.waiters) sids.now)) }
         ensures serial { OnOk result (self.new.next ≡ self.old.next + 1) }
         ensures err { OnErr result (self.new ≡ self.old) }
-        ensures idle { OnOk result (IsIdle self.new) }
     {
         self.admit(condition, mode, sids, timeout, start)
     }
@@ -124,25 +145,36 @@ impl<A: Allocator + Copy> Waits<A> {
             (λ fault. fault ≡ fault_told (add_refusal (length self.old.waiters) sids.now)) }
         ensures serial { OnOk result (self.new.next ≡ self.old.next + 1) }
         ensures err { OnErr result (self.new ≡ self.old) }
-        ensures idle { OnOk result (IsIdle self.new) }
     {
-        let moments = self.moments.shown();
-        let made = self
-            .roll
-            .admit(moments, condition, mode, sids, timeout, start)?;
-        self.later = None;
-        self.moments.forget();
-        Ok(made)
+        if let Some(fault) = refusal_for(self.waiters.len(), sids) {
+            return Err(fault);
+        }
+        self.reserve_one()?;
+        let id = WaitId(self.next);
+        let deadline = deadline_for(timeout, start);
+        let waiter = new_waiter(
+            id,
+            self.count,
+            condition,
+            mode,
+            sids,
+            deadline,
+            &self.states,
+            &[],
+        );
+        let verdict = release_at_once(&waiter);
+        self.waiters.push_reserved(waiter);
+        self.next += 1;
+        Ok((id, verdict))
     }
 
     /// Hands in the next moment. Answers the waiters that it releases, in rising serial, each with its verdict. NoMemory: nothing
-    /// has changed.
+    /// has changed; it is also answered at the moment 2^63.
     pub fn moment(&mut self, moment: &Moment) -> Result<Vec<(WaitId, Verdict), A>, NoMemory>
         ensures ok { IfOk result (λ released. (w : Watch) → WaitsFor self.old w →
             (released.items ≡ releases w moment.now) × WaitsFor self.new (waits_after_moment w moment.now)) }
         ensures serials { self.new.next ≡ self.old.next }
         ensures err { OnErr result (self.new ≡ self.old) }
-        ensures idle { OnOk result (IsIdle self.new) }
     {
         self.take_moment(moment)
     }
@@ -150,17 +182,21 @@ impl<A: Allocator + Copy> Waits<A> {
     // `moment`, by what is stored alone.
     fn take_moment(&mut self, moment: &Moment) -> Result<Vec<(WaitId, Verdict), A>, NoMemory>
         ensures ok { IfOk result (λ released.
-            TakesMoment (waits_shown self.old) (waits_shown self.new) moment.now released.items) }
+            (released.items ≡ filter_map (release_seen moment.now) self.old.waiters)
+            × MakesStep (moment.now ∷ []) stay self.old.next
+            (waits_shown self.old) (waits_shown self.new)) }
         ensures serials { self.new.next ≡ self.old.next }
         ensures err { OnErr result (self.new ≡ self.old) }
-        ensures idle { OnOk result (IsIdle self.new) }
     {
-        let mut released = Vec::new(self.moments.allocator());
-        released.reserve(self.roll.waiters.len())?;
-        self.moments.take(*moment)?;
-        self.later = None;
-        let moments = self.moments.shown();
-        look_at_every(&mut self.roll.waiters, moments, &mut released);
+        if self.count + 1 >= COUNT_LIMIT {
+            return Err(NoMemory);
+        }
+        let mut released = Vec::new(*self.waiters.allocator());
+        released.reserve(self.waiters.len())?;
+        self.states.reserve(1)?;
+        self.states.take_in(moment);
+        take_in_all(&mut self.waiters, moment, &mut released);
+        self.count += 1;
         Ok(released)
     }
 
@@ -169,7 +205,6 @@ impl<A: Allocator + Copy> Waits<A> {
         ensures stood { (w : Watch) → WaitsFor self.old w → result ≡ is_some (state_named w id) }
         ensures after { (w : Watch) → WaitsFor self.old w → WaitsFor self.new (after_cancel w id) }
         ensures serials { self.new.next ≡ self.old.next }
-        ensures idle { IsIdle self.new }
     {
         let stood = self.result(id).is_some();
         self.take_out(id);
@@ -178,20 +213,17 @@ impl<A: Allocator + Copy> Waits<A> {
 
     // `cancel`, by what is stored alone.
     fn take_out(&mut self, id: WaitId)
-        ensures after { CancelsWaiter (waits_shown self.old) (waits_shown self.new) id }
-        ensures idle { IsIdle self.new }
+        ensures { CancelsWaiter (waits_shown self.old) (waits_shown self.new) id }
     {
-        self.roll.take_out(id);
-        self.later = None;
-        self.moments.forget();
+        drop_named(&mut self.waiters, id);
     }
 
-    /// Works out a step: its moments in order, each looked at as it joins, so that the releases come by moment and then in rising
-    /// serial; and after all of them one change. A waiter that is added begins after these moments, and its verdict is looked at
-    /// once right then. Nothing that is shown changes, and what was prepared before is forgotten.
+    /// Works out a step: its moments in order, so that the releases come by moment and then in rising serial; and after all of them
+    /// one change. A waiter that is added begins after these moments, and its verdict is looked at once right then. Nothing that is
+    /// shown changes.
     ///
-    /// NoMemory where a growth was refused; then nothing is prepared. A step that does nothing takes no memory, and releases nothing. Where no waiter
-    /// waits, the moments alone ask for any; a change asks for some too.
+    /// NoMemory where a growth was refused, or where 2^63 moments would have come. A step that does nothing takes no memory, and
+    /// releases nothing.
     pub fn prepare(
         &mut self,
         moments: &[Moment],
@@ -200,16 +232,16 @@ impl<A: Allocator + Copy> Waits<A> {
         requires { self.old.next < 2 ^ 63 }
         ensures released { IfOk result
             (λ plan. (w : Watch) → WaitsFor self.old w
-            → plan.released.items ≡ releases_by w moments.now) }
+            → plan.released ≡ releases_by w moments.now) }
         ensures answer { IfOk result (λ plan. (w : Watch) → WaitsFor self.old w →
             plan.answer ≡ wait_answer (waits_after_moments w moments.now) (wait_request_of change.now)) }
-        ensures prepared { OnOk result ((w : Watch) → WaitsFor self.old w →
-            WaitsStandFor self.new.prepared (waits_after_change (waits_after_moments w moments.now) (wait_request_of change.now))) }
-        ensures serials { OnOk result (self.new.prepared.next ≤ self.old.next + 1) }
+        ensures prepared { IfOk result (λ plan. (w : Watch) → WaitsFor self.old w → (new : WaitsShown) → MakesPlan plan (waits_shown self.old) new
+            → WaitsStandFor new (waits_after_change (waits_after_moments w moments.now) (wait_request_of change.now))) }
+        ensures fits { IfOk result (λ plan. FitsWaits plan self.new) }
+        ensures serials { IfOk result (λ plan. plan.next ≤ self.old.next + 1) }
         ensures shown { waits_shown self.new ≡ waits_shown self.old }
-        ensures idle { OnErr result (IsIdle self.new) }
         ensures quiet { moments.now ≡ [] → wait_request_of change.now ≡ no_wait_request
-            → IsOkAnd result (λ plan. (plan.released.items ≡ []) × (plan.answer ≡ answer.Nothing)) }
+            → IsOkAnd result (λ plan. (plan.released ≡ []) × (plan.answer ≡ answer.Nothing)) }
     {
         let plan = self.prepare_stored(moments, change)?;
         Ok(plan)
@@ -222,35 +254,248 @@ impl<A: Allocator + Copy> Waits<A> {
         change: &WaitChange,
     ) -> Result<WaitsPlan<A>, NoMemory>
         requires { self.old.next < 2 ^ 63 }
-        ensures ok { IfOk result (λ plan. MakesStep (waits_shown self.old) self.new.prepared
-            moments.now (wait_request_of change.now) plan.released.items plan.answer) }
+        ensures released { IfOk result (λ plan. plan.released
+            ≡ releases_seen moments.now self.old.waiters) }
+        ensures moments { IfOk result (λ plan. plan.moments ≡ moments.now) }
+        ensures change { IfOk result (λ plan. PlansChange (waits_shown self.old) moments.now
+            (wait_request_of change.now) plan.answer plan.change plan.next) }
+        ensures fits { IfOk result (λ plan. FitsWaits plan self.new) }
         ensures shown { waits_shown self.new ≡ waits_shown self.old }
-        ensures idle { OnErr result (IsIdle self.new) }
         ensures quiet { moments.now ≡ [] → wait_request_of change.now ≡ no_wait_request
-            → IsOkAnd result (λ plan. (plan.released.items ≡ []) × (plan.answer ≡ answer.Nothing)) }
+            → IsOkAnd result (λ plan. plan.answer ≡ answer.Nothing) }
     {
-        let alloc = self.moments.allocator();
-        self.later = None;
-        self.moments.forget();
-        if is_calm(&self.roll, moments, change) {
-            self.moments.join_all(moments)?;
-            return Ok(WaitsPlan::empty(alloc));
-        }
-        let mut later = self.roll.copied(alloc)?;
-        let plan = work_out(&mut self.moments, &mut later, moments, change)?;
-        self.later = Some(later);
-        Ok(plan)
+        let alloc = *self.waiters.allocator();
+        self.make_room(moments.len(), change)?;
+        let mut copies = copy_concerned(alloc, &self.waiters, moments)?;
+        let released = release_all(alloc, &mut copies, moments)?;
+        let planned = self.plan_change(moments, change);
+        let mut own = Vec::new(alloc);
+        own.extend_from_slice(moments)?;
+        Ok(WaitsPlan {
+            released,
+            answer: planned.answer,
+            moments: own,
+            change: planned.change,
+            next: planned.next,
+            leaves_all: copies.is_empty(),
+        })
     }
 
-    /// Makes the step that was prepared: what it releases and answers is in its plan. Where nothing is prepared, nothing changes.
-    /// Takes no memory.
-    pub fn commit(&mut self)
-        ensures shown { waits_shown self.new ≡ self.old.prepared }
-        ensures idle { IsIdle self.new }
+    // Room for the moments of a step, and for the waiter that it may add.
+    fn make_room(&mut self, moments: usize, change: &WaitChange) -> Result<(), NoMemory>
+        ensures shown { waits_shown self.new ≡ waits_shown self.old }
+        ensures count { OnOk result (self.new.count + moments < 2 ^ 63) }
+        ensures runs { OnOk result (2 * moments ≤ self.new.spare_runs) }
+        ensures waiters { OnOk result (adding (wait_request_of change.now) ≤ self.new.spare_waiters) }
+        ensures quiet { moments ≡ 0 → wait_request_of change.now ≡ no_wait_request → IsOk result }
     {
-        if let Some(later) = self.later.take() {
-            self.roll = later;
+        if moments as u64 >= COUNT_LIMIT - self.count {
+            return Err(NoMemory);
         }
-        self.moments.settle();
+        self.states.reserve(moments)?;
+        if let WaitChange::Add(_, _, _, _, _) = change {
+            self.reserve_one()?;
+        }
+        Ok(())
     }
+
+    // Room for one more waiter.
+    fn reserve_one(&mut self) -> Result<(), NoMemory>
+        ensures shown { waits_shown self.new ≡ waits_shown self.old }
+        ensures runs { self.new.spare_runs ≡ self.old.spare_runs }
+        ensures ok { OnOk result (1 ≤ self.new.spare_waiters) }
+        ensures err { OnErr result (self.new ≡ self.old) }
+    {
+        self.waiters.reserve(1)?;
+        Ok(())
+    }
+
+    // The change of a step, after these moments.
+    fn plan_change(&self, moments: &[Moment], change: &WaitChange) -> ChangePlan
+        requires serials { self.now.next < 2 ^ 63 }
+        requires count { self.now.count + length moments.now < 2 ^ 63 }
+        ensures plans { PlansChange (waits_shown self.now) moments.now (wait_request_of change.now)
+            result.answer (list_change_of result.change) result.next }
+        ensures room { joining (list_change_of result.change) ≤ adding (wait_request_of change.now) }
+        ensures counted { JoinsCounted result.change }
+        ensures place { JoinsAt (self.now.count + length moments.now) (list_change_of result.change) }
+        ensures quiet { wait_request_of change.now ≡ no_wait_request
+            → result.answer ≡ answer.Nothing }
+    {
+        match change {
+            WaitChange::Nothing => ChangePlan::stay(WaitAnswer::Nothing, self.next),
+            WaitChange::Add(condition, mode, sids, timeout, start) => {
+                self.plan_add(moments, *condition, *mode, sids, *timeout, *start)
+            }
+            WaitChange::Cancel(id) => {
+                let stood = self.stored_result(*id).is_some();
+                ChangePlan {
+                    answer: WaitAnswer::Cancelled(stood),
+                    change: PlannedChange::Leave(*id),
+                    next: self.next,
+                }
+            }
+        }
+    }
+
+    // A waiter is asked for, and made or refused.
+    fn plan_add(
+        &self,
+        moments: &[Moment],
+        condition: Condition,
+        mode: Mode,
+        sids: &[Sid],
+        timeout: u32,
+        start: At,
+    ) -> ChangePlan
+        requires serials { self.now.next < 2 ^ 63 }
+        requires count { self.now.count + length moments.now < 2 ^ 63 }
+        ensures plans { PlansChange (waits_shown self.now) moments.now
+            (add_one (wait_terms condition mode sids.now (deadline_of timeout start)))
+            result.answer (list_change_of result.change) result.next }
+        ensures room { joining (list_change_of result.change) ≤ 1 }
+        ensures counted { JoinsCounted result.change }
+        ensures place { JoinsAt (self.now.count + length moments.now) (list_change_of result.change) }
+    {
+        if let Some(fault) = refusal_for(self.waiters.len(), sids) {
+            return ChangePlan::stay(WaitAnswer::Refused(fault), self.next);
+        }
+        let id = WaitId(self.next);
+        let place = self.count + moments.len() as u64;
+        let deadline = deadline_for(timeout, start);
+        let waiter = new_waiter(
+            id,
+            place,
+            condition,
+            mode,
+            sids,
+            deadline,
+            &self.states,
+            moments,
+        );
+        ChangePlan {
+            answer: WaitAnswer::Added(id, release_at_once(&waiter)),
+            change: PlannedChange::Join(waiter),
+            next: self.next + 1,
+        }
+    }
+
+    /// Makes the step of a plan that these waiters prepared, where nothing was changed in between.
+    pub fn commit(&mut self, plan: WaitsPlan<A>)
+        requires { FitsWaits plan self.old }
+        ensures makes { MakesPlan plan (waits_shown self.old) (waits_shown self.new) }
+        ensures began { (place : ℕ) → NoneBegan place self.old.waiters → place ≤ self.old.count
+            → NoneBegan place self.new.waiters }
+    {
+        self.make(plan);
+    }
+
+    // `commit`, by what is stored alone.
+    fn make(&mut self, plan: WaitsPlan<A>)
+        requires { FitsWaits plan self.old }
+        ensures { MakesPlan plan (waits_shown self.old) (waits_shown self.new) }
+    {
+        let WaitsPlan {
+            moments,
+            change,
+            next,
+            leaves_all,
+            ..
+        } = plan;
+        self.states.take_in_all(&moments);
+        if !leaves_all {
+            take_in_by_each(&mut self.waiters, &moments);
+        }
+        self.count += moments.len() as u64;
+        self.next = next;
+        match change {
+            PlannedChange::Stay => {}
+            PlannedChange::Join(waiter) => self.waiters.push_reserved(waiter),
+            PlannedChange::Leave(id) => self.take_out(id),
+        }
+    }
+}
+
+// What becomes of the list of waiters in a step, and what is answered.
+#[derive(Drop)]
+struct ChangePlan {
+    answer: WaitAnswer,
+    change: PlannedChange,
+    next: u64,
+}
+
+impl ChangePlan {
+    // The list stays.
+    fn stay(answer: WaitAnswer, next: u64) -> ChangePlan
+        ensures answer { result.answer ≡ answer }
+        ensures change { result.change ≡ Stay }
+        ensures next { result.next ≡ next }
+    {
+        ChangePlan {
+            answer,
+            change: PlannedChange::Stay,
+            next,
+        }
+    }
+}
+
+// Where the waiter of this serial stands.
+fn find_standing(waiters: &[Waiter], id: WaitId) -> Option<WaitState>
+    ensures { result ≡ standing_kept id (map waiter_view waiters.now) }
+{
+    find_stored(waiters, id)
+}
+
+fn find_stored(waiters: &[Waiter], id: WaitId) -> Option<WaitState>
+    ensures { result ≡ standing_stored id waiters.now }
+{
+    for waiter in waiters {
+        if waiter.id == id {
+            return Some(waiter.standing);
+        }
+    }
+    None
+}
+
+// The lower of a place and one that was found.
+fn lower_place(found: Option<u64>, place: u64) -> u64
+    ensures { result ≡ lower found place }
+{
+    match found {
+        None => place,
+        Some(other) => if other <= place { other } else { place },
+    }
+}
+
+// The place of the oldest, or the end where there is none.
+fn place_or_end(oldest: Option<u64>, count: u64) -> u64
+    ensures { result ≡ place_or_end oldest count }
+{
+    match oldest {
+        None => count,
+        Some(place) => place,
+    }
+}
+
+// The least place of those that wait still.
+fn oldest_of(waiters: &[Waiter]) -> Option<u64>
+    ensures { result ≡ oldest_place (map waiter_view waiters.now) }
+{
+    let mut found = None;
+    for waiter in waiters {
+        if waiter.standing == WaitState::Waiting {
+            found = Some(lower_place(found, waiter.place));
+        }
+    }
+    found
+}
+
+// Takes the waiter of this serial out, if there is one.
+fn drop_named<A: Allocator>(waiters: &mut Vec<Waiter, A>, id: WaitId)
+    requires { All IsCounted waiters.old.items }
+    ensures waiters { map waiter_view waiters.new.items
+        ≡ filter (is_other id) (map waiter_view waiters.old.items) }
+    ensures counted { All IsCounted waiters.new.items }
+{
+    waiters.retain(|waiter| waiter.id != id);
 }

@@ -1,9 +1,10 @@
 //! What no clause says: that 64 services come and leave with ample memory, and that each growth of a step may be refused. What a step
 //! gives is its clauses' matter; the worked rows run as scripts in `s6_replay`.
-ghost use Rattle.std.specs.Prelude.{◌≡◌, ℕ, ◌+◌, ◌<◌, ◌^◌, ◌==◌, All, IfOk, true};
+ghost use Rattle.std.specs.Prelude.{◌≡◌, ℕ, ◌+◌, ◌<◌, ◌^◌, ◌==◌, All, IfOk, IfSome, true};
 ghost use Rattle.std.specs.List.{list_any};
 ghost use Rattle.supervise_core.specs.Chart.{is_due};
 ghost use Rattle.svscan_core.specs.Asked.{work_asked, IsOrderly};
+ghost use Rattle.svscan_core.specs.Registry.{Fits};
 ghost use Rattle.svscan_core.specs.Table.{charts_of};
 ghost use Rattle.svscan_core.specs.Work.{AreDue};
 
@@ -17,7 +18,6 @@ use supervise_core::ChartState;
 
 mod full;
 mod refused;
-mod refused_order;
 
 // Whether it is one of these.
 fn is_among(due: &[Sid], sid: Sid) -> bool
@@ -89,22 +89,24 @@ fn is_ready<A: Allocator + Copy>(registry: &Registry<A>, due: &[Sid], now: At) -
     are_fit(&registry.slots, due, now)
 }
 
-// The step is prepared, where it lists no name twice; whether memory sufficed, and the registry is ready for it.
+// The step is worked out, where it lists no name twice and the registry is ready for it; None where that is not so, or where memory was
+// refused.
 fn prepare_orderly<A: Allocator + Copy>(
     registry: &mut Registry<A>,
     due: &[Sid],
     work: &ServiceWork,
     now: At,
-) -> bool
+) -> Option<RegistryPlan<A>>
     requires { (next : ℕ) → next < 1000 → IsOrderly next (work_asked work.now) }
+    ensures { IfSome result (λ plan. Fits registry.new plan) }
 {
     if !is_ready(registry, due, now) {
-        return false;
+        return None;
     }
-    registry.prepare(due, work, now).is_ok()
+    registry.prepare(due, work, now).ok()
 }
 
-// The step is prepared, where these services are the ones whose timers are due; whether memory sufficed.
+// The step is worked out, where these services are the ones whose timers are due; None where memory was refused.
 fn prepare<A: Allocator + Copy>(
     rt: &impl Abort,
     alloc: Global,
@@ -112,7 +114,9 @@ fn prepare<A: Allocator + Copy>(
     due: &[Sid],
     work: &ServiceWork,
     now: At,
-) -> Result<bool, Fail> {
+) -> Result<Option<RegistryPlan<A>>, Fail>
+    ensures { IfOk result (λ found. IfSome found (λ plan. Fits registry.new plan)) }
+{
     let is_orderly = is_orderly(alloc, work)?;
     assert!(rt; is_orderly);
     Ok(prepare_orderly(registry, due, work, now))

@@ -45,12 +45,14 @@ add_names-requires-clause-few g c =
     let none : length c.plan_drops.new.scan.added.items ≡ 0 = ap length (c.plan_drops.ensures.added ∙ c.requires.added) in
     omega (arith, long, as_long, fewer, retained, none, c.requires.few)
 
-pub add_names-requires-clause-orders : goal.add_names-requires-clause-orders
-add_names-requires-clause-orders g c =
+pub returns-clause-most : goal.returns-clause-most
+returns-clause-most g c =
     let same : length c.visit_all.new.self.orders.items ≡ length c.args.moves.now.orders.items =
     ap length (same_orders c.args.now c.args.listing.now (step_so_far c.args.slots.now.services c.args.moves.now)
     (step_so_far c.args.slots.now.services c.visit_all.new.self) c.in_ok-visit_all.ensures.takes) in
-    omega (arith, same, c.requires.room)
+    let grows = c.in_ok-add_names.ensures.grows in
+    let none : length c.plan_drops.new.scan.added.items ≡ 0 = ap length (c.plan_drops.ensures.added ∙ c.requires.added) in
+    omega (arith, same, none, grows.orders, grows.few)
 
 leads : (g : _) (c : goal.After-drop-sorted-2 g)
     → LeadsToScanned c.args.listing.now c.args.now c.args.scan.now.next_sid (with_changes c.args.slots.now.services c.args.moves.now.touched.items)

@@ -1,6 +1,11 @@
 //! A full table: 64 services are added and told to end.
+ghost use Rattle.std.specs.Prelude.{IfOk, IfSome};
+ghost use Rattle.svscan_core.specs.Registry.{Fits};
+
 use super::*;
-use s6_events::Mark;
+use crate::entry::Listed;
+use crate::event::Event;
+use s6_events::{Mark, Order};
 
 // The name of this number: n01, n02 and so on.
 fn name_of(number: u8) -> Result<Name, Fail> {
@@ -45,11 +50,13 @@ fn sixty_four(alloc: Global) -> Result<Answer<Global>, Fail> {
     })
 }
 
-// What was prepared is what was wanted.
-fn tells(rt: &impl Abort, registry: &Registry<Global>, wanted: &Answer<Global>) {
-    assert_eq!(rt; registry.events(), wanted.events.as_slice());
-    assert_eq!(rt; registry.orders(), wanted.orders.as_slice());
-    assert_eq!(rt; registry.listed(), wanted.listed.as_slice());
+// What a step gives is what was wanted.
+fn tells(rt: &impl Abort, plan: &RegistryPlan<Global>, wanted: &Answer<Global>) {
+    assert_eq!(rt; plan.events(), wanted.events.as_slice());
+    assert_eq!(rt; plan.orders(), wanted.orders.as_slice());
+    assert_eq!(rt; plan.listed(), wanted.listed.as_slice());
+    assert_eq!(rt; (plan.dropped().is_empty(), plan.is_stale()), (true, false));
+    assert_eq!(rt; plan.timers().len(), 64);
 }
 
 // What was answered is what was wanted.
@@ -59,13 +66,15 @@ fn answers(rt: &impl Abort, answer: &Answer<Global>, wanted: &Answer<Global>) {
     assert_eq!(rt; answer.listed.as_slice(), wanted.listed.as_slice());
 }
 
-// A step that takes this listing at the first moment is prepared.
+// A step that takes this listing at the first moment; None where memory was refused.
 fn prepare_listing(
     rt: &impl Abort,
     alloc: Global,
     registry: &mut Registry<Global>,
     listing: &[Entry],
-) -> Result<bool, Fail> {
+) -> Result<Option<RegistryPlan<Global>>, Fail>
+    ensures { IfOk result (λ found. IfSome found (λ plan. Fits registry.new plan)) }
+{
     let work = ServiceWork::Listing(listing);
     prepare(rt, alloc, registry, &[], &work, At::zero())
 }
@@ -75,10 +84,11 @@ fn a_step_adds_sixty_four_services(rt: HostRuntime) -> Result<(), Fail> {
     let entries = seventy(rt.alloc())?;
     let wanted = sixty_four(rt.alloc())?;
     let mut registry = Registry::new(rt.alloc());
-    prepare_listing(&rt, rt.alloc(), &mut registry, entries.as_slice())?;
-    tells(&rt, &registry, &wanted);
+    let planned = prepare_listing(&rt, rt.alloc(), &mut registry, entries.as_slice())?;
+    let plan = planned.ok_or("memory")?;
+    tells(&rt, &plan, &wanted);
     assert_eq!(rt; registry.len(), 0);
-    registry.commit();
+    registry.commit(plan);
     assert_eq!(rt; shown(&rt, rt.alloc(), &registry)?.len(), 64);
     Ok(())
 }

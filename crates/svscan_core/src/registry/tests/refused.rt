@@ -8,7 +8,7 @@ fn filler(heap: &LocalHeap, left: usize) -> Option<Vec<u8, &LocalHeap>> {
     Vec::with_capacity(heap, free.saturating_sub(left)).ok()
 }
 
-// A step that is refused shows what it showed, and has nothing prepared; without the filler it is made. Whether it was refused.
+// A step that is refused shows what it showed; without the filler it is made. Whether it was refused.
 fn is_step_refused<A: Allocator + Copy>(
     rt: &impl Abort,
     alloc: Global,
@@ -18,18 +18,13 @@ fn is_step_refused<A: Allocator + Copy>(
 ) -> Result<bool, Fail> {
     let work = ServiceWork::Listing(listing);
     let before = shown(rt, alloc, registry)?;
-    let is_prepared = prepare(rt, alloc, registry, &[], &work, At::zero())?;
+    let is_refused = prepare(rt, alloc, registry, &[], &work, At::zero())?.is_none();
     let after = shown(rt, alloc, registry)?;
     assert!(rt; before == after);
-    assert_eq!(rt;
-        (registry.events().is_empty(), registry.listed().is_empty()),
-        (!is_prepared, !is_prepared)
-    );
     drop(filler);
-    let is_prepared_at_last = prepare(rt, alloc, registry, &[], &work, At::zero())?;
-    assert!(rt; is_prepared_at_last);
-    registry.commit();
-    Ok(!is_prepared)
+    let planned = prepare(rt, alloc, registry, &[], &work, At::zero())?;
+    registry.commit(planned.ok_or("memory")?);
+    Ok(is_refused)
 }
 
 // A scan that is refused leaves what it showed; without the filler it is made. Whether it was refused.
@@ -89,5 +84,41 @@ fn a_refused_step_leaves_what_is_shown(rt: HostRuntime) -> Result<(), Fail> {
         }
     }
     assert!(&rt; refusals > 20 && without > 2, "{refusals} {without}");
+    Ok(())
+}
+
+// Terminate with so many bytes left, and then a step that does nothing: whether the order was refused, and whether it was made all the
+// same.
+fn is_made_later(rt: &impl Abort, alloc: Global, left: usize) -> Result<(bool, bool), Fail> {
+    let heap = LocalHeap::new(alloc, 65_536)?;
+    let mut registry = Registry::new(&heap);
+    let few = listing(alloc, "b c d e")?;
+    let answer = scan(rt, alloc, &mut registry, few.as_slice(), At::zero())?;
+    assert!(rt; answer.is_some());
+    drop(answer);
+    let before = shown(rt, alloc, &registry)?;
+    let filler = filler(&heap, left);
+    let is_refused = control(rt, &mut registry, ScanOrder::Terminate, At::zero()).is_none();
+    drop(filler);
+    let work = ServiceWork::Nothing;
+    let planned = prepare(rt, alloc, &mut registry, &[], &work, At::zero())?;
+    registry.commit(planned.ok_or("memory")?);
+    let after = shown(rt, alloc, &registry)?;
+    Ok((is_refused, is_refused && before != after))
+}
+
+#[test]
+fn a_refused_order_is_not_made_by_a_commit(rt: HostRuntime) -> Result<(), Fail> {
+    let mut refused = 0u32;
+    let mut made = 0u32;
+    for step in 0..180usize {
+        let (was_refused, was_made) = is_made_later(&rt, rt.alloc(), 64 * step)?;
+        refused = refused.saturating_add(u32::from(was_refused));
+        made = made.saturating_add(u32::from(was_made));
+    }
+    assert!(&rt;
+        refused > 2 && made == 0,
+        "{refused} refused, {made} of them made by a commit"
+    );
     Ok(())
 }

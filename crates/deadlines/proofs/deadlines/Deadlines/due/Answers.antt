@@ -4,6 +4,7 @@ use Rattle.std.proofs.lemmas.List.{take_all}
 use Rattle.deadlines.specs.Deadlines.{Armed}
 use Rattle.deadlines.specs.Timers.{rises, is_rising, due_by}
 use Rattle.deadlines.proofs.Rising.{due_somewhere, serials_rise, rises_filtered}
+use Rattle.deadlines.proofs.MomentOrder.{none_in_both}
 use Rattle.deadlines.proofs.deadlines.Deadlines.due.Goals as goal
 
 pub returns-in_err-push-clause-quiet : goal.returns-in_err-push-clause-quiet
@@ -20,4 +21,11 @@ returns-clause-rising g c =
     (c.deref-timer-items.ensures.value ∙ ap (λ (a : Armed). a.timers) c.self.view_is) c.loop-timer-test.false))))
     (serials_rise (filter (λ t. nat_le t.at c.args.now) c.args.self.now.timers)
     (rises_filtered (λ t. nat_le t.at c.args.now) c.args.self.now.timers
-    (subst (λ (a : Armed). rises a.timers ≡ true) c.self.view_is c.self.invariant)))
+    (subst (λ (a : Armed). rises a.timers ≡ true) c.self.view_is c.self.invariant.timers)))
+
+pub returns-then-not-is_any_due-clause-due : goal.returns-then-not-is_any_due-clause-due
+returns-then-not-is_any_due-clause-due g c =
+    c.new-sids.ensures.items
+    ∙ (sym (none_in_both c.args.now c.self.inside.queue.items c.self.inside.timers.items c.self.invariant.same
+    (ap (due_by c.args.now) (sym c.deref.ensures.value) ∙ c.is_any_due.ensures c.if-not-is_any_due.true))
+    ∙ ap (λ (a : Armed). due_by c.args.now a.timers) c.self.view_is)

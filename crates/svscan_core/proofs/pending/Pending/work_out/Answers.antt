@@ -12,7 +12,8 @@ use Rattle.svscan_core.specs.Deaths.{DeathOf, deaths_after, deaths_given, AllBef
 use Rattle.svscan_core.specs.Moves.{services_after, moment_of}
 use Rattle.svscan_core.specs.Moving.{with_changes}
 use Rattle.svscan_core.specs.Names.{repeats_name}
-use Rattle.svscan_core.specs.Pending.{registry_prepared}
+use Rattle.svscan_core.specs.Pending.{planned_of}
+use Rattle.svscan_core.specs.Registry.{registry_prepared}
 use Rattle.svscan_core.specs.Sound.{AllAgree}
 use Rattle.svscan_core.specs.Table.{charts_of, names_of, serials_of}
 use Rattle.svscan_core.proofs.Generations.{all_fire}
@@ -102,6 +103,6 @@ returns-clause-tallies g c = λ deaths before all.
     let timed : AllTallied (with_changes slots c.fire_due.new.moves.touched.items) deaths =
     subst (λ (ds : List DeathOf). AllTallied (with_changes slots c.fire_due.new.moves.touched.items) ds) none
     (c.in_ok-fire_due.ensures.takes.tallies deaths start) in
-    subst (λ (xs : List ChartState). AllTallied (registry_prepared slots c.do_work.new.self).services
+    subst (λ (xs : List ChartState). AllTallied (registry_prepared slots (planned_of c.do_work.new.self)).services
     (deaths ++ deaths_given (work_asked c.args.work.now) c.args.now xs)) fired
     (c.in_ok-do_work.ensures.tallies deaths (subst (λ (n : ℕ). AllBefore n deaths) (sym c.clear.ensures.next_sid) before) timed)

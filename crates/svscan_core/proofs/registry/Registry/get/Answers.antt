@@ -3,4 +3,4 @@ use Rattle.svscan_core.proofs.SerialsRise.{rising_before}
 use Rattle.svscan_core.proofs.registry.Registry.get.Goals as goal
 
 pub get-requires : goal.get-requires
-get-requires g c = rising_before (serials_of (charts_of c.self.inside.slots.services)) c.self.inside.next_sid c.self.invariant.shown.order
+get-requires g c = rising_before (serials_of (charts_of c.self.inside.slots.services)) c.self.inside.next_sid c.self.invariant.order

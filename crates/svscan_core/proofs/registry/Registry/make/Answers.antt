@@ -8,5 +8,5 @@ pub returns-in-Ok-clause-tallies : goal.returns-in-Ok-clause-tallies
 returns-in-Ok-clause-tallies g c =
     let old = c.args.self.now.shown in
     subst (λ (t : Table). KeepTallied old.next_sid old.services t.services
-    (deaths_given (work_asked c.args.work.now) c.args.now (charts_of old.services))) (sym c.commit.ensures.shown)
-    c.in_ok-prepare_alone.ensures.tallies
+    (deaths_given (work_asked c.args.work.now) c.args.now (charts_of old.services))) (sym c.commit.ensures)
+    c.in_ok-plan.ensures.tallies

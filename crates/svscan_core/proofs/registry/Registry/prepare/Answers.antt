@@ -1,56 +1,90 @@
-use Rattle.std.proofs.Common.{◌≤◌, ◌++◌, sym, subst, List, map, length}
+use Rattle.std.proofs.Common.{◌≡◌, ◌∙◌, ◌++◌, sym, ap, subst, List, map}
+use Rattle.deadlines.specs.Timers.{with_timer_changes}
 use Rattle.supervise_core.specs.Chart.{fire_move}
 use Rattle.supervise_core.specs.Service.{Supervised}
-use Rattle.svscan_core.specs.declared.pending.Pending.{Pending}
+use Rattle.svscan_core.specs.Asked.{work_asked}
 use Rattle.svscan_core.specs.Deaths.{deaths_given, KeepTallied}
 use Rattle.svscan_core.specs.Moves.{moment_of, services_after}
-use Rattle.svscan_core.specs.Moving.{KeepNames}
-use Rattle.svscan_core.specs.Asked.{work_asked}
-use Rattle.svscan_core.specs.Pending.{registry_prepared}
-use Rattle.svscan_core.specs.RegistryFields.{IsSoundTable}
+use Rattle.svscan_core.specs.Pending.{planned_of}
+use Rattle.svscan_core.specs.Registry.{PlannedStep, registry_prepared, result_of, Fits}
 use Rattle.svscan_core.specs.Sound.{AllAgree, IsSound}
 use Rattle.svscan_core.specs.Table.{charts_of}
-use Rattle.svscan_core.proofs.Ready.{on_ok, sound_step}
+use Rattle.svscan_core.specs.Timers.{TimersAgree}
+use Rattle.svscan_core.specs.Work.{step_result}
+use Rattle.svscan_core.proofs.Ready.{on_ok, sound_step, blank_idle}
 use Rattle.svscan_core.proofs.registry.Registry.prepare.Goals as goal
 
-pub invariant_of-self-2 : goal.invariant_of-self-2
-invariant_of-self-2 g c =
+pub work_out-worked-requires-clause-generations : goal.work_out-worked-requires-clause-generations
+work_out-worked-requires-clause-generations g c = rw (← c.self.view_is) at c.requires.generations
+
+pub work_out-worked-requires-clause-due : goal.work_out-worked-requires-clause-due
+work_out-worked-requires-clause-due g c = rw (← c.self.view_is) at c.requires.due
+
+pub invariant_of-self : goal.invariant_of-self
+invariant_of-self g c =
+    subst (λ (ss : List Supervised). IsSound c.self.inside.next_sid (charts_of ss)) (sym c.settle.ensures.services) c.self.invariant
+
+pub returns-clause-fits : goal.returns-clause-fits
+returns-clause-fits g c =
     let services = c.self.inside.slots.services in
-    let ok = c.in_ok-settle.ensures.ok in
+    let room = c.settle.new.slots.room in
+    let ok = c.in_ok-plan.ensures.ok in
     let worked = on_ok c.work_out-worked.result _ c.work_out-worked.ensures.worked ok in
-    let places = on_ok c.work_out-worked.result _ c.work_out-worked.ensures.touched ok in
-    let same = sym c.in_ok-settle.ensures.same in
-    let stay = sym c.settle.ensures.services in
-    record {
-      shown = subst (λ (ss : List Supervised). IsSound c.self.inside.next_sid (charts_of ss)) stay c.self.invariant.shown;
-      prepared =
-          subst (λ (ss : List Supervised). IsSoundTable (registry_prepared ss c.settle.new.pending)) stay
-          (subst (λ (p : Pending g.row.A.Denot). IsSoundTable (registry_prepared services p)) same
-          (sound_step (registry_prepared services c.work_out-worked.new.self)
-          (work_asked c.args.work.now) c.args.now c.self.inside.next_sid services c.self.invariant.shown worked));
-      places =
-          subst (λ (ss : List Supervised). KeepNames ss c.settle.new.pending.moves.touched.items) stay
-          (subst (λ (p : Pending g.row.A.Denot). KeepNames services p.moves.touched.items) same places);
-      room = subst (λ (p : Pending g.row.A.Denot). length p.scan.added.items ≤ c.settle.new.slots.room) same c.in_ok-settle.ensures.room;
-    }
+    subst (λ (ss : List Supervised). Fits (record { shown = record { services = ss; next_sid = c.self.inside.next_sid }; room = room }) c.in_ok-plan.plan)
+    (sym c.settle.ensures.services)
+    (subst (λ (p : PlannedStep). Fits (record { shown = record { services = services; next_sid = c.self.inside.next_sid }; room = room }) p)
+    (sym c.in_ok-plan.ensures.same)
+    (record {
+      names = on_ok c.work_out-worked.result _ c.work_out-worked.ensures.touched ok;
+      room = c.in_ok-plan.ensures.room;
+      sound =
+          sound_step (registry_prepared services (planned_of c.work_out-worked.new.self)) (work_asked c.args.work.now) c.args.now c.self.inside.next_sid
+          services c.self.invariant worked;
+    }))
+
+pub returns-clause-prepared : goal.returns-clause-prepared
+returns-clause-prepared g c =
+    let services = c.self.inside.slots.services in
+    let worked = on_ok c.work_out-worked.result _ c.work_out-worked.ensures.worked c.in_ok-plan.ensures.ok in
+    rw (← c.self.view_is)
+    (subst (λ (ss : List Supervised). result_of (registry_prepared ss c.in_ok-plan.plan)
+    ≡ step_result (work_asked c.args.work.now) c.args.now (charts_of services) c.self.inside.next_sid) (sym c.settle.ensures.services)
+    (subst (λ (p : PlannedStep). result_of (registry_prepared services p)
+    ≡ step_result (work_asked c.args.work.now) c.args.now (charts_of services) c.self.inside.next_sid) (sym c.in_ok-plan.ensures.same) worked))
 
 pub returns-clause-agrees : goal.returns-clause-agrees
 returns-clause-agrees g c = λ h at all.
     let services = c.self.inside.slots.services in
-    let agrees = on_ok c.work_out-worked.result _ c.work_out-worked.ensures.agrees c.in_ok-settle.ensures.ok in
+    let agrees = on_ok c.work_out-worked.result _ c.work_out-worked.ensures.agrees c.in_ok-plan.ensures.ok in
     let start : AllAgree services h = rw (← c.self.view_is) at all in
-    subst (λ (ss : List Supervised). AllAgree (registry_prepared ss c.settle.new.pending).services
-    (h ++ map moment_of c.settle.new.pending.moves.events.items)) (sym c.settle.ensures.services)
-    (subst (λ (p : Pending g.row.A.Denot). AllAgree (registry_prepared services p).services (h ++ map moment_of p.moves.events.items))
-    (sym c.in_ok-settle.ensures.same) (agrees h at start))
+    subst (λ (ss : List Supervised). AllAgree (registry_prepared ss c.in_ok-plan.plan).services (h ++ map moment_of c.in_ok-plan.plan.events))
+    (sym c.settle.ensures.services)
+    (subst (λ (p : PlannedStep). AllAgree (registry_prepared services p).services (h ++ map moment_of p.events)) (sym c.in_ok-plan.ensures.same)
+    (agrees h at start))
 
 pub returns-clause-tallies : goal.returns-clause-tallies
 returns-clause-tallies g c =
     let services = c.self.inside.slots.services in
     let more = deaths_given (work_asked c.args.work.now) c.args.now (services_after (fire_move c.args.now) (charts_of services)) in
-    let tallies = on_ok c.work_out-worked.result _ c.work_out-worked.ensures.tallies c.in_ok-settle.ensures.ok in
+    let tallies = on_ok c.work_out-worked.result _ c.work_out-worked.ensures.tallies c.in_ok-plan.ensures.ok in
     rw (← c.self.view_is)
-    (subst (λ (ss : List Supervised). KeepTallied c.self.inside.next_sid services (registry_prepared ss c.settle.new.pending).services more)
+    (subst (λ (ss : List Supervised). KeepTallied c.self.inside.next_sid services (registry_prepared ss c.in_ok-plan.plan).services more)
     (sym c.settle.ensures.services)
-    (subst (λ (p : Pending g.row.A.Denot). KeepTallied c.self.inside.next_sid services (registry_prepared services p).services more)
-    (sym c.in_ok-settle.ensures.same) tallies))
+    (subst (λ (p : PlannedStep). KeepTallied c.self.inside.next_sid services (registry_prepared services p).services more)
+    (sym c.in_ok-plan.ensures.same) tallies))
+
+pub returns-clause-timers : goal.returns-clause-timers
+returns-clause-timers g c = λ ts a.
+    let services = c.self.inside.slots.services in
+    let timers = on_ok c.work_out-worked.result _ c.work_out-worked.ensures.timers c.in_ok-plan.ensures.ok in
+    let start : TimersAgree ts (charts_of services) = rw (← c.self.view_is) at a in
+    subst (λ (ss : List Supervised). TimersAgree (with_timer_changes c.in_ok-plan.plan.timers ts)
+    (charts_of (registry_prepared ss c.in_ok-plan.plan).services)) (sym c.settle.ensures.services)
+    (subst (λ (p : PlannedStep). TimersAgree (with_timer_changes p.timers ts) (charts_of (registry_prepared services p).services))
+    (sym c.in_ok-plan.ensures.same) (timers ts start))
+
+pub returns-clause-still : goal.returns-clause-still
+returns-clause-still g c = λ none nothing.
+    let blank = on_ok c.work_out-worked.result _ (c.work_out-worked.ensures.blank none nothing) c.in_ok-plan.ensures.ok in
+    ap (registry_prepared c.settle.new.slots.services) c.in_ok-plan.ensures.same
+    ∙ blank_idle c.settle.new.slots.services c.self.inside.next_sid c.work_out-worked.new.self blank

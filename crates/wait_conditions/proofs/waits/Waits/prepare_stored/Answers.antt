@@ -1,14 +1,14 @@
-use Rattle.std.proofs.Common.{◌∙◌}
-use Rattle.wait_conditions.specs.Steps.{wait_request_of}
-use Rattle.wait_conditions.proofs.Calm.{calm_joined}
+use Rattle.std.proofs.Common.{◌∙◌, ap, sym, map}
+use Rattle.wait_conditions.specs.Kept.{waiter_view, releases_seen}
+use Rattle.wait_conditions.specs.Stands.{WaitsShown, waits_shown}
+use Rattle.wait_conditions.proofs.Stepping.{released_alike}
 use Rattle.wait_conditions.proofs.waits.Waits.prepare_stored.Goals as goal
 
-pub returns-then-is_calm-clause-ok : goal.returns-then-is_calm-clause-ok
-returns-then-is_calm-clause-ok g c =
-    rw (← c.self.view_is)
-    (calm_joined c.self.inside.roll c.self.inside.moments.shown c.join_all.new.self.shown c.forget.new.self.step c.join_all.new.self.step
-    c.args.moments.now (wait_request_of c.args.change.now)
-    c.empty.result.released.items c.empty.result.answer
-    (c.join_all.ensures.shown ∙ c.forget.ensures.shown) c.forget.ensures.step c.in_ok-join_all.ensures.step c.empty.ensures.released
-    c.empty.ensures.answer
-    (c.is_calm.ensures.calm c.if-is_calm.true c.self.inside.moments.shown c.self.invariant.now))
+pub returns-clause-released : goal.returns-clause-released
+returns-clause-released g c =
+    c.in_ok-released.ensures.released
+    ∙ (ap (λ ws. releases_seen c.args.moments.now (map waiter_view ws)) c.deref_mut.ensures.value
+    ∙ (sym (released_alike c.args.moments.now _ _ c.in_ok-copies.ensures.alike)
+    ∙ (ap (λ ws. releases_seen c.args.moments.now (map waiter_view ws)) c.deref.ensures.value
+    ∙ ap (λ (s : WaitsShown). releases_seen c.args.moments.now s.waiters)
+    (ap waits_shown c.self-2.view_is ∙ c.in_ok-make_room.ensures.shown))))

@@ -1,0 +1,81 @@
+//! Timers in the order of their moments.
+ghost use Rattle.std.specs.Prelude.{◌≡◌, ◌+◌, ◌<◌, ◌≤◌, ℕ, [], length, not, IfSome, take, slice_get, true, false, sum_by, vec_len, vec_capacity};
+ghost use Rattle.std.specs.List.{list_all};
+ghost use Rattle.deadlines.specs.Queue.{is_before, in_moment_order, is_this};
+ghost use Rattle.deadlines.specs.Timers.{due_by};
+ghost use Rattle.deadlines.specs.declared.timer.Timer.{Timer};
+
+use crate::timer::Timer;
+use s6_events::At;
+use std::alloc::Allocator;
+
+// Whether a timer goes off before another one.
+fn is_before(timer: &Timer, other: &Timer) -> bool
+    ensures { result ≡ is_before timer.now other.now }
+{
+    if timer.at.millis() == other.at.millis() {
+        timer.sid.0 < other.sid.0
+    } else {
+        timer.at.millis() < other.at.millis()
+    }
+}
+
+// The first place of a timer that doesn't go off before this one, or the end.
+fn place_in(queue: &[Timer], timer: &Timer) -> usize
+    requires { in_moment_order queue.now ≡ true }
+    ensures bound { result ≤ length queue.now }
+    ensures before { list_all (λ t. is_before t timer.now) (take result queue.now) ≡ true }
+    ensures stop { IfSome (slice_get queue.now result) (λ t. is_before t timer.now ≡ false) }
+{
+    let mut low = 0;
+    let mut high = queue.len();
+    while low < high {
+        let middle = low + (high - low) / 2;
+        let other = queue[middle];
+        if is_before(&other, timer) {
+            low = middle + 1;
+        } else {
+            high = middle;
+        }
+    }
+    low
+}
+
+/// Takes a timer out that stands in the queue.
+pub fn take_out<A: Allocator>(queue: &mut Vec<Timer, A>, timer: &Timer)
+    requires order { in_moment_order queue.old.items ≡ true }
+    requires there { 0 < sum_by (is_this timer.now) queue.old.items }
+    ensures order { in_moment_order queue.new.items ≡ true }
+    ensures left { (counted : Timer → ℕ) → sum_by counted queue.new.items + counted timer.now
+        ≡ sum_by counted queue.old.items }
+    ensures len { vec_len queue.new + 1 ≡ vec_len queue.old }
+    ensures capacity { vec_capacity queue.new ≡ vec_capacity queue.old }
+{
+    let place = place_in(queue, timer);
+    queue.remove(place);
+}
+
+/// Puts a timer in at its place; there is room for it.
+pub fn put_in<A: Allocator>(queue: &mut Vec<Timer, A>, timer: &Timer)
+    requires order { in_moment_order queue.old.items ≡ true }
+    requires room { vec_len queue.old < vec_capacity queue.old }
+    ensures order { in_moment_order queue.new.items ≡ true }
+    ensures more { (counted : Timer → ℕ) → sum_by counted queue.new.items
+        ≡ sum_by counted queue.old.items + counted timer.now }
+    ensures len { vec_len queue.new ≡ vec_len queue.old + 1 }
+    ensures capacity { vec_capacity queue.old ≤ vec_capacity queue.new }
+{
+    let place = place_in(queue, timer);
+    queue.insert(place, *timer).unwrap();
+}
+
+/// Whether the first timer of the queue is due: where it is not, none is.
+pub fn is_any_due(queue: &[Timer], now: At) -> bool
+    requires { in_moment_order queue.now ≡ true }
+    ensures { result ≡ false → due_by now queue.now ≡ [] }
+{
+    match queue.first() {
+        Some(timer) => timer.at.millis() <= now.millis(),
+        None => false,
+    }
+}

@@ -1,0 +1,155 @@
+//! The counters of a waiter, and the verdict that they give.
+ghost use Rattle.std.specs.Prelude.{◌≡◌, ◌≤◌, [], map, length, false, is_some};
+ghost use Rattle.s6_events.specs.Newest.{mark_of};
+ghost use Rattle.wait_conditions.specs.Counts.{recounted, counts_after, counts_of, count_is_enough, count_is_hopeless, verdict_by};
+ghost use Rattle.wait_conditions.specs.Verdict.{is_failure_for_good};
+ghost use Rattle.wait_conditions.specs.Watched.{watched_after};
+
+use crate::failure::Failure;
+use crate::supervisor_state::mark_in;
+use crate::verdict::{Verdict, WaitState};
+use crate::watched_service::WatchedService;
+use s6_events::{Condition, Mode, Moment};
+
+/// How many of a waiter's services hold, how many fail, and how many of these for good.
+#[derive(Clone, Copy, Debug)]
+pub struct Counts {
+    pub holding: usize,
+    pub failing: usize,
+    pub permanent: usize,
+}
+
+// A counter, where what it counts of one service was so and is now so.
+fn recount(count: usize, was: bool, now: bool) -> usize
+    requires { count ≤ 16 }
+    ensures { result ≡ recounted count was now }
+{
+    let more = if now { count + 1 } else { count };
+    if was { more.saturating_sub(1) } else { more }
+}
+
+fn is_permanent_failure(failure: Option<Failure>) -> bool
+    ensures { result ≡ is_failure_for_good failure }
+{
+    matches!(failure, Some(Failure::Permanent))
+}
+
+impl Counts {
+    /// Of no service.
+    pub fn none() -> Counts
+        ensures { result ≡ counts_of [] }
+    {
+        Counts {
+            holding: 0,
+            failing: 0,
+            permanent: 0,
+        }
+    }
+
+    // Where one of the services has changed.
+    fn after(self, was: &WatchedService, now: &WatchedService) -> Counts
+        requires holding { self.holding ≤ 16 }
+        requires failing { self.failing ≤ 16 }
+        requires permanent { self.permanent ≤ 16 }
+        ensures { result ≡ counts_after self was.now now.now }
+    {
+        Counts {
+            holding: recount(self.holding, was.holds, now.holds),
+            failing: recount(self.failing, was.failure.is_some(), now.failure.is_some()),
+            permanent: recount(
+                self.permanent,
+                is_permanent_failure(was.failure),
+                is_permanent_failure(now.failure),
+            ),
+        }
+    }
+
+    // Where one more service has joined.
+    fn with(self, joining: &WatchedService) -> Counts
+        requires holding { self.holding ≤ 16 }
+        requires failing { self.failing ≤ 16 }
+        requires permanent { self.permanent ≤ 16 }
+        ensures holding { result.holding ≡ recounted self.holding false joining.now.holds }
+        ensures failing { result.failing ≡ recounted self.failing false (is_some joining.now.failure) }
+        ensures permanent { result.permanent
+            ≡ recounted self.permanent false (is_failure_for_good joining.now.failure) }
+    {
+        Counts {
+            holding: recount(self.holding, false, joining.holds),
+            failing: recount(self.failing, false, joining.failure.is_some()),
+            permanent: recount(self.permanent, false, is_permanent_failure(joining.failure)),
+        }
+    }
+
+    fn is_enough(&self, mode: Mode, services: usize) -> bool
+        ensures { result ≡ count_is_enough mode services self.now.holding }
+    {
+        match mode {
+            Mode::All => self.holding == services,
+            Mode::One => self.holding > 0,
+        }
+    }
+
+    fn is_hopeless(&self, mode: Mode, services: usize) -> bool
+        ensures { result ≡ count_is_hopeless mode services self.now.failing }
+    {
+        match mode {
+            Mode::All => self.failing > 0,
+            Mode::One => self.failing == services,
+        }
+    }
+
+    /// The verdict that they give of so many services, late or not.
+    pub fn verdict(&self, mode: Mode, services: usize, late: bool) -> WaitState
+        ensures { result ≡ verdict_by mode services self.now late }
+    {
+        if self.is_enough(mode, services) {
+            WaitState::Released(Verdict::Held)
+        } else if self.is_hopeless(mode, services) {
+            if self.permanent > 0 {
+                WaitState::Released(Verdict::Failed)
+            } else {
+                WaitState::Released(Verdict::Gone)
+            }
+        } else if late {
+            WaitState::Released(Verdict::TimedOut)
+        } else {
+            WaitState::Waiting
+        }
+    }
+}
+
+/// The counters of these services.
+pub fn count_all(watched: &[WatchedService]) -> Counts
+    requires { length watched.now ≤ 16 }
+    ensures { result ≡ counts_of watched.now }
+{
+    let mut counts = Counts::none();
+    for service in watched {
+        counts = counts.with(service);
+    }
+    counts
+}
+
+/// Each service takes in a moment; the counters after it.
+pub fn watch_all(
+    watched: &mut [WatchedService],
+    counts: Counts,
+    condition: Condition,
+    moment: &Moment,
+) -> Counts
+    requires counted { counts ≡ counts_of watched.old }
+    requires few { length watched.old ≤ 16 }
+    ensures watched { watched.new
+        ≡ map (λ w. watched_after condition (mark_of w.sid moment.now) w) watched.old }
+    ensures counted { result ≡ counts_of watched.new }
+{
+    let mut counts = counts;
+    for i in 0..watched.len() {
+        let was = watched[i];
+        let now = was.after(condition, mark_in(was.sid, moment));
+        counts = counts.after(&was, &now);
+        watched[i] = now;
+    }
+    counts
+}

@@ -1,0 +1,245 @@
+//! What is known of every service, for waiters to come.
+ghost use Rattle.std.specs.Prelude.{◌≡◌, ◌==◌, ◌≤◌, ◌<◌, ◌+◌, ◌-◌, ◌*◌, ◌++◌, [], ◌∷◌, ℕ, true, false, length, take, drop, slice_get, nat_lt, vec_len, vec_capacity, if◌then◌else◌, IsOk, IfSome, OnOk, OnErr};
+ghost use Rattle.std.specs.List.{list_all, remove};
+ghost use Rattle.s6_events.specs.Newest.{mark_of};
+ghost use Rattle.wait_conditions.specs.States.{state_in, state_over};
+ghost use Rattle.wait_conditions.specs.SupervisorState.{state_after};
+
+use crate::supervisor_state::{SupervisorState, mark_in};
+use s6_events::{Moment, NoMemory, Sid};
+use std::alloc::Allocator;
+use std::marker::Model;
+
+/// What is known of each service above the run before, up to this serial.
+#[derive(Clone, Copy, Debug)]
+pub struct StateRun {
+    pub last: Sid,
+    pub state: SupervisorState,
+}
+
+/// What the marks say of every service, in runs of neighbours of which the same is known. Services that were dropped all ended, so they
+/// share the runs between those that stand: however long a tree runs, there are at most two runs for each service that stands, and one.
+#[derive(Drop)]
+pub struct ServiceStates<A: Allocator> {
+    runs: Vec<StateRun, A>,
+}
+
+impl<A: Allocator> Model for ServiceStates<A> {
+    ghost use Rattle.std.specs.Prelude.{◌-◌, vec_len, vec_capacity};
+    ghost use Rattle.wait_conditions.specs.States.{RunList};
+
+    ghost Value = { RunList };
+
+    ghost view = { λ s. record { runs = s.runs.items; spare_capacity = vec_capacity s.runs - vec_len s.runs } };
+}
+
+// What the runs say of a service.
+fn state_of_service(runs: &[StateRun], sid: Sid) -> SupervisorState
+    ensures { result ≡ state_in runs.now sid }
+{
+    for run in runs {
+        if sid.0 <= run.last.0 {
+            return run.state;
+        }
+    }
+    SupervisorState::unseen()
+}
+
+// The place of the first run that reaches up to this serial, or the end.
+fn place_of(runs: &[StateRun], sid: Sid) -> usize
+    ensures bound { result ≤ length runs.now }
+    ensures before { list_all (λ r. nat_lt r.last sid) (take result runs.now) ≡ true }
+    ensures stop { IfSome (slice_get runs.now result) (λ r. nat_lt r.last sid ≡ false) }
+{
+    let mut place = 0;
+    for run in runs {
+        if run.last.0 >= sid.0 {
+            return place;
+        }
+        place += 1;
+    }
+    place
+}
+
+// Whether a run reaches no further than another one.
+fn reaches_no_further(run: StateRun, other: StateRun) -> bool
+    ensures { result ≡ true → run.last ≤ other.last }
+{
+    run.last.0 <= other.last.0
+}
+
+// Whether a run says the same as the one after it, which reaches as far.
+fn says_the_same(run: StateRun, after: StateRun) -> bool
+    ensures reach { result ≡ true → run.last ≤ after.last }
+    ensures same { result ≡ true → run.state ≡ after.state }
+{
+    run.last.0 <= after.last.0 && run.state == after.state
+}
+
+// Whether the run at this place reaches no further than the one before it.
+fn is_covered(runs: &[StateRun], place: usize) -> bool
+    requires { place < length runs.now }
+    ensures { result ≡ true → (sid : ℕ) → state_in (remove runs.now place) sid ≡ state_in runs.now sid }
+{
+    if place == 0 {
+        return false;
+    }
+    reaches_no_further(runs[place], runs[place - 1])
+}
+
+// Whether the run at this place says the same as the one after it, which reaches as far.
+fn is_repeated(runs: &[StateRun], place: usize) -> bool
+    requires { place < length runs.now }
+    ensures { result ≡ true → (sid : ℕ) → state_in (remove runs.now place) sid ≡ state_in runs.now sid }
+{
+    if place + 1 >= runs.len() {
+        return false;
+    }
+    says_the_same(runs[place], runs[place + 1])
+}
+
+// Whether there is a run at this place that says nothing of its own.
+fn is_redundant(runs: &[StateRun], place: usize) -> bool
+    ensures within { result ≡ true → place < length runs.now }
+    ensures same { result ≡ true → (sid : ℕ) → state_in (remove runs.now place) sid ≡ state_in runs.now sid }
+{
+    place < runs.len() && (is_covered(runs, place) || is_repeated(runs, place))
+}
+
+// A run joins at this place, for which there is room.
+fn insert_run<A: Allocator>(
+    runs: &mut Vec<StateRun, A>,
+    place: usize,
+    last: Sid,
+    state: SupervisorState,
+)
+    requires place { place ≤ vec_len runs.old }
+    requires room { vec_len runs.old < vec_capacity runs.old }
+    ensures runs { runs.new.items ≡ take place runs.old.items
+        ++ record { last = last; state = state } ∷ drop place runs.old.items }
+    ensures len { vec_len runs.new ≡ vec_len runs.old + 1 }
+    ensures capacity { vec_capacity runs.new ≡ vec_capacity runs.old }
+{
+    runs.insert(place, StateRun { last, state }).unwrap();
+}
+
+// Where there is a serial below this one, a run up to that joins at the place, for which there is room.
+fn insert_below<A: Allocator>(
+    runs: &mut Vec<StateRun, A>,
+    place: usize,
+    sid: Sid,
+    state: SupervisorState,
+)
+    requires place { place ≤ vec_len runs.old }
+    requires room { vec_len runs.old < vec_capacity runs.old }
+    ensures runs { runs.new.items ≡ (if nat_lt 0 sid
+        then take place runs.old.items
+        ++ record { last = sid - 1; state = state } ∷ drop place runs.old.items else runs.old.items) }
+    ensures len { vec_len runs.new ≤ vec_len runs.old + 1 }
+    ensures capacity { vec_capacity runs.new ≡ vec_capacity runs.old }
+{
+    if sid.0 > 0 {
+        insert_run(runs, place, Sid(sid.0 - 1), state);
+    }
+}
+
+impl<A: Allocator + Copy> ServiceStates<A> {
+    /// No service has a mark.
+    pub fn new(alloc: A) -> ServiceStates<A>
+        ensures { result.runs ≡ [] }
+    {
+        ServiceStates {
+            runs: Vec::new(alloc),
+        }
+    }
+
+    /// Makes room for so many moments. `NoMemory` where the growth is refused; nothing has changed then.
+    pub fn reserve(&mut self, moments: usize) -> Result<(), NoMemory>
+        ensures runs { self.new.runs ≡ self.old.runs }
+        ensures ok { OnOk result (2 * moments ≤ self.new.spare_capacity) }
+        ensures err { OnErr result (self.new ≡ self.old) }
+        ensures quiet { moments ≡ 0 → IsOk result }
+    {
+        let Some(room) = moments.checked_mul(2) else {
+            return Err(NoMemory);
+        };
+        self.runs.reserve(room)?;
+        Ok(())
+    }
+}
+
+impl<A: Allocator> ServiceStates<A> {
+    /// What is known of a service once these moments have come too, one after the other.
+    pub fn after(&self, sid: Sid, moments: &[Moment]) -> SupervisorState
+        ensures { result ≡ state_over sid moments.now (state_in self.now.runs sid) }
+    {
+        let mut state = state_of_service(&self.runs, sid);
+        for moment in moments {
+            state = state.after(mark_in(sid, moment));
+        }
+        state
+    }
+
+    /// One more moment comes, for which there is room.
+    pub fn take_in(&mut self, moment: &Moment)
+        requires { 2 ≤ self.old.spare_capacity }
+        ensures states { (sid : ℕ) → state_in self.new.runs sid
+            ≡ state_after (mark_of sid moment.now) (state_in self.old.runs sid) }
+        ensures room { self.old.spare_capacity ≤ self.new.spare_capacity + 2 }
+    {
+        if let Moment::Event(sid, mark) = moment {
+            let was = state_of_service(&self.runs, *sid);
+            let state = was.after(Some(*mark));
+            if state != was {
+                self.put(*sid, state);
+            }
+        }
+    }
+
+    /// These moments come, one after the other; there is room for them.
+    pub fn take_in_all(&mut self, moments: &[Moment])
+        requires { 2 * length moments.now ≤ self.old.spare_capacity }
+        ensures states { (sid : ℕ) → state_in self.new.runs sid
+            ≡ state_over sid moments.now (state_in self.old.runs sid) }
+    {
+        for moment in moments {
+            self.take_in(moment);
+        }
+    }
+
+    // This is known of a service, for which there is room.
+    fn put(&mut self, sid: Sid, state: SupervisorState)
+        requires { 2 ≤ self.old.spare_capacity }
+        ensures states { (other : ℕ) → state_in self.new.runs other
+            ≡ (if other == sid then state else state_in self.old.runs other) }
+        ensures room { self.old.spare_capacity ≤ self.new.spare_capacity + 2 }
+    {
+        let place = place_of(&self.runs, sid);
+        let was = state_of_service(&self.runs, sid);
+        insert_run(&mut self.runs, place, sid, state);
+        insert_below(&mut self.runs, place, sid, was);
+        self.tidy(place);
+    }
+
+    // Takes out the runs round this place that say nothing of their own.
+    fn tidy(&mut self, place: usize)
+        ensures states { (sid : ℕ) → state_in self.new.runs sid ≡ state_in self.old.runs sid }
+        ensures room { self.old.spare_capacity ≤ self.new.spare_capacity }
+    {
+        for offset in 0..4usize {
+            if let Some(place) = place.checked_add(2).and_then(|end| end.checked_sub(offset)) {
+                self.drop_redundant(place);
+            }
+        }
+    }
+
+    // Takes out the run at this place, if it says nothing of its own.
+    fn drop_redundant(&mut self, place: usize)
+        ensures states { (sid : ℕ) → state_in self.new.runs sid ≡ state_in self.old.runs sid }
+        ensures room { self.old.spare_capacity ≤ self.new.spare_capacity }
+    {
+        if is_redundant(&self.runs, place) {
+            self.runs.remove(place);
+        }
+    }
+}
