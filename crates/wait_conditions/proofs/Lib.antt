@@ -2,6 +2,8 @@ pub mod Pushed
 pub mod Standings
 pub mod Watched
 pub mod Counted
+pub mod Filtered
+pub mod Indexed
 pub mod Least
 pub mod OneMore
 pub mod InPlace

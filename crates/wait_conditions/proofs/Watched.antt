@@ -42,11 +42,11 @@ unmarked : (c : Condition) (at : ℕ) (ws : List WatchedService) → map (λ w. 
 unmarked c at [] = refl
 unmarked c at (w ∷ ws) = ap (λ vs. w ∷ vs) (unmarked c at ws)
 
-first_off : (a b : Bool) → (a || b) ≡ false → a ≡ false
+pub first_off : (a b : Bool) → (a || b) ≡ false → a ≡ false
 first_off true b h = h
 first_off false b h = refl
 
-rest_off : (a b : Bool) → (a || b) ≡ false → b ≡ false
+pub rest_off : (a b : Bool) → (a || b) ≡ false → b ≡ false
 rest_off true b h = cc
 rest_off false b h = h
 

@@ -9,6 +9,8 @@ pub mod Watched
 pub mod Counts
 pub mod Watch
 pub mod Kept
+pub mod Watchers
+pub mod Reach
 pub mod States
 pub mod Refusal
 pub mod Steps

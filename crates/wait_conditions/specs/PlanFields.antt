@@ -1,11 +1,12 @@
 -- What the fields of a plan stand for, and what is true of them.
-use Rattle.std.specs.Prelude.{⊤}
+use Rattle.std.specs.Prelude.{◌≡◌, ⊤, false, map}
 use Rattle.wait_conditions.specs.declared.wait_plan.PlannedChange.{PlannedChange}
 use Rattle.wait_conditions.specs.declared.wait_plan.PlannedChange.TheVariants.{Stay, Join, Leave}
 use Rattle.wait_conditions.specs.declared.wait_plan.WaitsPlan.TheInside.{Inside}
 use Rattle.wait_conditions.specs.Kept.{waiter_view}
 use Rattle.wait_conditions.specs.Stands.{ListChange, PlannedWaits}
 use Rattle.wait_conditions.specs.Stands.ListChange.{stay, join, leave}
+use Rattle.wait_conditions.specs.Refusal.{repeats_serial}
 use Rattle.wait_conditions.specs.WaitsFields.{IsCounted}
 
 -- what becomes of the list of waiters
@@ -19,14 +20,14 @@ plan_view p = record {
   released = p.released.items;
   answer = p.answer;
   moments = p.moments.items;
+  touched = p.touched.items;
   change = list_change_of p.change;
   next = p.next;
-  leaves_all = p.leaves_all;
 }
 
--- the counters of a waiter that is to join count
+-- the counters of a waiter that is to join count, and it watches each of its services once
 abbrev pub JoinsCounted : PlannedChange → Type 0
-JoinsCounted (Join waiter) = IsCounted waiter
+JoinsCounted (Join waiter) = IsCounted waiter × (repeats_serial (map (λ w. w.sid) waiter.watched.items) ≡ false)
 JoinsCounted change = ⊤
 
 abbrev pub IsSoundPlan : {A : Type 0} → Inside A → Type 0

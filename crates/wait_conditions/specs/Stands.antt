@@ -17,6 +17,7 @@ use Rattle.wait_conditions.specs.SupervisorState.{state_of, since_of}
 use Rattle.wait_conditions.specs.Verdict.{WaitTerms}
 use Rattle.wait_conditions.specs.Watch.{WrittenWaiter, Watch, waiter_serials, waiter_state, new_release}
 use Rattle.wait_conditions.specs.Watched.{watched_as, watched_over}
+use Rattle.wait_conditions.specs.Watchers.{serials_where, touched_by}
 
 -- how many moments came, what is known of the services, the waiters and the next serial
 pub record WaitsShown : Type 0 where
@@ -33,6 +34,11 @@ pub record StoredWaits : Type 0 where
   pub next : ℕ
   pub spare_waiters : ℕ
   pub spare_runs : ℕ
+
+-- the list of waiters, and how many more fit with no growth
+pub record StoredList : Type 0 where
+  pub waiters : List StoredWaiter
+  pub spare : ℕ
 
 -- without the room
 abbrev pub waits_shown : StoredWaits → WaitsShown
@@ -111,15 +117,15 @@ abbrev pub adding : WaitRequest → ℕ
 adding (add_one asked) = 1
 adding request = 0
 
--- a plan of a step: its answers, the moments that the waiters are to take in, what then becomes of the list of them, the next
--- serial, and whether the moments leave all waiters as they are
+-- a plan of a step: its answers, the moments that come, the serials of the waiters that these touch, what then becomes of the list
+-- of waiters, and the next serial
 pub record PlannedWaits : Type 0 where
   pub released : List (ℕ × Verdict)
   pub answer : WaitAnswer
   pub moments : List Moment
+  pub touched : List ℕ
   pub change : ListChange
   pub next : ℕ
-  pub leaves_all : Bool
 
 -- what moments, and then a change of the list and a next serial, make of what is there
 pub record MakesStep (ms : List Moment) (change : ListChange) (next : ℕ) (old new : WaitsShown) : Type 0 where
@@ -137,13 +143,19 @@ abbrev pub JoinsAt : ℕ → ListChange → Type 0
 JoinsAt count (join k) = k.place ≡ count
 JoinsAt count change = ⊤
 
--- the plan fits what is there: there is room for it, and where it says so, its moments leave all waiters as they are
+-- a waiter that joins takes the next serial
+abbrev pub JoinsNext : ℕ → ListChange → ℕ → Type 0
+JoinsNext old (join k) new = (k.id ≡ old) × (new ≡ old + 1)
+JoinsNext old change new = new ≡ old
+
+-- the plan fits what is there: there is room for it, and it names the waiters that its moments touch
 pub record FitsWaits (p : PlannedWaits) (s : StoredWaits) : Type 0 where
   pub count : s.count + length p.moments < 2 ^ 63
   pub runs : 2 * length p.moments ≤ s.spare_runs
   pub waiters : joining p.change ≤ s.spare_waiters
   pub place : JoinsAt (s.count + length p.moments) p.change
-  pub calm : p.leaves_all ≡ true → map (with_moments p.moments) s.waiters ≡ s.waiters
+  pub serial : JoinsNext s.next p.change p.next
+  pub touched : p.touched ≡ serials_where (touched_by p.moments) s.waiters
 
 -- after these moments, that is the change which is asked for, and so it is answered
 pub record PlansChange (old : WaitsShown) (ms : List Moment) (request : WaitRequest) (told : WaitAnswer)

@@ -7,6 +7,7 @@ mod failure;
 mod judging;
 pub mod laws;
 mod planning;
+mod reach;
 mod refusing;
 mod releasing;
 mod service_states;
@@ -15,8 +16,10 @@ mod verdict;
 mod wait_change;
 mod wait_plan;
 mod waiter;
+mod waiter_list;
 mod waits;
 mod watched_service;
+mod watchers;
 
 pub use add_fault::AddFault;
 pub use verdict::{Verdict, WaitState};

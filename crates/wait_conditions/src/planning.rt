@@ -1,53 +1,113 @@
-//! A step of the waiters, worked out on copies of those that it concerns.
-ghost use Rattle.std.specs.Prelude.{◌≡◌, ◌++◌, [], ◌∷◌, All, map, if◌then◌else◌, IfOk, OnOk, IsOk};
-ghost use Rattle.wait_conditions.specs.Kept.{waiter_view, concerned_by, with_moments, releases_seen};
-ghost use Rattle.wait_conditions.specs.Planning.{AreReleasedAlike};
-ghost use Rattle.wait_conditions.specs.WaitsFields.{IsCounted};
+//! A step of the waiters, worked out on copies of those that it touches.
+ghost use Rattle.std.specs.Prelude.{◌≡◌, ◌++◌, [], ◌∷◌, All, map, filter, if◌then◌else◌, IfOk, OnOk, IsOk};
+ghost use Rattle.s6_events.specs.Rising.{AreRising};
+ghost use Rattle.wait_conditions.specs.Kept.{waiter_view, with_moments, releases_seen};
+ghost use Rattle.wait_conditions.specs.Watchers.{AreIndexed, AreDueFrom, serials_where, watches, touched_by};
+ghost use Rattle.wait_conditions.specs.WaitsFields.{IsCounted, waiters_view};
 
-use crate::releasing::{is_concerned_by_any, take_in_all};
+use crate::reach::{Reach, reach_of};
+use crate::releasing::{is_touched_by_any, place_from, take_in_all};
 use crate::verdict::Verdict;
 use crate::waiter::{Waiter, copy_of};
-use s6_events::{Moment, NoMemory, WaitId};
+use crate::watchers::{Watcher, Watchers};
+use s6_events::{Moment, NoMemory, Sid, WaitId};
 use std::alloc::Allocator;
 
-// A waiter joins the copies, where one of the moments concerns it.
-fn copy_if_concerned<A: Allocator>(
+// A waiter joins the copies, where one of the moments touches it.
+fn copy_if_touched<A: Allocator>(
     copies: &mut Vec<Waiter, A>,
     waiter: &Waiter,
     moments: &[Moment],
 ) -> Result<(), NoMemory>
     requires waiter { IsCounted waiter.now }
     requires counted { All IsCounted copies.old.items }
-    ensures copies { OnOk result (map waiter_view copies.new.items ≡ map waiter_view copies.old.items
-        ++ (if concerned_by moments.now (waiter_view waiter.now) then waiter_view waiter.now ∷ [] else [])) }
+    ensures copies { OnOk result (waiters_view copies.new.items ≡ waiters_view copies.old.items
+        ++ (if touched_by moments.now (waiter_view waiter.now) then waiter_view waiter.now ∷ [] else [])) }
     ensures counted { All IsCounted copies.new.items }
-    ensures quiet { moments.now ≡ [] → IsOk result }
 {
-    if is_concerned_by_any(waiter, moments) {
+    if is_touched_by_any(waiter, moments) {
         copies.push(copy_of(waiter))?;
     }
     Ok(())
 }
 
-/// The waiters that these moments concern, once more.
-pub fn copy_concerned<A: Allocator>(
+// Of all waiters, those that these moments touch.
+fn copy_among_all<A: Allocator>(
     alloc: A,
     waiters: &[Waiter],
     moments: &[Moment],
 ) -> Result<Vec<Waiter, A>, NoMemory>
     requires { All IsCounted waiters.now }
-    ensures alike { IfOk result (λ copies. AreReleasedAlike moments.now
-        (map waiter_view waiters.now) (map waiter_view copies.items)) }
+    ensures copies { IfOk result (λ copies. waiters_view copies.items
+        ≡ filter (touched_by moments.now) (waiters_view waiters.now)) }
     ensures counted { IfOk result (λ copies. All IsCounted copies.items) }
-    ensures calm { IfOk result (λ copies. map waiter_view copies.items ≡ []
-        → map (with_moments moments.now) (map waiter_view waiters.now) ≡ map waiter_view waiters.now) }
-    ensures quiet { moments.now ≡ [] → IsOk result }
 {
     let mut copies = Vec::new(alloc);
     for waiter in waiters {
-        copy_if_concerned(&mut copies, waiter, moments)?;
+        copy_if_touched(&mut copies, waiter, moments)?;
     }
     Ok(copies)
+}
+
+// The waiters that watch a service, of which these are the watchers.
+fn copy_watching<A: Allocator>(
+    alloc: A,
+    waiters: &[Waiter],
+    sid: Sid,
+    watchers: &[Watcher],
+) -> Result<Vec<Waiter, A>, NoMemory>
+    requires counted { All IsCounted waiters.now }
+    requires rising { AreRising (map (λ k. k.id) (waiters_view waiters.now)) }
+    requires watchers { map (λ w. w.waiter) watchers.now
+        ≡ serials_where (watches sid) (waiters_view waiters.now) }
+    ensures copies { IfOk result (λ copies. waiters_view copies.items
+        ≡ filter (watches sid) (waiters_view waiters.now)) }
+    ensures counted { IfOk result (λ copies. All IsCounted copies.items) }
+{
+    let mut copies = Vec::new(alloc);
+    let mut start = 0;
+    for watcher in watchers {
+        let place = place_from(waiters, start, watcher.waiter);
+        copies.push(copy_of(&waiters[place]))?;
+        start = place + 1;
+    }
+    Ok(copies)
+}
+
+/// The waiters that these moments touch, once more. No waiter that waits has a deadline before `due`.
+pub fn copy_touched<A: Allocator>(
+    alloc: A,
+    waiters: &[Waiter],
+    watchers: &Watchers<A>,
+    due: u64,
+    moments: &[Moment],
+) -> Result<Vec<Waiter, A>, NoMemory>
+    requires counted { All IsCounted waiters.now }
+    requires rising { AreRising (map (λ k. k.id) (waiters_view waiters.now)) }
+    requires indexed { AreIndexed watchers.now.watchers (waiters_view waiters.now) }
+    requires due { AreDueFrom due (waiters_view waiters.now) }
+    ensures copies { IfOk result (λ copies. waiters_view copies.items
+        ≡ filter (touched_by moments.now) (waiters_view waiters.now)) }
+    ensures counted { IfOk result (λ copies. All IsCounted copies.items) }
+    ensures quiet { moments.now ≡ [] → IsOk result }
+{
+    match reach_of(moments, due) {
+        Reach::Nobody => Ok(Vec::new(alloc)),
+        Reach::WatchersOf(sid) => copy_watching(alloc, waiters, sid, watchers.of(sid)),
+        Reach::Anybody => copy_among_all(alloc, waiters, moments),
+    }
+}
+
+/// The serials of these waiters.
+pub fn list_serials<A: Allocator>(alloc: A, waiters: &[Waiter]) -> Result<Vec<WaitId, A>, NoMemory>
+    ensures serials { IfOk result (λ serials. serials.items ≡ map (λ k. k.id) (waiters_view waiters.now)) }
+    ensures quiet { waiters.now ≡ [] → IsOk result }
+{
+    let mut serials = Vec::new(alloc);
+    for waiter in waiters {
+        serials.push(waiter.id)?;
+    }
+    Ok(serials)
 }
 
 /// The releases of these waiters as they take in the moments.
@@ -58,7 +118,7 @@ pub fn release_all<A: Allocator + Copy>(
 ) -> Result<Vec<(WaitId, Verdict), A>, NoMemory>
     requires { All IsCounted waiters.old }
     ensures released { IfOk result (λ released. released.items
-        ≡ releases_seen moments.now (map waiter_view waiters.old)) }
+        ≡ releases_seen moments.now (waiters_view waiters.old)) }
     ensures quiet { moments.now ≡ [] → IsOk result }
 {
     let mut released = Vec::new(alloc);

@@ -1,12 +1,15 @@
 //! Waiters that take in moments, and the releases that these bring.
-ghost use Rattle.std.specs.Prelude.{◌≡◌, ◌≤◌, ◌+◌, ◌++◌, All, length, map, vec_len, vec_capacity, option_to_list};
+ghost use Rattle.std.specs.Prelude.{◌≡◌, ◌==◌, ◌≤◌, ◌+◌, ◌-◌, ◌++◌, ◌∷◌, ℕ, All, Bool, List, not, length, map, filter, drop, vec_len, vec_capacity, option_to_list, if◌then◌else◌};
 ghost use Rattle.std.specs.List.{filter_map};
-ghost use Rattle.wait_conditions.specs.Kept.{waiter_view, concerned_by, with_moment, with_moments, release_seen};
-ghost use Rattle.wait_conditions.specs.WaitsFields.{IsCounted};
+ghost use Rattle.s6_events.specs.Rising.{AreRising};
+ghost use Rattle.wait_conditions.specs.Kept.{StoredWaiter, waiter_view, still_waits, with_moment, with_moments, release_seen};
+ghost use Rattle.wait_conditions.specs.Watchers.{AreIndexed, IsFirst, serials_of, serials_where, touched_by};
+ghost use Rattle.wait_conditions.specs.WaitsFields.{IsCounted, waiters_view};
 ghost use Rattle.wait_conditions.specs.Watch.{new_release};
 
 use crate::verdict::{Verdict, WaitState};
-use crate::waiter::{Waiter, is_concerned, take_in};
+use crate::waiter::{Waiter, is_touched, take_in};
+use crate::watchers::Watchers;
 use s6_events::{Moment, WaitId};
 use std::alloc::Allocator;
 
@@ -52,12 +55,12 @@ pub fn take_in_all<A: Allocator>(
 )
     requires counted { All IsCounted waiters.old }
     requires room { vec_len released.old + length waiters.old ≤ vec_capacity released.old }
-    ensures waiters { map waiter_view waiters.new
-        ≡ map (with_moment moment.now) (map waiter_view waiters.old) }
+    ensures waiters { waiters_view waiters.new
+        ≡ map (with_moment moment.now) (waiters_view waiters.old) }
     ensures counted { All IsCounted waiters.new }
     ensures released { released.new.items
         ≡ released.old.items ++ filter_map (release_seen moment.now)
-        (map waiter_view waiters.old) }
+        (waiters_view waiters.old) }
 {
     for i in 0..waiters.len() {
         let release = take_in_for_release(&mut waiters[i], moment);
@@ -65,11 +68,35 @@ pub fn take_in_all<A: Allocator>(
     }
 }
 
-/// Whether one of the moments concerns the waiter.
-pub fn is_concerned_by_any(waiter: &Waiter, moments: &[Moment]) -> bool
-    ensures { result ≡ concerned_by moments.now (waiter_view waiter.now) }
+/// Whether one of the moments touches the waiter.
+pub fn is_touched_by_any(waiter: &Waiter, moments: &[Moment]) -> bool
+    ensures { result ≡ touched_by moments.now (waiter_view waiter.now) }
 {
-    moments.iter().any(|moment| is_concerned(waiter, moment))
+    moments.iter().any(|moment| is_touched(waiter, moment))
+}
+
+// Where the waiter of this serial stands: the first that passes, where its serial is the first of those that pass.
+fn place_in(waiters: &[Waiter], id: WaitId) -> usize
+    requires { AreRising (map (λ k. k.id) (waiters_view waiters.now)) }
+    ensures bound { result ≤ length waiters.now }
+    ensures first { (p : StoredWaiter → Bool) (rest : List ℕ)
+        → serials_where p (waiters_view waiters.now) ≡ id ∷ rest
+        → IsFirst p (waiters_view waiters.now) rest result }
+{
+    waiters.partition_point(|waiter| waiter.id.0 < id.0)
+}
+
+/// Where the waiter of this serial stands, from a place on: the first that passes, where its serial is the first of those that pass.
+pub fn place_from(waiters: &[Waiter], start: usize, id: WaitId) -> usize
+    requires start { start ≤ length waiters.now }
+    requires rising { AreRising (map (λ k. k.id) (waiters_view waiters.now)) }
+    ensures from { start ≤ result }
+    ensures bound { result ≤ length waiters.now }
+    ensures first { (p : StoredWaiter → Bool) (rest : List ℕ)
+        → serials_where p (drop start (waiters_view waiters.now)) ≡ id ∷ rest
+        → IsFirst p (drop start (waiters_view waiters.now)) rest (result - start) }
+{
+    start + place_in(&waiters[start..], id)
 }
 
 // A waiter takes in these moments, one after the other.
@@ -83,14 +110,45 @@ fn take_in_moments(waiter: &mut Waiter, moments: &[Moment])
     }
 }
 
-/// Every waiter takes in these moments, one after the other.
-pub fn take_in_by_each(waiters: &mut [Waiter], moments: &[Moment])
-    requires { All IsCounted waiters.old }
-    ensures waiters { map waiter_view waiters.new
-        ≡ map (with_moments moments.now) (map waiter_view waiters.old) }
-    ensures counted { All IsCounted waiters.new }
+// A waiter takes in these moments, and watches no service any more where they release it.
+fn change<A: Allocator>(waiter: &mut Waiter, watchers: &mut Watchers<A>, moments: &[Moment])
+    requires { IsCounted waiter.old }
+    ensures waiter { waiter_view waiter.new ≡ with_moments moments.now (waiter_view waiter.old) }
+    ensures counted { IsCounted waiter.new }
+    ensures watchers { (sid : ℕ) → serials_of sid watchers.new.watchers
+        ≡ (if still_waits (waiter_view waiter.new) then serials_of sid watchers.old.watchers
+        else filter (λ id. not (id == waiter.old.id)) (serials_of sid watchers.old.watchers)) }
+    ensures room { watchers.old.spare_capacity ≤ watchers.new.spare_capacity }
 {
-    for i in 0..waiters.len() {
-        take_in_moments(&mut waiters[i], moments);
+    take_in_moments(waiter, moments);
+    if waiter.standing != WaitState::Waiting {
+        watchers.leave(waiter.id);
+    }
+}
+
+/// The waiters of these serials take in the moments, one after the other. They are those that the moments touch, so that for all
+/// others nothing changes.
+pub fn change_touched<A: Allocator>(
+    waiters: &mut [Waiter],
+    watchers: &mut Watchers<A>,
+    touched: &[WaitId],
+    moments: &[Moment],
+)
+    requires counted { All IsCounted waiters.old }
+    requires rising { AreRising (map (λ k. k.id) (waiters_view waiters.old)) }
+    requires indexed { AreIndexed watchers.old.watchers (waiters_view waiters.old) }
+    requires touched { touched.now
+        ≡ serials_where (touched_by moments.now) (waiters_view waiters.old) }
+    ensures waiters { waiters_view waiters.new
+        ≡ map (with_moments moments.now) (waiters_view waiters.old) }
+    ensures counted { All IsCounted waiters.new }
+    ensures indexed { AreIndexed watchers.new.watchers (waiters_view waiters.new) }
+    ensures room { watchers.old.spare_capacity ≤ watchers.new.spare_capacity }
+{
+    let mut start = 0;
+    for id in touched {
+        let place = place_from(waiters, start, *id);
+        change(&mut waiters[place], watchers, moments);
+        start = place + 1;
     }
 }

@@ -1,5 +1,6 @@
 //! A step of the waiters that is worked out and not made yet.
 ghost use Rattle.std.specs.Prelude.{◌≡◌};
+ghost use Rattle.wait_conditions.specs.declared.wait_plan.PlannedChange.TheVariants.{Stay};
 
 use crate::verdict::Verdict;
 use crate::wait_change::WaitAnswer;
@@ -24,7 +25,7 @@ pub struct WaitsPlan<A: Allocator> {
     pub(crate) moments: Vec<Moment, A>,
     pub(crate) change: PlannedChange,
     pub(crate) next: u64,
-    pub(crate) leaves_all: bool,
+    pub(crate) touched: Vec<WaitId, A>,
 }
 
 impl<A: Allocator> Model for WaitsPlan<A> {
@@ -52,5 +53,28 @@ impl<A: Allocator> WaitsPlan<A> {
         ensures { result ≡ self.now.answer }
     {
         self.answer
+    }
+}
+
+/// What becomes of the list of waiters in a step, and what is answered.
+#[derive(Drop)]
+pub(crate) struct ChangePlan {
+    pub(crate) answer: WaitAnswer,
+    pub(crate) change: PlannedChange,
+    pub(crate) next: u64,
+}
+
+impl ChangePlan {
+    /// The list stays.
+    pub(crate) fn stay(answer: WaitAnswer, next: u64) -> ChangePlan
+        ensures answer { result.answer ≡ answer }
+        ensures change { result.change ≡ Stay }
+        ensures next { result.next ≡ next }
+    {
+        ChangePlan {
+            answer,
+            change: PlannedChange::Stay,
+            next,
+        }
     }
 }

@@ -6,6 +6,7 @@ ghost use Rattle.wait_conditions.specs.States.{state_in, state_over};
 ghost use Rattle.wait_conditions.specs.Stands.{new_stored_waiter};
 ghost use Rattle.wait_conditions.specs.SupervisorState.{since_of};
 ghost use Rattle.wait_conditions.specs.Watch.{wait_terms, new_release};
+ghost use Rattle.wait_conditions.specs.Watchers.{touches};
 ghost use Rattle.wait_conditions.specs.declared.verdict.WaitState.TheVariants.{Waiting};
 ghost use Rattle.wait_conditions.specs.Watched.{watched_as};
 ghost use Rattle.wait_conditions.specs.WaitsFields.{IsCounted};
@@ -49,12 +50,24 @@ fn has_service(watched: &[WatchedService], sid: Sid) -> bool
     watched.iter().any(|service| service.sid.0 == sid.0)
 }
 
-/// Whether a moment is a mark of one of the waiter's services, or reaches its deadline.
-pub fn is_concerned(waiter: &Waiter, moment: &Moment) -> bool
+// Whether a moment is a mark of one of the waiter's services, or reaches its deadline.
+fn is_concerned(waiter: &Waiter, moment: &Moment) -> bool
     ensures { result ≡ concerns moment.now (waiter_view waiter.now) }
 {
     match moment {
         Moment::Clock(_) => is_late(waiter.deadline, moment),
+        Moment::Event(sid, _) => has_service(waiter.watched.as_slice(), *sid),
+    }
+}
+
+/// Whether a moment is a mark of a service that the waiter watches, or reaches its deadline while it waits.
+pub fn is_touched(waiter: &Waiter, moment: &Moment) -> bool
+    ensures { result ≡ touches moment.now (waiter_view waiter.now) }
+{
+    match moment {
+        Moment::Clock(_) => {
+            waiter.standing == WaitState::Waiting && is_late(waiter.deadline, moment)
+        }
         Moment::Event(sid, _) => has_service(waiter.watched.as_slice(), *sid),
     }
 }

@@ -16,14 +16,14 @@ ghost use Rattle.wait_conditions.specs.Watch.{Watch, new_watch, releases, waits_
 ghost use Rattle.wait_conditions.specs.Watch.{wait_terms, new_waiter, new_release, waiter_state};
 
 use crate::add_fault::AddFault;
-use crate::planning::{copy_concerned, release_all};
+use crate::planning::{list_serials, release_all};
 use crate::refusing::{deadline_for, refusal_for};
-use crate::releasing::{take_in_all, take_in_by_each};
 use crate::service_states::ServiceStates;
 use crate::verdict::{Verdict, WaitState};
 use crate::wait_change::{WaitAnswer, WaitChange};
-use crate::wait_plan::{PlannedChange, WaitsPlan};
-use crate::waiter::{Waiter, new_waiter, release_at_once};
+use crate::wait_plan::{ChangePlan, PlannedChange, WaitsPlan};
+use crate::waiter::{new_waiter, release_at_once};
+use crate::waiter_list::WaiterList;
 use s6_events::{At, Condition, Mode, Moment, NoMemory, Sid, WaitId};
 use std::alloc::Allocator;
 use std::marker::Model;
@@ -37,13 +37,13 @@ const COUNT_LIMIT: u64 = 9_223_372_036_854_775_808;
 /// A step is worked out first (`prepare`), which changes nothing that is shown, and its plan is then made (`commit`); or one thing
 /// alone is done at once (`add`, `moment`, `cancel`).
 ///
-/// No moment is kept. Each waiter that waits counts those of its services that hold and those that fail, and a moment changes the
-/// waiters that it concerns: those of its service, or those of which it reaches the deadline.
+/// No moment is kept. Each waiter that waits counts those of its services that hold and those that fail, and a moment looks at the
+/// waiters that it touches alone: those that watch its service, or those of which it reaches the deadline.
 #[derive(Drop)]
 pub struct Waits<A: Allocator> {
     count: u64,
     states: ServiceStates<A>,
-    waiters: Vec<Waiter, A>,
+    list: WaiterList<A>,
     next: u64,
 }
 
@@ -68,7 +68,7 @@ impl<A: Allocator + Copy> Waits<A> {
         Waits {
             count: 0,
             states: ServiceStates::new(alloc),
-            waiters: Vec::new(alloc),
+            list: WaiterList::new(alloc),
             next: 1,
         }
     }
@@ -84,7 +84,7 @@ impl<A: Allocator + Copy> Waits<A> {
     fn stored_result(&self, id: WaitId) -> Option<WaitState>
         ensures { result ≡ standing_kept id self.now.waiters }
     {
-        find_standing(&self.waiters, id)
+        self.list.standing(id)
     }
 
     /// The place of the moment from which on a history is needed: how many had come when the oldest waiter that waits still was
@@ -97,7 +97,7 @@ impl<A: Allocator + Copy> Waits<A> {
         ensures within { (end : ℕ) → All (λ k. k.place ≤ end) self.now.waiters → self.now.count ≤ end
             → result ≤ end }
     {
-        place_or_end(oldest_of(&self.waiters), self.count)
+        place_or_end(self.list.oldest(), self.count)
     }
 
     /// Makes a waiter for these services, 1 to 16, each named once. Its deadline is `timeout` milliseconds after `start`, and with
@@ -146,10 +146,10 @@ impl<A: Allocator + Copy> Waits<A> {
         ensures serial { OnOk result (self.new.next ≡ self.old.next + 1) }
         ensures err { OnErr result (self.new ≡ self.old) }
     {
-        if let Some(fault) = refusal_for(self.waiters.len(), sids) {
+        if let Some(fault) = refusal_for(self.list.len(), sids) {
             return Err(fault);
         }
-        self.reserve_one()?;
+        self.list.reserve_one()?;
         let id = WaitId(self.next);
         let deadline = deadline_for(timeout, start);
         let waiter = new_waiter(
@@ -163,7 +163,7 @@ impl<A: Allocator + Copy> Waits<A> {
             &[],
         );
         let verdict = release_at_once(&waiter);
-        self.waiters.push_reserved(waiter);
+        self.list.push(waiter);
         self.next += 1;
         Ok((id, verdict))
     }
@@ -191,11 +191,14 @@ impl<A: Allocator + Copy> Waits<A> {
         if self.count + 1 >= COUNT_LIMIT {
             return Err(NoMemory);
         }
-        let mut released = Vec::new(*self.waiters.allocator());
-        released.reserve(self.waiters.len())?;
+        let moments = [*moment];
+        let alloc = self.list.allocator();
+        let mut copies = self.list.copy_touched(&moments)?;
+        let touched = list_serials(alloc, &copies)?;
+        let released = release_all(alloc, &mut copies, &moments)?;
         self.states.reserve(1)?;
         self.states.take_in(moment);
-        take_in_all(&mut self.waiters, moment, &mut released);
+        self.list.change(&touched, &moments);
         self.count += 1;
         Ok(released)
     }
@@ -215,7 +218,7 @@ impl<A: Allocator + Copy> Waits<A> {
     fn take_out(&mut self, id: WaitId)
         ensures { CancelsWaiter (waits_shown self.old) (waits_shown self.new) id }
     {
-        drop_named(&mut self.waiters, id);
+        self.list.remove(id);
     }
 
     /// Works out a step: its moments in order, so that the releases come by moment and then in rising serial; and after all of them
@@ -264,9 +267,10 @@ impl<A: Allocator + Copy> Waits<A> {
         ensures quiet { moments.now ≡ [] → wait_request_of change.now ≡ no_wait_request
             → IsOkAnd result (λ plan. plan.answer ≡ answer.Nothing) }
     {
-        let alloc = *self.waiters.allocator();
+        let alloc = self.list.allocator();
         self.make_room(moments.len(), change)?;
-        let mut copies = copy_concerned(alloc, &self.waiters, moments)?;
+        let mut copies = self.list.copy_touched(moments)?;
+        let touched = list_serials(alloc, &copies)?;
         let released = release_all(alloc, &mut copies, moments)?;
         let planned = self.plan_change(moments, change);
         let mut own = Vec::new(alloc);
@@ -277,7 +281,7 @@ impl<A: Allocator + Copy> Waits<A> {
             moments: own,
             change: planned.change,
             next: planned.next,
-            leaves_all: copies.is_empty(),
+            touched,
         })
     }
 
@@ -294,19 +298,8 @@ impl<A: Allocator + Copy> Waits<A> {
         }
         self.states.reserve(moments)?;
         if let WaitChange::Add(_, _, _, _, _) = change {
-            self.reserve_one()?;
+            self.list.reserve_one()?;
         }
-        Ok(())
-    }
-
-    // Room for one more waiter.
-    fn reserve_one(&mut self) -> Result<(), NoMemory>
-        ensures shown { waits_shown self.new ≡ waits_shown self.old }
-        ensures runs { self.new.spare_runs ≡ self.old.spare_runs }
-        ensures ok { OnOk result (1 ≤ self.new.spare_waiters) }
-        ensures err { OnErr result (self.new ≡ self.old) }
-    {
-        self.waiters.reserve(1)?;
         Ok(())
     }
 
@@ -357,7 +350,7 @@ impl<A: Allocator + Copy> Waits<A> {
         ensures counted { JoinsCounted result.change }
         ensures place { JoinsAt (self.now.count + length moments.now) (list_change_of result.change) }
     {
-        if let Some(fault) = refusal_for(self.waiters.len(), sids) {
+        if let Some(fault) = refusal_for(self.list.len(), sids) {
             return ChangePlan::stay(WaitAnswer::Refused(fault), self.next);
         }
         let id = WaitId(self.next);
@@ -397,73 +390,20 @@ impl<A: Allocator + Copy> Waits<A> {
     {
         let WaitsPlan {
             moments,
+            touched,
             change,
             next,
-            leaves_all,
             ..
         } = plan;
         self.states.take_in_all(&moments);
-        if !leaves_all {
-            take_in_by_each(&mut self.waiters, &moments);
-        }
+        self.list.change(&touched, &moments);
         self.count += moments.len() as u64;
         self.next = next;
         match change {
             PlannedChange::Stay => {}
-            PlannedChange::Join(waiter) => self.waiters.push_reserved(waiter),
-            PlannedChange::Leave(id) => self.take_out(id),
+            PlannedChange::Join(waiter) => self.list.push(waiter),
+            PlannedChange::Leave(id) => self.list.remove(id),
         }
-    }
-}
-
-// What becomes of the list of waiters in a step, and what is answered.
-#[derive(Drop)]
-struct ChangePlan {
-    answer: WaitAnswer,
-    change: PlannedChange,
-    next: u64,
-}
-
-impl ChangePlan {
-    // The list stays.
-    fn stay(answer: WaitAnswer, next: u64) -> ChangePlan
-        ensures answer { result.answer ≡ answer }
-        ensures change { result.change ≡ Stay }
-        ensures next { result.next ≡ next }
-    {
-        ChangePlan {
-            answer,
-            change: PlannedChange::Stay,
-            next,
-        }
-    }
-}
-
-// Where the waiter of this serial stands.
-fn find_standing(waiters: &[Waiter], id: WaitId) -> Option<WaitState>
-    ensures { result ≡ standing_kept id (map waiter_view waiters.now) }
-{
-    find_stored(waiters, id)
-}
-
-fn find_stored(waiters: &[Waiter], id: WaitId) -> Option<WaitState>
-    ensures { result ≡ standing_stored id waiters.now }
-{
-    for waiter in waiters {
-        if waiter.id == id {
-            return Some(waiter.standing);
-        }
-    }
-    None
-}
-
-// The lower of a place and one that was found.
-fn lower_place(found: Option<u64>, place: u64) -> u64
-    ensures { result ≡ lower found place }
-{
-    match found {
-        None => place,
-        Some(other) => if other <= place { other } else { place },
     }
 }
 
@@ -475,27 +415,4 @@ fn place_or_end(oldest: Option<u64>, count: u64) -> u64
         None => count,
         Some(place) => place,
     }
-}
-
-// The least place of those that wait still.
-fn oldest_of(waiters: &[Waiter]) -> Option<u64>
-    ensures { result ≡ oldest_place (map waiter_view waiters.now) }
-{
-    let mut found = None;
-    for waiter in waiters {
-        if waiter.standing == WaitState::Waiting {
-            found = Some(lower_place(found, waiter.place));
-        }
-    }
-    found
-}
-
-// Takes the waiter of this serial out, if there is one.
-fn drop_named<A: Allocator>(waiters: &mut Vec<Waiter, A>, id: WaitId)
-    requires { All IsCounted waiters.old.items }
-    ensures waiters { map waiter_view waiters.new.items
-        ≡ filter (is_other id) (map waiter_view waiters.old.items) }
-    ensures counted { All IsCounted waiters.new.items }
-{
-    waiters.retain(|waiter| waiter.id != id);
 }

@@ -5,7 +5,7 @@ use Rattle.wait_conditions.specs.declared.waiter.Waiter.{Waiter}
 use Rattle.wait_conditions.specs.Kept.{waiter_view}
 use Rattle.wait_conditions.specs.WaitsFields.{IsCounted}
 use Rattle.wait_conditions.proofs.Named.{stored_left}
-use Rattle.wait_conditions.proofs.waits.drop_named.Goals as goal
+use Rattle.wait_conditions.proofs.waiter_list.drop_named.Goals as goal
 
 pub returns-clause-waiters : goal.returns-clause-waiters
 returns-clause-waiters g c =

@@ -1,0 +1,218 @@
+//! The waiters that stand, in the order in which they were made.
+ghost use Rattle.std.specs.Prelude.{◌≡◌, ◌≤◌, ◌<◌, ◌++◌, [], ◌∷◌, All, IfOk, IsOk, OnOk, OnErr, None, false, length, map, filter, vec_len, vec_capacity};
+ghost use Rattle.std.specs.List.{list_any};
+ghost use Rattle.wait_conditions.specs.Kept.{waiter_view, standing_stored, standing_kept, is_other, oldest_place, still_waits, with_moments};
+ghost use Rattle.wait_conditions.specs.Refusal.{repeats_serial};
+ghost use Rattle.wait_conditions.specs.Verdict.{reaches};
+ghost use Rattle.wait_conditions.specs.Watchers.{AreDueFrom, BeganInOrder, earlier, serials_where, touched_by};
+ghost use Rattle.wait_conditions.specs.WaitsFields.{IsCounted, waiters_view};
+
+use crate::judging::reaches_deadline;
+use crate::planning::copy_touched;
+use crate::releasing::change_touched;
+use crate::verdict::WaitState;
+use crate::waiter::Waiter;
+use crate::watchers::Watchers;
+use s6_events::{Moment, NoMemory, WaitId};
+use std::alloc::Allocator;
+use std::marker::Model;
+
+/// The most services that one waiter watches.
+const MOST_WATCHED: usize = 16;
+
+/// The waiters that stand, in the order in which they were made, and beside them who watches which service, and a moment before
+/// which no deadline lies of a waiter that waits. So what a moment touches is found without a look at the others.
+#[derive(Drop)]
+pub struct WaiterList<A: Allocator> {
+    waiters: Vec<Waiter, A>,
+    watchers: Watchers<A>,
+    due: u64,
+}
+
+impl<A: Allocator> Model for WaiterList<A> {
+    ghost use Rattle.wait_conditions.specs.Stands.{StoredList};
+
+    ghost Value = { StoredList };
+
+    ghost use Rattle.wait_conditions.specs.WaitsFields.{list_view, IsSoundList};
+
+    ghost view = { list_view };
+
+    ghost invariant = { IsSoundList };
+}
+
+impl<A: Allocator> WaiterList<A> {
+    /// How many stand.
+    pub fn len(&self) -> usize
+        ensures { result ≡ length self.now.waiters }
+    {
+        self.waiters.len()
+    }
+
+    /// Where the waiter of this serial stands.
+    pub fn standing(&self, id: WaitId) -> Option<WaitState>
+        ensures { result ≡ standing_kept id self.now.waiters }
+    {
+        find_standing(&self.waiters, id)
+    }
+
+    /// The place of the oldest of those that wait still.
+    pub fn oldest(&self) -> Option<u64>
+        ensures { result ≡ oldest_place self.now.waiters }
+    {
+        oldest_of(&self.waiters)
+    }
+
+    /// Makes room for one more waiter. `NoMemory` where a growth is refused; no more waiters fit then than before.
+    pub fn reserve_one(&mut self) -> Result<(), NoMemory>
+        ensures waiters { self.new.waiters ≡ self.old.waiters }
+        ensures ok { OnOk result (1 ≤ self.new.spare) }
+        ensures err { OnErr result (self.new ≡ self.old) }
+    {
+        self.watchers.reserve(MOST_WATCHED)?;
+        self.waiters.reserve(1)?;
+        Ok(())
+    }
+
+    /// A waiter joins, that was made after all others; there is room for it.
+    pub fn push(&mut self, waiter: Waiter)
+        requires room { 1 ≤ self.old.spare }
+        requires counted { IsCounted waiter }
+        requires apart { repeats_serial (map (λ w. w.sid) (waiter_view waiter).watched) ≡ false }
+        requires serial { All (λ k. k.id < waiter.id) self.old.waiters }
+        requires place { All (λ k. k.place ≤ waiter.place) self.old.waiters }
+        ensures { self.new.waiters ≡ self.old.waiters ++ waiter_view waiter ∷ [] }
+    {
+        self.due = earlier(self.due, waiter.deadline);
+        self.watchers.join(&waiter);
+        self.waiters.push_reserved(waiter);
+    }
+
+    /// Takes the waiter of this serial out, if there is one.
+    pub fn remove(&mut self, id: WaitId)
+        ensures { self.new.waiters ≡ filter (is_other id) self.old.waiters }
+    {
+        self.watchers.leave(id);
+        drop_named(&mut self.waiters, id);
+    }
+
+    /// The waiters of these serials take in the moments, one after the other. They are those that the moments touch, so that all
+    /// others stay as they are.
+    pub fn change(&mut self, touched: &[WaitId], moments: &[Moment])
+        requires { touched.now ≡ serials_where (touched_by moments.now) self.old.waiters }
+        ensures waiters { self.new.waiters ≡ map (with_moments moments.now) self.old.waiters }
+        ensures room { self.old.spare ≤ self.new.spare }
+    {
+        change_touched(&mut self.waiters, &mut self.watchers, touched, moments);
+        if is_reached(self.due, moments) {
+            self.due = least_deadline(&self.waiters);
+        }
+    }
+}
+
+impl<A: Allocator + Copy> WaiterList<A> {
+    /// No waiter.
+    pub fn new(alloc: A) -> WaiterList<A>
+        ensures { result.waiters ≡ [] }
+    {
+        WaiterList {
+            waiters: Vec::new(alloc),
+            watchers: Watchers::new(alloc),
+            due: u64::MAX,
+        }
+    }
+
+    /// Its allocator.
+    pub fn allocator(&self) -> A {
+        *self.waiters.allocator()
+    }
+
+    /// Those that these moments touch, once more.
+    pub fn copy_touched(&self, moments: &[Moment]) -> Result<Vec<Waiter, A>, NoMemory>
+        ensures copies { IfOk result (λ copies. waiters_view copies.items
+            ≡ filter (touched_by moments.now) self.now.waiters) }
+        ensures counted { IfOk result (λ copies. All IsCounted copies.items) }
+        ensures quiet { moments.now ≡ [] → IsOk result }
+    {
+        copy_touched(
+            self.allocator(),
+            &self.waiters,
+            &self.watchers,
+            self.due,
+            moments,
+        )
+    }
+}
+
+// The earlier of a moment and a deadline, if there is one.
+fn earlier(due: u64, deadline: Option<u64>) -> u64
+    ensures { result ≡ earlier due deadline }
+{
+    match deadline {
+        None => due,
+        Some(deadline) => if deadline < due { deadline } else { due },
+    }
+}
+
+// Whether a clock reading is at or past this moment.
+fn is_reached(due: u64, moments: &[Moment]) -> bool
+    ensures { result ≡ list_any (reaches due) moments.now }
+{
+    moments.iter().any(|moment| reaches_deadline(due, moment))
+}
+
+// The least deadline of those that wait, or the last moment of all.
+fn least_deadline(waiters: &[Waiter]) -> u64
+    ensures { AreDueFrom result (waiters_view waiters.now) }
+{
+    let mut due = u64::MAX;
+    for waiter in waiters {
+        if waiter.standing == WaitState::Waiting {
+            due = earlier(due, waiter.deadline);
+        }
+    }
+    due
+}
+
+// Where the waiter of this serial stands.
+fn find_standing(waiters: &[Waiter], id: WaitId) -> Option<WaitState>
+    ensures { result ≡ standing_kept id (waiters_view waiters.now) }
+{
+    find_stored(waiters, id)
+}
+
+fn find_stored(waiters: &[Waiter], id: WaitId) -> Option<WaitState>
+    ensures { result ≡ standing_stored id waiters.now }
+{
+    for waiter in waiters {
+        if waiter.id == id {
+            return Some(waiter.standing);
+        }
+    }
+    None
+}
+
+// The place of the first that waits still: of those, the oldest.
+fn oldest_of(waiters: &[Waiter]) -> Option<u64>
+    requires { BeganInOrder (waiters_view waiters.now) }
+    ensures { result ≡ oldest_place (waiters_view waiters.now) }
+{
+    for waiter in waiters {
+        if waiter.standing == WaitState::Waiting {
+            return Some(waiter.place);
+        }
+    }
+    None
+}
+
+// Takes the waiter of this serial out, if there is one.
+fn drop_named<A: Allocator>(waiters: &mut Vec<Waiter, A>, id: WaitId)
+    requires { All IsCounted waiters.old.items }
+    ensures waiters { waiters_view waiters.new.items
+        ≡ filter (is_other id) (waiters_view waiters.old.items) }
+    ensures counted { All IsCounted waiters.new.items }
+    ensures len { vec_len waiters.new ≤ vec_len waiters.old }
+    ensures capacity { vec_capacity waiters.new ≡ vec_capacity waiters.old }
+{
+    waiters.retain(|waiter| waiter.id != id);
+}
