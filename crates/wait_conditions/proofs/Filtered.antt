@@ -12,15 +12,15 @@ filter_no p x xs h = ap (λ b. cond b (x ∷ filter p xs) (filter p xs)) h
 -- what passes two tests, one after the other
 pub filter_twice : {X : Type 0} (p q r : X → Bool) → ((x : X) → r x ≡ (p x && q x)) → (xs : List X) → filter q (filter p xs) ≡ filter r xs
 filter_twice p q r same [] = refl
-filter_twice p q r same (x ∷ xs) = by (p x) refl
+filter_twice p q r same (x ∷ xs) = by (p x) refl (filter_twice p q r same xs)
   where
-    by : (b : Bool) → p x ≡ b → filter q (cond b (x ∷ filter p xs) (filter p xs)) ≡ filter r (x ∷ xs)
-    by true e =
+    by : (b : Bool) → p x ≡ b → filter q (filter p xs) ≡ filter r xs → filter q (cond b (x ∷ filter p xs) (filter p xs)) ≡ filter r (x ∷ xs)
+    by true e rest =
         let is : r x ≡ q x = same x ∙ ap (λ b. b && q x) e in
-        ap (λ ys. cond (q x) (x ∷ ys) ys) (filter_twice p q r same xs) ∙ sym (ap (λ b. cond b (x ∷ filter r xs) (filter r xs)) is)
-    by false e =
+        ap (λ ys. cond (q x) (x ∷ ys) ys) rest ∙ sym (ap (λ b. cond b (x ∷ filter r xs) (filter r xs)) is)
+    by false e rest =
         let is : r x ≡ false = same x ∙ ap (λ b. b && q x) e in
-        filter_twice p q r same xs ∙ sym (filter_no r x xs is)
+        rest ∙ sym (filter_no r x xs is)
 
 -- where each passes up to a place, and none from there on
 pub none_pass : {X : Type 0} (p : X → Bool) (xs : List X) → ((k : ℕ) (d : X) → k < length xs → p (get_or xs k d) ≡ false) → filter p xs ≡ []

@@ -10,7 +10,7 @@ use Rattle.std.proofs.lemmas.List.Elements.{filter-append}
 use Rattle.std.proofs.lemmas.List.Sorted.{IsNonDecreasingBy-insert}
 use Rattle.wait_conditions.specs.declared.watchers.Watcher.{Watcher}
 use Rattle.wait_conditions.specs.declared.watched_service.WatchedService.{WatchedService}
-use Rattle.wait_conditions.specs.Kept.{StoredWaiter}
+use Rattle.wait_conditions.specs.Kept.{StoredWaiter, still_waits}
 use Rattle.wait_conditions.specs.Refusal.{is_named_in, repeats_serial}
 use Rattle.wait_conditions.specs.Watchers.{serials_of, serials_where, watches}
 use Rattle.wait_conditions.proofs.Filtered.{filter_yes, filter_no, filter_twice, none_pass, take_passes, drop_passes}
@@ -65,8 +65,6 @@ pub put_is : (sid id other place : ℕ) (ws : List Watcher)
     ≡ serials_of other ws ++ (if sid == other then id ∷ [] else [])
 put_is sid id other place ws h = by (sid == other) refl
   where
-    one : Watcher
-    one = record { sid = sid; waiter = id }
     by : (b : Bool) → (sid == other) ≡ b
         → serials_of other (insert ws place (record { sid = sid; waiter = id })) ≡ serials_of other ws ++ (if b then id ∷ [] else [])
     by true e =
@@ -108,46 +106,46 @@ put_in_order sid id place ws up le parted =
 -- a waiter leaves
 pub left_is : (sid id : ℕ) (ws : List Watcher) → serials_of sid (filter (λ (w : Watcher). not (w.waiter == id)) ws) ≡ filter (λ i. not (i == id)) (serials_of sid ws)
 left_is sid id [] = refl
-left_is sid id (w ∷ ws) = by (w.sid == sid) (w.waiter == id) refl refl
+left_is sid id (w ∷ ws) = by (w.sid == sid) (w.waiter == id) refl refl (left_is sid id ws)
   where
     by : (b c : Bool) → (w.sid == sid) ≡ b → (w.waiter == id) ≡ c
-        → serials_of sid (filter (λ (w : Watcher). not (w.waiter == id)) (w ∷ ws)) ≡ filter (λ i. not (i == id)) (serials_of sid (w ∷ ws))
-    by true true e f =
-        ap (serials_of sid) (filter_no (λ (w : Watcher). not (w.waiter == id)) w ws (ap not f))
-        ∙ (left_is sid id ws
-        ∙ sym (ap (λ ys. filter (λ i. not (i == id)) (map (λ (w : Watcher). w.waiter) ys)) (filter_yes (λ (v : Watcher). v.sid == sid) w ws e)
+        → serials_of sid (filter (λ (v : Watcher). not (v.waiter == id)) ws) ≡ filter (λ i. not (i == id)) (serials_of sid ws)
+        → serials_of sid (filter (λ (v : Watcher). not (v.waiter == id)) (w ∷ ws)) ≡ filter (λ i. not (i == id)) (serials_of sid (w ∷ ws))
+    by true true e f rest =
+        ap (serials_of sid) (filter_no (λ (v : Watcher). not (v.waiter == id)) w ws (ap not f))
+        ∙ (rest
+        ∙ sym (ap (λ ys. filter (λ i. not (i == id)) (map (λ (v : Watcher). v.waiter) ys)) (filter_yes (λ (v : Watcher). v.sid == sid) w ws e)
         ∙ filter_no (λ i. not (i == id)) w.waiter (serials_of sid ws) (ap not f)))
-    by true false e f =
-        ap (serials_of sid) (filter_yes (λ (w : Watcher). not (w.waiter == id)) w ws (ap not f))
-        ∙ (ap (map (λ (w : Watcher). w.waiter)) (filter_yes (λ (v : Watcher). v.sid == sid) w (filter (λ (w : Watcher). not (w.waiter == id)) ws) e)
-        ∙ (ap (λ ys. w.waiter ∷ ys) (left_is sid id ws)
-        ∙ sym (ap (λ ys. filter (λ i. not (i == id)) (map (λ (w : Watcher). w.waiter) ys)) (filter_yes (λ (v : Watcher). v.sid == sid) w ws e)
+    by true false e f rest =
+        ap (serials_of sid) (filter_yes (λ (v : Watcher). not (v.waiter == id)) w ws (ap not f))
+        ∙ (ap (map (λ (v : Watcher). v.waiter)) (filter_yes (λ (v : Watcher). v.sid == sid) w (filter (λ (v : Watcher). not (v.waiter == id)) ws) e)
+        ∙ (ap (λ ys. w.waiter ∷ ys) rest
+        ∙ sym (ap (λ ys. filter (λ i. not (i == id)) (map (λ (v : Watcher). v.waiter) ys)) (filter_yes (λ (v : Watcher). v.sid == sid) w ws e)
         ∙ filter_yes (λ i. not (i == id)) w.waiter (serials_of sid ws) (ap not f))))
-    by false true e f =
-        ap (serials_of sid) (filter_no (λ (w : Watcher). not (w.waiter == id)) w ws (ap not f))
-        ∙ (left_is sid id ws
-        ∙ sym (ap (λ ys. filter (λ i. not (i == id)) (map (λ (w : Watcher). w.waiter) ys)) (filter_no (λ (v : Watcher). v.sid == sid) w ws e)))
-    by false false e f =
-        ap (serials_of sid) (filter_yes (λ (w : Watcher). not (w.waiter == id)) w ws (ap not f))
-        ∙ (ap (map (λ (w : Watcher). w.waiter)) (filter_no (λ (v : Watcher). v.sid == sid) w (filter (λ (w : Watcher). not (w.waiter == id)) ws) e)
-        ∙ (left_is sid id ws
-        ∙ sym (ap (λ ys. filter (λ i. not (i == id)) (map (λ (w : Watcher). w.waiter) ys)) (filter_no (λ (v : Watcher). v.sid == sid) w ws e))))
+    by false true e f rest =
+        ap (serials_of sid) (filter_no (λ (v : Watcher). not (v.waiter == id)) w ws (ap not f))
+        ∙ (rest ∙ sym (ap (λ ys. filter (λ i. not (i == id)) (map (λ (v : Watcher). v.waiter) ys)) (filter_no (λ (v : Watcher). v.sid == sid) w ws e)))
+    by false false e f rest =
+        ap (serials_of sid) (filter_yes (λ (v : Watcher). not (v.waiter == id)) w ws (ap not f))
+        ∙ (ap (map (λ (v : Watcher). v.waiter)) (filter_no (λ (v : Watcher). v.sid == sid) w (filter (λ (v : Watcher). not (v.waiter == id)) ws) e)
+        ∙ (rest ∙ sym (ap (λ ys. filter (λ i. not (i == id)) (map (λ (v : Watcher). v.waiter) ys)) (filter_no (λ (v : Watcher). v.sid == sid) w ws e))))
 
 -- the serial of a waiter, where one of these services is this one
 abbrev pub named : ℕ → ℕ → List WatchedService → List ℕ
 named id sid vs = if list_any (λ v. v.sid == sid) vs then id ∷ [] else []
 
-pub named_is : (sid : ℕ) (k : StoredWaiter) → named k.id sid k.watched ≡ serials_where (watches sid) (k ∷ [])
-named_is sid k = by (watches sid k)
+pub named_is : (sid : ℕ) (k : StoredWaiter) → still_waits k ≡ true → named k.id sid k.watched ≡ serials_where (watches sid) (k ∷ [])
+named_is sid k waits = by (list_any (λ (v : WatchedService). v.sid == sid) k.watched)
+    ∙ sym (ap (λ b. map (λ (j : StoredWaiter). j.id) (cond (b && list_any (λ (v : WatchedService). v.sid == sid) k.watched) (k ∷ []) [])) waits)
   where
     by : (b : Bool) → (if b then k.id ∷ [] else []) ≡ map (λ (j : StoredWaiter). j.id) (cond b (k ∷ []) [])
     by true = refl
     by false = refl
 
--- one service after the other, each of another serial
-other_named : (a b : ℕ) → (a == b) ≡ true → (λ (x : ℕ). x) a ≡ b
-other_named a b h = grind (arith, nat_tests)
+pub none_named : (sid : ℕ) (k : StoredWaiter) → still_waits k ≡ false → serials_where (watches sid) (k ∷ []) ≡ []
+none_named sid k waits = ap (λ b. map (λ (j : StoredWaiter). j.id) (cond (b && list_any (λ (v : WatchedService). v.sid == sid) k.watched) (k ∷ []) [])) waits
 
+-- one service after the other, each of another serial
 not_again : (sid : ℕ) (vs : List WatchedService) → is_named_in (map (λ (v : WatchedService). v.sid) vs) sid ≡ false
     → list_any (λ (v : WatchedService). v.sid == sid) vs ≡ false
 not_again sid [] h = refl

@@ -4,6 +4,8 @@ pub mod Watched
 pub mod Counted
 pub mod Filtered
 pub mod Indexed
+pub mod Reached
+pub mod Searching
 pub mod Least
 pub mod OneMore
 pub mod InPlace

@@ -93,11 +93,11 @@ waited_by : (s : WaitState) (m : Moment) (k : StoredWaiter) → k.standing ≡ s
 waited_by Waiting m k e h = ap is_waiting e
 waited_by (Released v) m k e h = h
 
-place_stays : (ms : List Moment) (k : StoredWaiter) → (with_moments ms k).place ≡ k.place
+pub place_stays : (ms : List Moment) (k : StoredWaiter) → (with_moments ms k).place ≡ k.place
 place_stays [] k = refl
 place_stays (m ∷ ms) k = place_stays ms (with_moment m k) ∙ place_by k.standing m k
 
-waited_before : (ms : List Moment) (k : StoredWaiter) → still_waits (with_moments ms k) ≡ true → still_waits k ≡ true
+pub waited_before : (ms : List Moment) (k : StoredWaiter) → still_waits (with_moments ms k) ≡ true → still_waits k ≡ true
 waited_before [] k h = h
 waited_before (m ∷ ms) k h = waited_by k.standing m k refl (waited_before ms (with_moment m k) h)
 

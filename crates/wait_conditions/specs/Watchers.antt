@@ -3,9 +3,8 @@ use Rattle.std.specs.Prelude.{◌≡◌, ◌≤◌, ◌<◌, ◌+◌, ◌==◌, 
 use Rattle.std.specs.Prelude.{ℕ, Bool, true, List, length, map, filter, take, drop, get_or, All, IfSome, Option, Some, None, nat_lt, if◌then◌else◌}
 use Rattle.std.specs.List.{list_any}
 use Rattle.s6_events.specs.declared.moment.Moment.{Moment}
-use Rattle.s6_events.specs.declared.moment.Moment.TheVariants.{Clock, Event}
 use Rattle.wait_conditions.specs.declared.watchers.Watcher.{Watcher}
-use Rattle.wait_conditions.specs.Kept.{StoredWaiter, still_waits, late_at}
+use Rattle.wait_conditions.specs.Kept.{StoredWaiter, still_waits, concerns}
 
 -- the watchers, and how many more fit with no growth
 pub record WatcherList : Type 0 where
@@ -16,14 +15,13 @@ pub record WatcherList : Type 0 where
 abbrev pub serials_of : ℕ → List Watcher → List ℕ
 serials_of sid ws = map (λ w. w.waiter) (filter (λ w. w.sid == sid) ws)
 
--- a waiter watches a service
+-- a waiter watches a service: it waits, and this is one of its services
 abbrev pub watches : ℕ → StoredWaiter → Bool
-watches sid k = list_any (λ w. w.sid == sid) k.watched
+watches sid k = still_waits k && list_any (λ w. w.sid == sid) k.watched
 
--- a moment touches a waiter: a mark of a service that it watches; its deadline, while it waits
+-- a moment touches a waiter: it waits, and the moment concerns it
 abbrev pub touches : Moment → StoredWaiter → Bool
-touches (Clock at) k = still_waits k && late_at k.deadline (Clock at)
-touches (Event sid mark) k = watches sid k
+touches m k = still_waits k && concerns m k
 
 -- one of these moments does
 abbrev pub touched_by : List Moment → StoredWaiter → Bool

@@ -8,7 +8,7 @@ ghost use Rattle.wait_conditions.specs.WaitsFields.{IsCounted, waiters_view};
 ghost use Rattle.wait_conditions.specs.Watch.{new_release};
 
 use crate::verdict::{Verdict, WaitState};
-use crate::waiter::{Waiter, is_touched, take_in};
+use crate::waiter::{Waiter, is_touched, take_in, waits_still};
 use crate::watchers::Watchers;
 use s6_events::{Moment, WaitId};
 use std::alloc::Allocator;
@@ -121,7 +121,7 @@ fn change<A: Allocator>(waiter: &mut Waiter, watchers: &mut Watchers<A>, moments
     ensures room { watchers.old.spare_capacity ≤ watchers.new.spare_capacity }
 {
     take_in_moments(waiter, moments);
-    if waiter.standing != WaitState::Waiting {
+    if !waits_still(waiter) {
         watchers.leave(waiter.id);
     }
 }

@@ -1,7 +1,7 @@
 //! A waiter as it is stored: what it knows of its services, and what a moment makes of it.
 ghost use Rattle.std.specs.Prelude.{◌≡◌, ◌==◌, ◌≤◌, [], length, map};
 ghost use Rattle.std.specs.List.{list_any};
-ghost use Rattle.wait_conditions.specs.Kept.{waiter_view, late_at, concerns, watched_then, judged, with_moment};
+ghost use Rattle.wait_conditions.specs.Kept.{waiter_view, still_waits, late_at, concerns, watched_then, judged, with_moment};
 ghost use Rattle.wait_conditions.specs.States.{state_in, state_over};
 ghost use Rattle.wait_conditions.specs.Stands.{new_stored_waiter};
 ghost use Rattle.wait_conditions.specs.SupervisorState.{since_of};
@@ -60,16 +60,18 @@ fn is_concerned(waiter: &Waiter, moment: &Moment) -> bool
     }
 }
 
-/// Whether a moment is a mark of a service that the waiter watches, or reaches its deadline while it waits.
+/// Whether the waiter waits still.
+pub fn waits_still(waiter: &Waiter) -> bool
+    ensures { result ≡ still_waits (waiter_view waiter.now) }
+{
+    matches!(waiter.standing, WaitState::Waiting)
+}
+
+/// Whether the waiter waits, and a moment concerns it.
 pub fn is_touched(waiter: &Waiter, moment: &Moment) -> bool
     ensures { result ≡ touches moment.now (waiter_view waiter.now) }
 {
-    match moment {
-        Moment::Clock(_) => {
-            waiter.standing == WaitState::Waiting && is_late(waiter.deadline, moment)
-        }
-        Moment::Event(sid, _) => has_service(waiter.watched.as_slice(), *sid),
-    }
+    waits_still(waiter) && is_concerned(waiter, moment)
 }
 
 // Its services take in a moment.
@@ -108,7 +110,7 @@ pub fn take_in(waiter: &mut Waiter, moment: &Moment)
     ensures waiter { waiter_view waiter.new ≡ with_moment moment.now (waiter_view waiter.old) }
     ensures counted { IsCounted waiter.new }
 {
-    if waiter.standing == WaitState::Waiting && is_concerned(waiter, moment) {
+    if is_touched(waiter, moment) {
         let late = is_late(waiter.deadline, moment);
         watch(waiter, moment);
         judge(waiter, late);

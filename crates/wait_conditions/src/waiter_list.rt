@@ -11,7 +11,7 @@ use crate::judging::reaches_deadline;
 use crate::planning::copy_touched;
 use crate::releasing::change_touched;
 use crate::verdict::WaitState;
-use crate::waiter::Waiter;
+use crate::waiter::{Waiter, waits_still};
 use crate::watchers::Watchers;
 use s6_events::{Moment, NoMemory, WaitId};
 use std::alloc::Allocator;
@@ -167,7 +167,7 @@ fn least_deadline(waiters: &[Waiter]) -> u64
 {
     let mut due = u64::MAX;
     for waiter in waiters {
-        if waiter.standing == WaitState::Waiting {
+        if waits_still(waiter) {
             due = earlier(due, waiter.deadline);
         }
     }
@@ -198,7 +198,7 @@ fn oldest_of(waiters: &[Waiter]) -> Option<u64>
     ensures { result ≡ oldest_place (waiters_view waiters.now) }
 {
     for waiter in waiters {
-        if waiter.standing == WaitState::Waiting {
+        if waits_still(waiter) {
             return Some(waiter.place);
         }
     }

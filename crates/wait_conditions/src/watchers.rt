@@ -4,7 +4,7 @@ ghost use Rattle.wait_conditions.specs.Kept.{waiter_view};
 ghost use Rattle.wait_conditions.specs.Refusal.{repeats_serial};
 ghost use Rattle.wait_conditions.specs.Watchers.{serials_of, serials_where, watches};
 
-use crate::waiter::Waiter;
+use crate::waiter::{Waiter, waits_still};
 use s6_events::{NoMemory, Sid, WaitId};
 use std::alloc::Allocator;
 use std::marker::Model;
@@ -77,15 +77,18 @@ impl<A: Allocator> Watchers<A> {
         self.list.insert(place, Watcher { sid, waiter }).unwrap();
     }
 
-    /// A waiter joins, of a higher serial than all others, for each service that it watches; there is room for it.
+    /// A waiter joins, of a higher serial than all others, for each service that it watches; there is room for it. One that is
+    /// released watches none.
     pub fn join(&mut self, waiter: &Waiter)
         requires room { length waiter.now.watched.items ≤ self.old.spare_capacity }
         requires apart { repeats_serial (map (λ w. w.sid) waiter.now.watched.items) ≡ false }
         ensures { (sid : ℕ) → serials_of sid self.new.watchers
             ≡ serials_of sid self.old.watchers ++ serials_where (watches sid) (waiter_view waiter.now ∷ []) }
     {
-        for service in waiter.watched.as_slice() {
-            self.put(service.sid, waiter.id);
+        if waits_still(waiter) {
+            for service in waiter.watched.as_slice() {
+                self.put(service.sid, waiter.id);
+            }
         }
     }
 
