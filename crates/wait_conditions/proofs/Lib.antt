@@ -15,3 +15,5 @@ pub mod Changing
 pub mod Runs
 pub mod Leaving
 pub mod Oldest
+pub mod Ordered
+pub mod Joining

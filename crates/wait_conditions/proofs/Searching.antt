@@ -6,7 +6,7 @@ use Rattle.std.specs.List.{list_any}
 use Rattle.std.specs.List.Sorted.{IsNonDecreasingBy}
 use Rattle.std.proofs.Math.Seq.{take-add, drop-append_seam}
 use Rattle.std.proofs.lemmas.Bool.Decides.{nat_tests}
-use Rattle.std.proofs.lemmas.List.{drop_more, map-append, take-append-drop, drop-drop, get_or-drop, length-map, length-take-le}
+use Rattle.std.proofs.lemmas.List.{drop_more, map-append, take-append-drop, drop-drop, get_or-drop, length-drop, length-map, length-take-le}
 use Rattle.std.proofs.lemmas.List.Elements.{filter-append, filter_more}
 use Rattle.s6_events.specs.Rising.{AreAbove, AreRising}
 use Rattle.wait_conditions.specs.declared.waiter.Waiter.{Waiter}
@@ -287,3 +287,12 @@ next_first F p s place n id ks cur ids le now left lt is at =
     subst (λ js. IsFirst p js (drop (n + 1) ids) (place - s)) same
     (at p (drop (n + 1) ids)
     (ap (serials_where p) same ∙ (sym left ∙ (drop_more ids n id lt ∙ ap (λ x. x ∷ drop (n + 1) ids) (sym is)))))
+
+pub next_inside : (F : StoredWaiter → StoredWaiter) (p : StoredWaiter → Bool) (s place n id : ℕ) (ks cur : List StoredWaiter) (ids : List ℕ)
+    → s ≤ length ks → cur ≡ map F (take s ks) ++ drop s ks → drop n ids ≡ serials_where p (drop s ks) → n < length ids → id ≡ get_or ids n id
+    → s ≤ place
+    → ((q : StoredWaiter → Bool) (rest : List ℕ) → serials_where q (drop s cur) ≡ id ∷ rest → IsFirst q (drop s cur) rest (place - s))
+    → place < length ks
+next_inside F p s place n id ks cur ids le now left lt is from at =
+    let first = next_first F p s place n id ks cur ids le now left lt is at in
+    omega (arith, first.within, from, length-drop s ks)

@@ -4,7 +4,7 @@ ghost use Rattle.std.specs.List.{filter_map};
 ghost use Rattle.wait_conditions.specs.Kept.{waiter_view, standing_stored, standing_kept, is_other, lower, oldest_place, NoneBegan, release_seen, releases_seen};
 ghost use Rattle.wait_conditions.specs.PlanFields.{list_change_of, JoinsCounted};
 ghost use Rattle.wait_conditions.specs.Refusal.{add_refusal, fault_told, deadline_of};
-ghost use Rattle.wait_conditions.specs.Stands.{WaitsFor, WaitsShown, WaitsStandFor, AddsWaiter, CancelsWaiter, FitsWaits, MakesPlan, MakesStep, PlansChange, waits_shown, needed_from, place_or_end, joining, adding, JoinsAt};
+ghost use Rattle.wait_conditions.specs.Stands.{WaitsFor, WaitsShown, WaitsStandFor, AddsWaiter, CancelsWaiter, FitsWaits, MakesPlan, MakesStep, PlansChange, waits_shown, needed_from, place_or_end, joining, adding, JoinsAt, JoinsNext};
 ghost use Rattle.wait_conditions.specs.Stands.ListChange.{stay};
 ghost use Rattle.wait_conditions.specs.declared.wait_plan.PlannedChange.TheVariants.{Stay};
 ghost use Rattle.wait_conditions.specs.Steps.{wait_request_of, releases_by, waits_after_moments, waits_after_change, wait_answer};
@@ -312,6 +312,7 @@ impl<A: Allocator + Copy> Waits<A> {
         ensures room { joining (list_change_of result.change) ≤ adding (wait_request_of change.now) }
         ensures counted { JoinsCounted result.change }
         ensures place { JoinsAt (self.now.count + length moments.now) (list_change_of result.change) }
+        ensures serial { JoinsNext self.now.next (list_change_of result.change) result.next }
         ensures quiet { wait_request_of change.now ≡ no_wait_request
             → result.answer ≡ answer.Nothing }
     {
@@ -349,6 +350,7 @@ impl<A: Allocator + Copy> Waits<A> {
         ensures room { joining (list_change_of result.change) ≤ 1 }
         ensures counted { JoinsCounted result.change }
         ensures place { JoinsAt (self.now.count + length moments.now) (list_change_of result.change) }
+        ensures serial { JoinsNext self.now.next (list_change_of result.change) result.next }
     {
         if let Some(fault) = refusal_for(self.list.len(), sids) {
             return ChangePlan::stay(WaitAnswer::Refused(fault), self.next);

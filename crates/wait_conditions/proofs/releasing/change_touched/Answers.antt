@@ -1,4 +1,4 @@
-use Rattle.std.proofs.Common.{◌≡◌, ◌∙◌, ◌+◌, ◌-◌, ◌<◌, ◌==◌, ◌∷◌, [], ap, sym, subst, arith, length, take, drop, map, get_or, rules, filter, not}
+use Rattle.std.proofs.Common.{◌≡◌, ◌∙◌, ◌+◌, ◌-◌, ◌<◌, ◌≤◌, ◌==◌, ◌∷◌, [], ap, sym, subst, arith, length, take, drop, map, get_or, rules, filter, not}
 use Rattle.std.specs.Prelude.{if◌then◌else◌}
 use Rattle.s6_events.specs.Rising.{AreRising}
 use Rattle.wait_conditions.specs.declared.waiter.Waiter.{Waiter}
@@ -9,22 +9,27 @@ use Rattle.wait_conditions.specs.WaitsFields.{IsCounted, waiters_view}
 use Rattle.wait_conditions.specs.Watchers.{AreIndexed, serials_of, serials_where, touched_by, watches}
 use Rattle.wait_conditions.proofs.InPlace.{ChangedBelow, changed_more}
 use Rattle.wait_conditions.proofs.Leaving.{stays_all, id_stays, watches_on}
-use Rattle.wait_conditions.proofs.Searching.{drop_on, skip_on, changed_all, next_first, rising_set, indexed_set}
+use Rattle.wait_conditions.proofs.Searching.{drop_on, skip_on, changed_all, next_first, next_inside, rising_set, indexed_set}
 use Rattle.wait_conditions.proofs.releasing.change_touched.Goals as goal
 
 pub bounds-waiters-place : goal.bounds-waiters-place
 bounds-waiters-place g c =
-    let old = waiters_view c.args.waiters.now in
-    let within = omega (arith, c.loop-id.invariant.within, c.loop-id.auto.waiters, length-map c.args.waiters.now waiter_view) in
-    let first = next_first (with_moments c.args.moments.now) (touched_by c.args.moments.now) c.loop-id.start c.place_from-place.result c.loop-id.id-index
-    c.id-item.result old (waiters_view c.loop-id.waiters) c.args.touched.now within c.loop-id.invariant.waiters c.loop-id.invariant.left c.loop-id-test.true
-    c.id-item.is c.place_from-place.ensures.first in
-    omega (arith, first.within, c.place_from-place.ensures.from, c.loop-id.auto.waiters, length-map c.args.waiters.now waiter_view,
-    length-drop c.loop-id.start old)
+    let inside : c.place_from-place.result < length (waiters_view c.args.waiters.now) =
+    next_inside (with_moments c.args.moments.now) (touched_by c.args.moments.now) c.loop-id.start c.place_from-place.result c.loop-id.id-index
+    c.id-item.result (waiters_view c.args.waiters.now) (waiters_view c.loop-id.waiters) c.args.touched.now
+    (omega (arith, c.loop-id.invariant.within, c.loop-id.auto.waiters, length-map c.args.waiters.now waiter_view)) c.loop-id.invariant.waiters c.loop-id.invariant.left
+    c.loop-id-test.true c.id-item.is c.place_from-place.ensures.from c.place_from-place.ensures.first in
+    omega (arith, inside, c.loop-id.auto.waiters, length-map c.args.waiters.now waiter_view)
 
 pub change-requires : goal.change-requires
 change-requires g c =
-    All-get_or IsCounted c.loop-id.waiters c.place_from-place.result c.index-waiters-place.result (search rules) c.loop-id.invariant.counted
+    let inside : c.place_from-place.result < length (waiters_view c.args.waiters.now) =
+    next_inside (with_moments c.args.moments.now) (touched_by c.args.moments.now) c.loop-id.start c.place_from-place.result c.loop-id.id-index
+    c.id-item.result (waiters_view c.args.waiters.now) (waiters_view c.loop-id.waiters) c.args.touched.now
+    (omega (arith, c.loop-id.invariant.within, c.loop-id.auto.waiters, length-map c.args.waiters.now waiter_view)) c.loop-id.invariant.waiters c.loop-id.invariant.left
+    c.loop-id-test.true c.id-item.is c.place_from-place.ensures.from c.place_from-place.ensures.first in
+    All-get_or IsCounted c.loop-id.waiters c.place_from-place.result c.index-waiters-place.result
+    (omega (arith, inside, c.loop-id.auto.waiters, length-map c.args.waiters.now waiter_view)) c.loop-id.invariant.counted
 
 pub loop-id-preserved : goal.loop-id-preserved
 loop-id-preserved g c =
@@ -33,7 +38,7 @@ loop-id-preserved g c =
     let ws = c.loop-id.waiters in
     let place = c.place_from-place.result in
     let w = c.index-waiters-place.result in
-    let within = omega (arith, c.loop-id.invariant.within, c.loop-id.auto.waiters, length-map c.args.waiters.now waiter_view) in
+    let within : c.loop-id.start ≤ length old = omega (arith, c.loop-id.invariant.within, c.loop-id.auto.waiters, length-map c.args.waiters.now waiter_view) in
     let first = next_first F (touched_by c.args.moments.now) c.loop-id.start place c.loop-id.id-index
     c.id-item.result old (waiters_view ws) c.args.touched.now within c.loop-id.invariant.waiters c.loop-id.invariant.left c.loop-id-test.true
     c.id-item.is c.place_from-place.ensures.first in

@@ -1,7 +1,6 @@
-use Rattle.std.proofs.Common.{◌≡◌, ◌≤◌, ◌∙◌, ap, sym, subst, ℕ, map}
-use Rattle.wait_conditions.specs.Kept.{NoneBegan, oldest_place, waiter_view}
+use Rattle.std.proofs.Common.{◌≡◌, ◌≤◌, ◌∙◌, ap, subst, ℕ, sym}
+use Rattle.wait_conditions.specs.Kept.{NoneBegan}
 use Rattle.wait_conditions.specs.Stands.{StoredWaits, needed_from, place_or_end, waits_shown}
-use Rattle.wait_conditions.specs.WaitsFields.{waits_view}
 use Rattle.wait_conditions.proofs.Oldest.{least_needed, all_needed, within_end}
 use Rattle.wait_conditions.proofs.waits.Waits.needed_from.Goals as goal
 
@@ -10,8 +9,7 @@ returns g c =
     let s = c.args.self.now in
     let value : c.place_or_end.result ≡ needed_from (waits_shown s) =
     c.place_or_end.ensures
-    ∙ (ap (λ o. place_or_end o c.self.inside.count)
-    (c.oldest_of.ensures ∙ ap (λ ws. oldest_place (map waiter_view ws)) c.deref.ensures.value)
+    ∙ (ap (λ o. place_or_end o c.self.inside.count) c.oldest.ensures
     ∙ ap (λ (x : StoredWaits). needed_from (waits_shown x)) c.self.view_is) in
     record {
       value = value;

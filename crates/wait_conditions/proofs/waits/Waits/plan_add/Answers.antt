@@ -1,31 +1,35 @@
-use Rattle.std.proofs.Common.{◌≡◌, ◌+◌, ◌∙◌, arith, ap, sym, map, length}
-use Rattle.std.proofs.lemmas.List.{length-map}
-use Rattle.wait_conditions.specs.Kept.{waiter_view}
-use Rattle.wait_conditions.specs.Refusal.{add_refusal}
+use Rattle.std.proofs.Common.{◌≡◌, ◌+◌, ◌∙◌, ap, sym, length, refl, subst, map, false}
+use Rattle.wait_conditions.specs.declared.watched_service.WatchedService.{WatchedService}
+use Rattle.wait_conditions.specs.Kept.{StoredWaiter, waiter_view}
+use Rattle.wait_conditions.specs.Refusal.{add_refusal, repeats_serial}
 use Rattle.wait_conditions.specs.States.{state_in, state_over}
 use Rattle.wait_conditions.specs.Stands.{waits_shown, new_stored_waiter}
 use Rattle.wait_conditions.specs.WaitsFields.{waits_view}
 use Rattle.wait_conditions.specs.Watch.{wait_terms}
 use Rattle.wait_conditions.proofs.Changing.{plans_waiter, plans_refusal}
+use Rattle.wait_conditions.proofs.Joining.{apart_new, none_repeats}
 use Rattle.wait_conditions.proofs.waits.Waits.plan_add.Goals as goal
 
 pub returns-in-Some-clause-plans : goal.returns-in-Some-clause-plans
 returns-in-Some-clause-plans g c =
-    let ws = c.self.inside.waiters.items in
-    let count : c.len.result ≡ length (map waiter_view ws) = omega (arith, c.len.ensures, length-map ws waiter_view) in
     rw (← c.self.view_is, c.stay.ensures.answer, c.stay.ensures.change, c.stay.ensures.next)
     (plans_refusal (waits_shown (waits_view c.self.inside)) c.args.moments.now _ c.in-Some.fault
-    (sym c.in-Some.is ∙ (c.refusal_for.ensures ∙ ap (λ n. add_refusal n c.args.sids.now) count)))
+    (sym c.in-Some.is ∙ (c.refusal_for.ensures ∙ ap (λ n. add_refusal n c.args.sids.now) c.len.ensures)))
 
 pub returns-clause-plans : goal.returns-clause-plans
 returns-clause-plans g c =
-    let ws = c.self.inside.waiters.items in
     let s = waits_shown (waits_view c.self.inside) in
-    let count : c.len.result ≡ length (map waiter_view ws) = omega (arith, c.len.ensures, length-map ws waiter_view) in
     rw (← c.self.view_is)
     (plans_waiter s c.args.moments.now _ (waiter_view c.new_waiter-waiter.result) _
-    (sym c.in_default.is ∙ (c.refusal_for.ensures ∙ ap (λ n. add_refusal n c.args.sids.now) count))
+    (sym c.in_default.is ∙ (c.refusal_for.ensures ∙ ap (λ n. add_refusal n c.args.sids.now) c.len.ensures))
     (c.new_waiter-waiter.ensures.waiter
     ∙ ap (λ d. new_stored_waiter s.next (s.count + length c.args.moments.now) (wait_terms c.args.condition c.args.mode c.args.sids.now d)
     (λ sid. state_over sid c.args.moments.now (state_in s.states sid))) c.deadline_for-deadline.ensures)
     c.release_at_once.ensures)
+
+pub returns-clause-counted : goal.returns-clause-counted
+returns-clause-counted g c = (
+  c.new_waiter-waiter.ensures.counted,
+  ap (λ (k : StoredWaiter). repeats_serial (map (λ (w : WatchedService). w.sid) k.watched)) c.new_waiter-waiter.ensures.waiter
+      ∙ apart_new _ _ _ _ (none_repeats _ c.args.sids.now (sym (sym c.in_default.is ∙ c.refusal_for.ensures))),
+)
