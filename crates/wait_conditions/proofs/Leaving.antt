@@ -127,3 +127,7 @@ id_stays (m ∷ ms) k = id_stays ms (with_moment m k) ∙ (id_while k.standing m
 pub deadline_stays : (ms : List Moment) (k : StoredWaiter) → (with_moments ms k).deadline ≡ k.deadline
 deadline_stays [] k = refl
 deadline_stays (m ∷ ms) k = deadline_stays ms (with_moment m k) ∙ (id_while k.standing m k).1
+
+pub none_by_nothing : (ks : List StoredWaiter) → filter (touched_by []) ks ≡ []
+none_by_nothing [] = refl
+none_by_nothing (k ∷ ks) = none_by_nothing ks

@@ -101,7 +101,7 @@ pub fn copy_touched<A: Allocator>(
 /// The serials of these waiters.
 pub fn list_serials<A: Allocator>(alloc: A, waiters: &[Waiter]) -> Result<Vec<WaitId, A>, NoMemory>
     ensures serials { IfOk result (λ serials. serials.items ≡ map (λ k. k.id) (waiters_view waiters.now)) }
-    ensures quiet { waiters.now ≡ [] → IsOk result }
+    ensures quiet { waiters_view waiters.now ≡ [] → IsOk result }
 {
     let mut serials = Vec::new(alloc);
     for waiter in waiters {
