@@ -1,5 +1,5 @@
 -- Lists of which some elements are left out.
-use Rattle.std.proofs.Common.{◌≡◌, ◌<◌, ◌≤◌, ◌+◌, ℕ, List, [], ◌∷◌, ◌++◌, Bool, true, false, ◌&&◌, not, cond, length, take, drop, filter, map, get_or}
+use Rattle.std.proofs.Common.{◌≡◌, ◌<◌, ◌≤◌, ℕ, List, [], ◌∷◌, Bool, true, false, ◌&&◌, cond, length, take, drop, filter, get_or}
 use Rattle.std.proofs.Common.{refl, sym, ap, ◌∙◌, arith, zero, suc}
 
 -- an element that passes, or one that doesn't, before others

@@ -10,7 +10,7 @@ use Rattle.wait_conditions.specs.declared.verdict.Verdict.{Verdict}
 use Rattle.wait_conditions.specs.declared.verdict.WaitState.{WaitState}
 use Rattle.wait_conditions.specs.declared.verdict.WaitState.TheVariants.{Waiting, Released}
 use Rattle.wait_conditions.specs.declared.watched_service.WatchedService.{WatchedService}
-use Rattle.wait_conditions.specs.Kept.{StoredWaiter, is_waiting, still_waits, concerns, late_at, watched_then, watched_while, judged, judged_as, with_moment, with_moment_while, with_moments, release_seen}
+use Rattle.wait_conditions.specs.Kept.{StoredWaiter, is_waiting, still_waits, concerns, late_at, watched_then, watched_while, judged, with_moment, with_moment_while, with_moments, release_seen}
 use Rattle.wait_conditions.specs.Planning.{AreReleasedAlike}
 use Rattle.wait_conditions.specs.Watch.{new_release}
 use Rattle.wait_conditions.specs.Watched.{watched_after}

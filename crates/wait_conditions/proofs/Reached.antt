@@ -1,8 +1,7 @@
 -- Whom some moments may touch, moment by moment.
-use Rattle.std.proofs.Common.{◌≡◌, ◌<◌, ◌≤◌, ◌+◌, ℕ, List, [], ◌∷◌, ◌++◌, Bool, true, false, ◌&&◌, ◌||◌, ◌==◌, Option, Some, None, All, filter, length, get_or, take}
+use Rattle.std.proofs.Common.{◌≡◌, ◌<◌, ◌≤◌, ◌+◌, ℕ, List, [], ◌∷◌, ◌++◌, Bool, true, false, ◌&&◌, ◌||◌, ◌==◌, Option, Some, None, filter, length, get_or, take}
 use Rattle.std.proofs.Common.{refl, sym, ap, subst, ◌∙◌, arith}
-use Rattle.std.specs.Prelude.{IfSome, nat_le, if◌then◌else◌}
-use Rattle.std.specs.List.{list_any}
+use Rattle.std.specs.Prelude.{IfSome, if◌then◌else◌}
 use Rattle.std.proofs.lemmas.Bool.Decides.{nat_tests}
 use Rattle.std.proofs.lemmas.List.{take_more}
 use Rattle.std.proofs.lemmas.List.Folds.{list_any-append}
@@ -15,7 +14,7 @@ use Rattle.wait_conditions.specs.declared.reach.Reach.TheVariants.{Nobody, Watch
 use Rattle.wait_conditions.specs.Kept.{StoredWaiter, still_waits, late_at}
 use Rattle.wait_conditions.specs.Reach.{with_service, IsTouchedWithin, TouchWithin}
 use Rattle.wait_conditions.specs.Watchers.{IsDueFrom, AreDueFrom, touches, touched_by, watches}
-use Rattle.wait_conditions.proofs.Filtered.{filter_yes, filter_no}
+use Rattle.wait_conditions.proofs.Filtered.{filter_no}
 
 or_false : (b : Bool) → (b || false) ≡ b
 or_false true = refl

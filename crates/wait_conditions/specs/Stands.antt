@@ -1,5 +1,5 @@
 -- Which waiters, as they are written down, the stored ones stand for.
-use Rattle.std.specs.Prelude.{◌≡◌, ℕ, ◌+◌, ◌*◌, ◌<◌, ◌≤◌, ◌^◌, List, [], ◌∷◌, ◌++◌, Bool, false, true, Option, Some, None}
+use Rattle.std.specs.Prelude.{◌≡◌, ℕ, ◌+◌, ◌*◌, ◌<◌, ◌≤◌, ◌^◌, List, [], ◌∷◌, ◌++◌, false, Option, Some, None}
 use Rattle.std.specs.Prelude.{All, length, map, filter, take, drop, ⊤}
 use Rattle.s6_events.specs.Rising.{AreRising}
 use Rattle.s6_events.specs.declared.moment.Moment.{Moment}

@@ -1,7 +1,6 @@
-use Rattle.std.proofs.Common.{◌≡◌, ◌∙◌, ◌+◌, ◌-◌, ◌<◌, ◌++◌, ◌∷◌, [], ℕ, ap, sym, subst, arith, length, take, drop, map, filter, rules}
+use Rattle.std.proofs.Common.{◌∙◌, ◌+◌, ◌<◌, ◌++◌, ◌∷◌, [], ap, sym, subst, arith, length, drop, map}
 use Rattle.std.proofs.lemmas.List.{drop_more, drop_all, length-map, length-drop, map-append, get_or-map}
 use Rattle.std.proofs.lemmas.List.Elements.{All-get_or, All-push, All-nil, All-same}
-use Rattle.wait_conditions.specs.declared.waiter.Waiter.{Waiter}
 use Rattle.wait_conditions.specs.declared.watchers.Watcher.{Watcher}
 use Rattle.wait_conditions.specs.Kept.{waiter_view}
 use Rattle.wait_conditions.specs.WaitsFields.{IsCounted, waiters_view}

@@ -1,4 +1,4 @@
-use Rattle.std.proofs.Common.{◌≡◌, ◌∙◌, ◌==◌, ℕ, List, ap, sym, not, filter}
+use Rattle.std.proofs.Common.{◌∙◌, ◌==◌, ℕ, List, ap, sym, not, filter}
 use Rattle.std.specs.Prelude.{if◌then◌else◌}
 use Rattle.wait_conditions.specs.Kept.{StoredWaiter}
 use Rattle.wait_conditions.specs.Watchers.{serials_of}

@@ -1,8 +1,8 @@
-use Rattle.std.proofs.Common.{◌≡◌, ◌∙◌, ◌+◌, ◌-◌, ◌<◌, ◌≤◌, ◌==◌, ◌∷◌, [], ap, sym, subst, arith, length, take, drop, map, get_or, rules, filter, not}
+use Rattle.std.proofs.Common.{◌≡◌, ◌∙◌, ◌<◌, ◌≤◌, ◌==◌, ap, sym, subst, arith, length, map, get_or, filter, not}
 use Rattle.std.specs.Prelude.{if◌then◌else◌}
 use Rattle.s6_events.specs.Rising.{AreRising}
 use Rattle.wait_conditions.specs.declared.waiter.Waiter.{Waiter}
-use Rattle.std.proofs.lemmas.List.{drop_more, drop_all, length-map, length-drop, length-set, map-set, get_or-map}
+use Rattle.std.proofs.lemmas.List.{drop_all, length-map, length-drop, length-set, map-set, get_or-map}
 use Rattle.std.proofs.lemmas.List.Elements.{All-get_or, All-set}
 use Rattle.wait_conditions.specs.Kept.{StoredWaiter, waiter_view, still_waits, with_moments}
 use Rattle.wait_conditions.specs.WaitsFields.{IsCounted, waiters_view}

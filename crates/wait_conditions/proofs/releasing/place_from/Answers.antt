@@ -1,8 +1,8 @@
-use Rattle.std.proofs.Common.{◌≡◌, ◌∙◌, ◌+◌, ◌-◌, ◌∷◌, ℕ, List, ap, sym, subst, arith, length, take, drop, map}
+use Rattle.std.proofs.Common.{◌≡◌, ◌∙◌, ◌+◌, ◌-◌, ℕ, List, ap, sym, subst, arith, length, take, drop, map}
 use Rattle.std.proofs.lemmas.List.{take_all, length-drop, drop-map}
 use Rattle.s6_events.specs.Rising.{AreRising}
 use Rattle.wait_conditions.specs.declared.waiter.Waiter.{Waiter}
-use Rattle.wait_conditions.specs.Kept.{StoredWaiter, waiter_view}
+use Rattle.wait_conditions.specs.Kept.{waiter_view}
 use Rattle.wait_conditions.specs.WaitsFields.{waiters_view}
 use Rattle.wait_conditions.specs.Watchers.{IsFirst, serials_where}
 use Rattle.wait_conditions.proofs.Searching.{serials, rising_drop}

@@ -1,8 +1,8 @@
-use Rattle.std.proofs.Common.{◌∙◌, ◌++◌, ◌∷◌, [], ap, sym, subst, take, false}
+use Rattle.std.proofs.Common.{◌∙◌, ◌++◌, ◌∷◌, [], sym, subst, take}
 use Rattle.std.proofs.lemmas.List.{take_all}
 use Rattle.wait_conditions.specs.Kept.{waiter_view}
 use Rattle.wait_conditions.specs.WaitsFields.{waiters_view}
-use Rattle.wait_conditions.specs.Watchers.{AreDueFrom, earlier}
+use Rattle.wait_conditions.specs.Watchers.{AreDueFrom}
 use Rattle.wait_conditions.proofs.Ordered.{due_push, due_push_released, view_more}
 use Rattle.wait_conditions.proofs.waiter_list.least_deadline.Goals as goal
 use Rattle.wait_conditions.proofs.waiter_list.least_deadline.Goals.{then-waits_still, else-waits_still}

@@ -1,4 +1,4 @@
-use Rattle.std.proofs.Common.{◌≡◌, ◌∙◌, ◌++◌, [], ℕ, List, ap, sym, subst, arith, length, take, drop, map, append-nil}
+use Rattle.std.proofs.Common.{◌≡◌, ◌∙◌, ◌++◌, ℕ, List, ap, sym, subst, arith, length, take, drop, map, append-nil}
 use Rattle.std.proofs.lemmas.List.{drop_all, take_all, length-map}
 use Rattle.std.proofs.lemmas.List.Elements.{All-same}
 use Rattle.s6_events.specs.Rising.{AreRising}

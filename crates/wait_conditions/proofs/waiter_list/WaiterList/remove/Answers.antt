@@ -1,4 +1,4 @@
-use Rattle.std.proofs.Common.{ap, sym, subst}
+use Rattle.std.proofs.Common.{sym, subst}
 use Rattle.std.proofs.lemmas.List.Elements.{All-filter}
 use Rattle.s6_events.proofs.Rising.{rising_left}
 use Rattle.s6_events.specs.Rising.{AreRising}

@@ -1,4 +1,4 @@
-use Rattle.std.proofs.Common.{◌≡◌, ◌∙◌, ◌++◌, ◌∷◌, [], refl, ap, sym, map, false}
+use Rattle.std.proofs.Common.{◌∙◌, ◌++◌, ◌∷◌, [], refl, ap, sym, map}
 use Rattle.wait_conditions.specs.declared.watched_service.WatchedService.{WatchedService}
 use Rattle.wait_conditions.specs.Kept.{StoredWaiter, waiter_view}
 use Rattle.wait_conditions.specs.Refusal.{repeats_serial}

@@ -1,4 +1,4 @@
-use Rattle.std.proofs.Common.{◌≡◌, ◌≤◌, ◌∙◌, ap, subst, ℕ, sym}
+use Rattle.std.proofs.Common.{◌≡◌, ◌≤◌, ◌∙◌, ap, subst, sym}
 use Rattle.wait_conditions.specs.Kept.{NoneBegan}
 use Rattle.wait_conditions.specs.Stands.{StoredWaits, needed_from, place_or_end, waits_shown}
 use Rattle.wait_conditions.proofs.Oldest.{least_needed, all_needed, within_end}

@@ -1,4 +1,4 @@
-use Rattle.std.proofs.Common.{◌≡◌, ◌+◌, ◌∙◌, ap, sym, length, refl, subst, map, false}
+use Rattle.std.proofs.Common.{◌+◌, ◌∙◌, ap, sym, length, map}
 use Rattle.wait_conditions.specs.declared.watched_service.WatchedService.{WatchedService}
 use Rattle.wait_conditions.specs.Kept.{StoredWaiter, waiter_view}
 use Rattle.wait_conditions.specs.Refusal.{add_refusal, repeats_serial}

@@ -1,6 +1,6 @@
 use Rattle.std.proofs.Common.{◌≡◌, ◌∙◌, ◌+◌, ◌++◌, ap, sym, map, subst, filter, [], length, arith, false, true}
 use Rattle.std.specs.Prelude.{IsOk}
-use Rattle.wait_conditions.specs.Kept.{StoredWaiter, waiter_view, releases_seen}
+use Rattle.wait_conditions.specs.Kept.{StoredWaiter, releases_seen}
 use Rattle.wait_conditions.specs.PlanFields.{list_change_of}
 use Rattle.wait_conditions.specs.Stands.{StoredWaits, WaitsShown, JoinsAt, waits_shown}
 use Rattle.wait_conditions.specs.WaitsFields.{waiters_view}

@@ -1,10 +1,9 @@
-use Rattle.std.proofs.Common.{◌≡◌, ◌∙◌, ◌<◌, ◌≤◌, ◌+◌, ◌∷◌, [], All, ap, sym, subst, refl, arith, filter, map, append-nil}
+use Rattle.std.proofs.Common.{◌∙◌, ◌<◌, ◌≤◌, ◌+◌, ◌∷◌, [], All, ap, sym, subst, refl, arith, filter, append-nil}
 use Rattle.std.specs.List.{filter_map}
 use Rattle.s6_events.specs.Newest.{mark_of}
 use Rattle.wait_conditions.specs.Kept.{StoredWaiter, release_seen, releases_seen}
 use Rattle.wait_conditions.specs.States.{state_in}
 use Rattle.wait_conditions.specs.SupervisorState.{state_after}
-use Rattle.wait_conditions.specs.Stands.{StoredWaits}
 use Rattle.wait_conditions.specs.WaitsFields.{waiters_view}
 use Rattle.wait_conditions.specs.Watchers.{touched_by}
 use Rattle.wait_conditions.proofs.Joining.{placed_later}

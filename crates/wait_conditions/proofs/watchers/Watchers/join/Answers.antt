@@ -1,4 +1,4 @@
-use Rattle.std.proofs.Common.{◌≡◌, ◌≤◌, ◌++◌, ◌∙◌, ◌+◌, ◌∷◌, [], ℕ, List, ap, sym, subst, rules, arith, length, drop, map, false, append_assoc, append-nil, get_or}
+use Rattle.std.proofs.Common.{◌≡◌, ◌≤◌, ◌++◌, ◌∙◌, ◌+◌, ◌∷◌, [], List, ap, sym, subst, rules, arith, length, drop, map, false, append_assoc, append-nil}
 use Rattle.std.specs.Prelude.{if◌then◌else◌, ◌==◌}
 use Rattle.std.proofs.lemmas.List.{drop_more, drop_all}
 use Rattle.wait_conditions.specs.declared.watched_service.WatchedService.{WatchedService}

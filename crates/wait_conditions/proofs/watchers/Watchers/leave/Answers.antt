@@ -1,9 +1,9 @@
-use Rattle.std.proofs.Common.{◌≡◌, ◌==◌, ◌∙◌, ap, sym, subst, not, rules}
+use Rattle.std.proofs.Common.{◌==◌, ◌∙◌, ap, sym, subst, not, rules}
 use Rattle.std.specs.List.Sorted.{IsNonDecreasingBy}
 use Rattle.std.proofs.lemmas.Fn.{filter_same}
 use Rattle.std.proofs.lemmas.List.Kept.{IsNonDecreasingBy-filter}
 use Rattle.wait_conditions.specs.declared.watchers.Watcher.{Watcher}
-use Rattle.wait_conditions.specs.Watchers.{WatcherList, serials_of}
+use Rattle.wait_conditions.specs.Watchers.{serials_of}
 use Rattle.wait_conditions.proofs.Indexed.{left_is}
 use Rattle.wait_conditions.proofs.watchers.Watchers.leave.Goals as goal
 
