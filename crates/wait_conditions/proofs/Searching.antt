@@ -191,6 +191,7 @@ all_other n q (k ∷ ks) a = by (q k) (all_other n q ks a.1)
   where
     differs : (a b : ℕ) → b < a → not (a == b) ≡ true
     differs a b lt = grind (arith, nat_tests)
+
     by : (b : Bool) → filter (λ i. not (i == n)) (serials_where q ks) ≡ serials_where q ks
         → filter (λ i. not (i == n)) (serials (cond b (k ∷ filter q ks) (filter q ks))) ≡ serials (cond b (k ∷ filter q ks) (filter q ks))
     by true rest = filter_yes (λ i. not (i == n)) k.id (serials_where q ks) (differs k.id n a.0) ∙ ap (λ is. k.id ∷ is) rest
@@ -218,6 +219,7 @@ less_set q (j ∷ ks) zero k d r lt h = ap serials (filter_no q k ks h) ∙ by (
   where
     same : (n : ℕ) → not (n == n) ≡ false
     same n = grind (arith, nat_tests)
+
     by : (b : Bool) → serials_where q ks ≡ filter (λ id. not (id == j.id)) (serials (cond b (j ∷ filter q ks) (filter q ks)))
     by true = sym (filter_no (λ id. not (id == j.id)) j.id (serials_where q ks) (same j.id) ∙ all_other j.id q ks r.0)
     by false = sym (all_other j.id q ks r.0)
@@ -227,8 +229,10 @@ less_set q (j ∷ ks) (suc i) k d r lt h = by (q j) (less_set q ks i k d r.1 (om
     at [] n i a lt = absurd (omega (arith, lt))
     at (k ∷ ks) n zero a lt = a.0
     at (k ∷ ks) n (suc i) a lt = at ks n i a.1 (omega (arith, lt))
+
     differs : (a b : ℕ) → a < b → not (a == b) ≡ true
     differs a b lt = grind (arith, nat_tests)
+
     by : (b : Bool) → serials_where q (set ks i k) ≡ filter (λ id. not (id == (get_or ks i d).id)) (serials_where q ks)
         → serials (cond b (j ∷ filter q (set ks i k)) (filter q (set ks i k)))
         ≡ filter (λ id. not (id == (get_or ks i d).id)) (serials (cond b (j ∷ filter q ks) (filter q ks)))

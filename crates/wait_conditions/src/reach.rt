@@ -20,7 +20,11 @@ impl Reach {
     {
         match self {
             Reach::Nobody => Reach::WatchersOf(sid),
-            Reach::WatchersOf(other) => if other.0 == sid.0 { self } else { Reach::Anybody },
+            Reach::WatchersOf(other) => if other.0 == sid.0 {
+                self
+            } else {
+                Reach::Anybody
+            },
             Reach::Anybody => self,
         }
     }

@@ -24,8 +24,13 @@ bounds-waiters-place g c =
     let first = c.place_from-place.ensures.first (watches c.args.sid) rest
     (sym c.loop-watcher.invariant.left
     ∙ ap (map (λ (w : Watcher). w.waiter)) (drop_more ws n c.watcher-item.result c.loop-watcher-test.true ∙ ap (λ x. x ∷ drop (n + 1) ws) (sym c.watcher-item.is))) in
-    omega (arith, first.within, c.place_from-place.ensures.from, length-map c.args.waiters.now waiter_view,
-    length-drop c.loop-watcher.start (waiters_view c.args.waiters.now))
+    omega (
+      arith,
+      first.within,
+      c.place_from-place.ensures.from,
+      length-map c.args.waiters.now waiter_view,
+      length-drop c.loop-watcher.start (waiters_view c.args.waiters.now),
+    )
 
 pub copy_of-requires : goal.copy_of-requires
 copy_of-requires g c =
@@ -37,8 +42,13 @@ copy_of-requires g c =
     ∙ ap (map (λ (w : Watcher). w.waiter)) (drop_more ws n c.watcher-item.result c.loop-watcher-test.true ∙ ap (λ x. x ∷ drop (n + 1) ws) (sym c.watcher-item.is))) in
     subst IsCounted (sym c.index-waiters-place.is)
     (All-get_or IsCounted c.args.waiters.now c.place_from-place.result c.index-waiters-place.result
-    (omega (arith, first.within, c.place_from-place.ensures.from, length-map c.args.waiters.now waiter_view,
-    length-drop c.loop-watcher.start (waiters_view c.args.waiters.now))) c.requires.counted)
+    (omega (
+      arith,
+      first.within,
+      c.place_from-place.ensures.from,
+      length-map c.args.waiters.now waiter_view,
+      length-drop c.loop-watcher.start (waiters_view c.args.waiters.now),
+    )) c.requires.counted)
 
 pub loop-watcher-preserved : goal.loop-watcher-preserved
 loop-watcher-preserved g c =

@@ -32,7 +32,7 @@ returns-clause-counted g c = (
   c.new_waiter-waiter.ensures.counted,
   ap (λ (k : StoredWaiter). repeats_serial (map (λ (w : WatchedService). w.sid) k.watched)) c.new_waiter-waiter.ensures.waiter
       ∙ apart_new c.self.inside.next (c.self.inside.count + length c.args.moments.now)
-          (wait_terms c.args.condition c.args.mode c.args.sids.now c.deadline_for-deadline.result)
-          (λ sid. state_over sid c.args.moments.now (state_in c.self.inside.states.runs sid))
-          (none_repeats c.len.result c.args.sids.now (sym (sym c.in_default.is ∙ c.refusal_for.ensures))),
+      (wait_terms c.args.condition c.args.mode c.args.sids.now c.deadline_for-deadline.result)
+      (λ sid. state_over sid c.args.moments.now (state_in c.self.inside.states.runs sid))
+      (none_repeats c.len.result c.args.sids.now (sym (sym c.in_default.is ∙ c.refusal_for.ensures))),
 )

@@ -27,15 +27,16 @@ pub returns-clause-ok : goal.returns-clause-ok
 returns-clause-ok g c =
     let m = c.args.moment.now in
     let W = c.self.inside.list.waiters in
-    rw (← c.self.view_is)
-    (c.in_ok-released.ensures.released
-    ∙ (ap (λ ws. releases_seen (m ∷ []) (waiters_view ws)) c.deref_mut.ensures.value
-    ∙ (ap (releases_seen (m ∷ [])) c.in_ok-copies.ensures.copies
-    ∙ (sym (released_alike (m ∷ []) W (filter (touched_by (m ∷ [])) W) (alike_touched (m ∷ []) W))
-    ∙ append-nil (filter_map (release_seen m) W)))),
-    record {
-      count = refl;
-      states = λ sid. c.take_in.ensures.states sid ∙ ap (λ runs. state_after (mark_of sid m) (state_in runs sid)) c.in_ok-reserve.ensures.runs;
-      waiters = c.change.ensures.waiters;
-      next_is = refl;
-    })
+    rw (← c.self.view_is) (
+      c.in_ok-released.ensures.released
+          ∙ (ap (λ ws. releases_seen (m ∷ []) (waiters_view ws)) c.deref_mut.ensures.value
+          ∙ (ap (releases_seen (m ∷ [])) c.in_ok-copies.ensures.copies
+          ∙ (sym (released_alike (m ∷ []) W (filter (touched_by (m ∷ [])) W) (alike_touched (m ∷ []) W))
+          ∙ append-nil (filter_map (release_seen m) W)))),
+      record {
+        count = refl;
+        states = λ sid. c.take_in.ensures.states sid ∙ ap (λ runs. state_after (mark_of sid m) (state_in runs sid)) c.in_ok-reserve.ensures.runs;
+        waiters = c.change.ensures.waiters;
+        next_is = refl;
+      },
+    )
