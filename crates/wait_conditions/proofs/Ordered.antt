@@ -99,9 +99,6 @@ oldest_first n (k ∷ ks) h =
 pub oldest_is : (k : StoredWaiter) (ks : List StoredWaiter) → BeganInOrder (k ∷ ks) → still_waits k ≡ true → oldest_place (k ∷ ks) ≡ Some k.place
 oldest_is k ks b w = ap (λ c. fold older (if c then Some k.place else None) ks) w ∙ oldest_first k.place ks b.0
 
-pub oldest_next : (k : StoredWaiter) (ks : List StoredWaiter) → still_waits k ≡ false → oldest_place (k ∷ ks) ≡ oldest_place ks
-oldest_next k ks w = ap (λ c. fold older (if c then Some k.place else None) ks) w
-
 -- the watchers of one more waiter, and of one less
 pub indexed_push : (old new : List Watcher) (k : StoredWaiter) (ks : List StoredWaiter) → AreIndexed old ks
     → ((sid : ℕ) → serials_of sid new ≡ serials_of sid old ++ serials_where (watches sid) (k ∷ [])) → AreIndexed new (ks ++ k ∷ [])

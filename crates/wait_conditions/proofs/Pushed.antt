@@ -39,18 +39,3 @@ pub since_of-push : (sid : ℕ) (since : List Moment) (m : Moment) → since_of 
 since_of-push sid since m =
     (λ i. since_told (newest-push is_spawned sid since m i) (newest-push tells_failure sid since m i))
     ∙ since_newer (clock_of since) (mark_of sid m) (newest is_spawned sid since) (newest tells_failure sid since)
-
--- a loop's step over the moments
-pub state_more : (sid : ℕ) (moments : List Moment) (i : ℕ) (m : Moment) (state : SupervisorState) → i < length moments → m ≡ get_or moments i m
-    → state ≡ state_of sid (take i moments) → state_after (mark_of sid m) state ≡ state_of sid (take (i + 1) moments)
-state_more sid moments i m state h is e =
-    ap (state_after (mark_of sid m)) e
-    ∙ (sym (state_of-push sid (take i moments) m)
-    ∙ ap (state_of sid) (ap (λ n. take i moments ++ n ∷ []) is ∙ sym (take_more moments i m h)))
-
-pub since_more : (sid : ℕ) (moments : List Moment) (i : ℕ) (m : Moment) (state : SinceState) → i < length moments → m ≡ get_or moments i m
-    → state ≡ since_of sid (take i moments) → since_after (mark_of sid m) state ≡ since_of sid (take (i + 1) moments)
-since_more sid moments i m state h is e =
-    ap (since_after (mark_of sid m)) e
-    ∙ (sym (since_of-push sid (take i moments) m)
-    ∙ ap (since_of sid) (ap (λ n. take i moments ++ n ∷ []) is ∙ sym (take_more moments i m h)))

@@ -62,10 +62,6 @@ abbrev pub concerns : Moment → StoredWaiter → Bool
 concerns (Clock at) k = late_at k.deadline (Clock at)
 concerns (Event sid mark) k = list_any (λ w. w.sid == sid) k.watched
 
--- one of these moments does
-abbrev pub concerned_by : List Moment → StoredWaiter → Bool
-concerned_by ms k = list_any (λ m. concerns m k) ms
-
 -- what it knows of its services after one more moment
 abbrev pub watched_then : Moment → StoredWaiter → List WatchedService
 watched_then m k = map (λ w. watched_after k.condition (mark_of w.sid m) w) k.watched
