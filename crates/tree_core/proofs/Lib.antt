@@ -8,6 +8,7 @@ pub mod DirectoryChosen
 pub mod Listened
 pub mod PlanMakes
 pub mod Stand
+pub mod Tied
 pub mod Leaving
 pub mod Closed
 pub mod Owners

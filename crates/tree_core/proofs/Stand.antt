@@ -3,10 +3,7 @@ use Rattle.std.proofs.Common.{◌≡◌, ◌+◌, ◌-◌, ◌*◌, ◌<◌, ◌
 use Rattle.std.proofs.lemmas.List.{length-append, length-drop, drop-append-le, drop-drop}
 use Rattle.event_directory.specs.Pattern.{finds}
 use Rattle.event_directory.specs.Remembered.{AreHeard, DirectoriesPrepared, DirectoriesShown, directories_after_commit}
-use Rattle.s6_events.specs.At.{last_moment}
 use Rattle.s6_events.specs.declared.moment.Moment.{Moment}
-use Rattle.deadlines.specs.Timers.{due_by}
-use Rattle.deadlines.specs.declared.timer.Timer.{Timer}
 use Rattle.supervise_core.specs.Service.{Supervised}
 use Rattle.tree_core.specs.declared.input.Input.{Input}
 use Rattle.tree_core.specs.declared.plan.StepPlan.{StepPlan}
@@ -18,20 +15,20 @@ use Rattle.wait_conditions.specs.Watch.{WrittenWaiter}
 use Rattle.std.proofs.lemmas.List.Elements.{All-cons, All-head, All-tail}
 use Rattle.tree_core.specs.Acts.{offer_of}
 use Rattle.tree_core.specs.Machine.{Machine, directories_of, watch_of}
-use Rattle.tree_core.specs.Plan.{PresentState, present_state, IsNow, IsQuiet, Plans}
+use Rattle.tree_core.specs.Plan.{PresentState, present_state, IsNow, Plans}
 use Rattle.tree_core.specs.Run.{after, outcome}
 use Rattle.std.specs.Prelude.{All, get_or}
 use Rattle.supervise_core.specs.declared.chart.ChartState.{ChartState}
+use Rattle.tree_core.specs.Limits.{service_limit, moment_limit}
 use Rattle.tree_core.specs.Sound.{IsCounted, IsRecorded}
+use Rattle.tree_core.specs.Step.{step_limit}
 use Rattle.tree_core.specs.StandsFor.{StoredTree, StandsFor, IsCut}
-use Rattle.svscan_core.specs.Timers.{TimersAgree}
 use Rattle.svscan_core.specs.Registry.{RegistryPrepared}
 use Rattle.svscan_core.specs.Deaths.{AllTallied, AllBefore}
 use Rattle.svscan_core.specs.Sound.{AllAgree}
 use Rattle.svscan_core.specs.Table.{charts_of}
 use Rattle.tree_core.specs.declared.effect.Effect.{Effect}
 use Rattle.tree_core.proofs.Reading.{step-reads}
-use Rattle.tree_core.proofs.TimersDue.{none_for_quiet}
 
 -- what is there now in a tree, and in each machine for which it stands
 abbrev pub present_of : StoredTree → PresentState
@@ -79,7 +76,7 @@ behind t m n plan e s =
     (drop-append-le t.forgotten m.history plan.history s.forgotten ∙ ap (λ h. h ++ plan.history) s.kept)
 
 -- more of them may be forgotten
-dropped_more : (old new : ℕ) (kept whole : List Moment) → drop old whole ≡ kept → old ≤ new → drop new whole ≡ drop (new - old) kept
+pub dropped_more : (old new : ℕ) (kept whole : List Moment) → drop old whole ≡ kept → old ≤ new → drop new whole ≡ drop (new - old) kept
 dropped_more old new kept whole e le =
     let total : old + (new - old) ≡ new = omega (arith, le) in
     ap (λ n. drop n whole) (sym total) ∙ (sym (drop-drop (new - old) old whole) ∙ ap (drop (new - old)) e)
@@ -118,19 +115,9 @@ stands_after {A} t new input plan prepared later directories effect plans n m s 
       },
     )
 
--- for a quiet input nothing is due, and what then holds of each machine that has now what the tree has holds
-pub for_quiet : {A : Type 0} (t seen : StoredTree) (input : Input A) (now : ℕ) (ts : List Timer) (due : List ℕ) (Given : Type 0)
-    → t ≡ seen → now ≡ max t.clock input.at → now ≤ last_moment → TimersAgree ts (charts_of t.services) → due ≡ due_by now ts
-    → (m : Machine) × StandsFor t m
-    → ((m : Machine) → IsNow (present_of t) m → IsQuiet input t.clock (charts_of t.services) → due ≡ [] → Given)
-    → IsQuiet input seen.clock (charts_of seen.services) → Given
-for_quiet {A} t seen input now ts due Given same later bound agree is there gives quiet =
-    gives there.0 (is_now t there.0 there.1) (subst (λ (x : StoredTree). IsQuiet input x.clock (charts_of x.services)) (sym same) quiet)
-    (is ∙ none_for_quiet t seen input now ts same later bound agree quiet)
-
 -- the history with the moments of a planned step
 pub recorded_after : {A : Type 0} (t : StoredTree) (plan : StepPlan A) (forgotten : ℕ) (kept : List Moment) → IsRecorded t.steps t.forgotten t.kept
-    → length plan.history ≤ 1024 → forgotten + length kept ≡ t.forgotten + length (t.kept ++ plan.history)
+    → length plan.history ≤ moment_limit → forgotten + length kept ≡ t.forgotten + length (t.kept ++ plan.history)
     → IsRecorded (t.steps + 1) forgotten kept
 recorded_after t plan forgotten kept r few same = record {
   few = omega (arith, same, length-append t.kept plan.history, r.few, few);
@@ -138,8 +125,8 @@ recorded_after t plan forgotten kept r few same = record {
 
 -- its numbers after a step
 pub counted_after : (taken next new_next waiter new_waiter subscription new_subscription : ℕ) (old new : List ChartState)
-    → IsCounted taken next waiter subscription old → taken < 281474976710656
-    → new_next ≤ next + 64 → new_waiter ≤ waiter + 1 → new_subscription ≤ subscription + 1
+    → IsCounted taken next waiter subscription old → taken < step_limit
+    → new_next ≤ next + service_limit → new_waiter ≤ waiter + 1 → new_subscription ≤ subscription + 1
     → ((n : ℕ) → All (λ c. c.generation ≤ n) old → All (λ c. c.generation ≤ n + 2) new)
     → IsCounted (taken + 1) new_next new_waiter new_subscription new
 counted_after taken next new_next waiter new_waiter subscription new_subscription old new c left few one another grows = record {

@@ -10,7 +10,7 @@ use Rattle.deadlines.specs.Timers.{rises, due_by, is_rising}
 use Rattle.supervise_core.specs.declared.chart.ChartState.{ChartState}
 use Rattle.supervise_core.specs.Chart.{is_due}
 use Rattle.svscan_core.specs.Sound.{IsNumbered}
-use Rattle.svscan_core.specs.Table.{charts_of, serials_of}
+use Rattle.svscan_core.specs.Table.{serials_of}
 use Rattle.svscan_core.specs.Timers.{in_reach, timer_in, set_in, TimersAgree}
 use Rattle.svscan_core.specs.Work.{AreDue}
 use Rattle.svscan_core.proofs.Serials.{itself, later_other, earlier_other}
@@ -19,7 +19,6 @@ use Rattle.svscan_core.proofs.Timers.{one_number}
 use Rattle.svscan_core.proofs.Truth.{both_left, both_right, neither_left, neither_right}
 use Rattle.tree_core.specs.declared.input.Input.{Input}
 use Rattle.tree_core.specs.Plan.{IsQuiet}
-use Rattle.tree_core.specs.StandsFor.{StoredTree}
 
 clock_stays : (now clock at : ℕ) → now ≡ max clock at → at ≤ clock → now ≡ clock
 clock_stays now clock at is early = is ∙ omega arith
@@ -102,21 +101,15 @@ pub none_due : (now : ℕ) (ts : List Timer) (services : List ChartState) → no
 none_due now ts services l a h = nothing_in (due_by now ts)
     (λ q. due_found now q ts a.order ∙ (ap (is_due now) (a.moments q) ∙ rest_timer now q services l h))
 
--- what a tree finds due are the services whose timers are due, and for a quiet input there is none
-pub due_now : (now late next : ℕ) (due : List ℕ) (ts : List Timer) (before seen : List ChartState) → now ≡ late → now ≤ last_moment
-    → due ≡ due_by now ts → seen ≡ before
-    → TimersAgree ts before → IsNumbered next before → AreDue due late seen
-due_now now late next due ts before seen e l is same a numbered =
-    subst (λ (n : ℕ). AreDue due n seen) e
-    (subst (λ (cs : List ChartState). AreDue due now cs) (sym same)
-    (subst (λ (sids : List ℕ). AreDue sids now before) (sym is) (due_agrees now ts before l a (rising_before (serials_of before) next numbered))))
+-- the serials that are found due are those of the services whose timers are due
+pub due_now : (now next : ℕ) (due : List ℕ) (ts : List Timer) (services : List ChartState) → now ≤ last_moment → due ≡ due_by now ts
+    → TimersAgree ts services → IsNumbered next services → AreDue due now services
+due_now now next due ts services l is a numbered =
+    subst (λ (sids : List ℕ). AreDue sids now services) (sym is) (due_agrees now ts services l a (rising_before (serials_of services) next numbered))
 
-pub none_for_quiet : {A : Type 0} (t seen : StoredTree) (input : Input A) (now : ℕ) (ts : List Timer) → t ≡ seen → now ≡ max t.clock input.at
-    → now ≤ last_moment
-    → TimersAgree ts (charts_of t.services) → IsQuiet input seen.clock (charts_of seen.services) → due_by now ts ≡ []
-none_for_quiet {A} t seen input now ts same e l a quiet =
-    let q : IsQuiet input t.clock (charts_of t.services) =
-    subst (λ (x : StoredTree). IsQuiet input x.clock (charts_of x.services)) (sym same) quiet in
-    let late : now ≡ t.clock = clock_stays now t.clock input.at e q.early in
-    none_due now ts (charts_of t.services) l a (subst (λ (n : ℕ). list_any (λ c. is_due n c.timer) (charts_of t.services) ≡ false)
-    (sym late) q.rest)
+-- for a quiet input there is none
+pub none_for_quiet : {A : Type 0} (input : Input A) (clock now : ℕ) (due : List ℕ) (ts : List Timer) (services : List ChartState)
+    → now ≡ max clock input.at → now ≤ last_moment → due ≡ due_by now ts → TimersAgree ts services → IsQuiet input clock services → due ≡ []
+none_for_quiet input clock now due ts services e l is a q =
+    let late : now ≡ clock = clock_stays now clock input.at e q.early in
+    is ∙ none_due now ts services l a (subst (λ (n : ℕ). list_any (λ c. is_due n c.timer) services ≡ false) (sym late) q.rest)

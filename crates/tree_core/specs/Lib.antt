@@ -1,3 +1,4 @@
+pub mod Limits
 pub mod ScanReport
 pub mod Machine
 pub mod Rows
@@ -8,6 +9,7 @@ pub mod Effect
 pub mod Step
 pub mod Run
 pub mod StandsFor
+pub mod Tied
 pub mod Plan
 pub mod Sound
 pub mod TreeFields

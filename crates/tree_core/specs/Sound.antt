@@ -2,15 +2,17 @@
 use Rattle.std.specs.Prelude.{ℕ, ◌+◌, ◌*◌, ◌≤◌, List, length, All}
 use Rattle.s6_events.specs.declared.moment.Moment.{Moment}
 use Rattle.supervise_core.specs.declared.chart.ChartState.{ChartState}
+use Rattle.tree_core.specs.Limits.{service_limit, moment_limit}
+use Rattle.tree_core.specs.Step.{step_limit}
 
 -- no serial, of a service, a waiter or a subscription, and no generation outruns the steps
 pub record IsCounted (taken next next_waiter next_subscription : ℕ) (services : List ChartState) : Type 0 where
-  pub steps : taken ≤ 281474976710656
-  pub serials : next ≤ 64 * taken + 1
+  pub steps : taken ≤ step_limit
+  pub serials : next ≤ service_limit * taken + 1
   pub waiters : next_waiter ≤ taken + 1
   pub subscriptions : next_subscription ≤ taken + 1
   pub generations : All (λ c. c.generation ≤ 2 * taken) services
 
--- a step adds at most 1024 moments
+-- no step has more moments than its limit
 pub record IsRecorded (taken forgotten : ℕ) (kept : List Moment) : Type 0 where
-  pub few : forgotten + length kept ≤ 1024 * taken
+  pub few : forgotten + length kept ≤ moment_limit * taken

@@ -6,6 +6,7 @@ use Rattle.tree_core.specs.declared.tree.Tree.TheInside.{Inside}
 use Rattle.tree_core.specs.Sound.{IsCounted, IsRecorded}
 use Rattle.tree_core.specs.Machine.{Machine}
 use Rattle.tree_core.specs.StandsFor.{StoredTree, StandsFor, IsCut}
+use Rattle.tree_core.specs.Tied.{IsTied}
 
 -- its services, its numbers, its history, its waiters and its event directories
 abbrev pub tree_view : {A : Type 0} → Inside A → StoredTree
@@ -21,8 +22,8 @@ tree_view t = record {
   directories = t.directories.shown;
 }
 
--- its numbers don't outrun its steps, its deadlines agree with its services, there is a machine for which it stands, and its history
--- is cut
+-- its numbers don't outrun its steps, its deadlines agree with its services, there is a machine for which it stands, its history is
+-- cut, and what its waiters know is tied to that history
 abbrev pub TreeInvariant : {A : Type 0} → Inside A → Type 0
 TreeInvariant t =
     IsCounted t.steps t.registry.shown.next_sid t.waits.next t.directories.shown.next
@@ -31,3 +32,4 @@ TreeInvariant t =
     × TimersAgree t.deadlines.timers (charts_of t.registry.shown.services)
     × ((m : Machine) × StandsFor (tree_view t) m)
     × IsCut (tree_view t)
+    × IsTied (tree_view t)

@@ -14,10 +14,12 @@ ghost use Rattle.svscan_core.specs.Asked.{work_asked, IsOrderly};
 ghost use Rattle.svscan_core.specs.Table.{charts_of};
 ghost use Rattle.wait_conditions.specs.Steps.{wait_request_of};
 ghost use Rattle.tree_core.specs.Acts.{all_named, serials_named, source_named};
+ghost use Rattle.tree_core.specs.Limits.{name_limit, service_limit};
 ghost use Rattle.tree_core.specs.Machine.{Machine};
 ghost use Rattle.tree_core.specs.Plan.{chosen_of, chosen_work, chosen_change, chosen_ask, report_choice, letters_choice, row_choice, failure_choice, scan_choice, wait_choice, subscribe_choice, send_choice, tally_in, AsksNothing, Chooses, HasFired, is_reading};
 
 use super::input::{Act, Target};
+use super::limits::NAME_LIMIT;
 use super::names::has_repeated_name;
 use super::reply::Refusal;
 use arrayvec::ArrayVec;
@@ -29,9 +31,6 @@ use supervise_core::{Change, Phase, Row};
 use svc_commands::Letters as ControlLetters;
 use svscan_core::{Entry, Registry, ScanOrder, ServiceWork, has_repeats};
 use wait_conditions::WaitChange;
-
-/// The most names of one wait.
-const MOST_NAMES: usize = 16;
 
 /// What a step does for its act: why that is refused, or what it asks of the services, the waiters or the event directories.
 #[derive(Drop)]
@@ -45,7 +44,7 @@ pub enum Choice<'a> {
     Show(Row),
     Tally(Name),
     Failure(bool),
-    Wait(Condition, Mode, u32, ArrayVec<Sid, 16>),
+    Wait(Condition, Mode, u32, ArrayVec<Sid, NAME_LIMIT>),
     Cancel(WaitId),
     MakeDirectory(Name),
     Send(Name, &'a Message),
@@ -192,12 +191,12 @@ fn scan<A: Allocator + Copy>(
     Ok(Choice::Listing(listing))
 }
 
-// The serials of the services of these names, at most 16, where each name is that of one.
+// The serials of the services of these names, at most the limit, where each name is that of one.
 fn serials_of<A: Allocator + Copy>(
     registry: &Registry<A>,
     names: &[Name],
-) -> Option<ArrayVec<Sid, 16>>
-    requires { length names.now ≤ 16 }
+) -> Option<ArrayVec<Sid, NAME_LIMIT>>
+    requires { length names.now ≤ name_limit }
     ensures { option_map (λ sids. sids.items) result
         ≡ (if all_named names.now (charts_of registry.now.shown.services)
         then Some (serials_named names.now (charts_of registry.now.shown.services)) else None) }
@@ -230,7 +229,7 @@ fn wait<'a, A: Allocator + Copy>(
     if has_repeated_name(alloc, names)? {
         return Ok(Choice::Refuse(Refusal::Repeated));
     }
-    if names.len() > MOST_NAMES {
+    if names.len() > NAME_LIMIT {
         return Ok(Choice::Refuse(Refusal::TooMany));
     }
     Ok(match serials_of(registry, names) {
@@ -265,6 +264,7 @@ fn send<'a>(target: Target, message: &'a Message) -> Choice<'a>
 }
 
 /// What the act does, on services whose timers are still to go off at this moment.
+#[inline(always)]
 pub fn choose<'a, A: Allocator + Copy>(
     alloc: A,
     registry: &Registry<A>,
@@ -278,7 +278,7 @@ pub fn choose<'a, A: Allocator + Copy>(
         → HasFired closing now registry.now.shown.services history m
         → Chooses act.now m registry.now.shown.services (chosen_of choice)) }
     ensures orderly { IfOk result
-        (λ choice. registry.now.shown.next_sid + 65 < 2 ^ 64
+        (λ choice. registry.now.shown.next_sid + service_limit + 1 < 2 ^ 64
         → IsOrderly registry.now.shown.next_sid (chosen_work (chosen_of choice))) }
     ensures quiet { is_reading act.now ≡ true → IsOk result }
     ensures idle { is_reading act.now ≡ true

@@ -1,9 +1,11 @@
 //! What a step gives: its reply, events, orders, matches and releases.
 ghost use Rattle.std.specs.Prelude.{◌≡◌, ◌++◌, ◌∷◌, ◌+◌, ◌≤◌, [], length, map, OnOk, IsOk};
+ghost use Rattle.tree_core.specs.Limits.{order_limit};
 ghost use Rattle.tree_core.specs.Listening.{as_match, as_release};
 ghost use Rattle.tree_core.specs.Plan.{released_by_answer};
 ghost use Rattle.tree_core.specs.declared.reply.Reply.TheVariants.{Done};
 
+use super::limits::ORDER_LIMIT;
 use super::reply::Reply;
 use arrayvec::ArrayVec;
 use event_directory::{DirectoriesPlan, Hit};
@@ -32,7 +34,7 @@ pub struct Release {
 pub struct Effect<A: Allocator> {
     pub reply: Reply<A>,
     pub events: Vec<Event, A>,
-    pub orders: ArrayVec<Order, 256>,
+    pub orders: ArrayVec<Order, ORDER_LIMIT>,
     pub matched: Vec<Match, A>,
     pub released: Vec<Release, A>,
 }
@@ -72,7 +74,7 @@ impl<A: Allocator + Copy> Effect<A> {
 
     // The marks and the orders of a step.
     pub(crate) fn tell(&mut self, events: &[Event], orders: &[Order]) -> Result<(), NoMemory>
-        requires { length self.old.orders.items + length orders.now ≤ 256 }
+        requires { length self.old.orders.items + length orders.now ≤ order_limit }
         ensures reply { self.new.reply ≡ self.old.reply }
         ensures events { OnOk result (self.new.events.items ≡ self.old.events.items ++ events.now) }
         ensures orders { OnOk result (self.new.orders.items ≡ self.old.orders.items ++ orders.now) }

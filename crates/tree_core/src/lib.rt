@@ -5,6 +5,7 @@ mod choice;
 mod effect;
 mod input;
 pub mod laws;
+mod limits;
 mod names;
 mod plan;
 mod reply;

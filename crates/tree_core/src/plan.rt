@@ -9,8 +9,9 @@ ghost use Rattle.svscan_core.specs.Moves.{moment_of};
 ghost use Rattle.svscan_core.specs.Table.{charts_of};
 ghost use Rattle.svscan_core.specs.Timers.{TimersAgree};
 ghost use Rattle.svscan_core.specs.Registry.{Fits, registry_prepared, result_of};
-ghost use Rattle.svscan_core.specs.Work.{AreDue, closing_after};
+ghost use Rattle.svscan_core.specs.Work.{closing_after};
 ghost use Rattle.tree_core.specs.Acts.{tally_reply};
+ghost use Rattle.tree_core.specs.Limits.{service_limit, moment_limit};
 ghost use Rattle.tree_core.specs.Machine.{Machine};
 ghost use Rattle.wait_conditions.specs.Stands.{WaitsShown, FitsWaits, MakesPlan, waits_shown};
 ghost use Rattle.tree_core.specs.Plan.{present_state, chosen_of, lists_more, tally_in, chosen_work, chosen_reply, waiter_reply, directory_reply, IsNow, Plans, IsQuiet};
@@ -22,7 +23,7 @@ use super::input::Input;
 use super::reply::{Refusal, Reply, ScanReport, TallyReport};
 use deadlines::{Deadlines, DeadlinesPlan};
 use event_directory::{Directories, DirectoriesPlan, DirectoryAnswer, DirectoryFault, Pattern};
-use s6_events::{At, History, HistoryPlan, Moment, Name, NoMemory, Sid};
+use s6_events::{At, History, HistoryPlan, Moment, Name, NoMemory};
 use std::alloc::Allocator;
 use svscan_core::{Event, Registry, RegistryPlan, ScanOrder};
 use wait_conditions::{WaitAnswer, Waits, WaitsPlan};
@@ -39,8 +40,8 @@ pub struct StepPlan<A: Allocator> {
     pub letters: DirectoriesPlan<A>,
 }
 
-/// The later of two moments.
-pub fn later(a: At, b: At) -> At
+// The later of two moments.
+fn later(a: At, b: At) -> At
     ensures later { result ≡ max a b }
     ensures bound { result ≤ last_moment }
 {
@@ -111,6 +112,7 @@ fn directory_reply<A: Allocator>(told: &DirectoryAnswer) -> Reply<A>
 
 // What is answered, once the work of the choice was prepared, and what it asks of the waiters and of the event directories was
 // answered so.
+#[inline(always)]
 fn reply_to<A: Allocator + Copy>(
     alloc: A,
     registry: &Registry<A>,
@@ -153,8 +155,9 @@ fn closes(choice: &Choice, closing: bool) -> bool
     closing || matches!(choice, Choice::Command(ScanOrder::Terminate))
 }
 
-/// The step of an input, at this moment and from the serials of the services whose timers are due: each part prepares its own, and the
-/// effect is filled.
+/// The step of an input, at this clock: each part prepares its own, and the effect is filled. The clock after the step is worked out
+/// here alone, and so is which services are due. It is called once, and its plan is large: inlined, that isn't moved.
+#[inline(always)]
 pub fn plan_step<A: Allocator + Copy>(
     registry: &mut Registry<A>,
     deadlines: &mut Deadlines<A>,
@@ -163,14 +166,13 @@ pub fn plan_step<A: Allocator + Copy>(
     directories: &mut Directories<Pattern, A>,
     clock: At,
     closing: bool,
-    due: &[Sid],
     input: &Input<A>,
     effect: &mut Effect<A>,
 ) -> Result<StepPlan<A>, NoMemory>
-    requires due { AreDue due.now (max clock input.now.at) (charts_of registry.old.shown.services) }
+    requires timers { TimersAgree deadlines.old.timers (charts_of registry.old.shown.services) }
     requires generations { All (λ c. c.generation + 2 < 2 ^ 64)
         (charts_of registry.old.shown.services) }
-    requires next { registry.old.shown.next_sid + 65 < 2 ^ 64 }
+    requires next { registry.old.shown.next_sid + service_limit + 1 < 2 ^ 64 }
     requires waiters { waits.old.next < 2 ^ 63 }
     requires subscriptions { directories.old.shown.next < 2 ^ 63 }
     requires events { effect.old.events.items ≡ [] }
@@ -197,24 +199,25 @@ pub fn plan_step<A: Allocator + Copy>(
         → All (λ c. c.generation ≤ n) (charts_of registry.old.shown.services)
         → All (λ c. c.generation ≤ n + 2)
         (charts_of (registry_prepared registry.new.shown.services plan.services).services)) }
-    ensures next { IfOk result (λ plan. plan.services.next_sid ≤ registry.old.shown.next_sid + 64) }
+    ensures next { IfOk result
+        (λ plan. plan.services.next_sid ≤ registry.old.shown.next_sid + service_limit) }
     ensures waiters { IfOk result (λ plan. plan.waiters.next ≤ waits.old.next + 1) }
     ensures subscriptions { OnOk result
         ((offer : Offer) → (directories_after_commit directories.new.prepared offer).next
         ≤ directories.old.shown.next + 1) }
-    ensures count { IfOk result (λ plan. length plan.history ≤ 1024) }
+    ensures count { IfOk result (λ plan. length plan.history ≤ moment_limit) }
     ensures timers { IfOk result
         (λ plan. (timers : List Timer) → TimersAgree timers (charts_of registry.old.shown.services)
         → TimersAgree (with_timer_changes plan.timers timers)
         (charts_of (registry_prepared registry.new.shown.services plan.services).services)) }
-    ensures quiet { IsQuiet input.now clock (charts_of registry.old.shown.services) → due.now ≡ []
-        → IsOk result }
+    ensures quiet { IsQuiet input.now clock (charts_of registry.old.shown.services) → IsOk result }
 {
     let alloc = registry.allocator();
     let _count = registry.len();
     let now = later(clock, input.at);
+    let due = deadlines.due(alloc, now)?;
     let choice = choose(alloc, registry, &input.act, closing, now)?;
-    let services = registry.prepare(due, &choice.work(), now)?;
+    let services = registry.prepare(due.as_slice(), &choice.work(), now)?;
     let moments = moments_of(alloc, clock, input.at, services.events())?;
     let joining = moments.as_slice();
     let waiters = waits.prepare(joining, &choice.wait_change(now))?;

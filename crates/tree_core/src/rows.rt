@@ -5,6 +5,7 @@ ghost use Rattle.supervise_core.specs.StatusRow.{status_row};
 ghost use Rattle.svscan_core.specs.Sound.{AllAgree};
 ghost use Rattle.svscan_core.specs.Table.{charts_of};
 
+use super::limits::SERVICE_LIMIT;
 use arrayvec::ArrayVec;
 use s6_events::{At, Name};
 use std::alloc::Allocator;
@@ -34,7 +35,7 @@ fn row_at<A: Allocator + Copy>(registry: &Registry<A>, place: usize, now: At) ->
 }
 
 /// The status rows of all services.
-pub fn rows_of<A: Allocator + Copy>(registry: &Registry<A>, now: At) -> ArrayVec<Row, 64>
+pub fn rows_of<A: Allocator + Copy>(registry: &Registry<A>, now: At) -> ArrayVec<Row, SERVICE_LIMIT>
     ensures { (history : List Moment) → AllAgree registry.now.shown.services history
         → result.items ≡ map (status_row history now) (charts_of registry.now.shown.services) }
 {

@@ -1,5 +1,5 @@
 //! The tree: one input is one step.
-ghost use Rattle.std.specs.Prelude.{◌≡◌, IfOk, OnOk, IfErr, OnErr, IsOk, option_map};
+ghost use Rattle.std.specs.Prelude.{◌≡◌, IfOk, OnOk, IfErr, OnErr, IsOk, None, false, option_map};
 ghost use Rattle.tree_core.specs.Acts.{offer_of};
 ghost use Rattle.tree_core.specs.Effect.{outcome_of};
 ghost use Rattle.event_directory.specs.Directories.{list_named};
@@ -15,7 +15,8 @@ ghost use Rattle.tree_core.specs.Step.{step_limit};
 
 use super::effect::Effect;
 use super::input::{Act, Input};
-use super::plan::{later, plan_step};
+use super::limits::SERVICE_LIMIT;
+use super::plan::plan_step;
 use super::reply::{Refusal, Reply};
 use super::rows::{row_of, rows_of};
 use arrayvec::ArrayVec;
@@ -88,9 +89,6 @@ impl<A: Allocator + Copy> Tree<A> {
             effect.reply = Reply::Refused(Refusal::Spent);
             return Ok(());
         }
-        let _count = self.registry.len();
-        let now = later(self.clock, input.at);
-        let due = self.deadlines.due(self.registry.allocator(), now)?;
         let plan = plan_step(
             &mut self.registry,
             &mut self.deadlines,
@@ -99,10 +97,10 @@ impl<A: Allocator + Copy> Tree<A> {
             &mut self.directories,
             self.clock,
             self.closing,
-            due.as_slice(),
             input,
             effect,
         )?;
+        let offer = take_offer(&mut input.act);
         self.clock = plan.now;
         self.steps += 1;
         self.closing = plan.closing;
@@ -110,8 +108,7 @@ impl<A: Allocator + Copy> Tree<A> {
         self.deadlines.commit(plan.timers);
         self.history.commit(plan.history);
         self.waits.commit(plan.waiters);
-        self.directories
-            .commit(plan.letters, take_offer(&mut input.act));
+        self.directories.commit(plan.letters, offer);
         self.history.forget(self.waits.needed_from());
         Ok(())
     }
@@ -168,7 +165,7 @@ impl<A: Allocator + Copy> Tree<A> {
     }
 
     /// The status rows of all services, in rising serial. Page `s6-svstat`.
-    pub fn rows(&self) -> ArrayVec<Row, 64>
+    pub fn rows(&self) -> ArrayVec<Row, SERVICE_LIMIT>
         ensures { (m : Machine) → StandsFor self.now m → result.items ≡ all_rows m }
     {
         rows_of(&self.registry, self.clock)
@@ -198,10 +195,20 @@ impl<A: Allocator + Copy> Tree<A> {
     }
 }
 
-// The pattern that an act offers to the event directories, and whether it is to repeat.
+// Whether an act offers a pattern.
+fn offers<A: Allocator>(act: &Act<A>) -> bool
+    ensures { result ≡ false → offer_of act.now ≡ None }
+{
+    matches!(act, Act::Subscribe(_, _, _))
+}
+
+// The pattern that an act offers to the event directories, and whether it is to repeat. An act is large, and no other one is moved.
 fn take_offer<A: Allocator>(act: &mut Act<A>) -> Option<(Pattern, bool)>
     ensures { option_map (λ o. (o.0, o.1)) result ≡ offer_of act.old }
 {
+    if !offers(act) {
+        return None;
+    }
     match std::mem::replace(act, Act::Tick) {
         Act::Subscribe(_, pattern, repeats) => Some((pattern, repeats)),
         _ => None,

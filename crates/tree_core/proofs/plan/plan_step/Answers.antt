@@ -17,9 +17,29 @@ use Rattle.tree_core.specs.Listening.{as_match, as_release}
 use Rattle.tree_core.specs.Plan.{present_state, chosen_of, chosen_change, chosen_ask, chosen_reply, released_by_answer, ListenersAnswer}
 use Rattle.tree_core.specs.Step.{clock_moments}
 use Rattle.tree_core.proofs.PlanMakes.{HearsLetters, Listens, plans_all, not_ok, not_ok_and}
+use Rattle.tree_core.proofs.TimersDue.{due_now, none_for_quiet}
 use Rattle.svscan_core.specs.Timers.{TimersAgree}
 use Rattle.deadlines.specs.Timers.{with_timer_changes}
 use Rattle.tree_core.proofs.plan.plan_step.Goals as goal
+
+pub prepare-requires-clause-due : goal.prepare-requires-clause-due
+prepare-requires-clause-due g c =
+    due_now c.later-now.result c.args.registry.now.shown.next_sid _ c.args.deadlines.now.timers (charts_of c.args.registry.now.shown.services)
+    c.later-now.ensures.bound (c.as_slice.ensures.value ∙ c.in_ok-due.ensures.due) c.requires.timers c.len-count.ensures.sound.order
+
+pub returns-in_err-due-clause-quiet : goal.returns-in_err-due-clause-quiet
+returns-in_err-due-clause-quiet g c = λ q.
+    not_ok c.due.result _ _ c.in_err-due.was
+    (c.due.ensures.quiet (none_for_quiet c.args.input.now c.args.clock c.later-now.result _ c.args.deadlines.now.timers
+    (charts_of c.args.registry.now.shown.services) c.later-now.ensures.later c.later-now.ensures.bound refl c.requires.timers q))
+
+pub returns-in_err-services-clause-quiet : goal.returns-in_err-services-clause-quiet
+returns-in_err-services-clause-quiet g c = λ q.
+    let none = none_for_quiet c.args.input.now c.args.clock c.later-now.result c.as_slice.result.now c.args.deadlines.now.timers
+    (charts_of c.args.registry.now.shown.services) c.later-now.ensures.later c.later-now.ensures.bound
+    (c.as_slice.ensures.value ∙ c.in_ok-due.ensures.due) c.requires.timers q in
+    let still = c.work.ensures ∙ (c.in_ok-choice.ensures.idle q.reading).work in
+    not_ok c.prepare.result _ _ c.in_err-services.was (c.prepare.ensures.quiet none still)
 
 pub returns-clause-step : goal.returns-clause-step
 returns-clause-step g c = λ steps left m is later made.
@@ -115,14 +135,20 @@ returns-clause-count g c =
     omega (arith, events, few, seen, planned, c.in_ok-moments.ensures.count)
 
 pub returns-in_err-tell-clause-quiet : goal.returns-in_err-tell-clause-quiet
-returns-in_err-tell-clause-quiet g c = λ q none.
+returns-in_err-tell-clause-quiet g c = λ q.
+    let none = none_for_quiet c.args.input.now c.args.clock c.later-now.result c.as_slice.result.now c.args.deadlines.now.timers
+    (charts_of c.args.registry.now.shown.services) c.later-now.ensures.later c.later-now.ensures.bound
+    (c.as_slice.ensures.value ∙ c.in_ok-due.ensures.due) c.requires.timers q in
     let still = c.work.ensures ∙ (c.in_ok-choice.ensures.idle q.reading).work in
     let idle = c.in_ok-services.ensures.still none still in
     let nothing = ap (λ (p : RegistryPrepared). p.events) idle in
     not_ok c.tell.result _ _ c.in_err-tell.was (c.tell.ensures.quiet (c.events-2.ensures ∙ nothing))
 
 pub returns-in_err-waiters-clause-quiet : goal.returns-in_err-waiters-clause-quiet
-returns-in_err-waiters-clause-quiet g c = λ q none.
+returns-in_err-waiters-clause-quiet g c = λ q.
+    let none = none_for_quiet c.args.input.now c.args.clock c.later-now.result c.as_slice.result.now c.args.deadlines.now.timers
+    (charts_of c.args.registry.now.shown.services) c.later-now.ensures.later c.later-now.ensures.bound
+    (c.as_slice.ensures.value ∙ c.in_ok-due.ensures.due) c.requires.timers q in
     let still = c.work.ensures ∙ (c.in_ok-choice.ensures.idle q.reading).work in
     let idle = c.in_ok-services.ensures.still none still in
     let nothing = ap (λ (p : RegistryPrepared). p.events) idle in
@@ -131,7 +157,10 @@ returns-in_err-waiters-clause-quiet g c = λ q none.
     (c.prepare-2.ensures.quiet silent (c.wait_change.ensures ∙ (c.in_ok-choice.ensures.idle q.reading).waiters))
 
 pub returns-in_err-letters-clause-quiet : goal.returns-in_err-letters-clause-quiet
-returns-in_err-letters-clause-quiet g c = λ q none.
+returns-in_err-letters-clause-quiet g c = λ q.
+    let none = none_for_quiet c.args.input.now c.args.clock c.later-now.result c.as_slice.result.now c.args.deadlines.now.timers
+    (charts_of c.args.registry.now.shown.services) c.later-now.ensures.later c.later-now.ensures.bound
+    (c.as_slice.ensures.value ∙ c.in_ok-due.ensures.due) c.requires.timers q in
     let still = c.work.ensures ∙ (c.in_ok-choice.ensures.idle q.reading).work in
     let idle = c.in_ok-services.ensures.still none still in
     let nothing = ap (λ (p : RegistryPrepared). p.events) idle in
@@ -140,7 +169,10 @@ returns-in_err-letters-clause-quiet g c = λ q none.
     (c.prepare-3.ensures.quiet silent (c.directory_change.ensures ∙ (c.in_ok-choice.ensures.idle q.reading).directories))
 
 pub returns-in_err-history-clause-quiet : goal.returns-in_err-history-clause-quiet
-returns-in_err-history-clause-quiet g c = λ q none.
+returns-in_err-history-clause-quiet g c = λ q.
+    let none = none_for_quiet c.args.input.now c.args.clock c.later-now.result c.as_slice.result.now c.args.deadlines.now.timers
+    (charts_of c.args.registry.now.shown.services) c.later-now.ensures.later c.later-now.ensures.bound
+    (c.as_slice.ensures.value ∙ c.in_ok-due.ensures.due) c.requires.timers q in
     let still = c.work.ensures ∙ (c.in_ok-choice.ensures.idle q.reading).work in
     let idle = c.in_ok-services.ensures.still none still in
     let nothing = ap (λ (p : RegistryPrepared). p.events) idle in
@@ -148,7 +180,10 @@ returns-in_err-history-clause-quiet g c = λ q none.
     not_ok c.prepare-4.result _ _ c.in_err-history.was (c.prepare-4.ensures.quiet silent)
 
 pub returns-in_err-timers-clause-quiet : goal.returns-in_err-timers-clause-quiet
-returns-in_err-timers-clause-quiet g c = λ q none.
+returns-in_err-timers-clause-quiet g c = λ q.
+    let none = none_for_quiet c.args.input.now c.args.clock c.later-now.result c.as_slice.result.now c.args.deadlines.now.timers
+    (charts_of c.args.registry.now.shown.services) c.later-now.ensures.later c.later-now.ensures.bound
+    (c.as_slice.ensures.value ∙ c.in_ok-due.ensures.due) c.requires.timers q in
     let still = c.work.ensures ∙ (c.in_ok-choice.ensures.idle q.reading).work in
     let idle = c.in_ok-services.ensures.still none still in
     let nothing = ap (λ (p : RegistryPrepared). p.events) idle in
@@ -156,7 +191,10 @@ returns-in_err-timers-clause-quiet g c = λ q none.
     (c.prepare-5.ensures.quiet (c.timers.ensures ∙ ap (λ (p : RegistryPrepared). p.timers) idle))
 
 pub returns-in_err-match_all-clause-quiet : goal.returns-in_err-match_all-clause-quiet
-returns-in_err-match_all-clause-quiet g c = λ q none.
+returns-in_err-match_all-clause-quiet g c = λ q.
+    let none = none_for_quiet c.args.input.now c.args.clock c.later-now.result c.as_slice.result.now c.args.deadlines.now.timers
+    (charts_of c.args.registry.now.shown.services) c.later-now.ensures.later c.later-now.ensures.bound
+    (c.as_slice.ensures.value ∙ c.in_ok-due.ensures.due) c.requires.timers q in
     let still = c.work.ensures ∙ (c.in_ok-choice.ensures.idle q.reading).work in
     let idle = c.in_ok-services.ensures.still none still in
     let nothing = ap (λ (p : RegistryPrepared). p.events) idle in
@@ -165,7 +203,10 @@ returns-in_err-match_all-clause-quiet g c = λ q none.
     not_ok c.match_all.result _ _ c.in_err-match_all.was (c.match_all.ensures.quiet calm.0)
 
 pub returns-in_err-release_all-clause-quiet : goal.returns-in_err-release_all-clause-quiet
-returns-in_err-release_all-clause-quiet g c = λ q none.
+returns-in_err-release_all-clause-quiet g c = λ q.
+    let none = none_for_quiet c.args.input.now c.args.clock c.later-now.result c.as_slice.result.now c.args.deadlines.now.timers
+    (charts_of c.args.registry.now.shown.services) c.later-now.ensures.later c.later-now.ensures.bound
+    (c.as_slice.ensures.value ∙ c.in_ok-due.ensures.due) c.requires.timers q in
     let still = c.work.ensures ∙ (c.in_ok-choice.ensures.idle q.reading).work in
     let idle = c.in_ok-services.ensures.still none still in
     let nothing = ap (λ (p : RegistryPrepared). p.events) idle in
@@ -174,7 +215,10 @@ returns-in_err-release_all-clause-quiet g c = λ q none.
     not_ok c.release_all.result _ _ c.in_err-release_all.was (c.release_all.ensures.quiet calm.0 (ap released_by_answer calm.1))
 
 pub returns-in_err-moments-clause-quiet : goal.returns-in_err-moments-clause-quiet
-returns-in_err-moments-clause-quiet g c = λ q none.
+returns-in_err-moments-clause-quiet g c = λ q.
+    let none = none_for_quiet c.args.input.now c.args.clock c.later-now.result c.as_slice.result.now c.args.deadlines.now.timers
+    (charts_of c.args.registry.now.shown.services) c.later-now.ensures.later c.later-now.ensures.bound
+    (c.as_slice.ensures.value ∙ c.in_ok-due.ensures.due) c.requires.timers q in
     let still = c.work.ensures ∙ (c.in_ok-choice.ensures.idle q.reading).work in
     let idle = c.in_ok-services.ensures.still none still in
     let nothing = ap (λ (p : RegistryPrepared). p.events) idle in

@@ -7,6 +7,7 @@ use Rattle.wait_conditions.specs.Stands.{StoredWaits, WaitsFor, waits_shown, pla
 use Rattle.wait_conditions.specs.Watch.{new_watch}
 use Rattle.tree_core.specs.Machine.{new_machine}
 use Rattle.tree_core.specs.StandsFor.{StandsFor, IsCut}
+use Rattle.tree_core.proofs.Tied.{is_tied}
 use Rattle.tree_core.proofs.tree.Tree.new.Goals as goal
 
 -- what a new tree stores
@@ -71,6 +72,8 @@ invariant_of-result g c =
       record { order = refl; moments = λ sid. refl },
       (new_machine, begins c.new-4.result c.new-4.ensures.empty c.new-5.result c.new-5.ensures.empty),
       cut_new c.new-4.result c.new-4.ensures.empty c.new-5.result.shown,
+      is_tied _ new_machine (begins c.new-4.result c.new-4.ensures.empty c.new-5.result c.new-5.ensures.empty)
+          (cut_new c.new-4.result c.new-4.ensures.empty c.new-5.result.shown),
     )
 
 pub returns : goal.returns

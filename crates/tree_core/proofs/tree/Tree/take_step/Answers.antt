@@ -10,33 +10,21 @@ use Rattle.wait_conditions.proofs.Oldest.{all_needed}
 use Rattle.svscan_core.specs.Registry.{registry_prepared}
 use Rattle.tree_core.specs.Acts.{offer_of}
 use Rattle.tree_core.specs.Machine.{Machine}
+use Rattle.tree_core.specs.Plan.{IsQuiet}
 use Rattle.tree_core.specs.Sound.{IsCounted}
 use Rattle.tree_core.specs.Run.{after}
+use Rattle.tree_core.specs.Step.{step_limit}
 use Rattle.tree_core.specs.StandsFor.{StoredTree, StandsFor, IsCut}
 use Rattle.tree_core.specs.TreeFields.{tree_view}
 use Rattle.tree_core.proofs.PlanMakes.{not_ok}
-use Rattle.tree_core.proofs.TimersDue.{due_now, none_for_quiet}
-use Rattle.tree_core.proofs.Stand.{for_quiet, recorded_after, stands_after, counted_after, cut_parts, is_cut}
+use Rattle.tree_core.proofs.Tied.{is_tied}
+use Rattle.tree_core.proofs.Stand.{recorded_after, stands_after, counted_after, cut_parts, is_cut}
 use Rattle.tree_core.proofs.tree.Tree.take_step.Goals as goal
-
-pub returns-in_err-due-clause-quiet : goal.returns-in_err-due-clause-quiet
-returns-in_err-due-clause-quiet g c = λ q.
-    not_ok c.due.result _ _ c.in_err-due.was
-    (c.due.ensures.quiet (none_for_quiet (tree_view c.self.inside) _ c.args.input.now c.later-now.result c.self.inside.deadlines.timers
-    c.self.view_is c.later-now.ensures.later c.later-now.ensures.bound c.self.invariant.2 q))
-
-pub plan_step-requires-clause-due : goal.plan_step-requires-clause-due
-plan_step-requires-clause-due g c =
-    due_now c.later-now.result _ c.self.inside.registry.shown.next_sid _ c.self.inside.deadlines.timers
-    (charts_of c.self.inside.registry.shown.services) _ c.later-now.ensures.later c.later-now.ensures.bound
-    (c.as_slice.ensures.value ∙ c.in_ok-due.ensures.due) refl c.self.invariant.2 c.len-count.ensures.sound.order
 
 pub returns-in_err-plan-clause-quiet : goal.returns-in_err-plan-clause-quiet
 returns-in_err-plan-clause-quiet g c = λ q.
     not_ok c.plan_step.result _ _ c.in_err-plan.was
-    (for_quiet (tree_view c.self.inside) _ c.args.input.now c.later-now.result c.self.inside.deadlines.timers _ _ c.self.view_is
-    c.later-now.ensures.later c.later-now.ensures.bound c.self.invariant.2
-    (c.as_slice.ensures.value ∙ c.in_ok-due.ensures.due) c.self.invariant.3 (λ m is. c.plan_step.ensures.quiet) q)
+    (c.plan_step.ensures.quiet (subst (λ (x : StoredTree). IsQuiet c.args.input.now x.clock (charts_of x.services)) (sym c.self.view_is) q))
 
 pub returns-clause-ok : goal.returns-clause-ok
 returns-clause-ok g c = λ m s.
@@ -44,7 +32,7 @@ returns-clause-ok g c = λ m s.
     let plan = c.in_ok-plan.plan in
     let counted = c.self.invariant.0 in
     let most = counted.steps in
-    let left : c.self.inside.steps < 281474976710656 = omega (arith, most, c.if-self-eq-STEP_LIMIT.false) in
+    let left : c.self.inside.steps < step_limit = omega (arith, most, c.if-self-eq-STEP_LIMIT.false) in
     let prepared = registry_prepared c.plan_step.new.registry.shown.services plan.services in
     let shown = c.commit.ensures in
     let waits : waits_shown c.plan_step.new.waits ≡ t.waits = c.in_ok-plan.ensures.waits in
@@ -56,7 +44,7 @@ returns-clause-ok g c = λ m s.
     let parts = cut_parts t plan.history c.commit-3.new.self.forgotten c.forget.new.self.forgotten c.needed_from.result
     c.commit-3.new.self.kept c.forget.new.self.kept before all c.forget.ensures.forgotten c.forget.ensures.kept in
     let heard : c.commit-5.new.self.shown ≡ directories_after_commit c.plan_step.new.directories.prepared (offer_of c.args.input.now.act) =
-    c.commit-5.ensures.after ∙ ap (directories_after_commit c.plan_step.new.directories.prepared) c.take_offer.ensures in
+    c.commit-5.ensures.after ∙ ap (directories_after_commit c.plan_step.new.directories.prepared) c.take_offer-offer.ensures in
     stands_after t _ c.args.input.now plan prepared later c.plan_step.new.directories.prepared
     c.plan_step.new.effect (λ n now. c.in_ok-plan.ensures.step c.self.inside.steps left n now later made)
     (record {
@@ -79,7 +67,7 @@ invariant_of-self-2 g c =
     let plan = c.in_ok-plan.plan in
     let counted = c.self.invariant.0 in
     let most = counted.steps in
-    let left : c.self.inside.steps < 281474976710656 = omega (arith, most, c.if-self-eq-STEP_LIMIT.false) in
+    let left : c.self.inside.steps < step_limit = omega (arith, most, c.if-self-eq-STEP_LIMIT.false) in
     let prepared = registry_prepared c.plan_step.new.registry.shown.services plan.services in
     let shown = c.commit.ensures in
     let waits : waits_shown c.plan_step.new.waits ≡ t.waits = c.in_ok-plan.ensures.waits in
@@ -91,7 +79,7 @@ invariant_of-self-2 g c =
     let parts = cut_parts t plan.history c.commit-3.new.self.forgotten c.forget.new.self.forgotten c.needed_from.result
     c.commit-3.new.self.kept c.forget.new.self.kept before all c.forget.ensures.forgotten c.forget.ensures.kept in
     let heard : c.commit-5.new.self.shown ≡ directories_after_commit c.plan_step.new.directories.prepared (offer_of c.args.input.now.act) =
-    c.commit-5.ensures.after ∙ ap (directories_after_commit c.plan_step.new.directories.prepared) c.take_offer.ensures in
+    c.commit-5.ensures.after ∙ ap (directories_after_commit c.plan_step.new.directories.prepared) c.take_offer-offer.ensures in
     let offer = offer_of c.args.input.now.act in
     let m : Machine = c.self.invariant.3.0 in
     let s : StandsFor t m = c.self.invariant.3.1 in
@@ -115,7 +103,11 @@ invariant_of-self-2 g c =
       kept = parts.left;
       waits = refl;
       directories = heard;
-    }) m s in (
+    }) m s in
+    let is = is_cut t _ plan.history c.commit-3.new.self.forgotten c.needed_from.result c.commit-3.new.self.kept (after m c.args.input.now) done.1
+    before all c.forget.ensures.forgotten c.forget.ensures.kept c.needed_from.ensures.value
+    (c.commit-4.ensures.began t.forgotten (subst (λ (w : WaitsShown). NoneBegan t.forgotten w.waiters) (sym waits) none)
+    (subst (λ (w : WaitsShown). t.forgotten ≤ w.count) (sym waits) enough)) in (
       subst (λ (x : DirectoriesShown). IsCounted (c.self.inside.steps + 1) c.commit.new.self.shown.next_sid c.commit-4.new.self.next x.next
           (charts_of c.commit.new.self.shown.services)) (sym heard)
           (subst (λ (x : Table). IsCounted (c.self.inside.steps + 1) x.next_sid c.commit-4.new.self.next
@@ -132,8 +124,6 @@ invariant_of-self-2 g c =
           (charts_of x.services)) (sym shown)
           (c.in_ok-plan.ensures.timers c.self.inside.deadlines.timers c.self.invariant.2)),
       (after m c.args.input.now, done.1),
-      is_cut t _ plan.history c.commit-3.new.self.forgotten c.needed_from.result c.commit-3.new.self.kept (after m c.args.input.now) done.1
-          before all c.forget.ensures.forgotten c.forget.ensures.kept c.needed_from.ensures.value
-          (c.commit-4.ensures.began t.forgotten (subst (λ (w : WaitsShown). NoneBegan t.forgotten w.waiters) (sym waits) none)
-          (subst (λ (w : WaitsShown). t.forgotten ≤ w.count) (sym waits) enough)),
+      is,
+      is_tied _ (after m c.args.input.now) done.1 is,
     )
