@@ -251,6 +251,7 @@ impl<A: Allocator + Copy> Waits<A> {
     }
 
     // `prepare`, by what is stored alone.
+    #[inline(always)]
     fn prepare_stored(
         &mut self,
         moments: &[Moment],
@@ -304,6 +305,7 @@ impl<A: Allocator + Copy> Waits<A> {
     }
 
     // The change of a step, after these moments.
+    #[inline(always)]
     fn plan_change(&self, moments: &[Moment], change: &WaitChange) -> ChangePlan
         requires serials { self.now.next < 2 ^ 63 }
         requires count { self.now.count + length moments.now < 2 ^ 63 }
@@ -386,6 +388,7 @@ impl<A: Allocator + Copy> Waits<A> {
     }
 
     // `commit`, by what is stored alone.
+    #[inline(always)]
     fn make(&mut self, plan: WaitsPlan<A>)
         requires { FitsWaits plan self.old }
         ensures { MakesPlan plan (waits_shown self.old) (waits_shown self.new) }
