@@ -25,7 +25,8 @@ pub record Grew (g h : ScanState) : Type 0 where
 grew_not : (g : ScanState) → length g.services ≤ service_limit → Grew g g
 grew_not g few = record { few = few; next = omega arith; later = omega arith }
 
-grew_one : (config : Config) (g : ScanState) (name : List ℕ) (b : Bool) → nat_lt (length g.services) service_limit ≡ b → length g.services ≤ service_limit
+grew_one : (config : Config) (g : ScanState) (name : List ℕ) (b : Bool) → nat_lt (length g.services) service_limit ≡ b
+    → length g.services ≤ service_limit
     → (full : ScanState)
     → Grew g full → Grew g (cond b (with_service config g name) full)
 grew_one config g name true lt few full same =
@@ -51,7 +52,8 @@ grew_named listing g name few = by (stands name g.services)
     by false = grew_new (listed_config listing name) g name few
 
 -- one name after the other
-pub names_grew : (listing : List Entry) (g : ScanState) (names : List (List ℕ)) → length g.services ≤ service_limit → Grew g (with_names listing g names)
+pub names_grew : (listing : List Entry) (g : ScanState) (names : List (List ℕ)) → length g.services ≤ service_limit
+    → Grew g (with_names listing g names)
 names_grew listing g [] few = grew_not g few
 names_grew listing g (name ∷ names) few =
     let one = grew_named listing g name few in
@@ -68,18 +70,21 @@ length-filter p (c ∷ cs) = by (p c) (length-filter p cs)
     by false h = omega (arith, h)
 
 -- fewer than the limit stay of those that are looked at
-pub few_stay : (listing : List Entry) (now : ℕ) (cs : List ChartState) → length cs ≤ service_limit → length (filter stays (after_looks listing now cs)) ≤ service_limit
+pub few_stay : (listing : List Entry) (now : ℕ) (cs : List ChartState) → length cs ≤ service_limit
+    → length (filter stays (after_looks listing now cs)) ≤ service_limit
 few_stay listing now cs few =
     let a = length-filter stays (after_looks listing now cs) in let b = length-map cs (after_look listing now) in omega (arith, a, b, few)
 
-pub work_few : (work : Work) (now : ℕ) (cs : List ChartState) (next : ℕ) → length cs ≤ service_limit → length (work_result work now cs next).services ≤ service_limit
+pub work_few : (work : Work) (now : ℕ) (cs : List ChartState) (next : ℕ) → length cs ≤ service_limit
+    → length (work_result work now cs next).services ≤ service_limit
 work_few do_nothing now cs next few = few
 work_few (change_one sid change) now cs next few = let a =
     length-map cs (λ (c : ChartState). (change_move_at sid change now c).chart) in omega (arith, a, few)
 work_few (command order) now cs next few = let a = length-map cs (λ (c : ChartState). (command_move order now c).chart) in omega (arith, a, few)
 work_few (apply_listing listing) now cs next few = (names_grew listing _ (in_byte_order (names_in listing)) (few_stay listing now cs few)).few
 
-work_next : (work : Work) (now : ℕ) (cs : List ChartState) (next : ℕ) → length cs ≤ service_limit → (work_result work now cs next).next_sid ≤ next + service_limit
+work_next : (work : Work) (now : ℕ) (cs : List ChartState) (next : ℕ) → length cs ≤ service_limit
+    → (work_result work now cs next).next_sid ≤ next + service_limit
 work_next do_nothing now cs next few = omega arith
 work_next (change_one sid change) now cs next few = omega arith
 work_next (command order) now cs next few = omega arith
@@ -88,7 +93,8 @@ work_next (apply_listing listing) now cs next few =
     (few_stay listing now cs few) in
     let a = g.few in let b = g.next in omega (arith, a, b)
 
-pub work_later : (work : Work) (now : ℕ) (cs : List ChartState) (next : ℕ) → length cs ≤ service_limit → next ≤ (work_result work now cs next).next_sid
+pub work_later : (work : Work) (now : ℕ) (cs : List ChartState) (next : ℕ) → length cs ≤ service_limit
+    → next ≤ (work_result work now cs next).next_sid
 work_later do_nothing now cs next few = omega arith
 work_later (change_one sid change) now cs next few = omega arith
 work_later (command order) now cs next few = omega arith
@@ -99,8 +105,10 @@ work_later (apply_listing listing) now cs next few =
 pub fired_few : (now : ℕ) (cs : List ChartState) → length cs ≤ service_limit → length (services_after (fire_move now) cs) ≤ service_limit
 fired_few now cs few = let a = length-map cs (λ (c : ChartState). (fire_move now c).chart) in omega (arith, a, few)
 
-pub step_few : (work : Work) (now : ℕ) (cs : List ChartState) (next : ℕ) → length cs ≤ service_limit → length (step_result work now cs next).services ≤ service_limit
+pub step_few : (work : Work) (now : ℕ) (cs : List ChartState) (next : ℕ) → length cs ≤ service_limit
+    → length (step_result work now cs next).services ≤ service_limit
 step_few work now cs next few = work_few work now (services_after (fire_move now) cs) next (fired_few now cs few)
 
-pub step_next : (work : Work) (now : ℕ) (cs : List ChartState) (next : ℕ) → length cs ≤ service_limit → (step_result work now cs next).next_sid ≤ next + service_limit
+pub step_next : (work : Work) (now : ℕ) (cs : List ChartState) (next : ℕ) → length cs ≤ service_limit
+    → (step_result work now cs next).next_sid ≤ next + service_limit
 step_next work now cs next few = work_next work now (services_after (fire_move now) cs) next (fired_few now cs few)

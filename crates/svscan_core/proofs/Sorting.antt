@@ -120,7 +120,8 @@ read_inserted q k v (p ∷ found) = by (slice_cmp nat_cmp k p.0) refl (read_inse
 -- one more entry, of a name that is not there yet
 has_last : (q : List ℕ) (listing : List Entry) (e : Entry) → has_entry (listing ++ e ∷ []) q ≡ (bytes_eq q e.name || has_entry listing q)
 has_last q [] e = refl
-has_last q (x ∷ listing) e = ap (λ b. bytes_eq q x.name || b) (has_last q listing e) ∙ swap (bytes_eq q x.name) (bytes_eq q e.name) (has_entry listing q)
+has_last q (x ∷ listing) e =
+    ap (λ b. bytes_eq q x.name || b) (has_last q listing e) ∙ swap (bytes_eq q x.name) (bytes_eq q e.name) (has_entry listing q)
   where
     swap : (a b c : Bool) → (a || (b || c)) ≡ (b || (a || c))
     swap true true c = refl

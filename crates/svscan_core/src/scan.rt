@@ -347,7 +347,8 @@ pub fn plan_scan<A: Allocator + Copy>(
     ensures names { KeepNames slots.now.services moves.old.touched.items
         → OnOk result (KeepNames slots.now.services moves.new.touched.items) }
     ensures few { OnOk result (length scan.new.added.items ≤ service_limit) }
-    ensures most { OnOk result (length moves.new.orders.items ≤ length moves.old.orders.items + service_limit) }
+    ensures most { OnOk result
+        (length moves.new.orders.items ≤ length moves.old.orders.items + service_limit) }
 {
     let sorted = sort_listing(slots.allocator(), listing)?;
     moves.visit_all(slots, Visit::Look(&sorted), now, out)?;
