@@ -1,5 +1,5 @@
 //! Whether enough listed deaths came within the last seconds.
-ghost use Rattle.std.specs.Prelude.{◌≡◌, length, filter};
+ghost use Rattle.std.specs.Prelude.{◌≡◌, ◌≤◌, length, filter};
 ghost use Rattle.death_tally.specs.PermanentFailure.{is_counted, are_permanent_failure};
 
 use super::death_list::DeathList;
@@ -17,7 +17,8 @@ fn counts(death: &(At, Exit), now: At, seconds: u32, list: &DeathList) -> bool
 
 // How many deaths count.
 fn count_of(deaths: &[(At, Exit)], now: At, seconds: u32, list: &DeathList) -> u64
-    ensures { result ≡ length (filter (is_counted now seconds list.now) deaths.now) }
+    ensures count { result ≡ length (filter (is_counted now seconds list.now) deaths.now) }
+    ensures bound { result ≤ length deaths.now }
 {
     let mut count = 0;
     for death in deaths {
@@ -40,5 +41,7 @@ pub fn permafails<A: Allocator + Copy>(
 ) -> bool
     ensures { result ≡ are_permanent_failure now seconds count list.now tally.now.kept }
 {
-    count_of(tally.as_slice(), now, seconds, list) >= u64::from(count)
+    let (front, back) = tally.as_slices();
+    let counted = count_of(front, now, seconds, list) + count_of(back, now, seconds, list);
+    counted >= u64::from(count)
 }

@@ -3,14 +3,16 @@ ghost use Rattle.std.specs.Prelude.{◌≡◌, ◌++◌, ◌∷◌, [], IfOk, Li
 ghost use Rattle.s6_events.specs.declared.exit.Exit.{Exit};
 ghost use Rattle.death_tally.specs.LastDeaths.{Tallies, new_tally, with_death};
 
+use circular_buffer::HeapCircularBuffer;
 use s6_events::{At, Exit, NoMemory};
 use std::alloc::Allocator;
 use std::marker::Model;
 
-/// The last deaths of a service, each with its moment, oldest first. Page `servicedir`, `max-death-tally`.
+/// The last deaths of a service, each with its moment, oldest first: a ring of as many places as it keeps at most, and none where it
+/// keeps none. Page `servicedir`, `max-death-tally`.
 #[derive(Drop)]
 pub struct Tally<A: Allocator> {
-    deaths: Vec<(At, Exit), A>,
+    ring: Option<HeapCircularBuffer<(At, Exit), A>>,
     most: u16,
 }
 
@@ -32,9 +34,12 @@ impl<A: Allocator + Copy> Tally<A> {
     pub fn new(alloc: A, most: u16) -> Result<Tally<A>, NoMemory>
         ensures { IfOk result (λ tally. tally ≡ new_tally most) }
     {
-        let mut deaths = Vec::new(alloc);
-        deaths.reserve(usize::from(most))?;
-        Ok(Tally { deaths, most })
+        let ring = if most == 0 {
+            None
+        } else {
+            Some(HeapCircularBuffer::with_capacity(alloc, usize::from(most))?)
+        };
+        Ok(Tally { ring, most })
     }
 
     /// One more death. Where the tally is full the oldest is forgotten.
@@ -43,20 +48,19 @@ impl<A: Allocator + Copy> Tally<A> {
         ensures last { (all : List (ℕ × Exit)) → Tallies self.old all
             → Tallies self.new (all ++ (at, exit) ∷ []) }
     {
-        if self.most == 0 {
-            return;
+        if let Some(ring) = &mut self.ring {
+            let _oldest = ring.push_back((at, exit));
         }
-        if self.deaths.len() == usize::from(self.most) {
-            self.deaths.remove(0);
-        }
-        self.deaths.push_reserved((at, exit));
     }
 
-    /// The deaths that it has, oldest first.
-    pub fn as_slice(&self) -> &[(At, Exit)]
-        ensures { result.now ≡ self.now.kept }
+    /// The deaths that it has, oldest first, as they lie in the ring: up to its end, and those that wrapped round.
+    pub fn as_slices(&self) -> (&[(At, Exit)], &[(At, Exit)])
+        ensures { result.0.now ++ result.1.now ≡ self.now.kept }
     {
-        self.deaths.as_slice()
+        match &self.ring {
+            Some(ring) => ring.as_slices(),
+            None => (&[], &[]),
+        }
     }
 
     /// The deaths that it has, oldest first, in a list of their own. `NoMemory` where that is refused.
@@ -64,7 +68,9 @@ impl<A: Allocator + Copy> Tally<A> {
         ensures { IfOk result (λ deaths. deaths.items ≡ self.now.kept) }
     {
         let mut deaths = Vec::new(alloc);
-        deaths.extend_from_slice(self.deaths.as_slice())?;
+        let (front, back) = self.as_slices();
+        deaths.extend_from_slice(front)?;
+        deaths.extend_from_slice(back)?;
         Ok(deaths)
     }
 }

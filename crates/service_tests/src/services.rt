@@ -106,6 +106,7 @@ fn play_to_ready(
 // From there they go on until the next supervisor has started.
 fn play_to_the_next_supervisor(
     rt: &impl Abort,
+    alloc: Global,
     web: Name,
     service: &mut Service<Global>,
     other: &mut Service<Global>,
@@ -138,8 +139,10 @@ fn play_to_the_next_supervisor(
     ];
     play(rt, service, other, &steps)?;
     let deaths = [(at(60800)?, Exit::Killed(9))];
+    let own = service.tally().list(alloc)?;
+    let others = other.tally().list(alloc)?;
     assert_eq!(rt;
-        (service.tally().as_slice(), other.tally().as_slice()),
+        (own.as_slice(), others.as_slice()),
         (deaths.as_slice(), deaths.as_slice())
     );
     Ok(())
@@ -161,7 +164,7 @@ fn a_service_takes_each_change(rt: HostRuntime) -> Result<(), Fail> {
     gives(&rt, &out, 0, &[Mark::SupervisorStarted], &first, false);
     let (mut other, _) = Service::begin(rt.alloc(), Sid(1), web, config, start)?;
     let ready = play_to_ready(&rt, web, &mut service, &mut other)?;
-    play_to_the_next_supervisor(&rt, web, &mut service, &mut other)?;
+    play_to_the_next_supervisor(&rt, rt.alloc(), web, &mut service, &mut other)?;
     let row = Row {
         up: false,
         pid: None,
@@ -193,6 +196,7 @@ fn a_service_with_a_file_down_begins_without_a_run(rt: HostRuntime) -> Result<()
 // death.
 fn add_changes(
     rt: &impl Abort,
+    alloc: Global,
     run: Order,
     service: &mut Service<Global>,
     out: &mut Out,
@@ -224,7 +228,8 @@ fn add_changes(
         (service.chart().pid, service.status().letter),
         (70, Mark::Spawned)
     );
-    assert_eq!(rt; service.tally().as_slice(), [death].as_slice());
+    let deaths = service.tally().list(alloc)?;
+    assert_eq!(rt; deaths.as_slice(), [death].as_slice());
     Ok(())
 }
 
@@ -236,5 +241,5 @@ fn a_change_is_added_to_what_is_there(rt: HostRuntime) -> Result<(), Fail> {
     let (_, mut out) = Service::begin(rt.alloc(), Sid(1), web, Config::plain(), start)?;
     let (mut service, _) = Service::begin(rt.alloc(), Sid(2), log, Config::plain(), start)?;
     let run = Order::Run(Sid(1), 1, web, None);
-    add_changes(&rt, run, &mut service, &mut out)
+    add_changes(&rt, rt.alloc(), run, &mut service, &mut out)
 }

@@ -77,7 +77,7 @@ more_names : (names : List (List ℕ)) (i : ℕ) (name : List ℕ) → i < lengt
     → take (i + 1) names ≡ take i names ++ name ∷ []
 more_names names i name lt at = take_more names i name lt ∙ ap (λ n. take i names ++ n ∷ []) (sym at)
 
-new_at : (names : List (List ℕ)) (i : ℕ) (name : List ℕ) → repeats_name names ≡ false → i < length names → name ≡ get_or names i name
+pub new_at : (names : List (List ℕ)) (i : ℕ) (name : List ℕ) → repeats_name names ≡ false → i < length names → name ≡ get_or names i name
     → lists (take i names) name ≡ false
 new_at names i name once lt at =
     neither_right (repeats_name (take i names)) (lists (take i names) name)

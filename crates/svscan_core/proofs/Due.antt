@@ -4,13 +4,12 @@ use Rattle.std.proofs.Common.{append-nil, rules}
 use Rattle.supervise_core.specs.declared.chart.ChartState.{ChartState}
 use Rattle.supervise_core.specs.ChartState.{no_move}
 use Rattle.supervise_core.specs.Chart.{fire_move, is_due, timer_rule}
-use Rattle.svscan_core.specs.declared.visit.Visit.TheVariants.{Fire}
 use Rattle.svscan_core.specs.Deaths.{DeathOf, AllTallied}
 use Rattle.svscan_core.specs.Moves.{events_of_move, services_after, events_after, orders_after}
 use Rattle.svscan_core.specs.Moving.{StepSoFar, Takes}
 use Rattle.svscan_core.specs.Table.{charts_of}
 use Rattle.svscan_core.specs.Work.{AreDue}
-use Rattle.svscan_core.proofs.Tallied.{no_visit_deaths}
+use Rattle.svscan_core.proofs.Tallied.{no_timer_deaths}
 
 pub empty_list : {X : Type 0} (xs : List X) → (length xs == 0) ≡ true → xs ≡ []
 empty_list [] h = refl
@@ -48,5 +47,5 @@ none_fires now due m none h =
       timers = λ ts a. a;
       tallies = λ deaths all.
           subst (λ (ds : List DeathOf). AllTallied m.services ds)
-          (sym (ap (λ ds. deaths ++ ds) (no_visit_deaths Fire now (charts_of m.services)) ∙ append-nil deaths)) all;
+          (sym (ap (λ ds. deaths ++ ds) (no_timer_deaths now (charts_of m.services)) ∙ append-nil deaths)) all;
     }

@@ -26,11 +26,11 @@ or_joined true b c = refl
 or_joined false b c = refl
 
 -- names that compare equal are one name
-same_name : (k x : List ℕ) → slice_cmp nat_cmp k x ≡ Equal → k ≡ x
+pub same_name : (k x : List ℕ) → slice_cmp nat_cmp k x ≡ Equal → k ≡ x
 same_name k x e = (bytes_decides k x).0 (texts_ties k x ∙ ap is_eq e)
 
 -- a name is among the names where another one was put in order, where it is that one or was there
-in_order-found : (q k : List ℕ) (ks : List (List ℕ))
+pub in_order-found : (q k : List ℕ) (ks : List (List ℕ))
     → list_any (bytes_eq q) (insert_key (slice_cmp nat_cmp) ks k) ≡ (bytes_eq q k || list_any (bytes_eq q) ks)
 in_order-found q k [] = refl
 in_order-found q k (x ∷ xs) = by_order (slice_cmp nat_cmp k x) refl (in_order-found q k xs)
@@ -64,7 +64,7 @@ listed_before names q = sym (λ i. list_any (λ k. texts_ties q k i) (in_byte_or
 same_both_ways : (x y : List ℕ) → bytes_eq x y ≡ bytes_eq y x
 same_both_ways x y = nat_list_eq_equiv.symm x y
 
-listed_last : (names : List (List ℕ)) (x q : List ℕ) → lists (names ++ x ∷ []) q ≡ (lists names q || bytes_eq q x)
+pub listed_last : (names : List (List ℕ)) (x q : List ℕ) → lists (names ++ x ∷ []) q ≡ (lists names q || bytes_eq q x)
 listed_last [] x q = or_false (bytes_eq q x)
   where
     or_false : (a : Bool) → (a || false) ≡ a
@@ -87,7 +87,7 @@ repeats_last (n ∷ names) x =
     regrouped false false c d = refl
 
 -- the first i + 1 names are the first i and the name at i
-more_names : (listing : List (List ℕ)) (i : ℕ) (name : List ℕ) → i < length listing → name ≡ get_or listing i name
+pub more_names : (listing : List (List ℕ)) (i : ℕ) (name : List ℕ) → i < length listing → name ≡ get_or listing i name
     → take (i + 1) listing ≡ take i listing ++ name ∷ []
 more_names listing i name lt at = take_more listing i name lt ∙ ap (λ n. take i listing ++ n ∷ []) (sym at)
 
@@ -100,7 +100,7 @@ order_more listing i name before lt at was =
     ∙ (sym (fold-append (insert_key (slice_cmp nat_cmp)) [] (take i listing) (name ∷ []))
     ∙ ap in_byte_order (sym (more_names listing i name lt at)))
 
-twice : (b : Bool) → not (not b) ≡ b
+pub twice : (b : Bool) → not (not b) ≡ b
 twice true = refl
 twice false = refl
 

@@ -115,7 +115,8 @@ brings_all listing g (name ∷ names) =
     let rest = brings_all listing (with_name listing g name) names in
     omega (arith, one, rest)
 
-few_worked : (work : Work) (now : ℕ) (cs : List ChartState) (next : ℕ) → length cs ≤ 64 → length (work_result work now cs next).events ≤ 256
+few_worked : (work : Work) (now : ℕ) (cs : List ChartState) (next : ℕ) → length cs ≤ service_limit
+    → length (work_result work now cs next).events ≤ 4 * service_limit
 few_worked do_nothing now cs next few = omega arith
 few_worked (change_one sid change) now cs next few =
     let all = few_events (change_move_at sid change now) cs
@@ -127,7 +128,8 @@ few_worked (apply_listing listing) now cs next few =
     let most = work_few (apply_listing listing) now cs next few in
     omega (arith, all, most)
 
-pub step_events : (work : Work) (now : ℕ) (cs : List ChartState) (next : ℕ) → length cs ≤ 64 → length (step_result work now cs next).events ≤ 512
+pub step_events : (work : Work) (now : ℕ) (cs : List ChartState) (next : ℕ) → length cs ≤ service_limit
+    → length (step_result work now cs next).events ≤ 8 * service_limit
 step_events work now cs next few =
     let timers = few_events (fire_move now) cs (few_fire now) in
     let fired = fired_few now cs few in

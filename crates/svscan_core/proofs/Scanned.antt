@@ -80,7 +80,7 @@ listed_stands listing now name (c ∷ cs) h =
     named false e rest = kept (stays d) e rest ∙ sym (ap (λ b. b || stands name cs) e)
 
 -- what the order of bytes lists is listed
-is_in : (listing : List Entry) (name : List ℕ) → lists (names_in listing) name ≡ has_entry listing name
+pub is_in : (listing : List Entry) (name : List ℕ) → lists (names_in listing) name ≡ has_entry listing name
 is_in [] name = refl
 is_in (e ∷ listing) name = ap (λ b. bytes_eq name e.name || b) (is_in listing name)
 

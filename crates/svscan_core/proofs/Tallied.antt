@@ -19,14 +19,17 @@ use Rattle.supervise_core.specs.Chart.{changed_by, control_move, fire_move, with
 use Rattle.supervise_core.specs.Service.{Supervised, ServiceView, with_view, tally_with, death_by}
 use Rattle.supervise_core.proofs.Identity.{KeepsIdentity, keeps_fire, keeps_changed}
 use Rattle.svc_commands.specs.declared.control_letter.ControlLetter.{ControlLetter}
+use Rattle.svscan_core.specs.declared.entry.Entry.{Entry}
+use Rattle.svscan_core.specs.declared.entry.ScanOrder.{ScanOrder}
 use Rattle.svscan_core.specs.declared.entry.ScanOrder.TheVariants.{Nuke, Terminate}
 use Rattle.svscan_core.specs.declared.visit.Visit.{Visit}
 use Rattle.svscan_core.specs.declared.visit.Visit.TheVariants.{Fire, Command, Look}
 use Rattle.svscan_core.specs.Visit.{visit_move}
 use Rattle.svscan_core.specs.Deaths.{DeathOf, death_of, deaths_of, deaths_after, deaths_given, IsTallied, AllTallied, AllBefore}
+use Rattle.svscan_core.specs.Scan.{after_look, service_limit}
 use Rattle.svscan_core.specs.Table.{charts_of, serials_of}
 use Rattle.svscan_core.specs.Sound.{IsNumbered}
-use Rattle.svscan_core.specs.Work.{Work, leave_letters, change_move_at, work_result}
+use Rattle.svscan_core.specs.Work.{Work, leave_letters, change_move_at, command_move, work_result}
 use Rattle.svscan_core.specs.Work.Work.{do_nothing, change_one, apply_listing, command}
 use Rattle.svscan_core.proofs.Agreeing.{all_later, all_of, above_at, Lack, lacks_lower}
 use Rattle.svscan_core.proofs.Few.{work_later}
@@ -165,18 +168,18 @@ either_none : (b : Bool) (x y : Moved) → x.deaths ≡ [] → y.deaths ≡ [] �
 either_none true x y hx hy = hx
 either_none false x y hx hy = hy
 
-no_deaths : (visit : Visit) (now : ℕ) (c : ChartState) → (visit_move visit now c).deaths ≡ []
+no_deaths : {A : Type 0} (visit : Visit A) (now : ℕ) (c : ChartState) → (visit_move visit now c).deaths ≡ []
 no_deaths Fire now c = no_fire_deaths now c
 no_deaths (Command Nuke) now c = either_none c.active (no_move c) (control_move leave_letters now c) refl (no_letters_deaths now c)
 no_deaths (Command Terminate) now c = no_letters_deaths now (with_activity false now c)
 no_deaths (Look listing) now c = refl
 
-keeps_visited : (visit : Visit) (now : ℕ) (c : ChartState) → KeepsIdentity c (visit_move visit now c)
+keeps_visited : {A : Type 0} (visit : Visit A) (now : ℕ) (c : ChartState) → KeepsIdentity c (visit_move visit now c)
 keeps_visited Fire now c = keeps_fire now c
 keeps_visited (Command order) now c = keeps_commanded order now c
 keeps_visited (Look listing) now c = keeps_look listing.now now c
 
-pub visit_joins : (visit : Visit) (now : ℕ) (c : ChartState) → Joins c (visit_move visit now c) None
+pub visit_joins : {A : Type 0} (visit : Visit A) (now : ℕ) (c : ChartState) → Joins c (visit_move visit now c) None
 visit_joins visit now c = record { deaths = no_deaths visit now c; most = (keeps_visited visit now c).most }
 
 -- the death of a change is the one that its move reports
@@ -205,8 +208,18 @@ pub none_of_all : (move : ChartState → Moved) → ((c : ChartState) → (move 
 none_of_all move none [] = refl
 none_of_all move none (c ∷ cs) = ap (λ ds. map (death_of c.sid) ds ++ deaths_after move cs) (none c) ∙ none_of_all move none cs
 
-pub no_visit_deaths : (visit : Visit) (now : ℕ) (cs : List ChartState) → deaths_after (visit_move visit now) cs ≡ []
-no_visit_deaths visit now cs = none_of_all (visit_move visit now) (no_deaths visit now) cs
+pub no_timer_deaths : (now : ℕ) (cs : List ChartState) → deaths_after (fire_move now) cs ≡ []
+no_timer_deaths now cs = none_of_all (fire_move now) (no_fire_deaths now) cs
+
+no_order_death : (order : ScanOrder) (now : ℕ) (c : ChartState) → (command_move order now c).deaths ≡ []
+no_order_death Nuke now c = either_none c.active (no_move c) (control_move leave_letters now c) refl (no_letters_deaths now c)
+no_order_death Terminate now c = no_letters_deaths now (with_activity false now c)
+
+pub no_order_deaths : (order : ScanOrder) (now : ℕ) (cs : List ChartState) → deaths_after (command_move order now) cs ≡ []
+no_order_deaths order now cs = none_of_all (command_move order now) (no_order_death order now) cs
+
+pub no_look_deaths : (listing : List Entry) (now : ℕ) (cs : List ChartState) → deaths_after (λ c. no_move (after_look listing now c)) cs ≡ []
+no_look_deaths listing now cs = none_of_all (λ c. no_move (after_look listing now c)) (λ c. refl) cs
 
 -- a service of the next serial has had no death, and its tally none
 pub none_before : (next : ℕ) (deaths : List DeathOf) → AllBefore next deaths → deaths_of next deaths ≡ []
@@ -263,7 +276,7 @@ work_before (change_one sid change) now next cs h = moves_before (change_move_at
 work_before (command order) now next cs h = λ k d lt. absurd (omega (arith, lt))
 work_before (apply_listing listing) now next cs h = λ k d lt. absurd (omega (arith, lt))
 
-pub joined_before : (work : Work) (now next : ℕ) (cs : List ChartState) (deaths : List DeathOf) → length cs ≤ 64 → IsNumbered next cs
+pub joined_before : (work : Work) (now next : ℕ) (cs : List ChartState) (deaths : List DeathOf) → length cs ≤ service_limit → IsNumbered next cs
     → AllBefore next deaths
     → AllBefore (work_result work now cs next).next_sid (deaths ++ deaths_given work now cs)
 joined_before work now next cs deaths few numbered before =

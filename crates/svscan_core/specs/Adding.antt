@@ -9,6 +9,7 @@ use Rattle.svscan_core.specs.declared.event.Event.{Event}
 use Rattle.svscan_core.specs.declared.moves.Moves.{Moves}
 use Rattle.svscan_core.specs.declared.scan.Scanning.{Scanning}
 use Rattle.svscan_core.specs.Deaths.{DeathOf, AllBefore, AllTallied}
+use Rattle.svscan_core.specs.Limits.{service_limit}
 use Rattle.svscan_core.specs.Moves.{moment_of}
 use Rattle.svscan_core.specs.Scan.{ScanState}
 use Rattle.svscan_core.specs.Sound.{AllAgree, IsNumbered}
@@ -57,6 +58,6 @@ pub record GoesOn (services : List Supervised) (old new : Adding) : Type 0 where
 
 -- the limit holds, and each new service has a serial and at most one order
 pub record Grows (retained : ℕ) (old new : Adding) : Type 0 where
-  pub few : retained + length new.added ≤ 64
+  pub few : retained + length new.added ≤ service_limit
   pub next : new.next_sid + length old.added ≡ old.next_sid + length new.added
   pub orders : length new.orders + length old.added ≤ length old.orders + length new.added

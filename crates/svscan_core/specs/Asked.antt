@@ -2,6 +2,7 @@
 use Rattle.std.specs.Prelude.{◌≡◌, ℕ, ◌+◌, ◌<◌, ◌^◌, false}
 use Rattle.svscan_core.specs.declared.work.ServiceWork.{ServiceWork}
 use Rattle.svscan_core.specs.declared.work.ServiceWork.TheVariants.{Nothing, Change, Listing, Command}
+use Rattle.svscan_core.specs.Limits.{service_limit}
 use Rattle.svscan_core.specs.Listing.{names_in}
 use Rattle.svscan_core.specs.Names.{repeats_name}
 use Rattle.svscan_core.specs.Work.{Work}
@@ -16,5 +17,5 @@ work_asked (Command order) = command order
 
 -- a listing has no name twice, and there is a serial for each service that may be new
 abbrev pub IsOrderly : ℕ → Work → Type 0
-IsOrderly next_sid (apply_listing listing) = (repeats_name (names_in listing) ≡ false) × (next_sid + 65 < 2 ^ 64)
+IsOrderly next_sid (apply_listing listing) = (repeats_name (names_in listing) ≡ false) × (next_sid + (service_limit + 1) < 2 ^ 64)
 IsOrderly next_sid work = Unit {0}

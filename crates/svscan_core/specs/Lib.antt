@@ -1,9 +1,11 @@
+pub mod Limits
 pub mod Table
 pub mod Names
 pub mod Held
 pub mod SlotFields
 pub mod Moves
 pub mod Listing
+pub mod SortedListing
 pub mod Scan
 pub mod Work
 pub mod Sound

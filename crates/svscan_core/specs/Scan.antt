@@ -12,12 +12,9 @@ use Rattle.svscan_core.specs.declared.entry.Entry.{Entry}
 use Rattle.svscan_core.specs.declared.event.Event.{Event}
 use Rattle.svscan_core.specs.declared.entry.Listed.{Listed}
 use Rattle.svscan_core.specs.declared.entry.Listed.TheVariants.{Added, Full, Unread}
+pub use Rattle.svscan_core.specs.Limits.{service_limit}
 use Rattle.svscan_core.specs.Listing.{has_entry, listed_config, names_in, in_byte_order}
 use Rattle.svscan_core.specs.Moves.{events_of_move}
-
--- the most services that stand
-abbrev pub service_limit : ℕ
-service_limit = 64
 
 -- a service takes a configuration, where there is one
 abbrev pub with_read_config : Option Config → ChartState → ChartState

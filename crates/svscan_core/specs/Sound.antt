@@ -4,6 +4,7 @@ use Rattle.deadlines.specs.Timers.{is_rising}
 use Rattle.s6_events.specs.declared.moment.Moment.{Moment}
 use Rattle.supervise_core.specs.declared.chart.ChartState.{ChartState}
 use Rattle.supervise_core.specs.Service.{Supervised, AgreesWith}
+use Rattle.svscan_core.specs.Limits.{service_limit}
 use Rattle.svscan_core.specs.Names.{repeats_name}
 use Rattle.svscan_core.specs.Table.{names_of, serials_of}
 
@@ -13,7 +14,7 @@ IsNumbered next services = is_rising (serials_of services ++ next ∷ []) ≡ tr
 
 -- few services, no name twice, and the serials in order
 pub record IsSound (next : ℕ) (services : List ChartState) : Type 0 where
-  pub few : length services ≤ 64
+  pub few : length services ≤ service_limit
   pub names : repeats_name (names_of services) ≡ false
   pub order : IsNumbered next services
 

@@ -9,7 +9,7 @@ use Rattle.svscan_core.specs.Scan.{after_look}
 use Rattle.svscan_core.specs.Work.{command_move}
 
 -- its timer rule, an order of all services, or a look at its directory
-abbrev pub visit_move : Visit → ℕ → ChartState → Moved
+abbrev pub visit_move : {A : Type 0} → Visit A → ℕ → ChartState → Moved
 visit_move Fire now c = fire_move now c
 visit_move (Command order) now c = command_move order now c
 visit_move (Look listing) now c = no_move (after_look listing.now now c)

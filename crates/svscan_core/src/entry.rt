@@ -15,7 +15,7 @@ pub struct Entry {
 pub enum Listed {
     /// It has a new service, of this serial.
     Added(Sid, Name),
-    /// 64 services stood.
+    /// As many services stood as may stand.
     Full(Name),
     /// Its directory couldn't be read.
     Unread(Name),

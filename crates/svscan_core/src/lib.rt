@@ -4,6 +4,7 @@
 mod commit;
 mod entry;
 mod event;
+mod limits;
 mod listing;
 mod moves;
 mod pending;
@@ -20,6 +21,7 @@ mod work;
 
 pub use entry::{Entry, Listed, ScanOrder};
 pub use event::Event;
+pub use limits::{ORDER_LIMIT, SERVICE_LIMIT};
 pub use listing::has_repeats;
 pub use plan::{Answer, RegistryPlan};
 pub use registry::Registry;

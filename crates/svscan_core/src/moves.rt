@@ -138,10 +138,10 @@ impl<A: Allocator + Copy> Moves<A> {
     }
 
     // The service at a place takes it, unless it leaves the service as it stands.
-    fn visit_at(
+    fn visit_at<'a>(
         &mut self,
-        slots: &Slots<A>,
-        visit: Visit,
+        slots: &'a Slots<A>,
+        visit: Visit<'a, A>,
         place: usize,
         now: At,
         out: &mut Out,
@@ -177,10 +177,10 @@ impl<A: Allocator + Copy> Moves<A> {
     }
 
     /// Each service in turn takes it.
-    pub fn visit_all(
+    pub fn visit_all<'a>(
         &mut self,
-        slots: &Slots<A>,
-        visit: Visit,
+        slots: &'a Slots<A>,
+        visit: Visit<'a, A>,
         now: At,
         out: &mut Out,
     ) -> Result<(), NoMemory>

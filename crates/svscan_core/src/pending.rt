@@ -9,6 +9,7 @@ ghost use Rattle.supervise_core.specs.Chart.{fire_move};
 ghost use Rattle.supervise_core.specs.MatchesMove.{most_orders};
 ghost use Rattle.svscan_core.specs.Asked.{work_asked, IsOrderly};
 ghost use Rattle.svscan_core.specs.Deaths.{deaths_given, KeepTallied};
+ghost use Rattle.svscan_core.specs.Limits.{order_limit, service_limit};
 ghost use Rattle.svscan_core.specs.Moves.{moment_of, services_after};
 ghost use Rattle.svscan_core.specs.Moving.{with_changes, timers_of, step_so_far, KeepNames, Takes};
 ghost use Rattle.svscan_core.specs.Names.{repeats_name};
@@ -135,8 +136,8 @@ impl<A: Allocator + Copy> Pending<A> {
         requires added { self.old.scan.added.items ≡ [] }
         requires listed { self.old.scan.listed.items ≡ [] }
         requires stale { self.old.stale ≡ false }
-        requires few { length slots.now.services ≤ 64 }
-        requires room { length self.old.moves.orders.items ≤ 64 }
+        requires few { length slots.now.services ≤ service_limit }
+        requires room { length self.old.moves.orders.items ≤ service_limit }
         requires generations { All (λ c. c.generation + 1 < 2 ^ 64)
             (charts_of (with_changes slots.now.services self.old.moves.touched.items)) }
         requires order { IsNumbered self.old.scan.next_sid
@@ -166,8 +167,8 @@ impl<A: Allocator + Copy> Pending<A> {
             (charts_of (registry_prepared slots.now.services (planned_of self.new)).services)) }
         ensures touched { KeepNames slots.now.services self.old.moves.touched.items
             → OnOk result (KeepNames slots.now.services self.new.moves.touched.items) }
-        ensures added { OnOk result (length self.new.scan.added.items ≤ 64) }
-        ensures most { OnOk result (length self.new.moves.orders.items ≤ 256) }
+        ensures added { OnOk result (length self.new.scan.added.items ≤ service_limit) }
+        ensures most { OnOk result (length self.new.moves.orders.items ≤ order_limit) }
         ensures quiet { work_asked work.now ≡ do_nothing → IsOk result }
         ensures still { work_asked work.now ≡ do_nothing → self.new ≡ self.old }
     {
@@ -198,7 +199,7 @@ impl<A: Allocator + Copy> Pending<A> {
         now: At,
         out: &mut Out,
     ) -> Result<(), NoMemory>
-        requires few { length slots.now.services ≤ 64 }
+        requires few { length slots.now.services ≤ service_limit }
         requires generations { All (λ c. c.generation + 1 < 2 ^ 64) (charts_of slots.now.services) }
         requires order { IsNumbered next_sid (charts_of slots.now.services) }
         requires names { repeats_name (names_of (charts_of slots.now.services)) ≡ false }
@@ -218,8 +219,8 @@ impl<A: Allocator + Copy> Pending<A> {
             (registry_prepared slots.now.services (planned_of self.new)).timers timers)
             (charts_of (registry_prepared slots.now.services (planned_of self.new)).services)) }
         ensures touched { OnOk result (KeepNames slots.now.services self.new.moves.touched.items) }
-        ensures added { OnOk result (length self.new.scan.added.items ≤ 64) }
-        ensures most { OnOk result (length self.new.moves.orders.items ≤ 256) }
+        ensures added { OnOk result (length self.new.scan.added.items ≤ service_limit) }
+        ensures most { OnOk result (length self.new.moves.orders.items ≤ order_limit) }
     {
         self.clear(next_sid);
         self.do_work(slots, work, now, out)?;
@@ -237,7 +238,7 @@ impl<A: Allocator + Copy> Pending<A> {
         now: At,
         out: &mut Out,
     ) -> Result<(), NoMemory>
-        requires few { length slots.now.services ≤ 64 }
+        requires few { length slots.now.services ≤ service_limit }
         requires generations { All (λ c. c.generation + 2 < 2 ^ 64) (charts_of slots.now.services) }
         requires order { IsNumbered next_sid (charts_of slots.now.services) }
         requires names { repeats_name (names_of (charts_of slots.now.services)) ≡ false }
@@ -256,8 +257,8 @@ impl<A: Allocator + Copy> Pending<A> {
             (registry_prepared slots.now.services (planned_of self.new)).timers timers)
             (charts_of (registry_prepared slots.now.services (planned_of self.new)).services)) }
         ensures touched { OnOk result (KeepNames slots.now.services self.new.moves.touched.items) }
-        ensures added { OnOk result (length self.new.scan.added.items ≤ 64) }
-        ensures most { OnOk result (length self.new.moves.orders.items ≤ 256) }
+        ensures added { OnOk result (length self.new.scan.added.items ≤ service_limit) }
+        ensures most { OnOk result (length self.new.moves.orders.items ≤ order_limit) }
         ensures quiet { due.now ≡ [] → work_asked work.now ≡ do_nothing → IsOk result }
         ensures blank { due.now ≡ [] → work_asked work.now ≡ do_nothing
             → OnOk result (IsBlank next_sid self.new) }

@@ -1,5 +1,6 @@
 //! A step of the table that is worked out, and what it gives; the step is not made yet.
 ghost use Rattle.std.specs.Prelude.{◌≡◌, ◌≤◌, length, IfOk};
+ghost use Rattle.svscan_core.specs.Limits.{order_limit};
 ghost use Rattle.svscan_core.specs.Pending.{planned_of};
 
 use super::entry::Listed;
@@ -42,7 +43,7 @@ pub struct Answer<A: Allocator> {
 impl<A: Allocator + Copy> RegistryPlan<A> {
     /// The step that lies here.
     pub fn of(pending: Pending<A>) -> RegistryPlan<A>
-        requires { length pending.moves.orders.items ≤ 256 }
+        requires { length pending.moves.orders.items ≤ order_limit }
         ensures { result ≡ planned_of pending }
     {
         RegistryPlan { pending }
@@ -62,10 +63,10 @@ impl<A: Allocator + Copy> RegistryPlan<A> {
         self.pending.moves.events.as_slice()
     }
 
-    /// The orders that the step gives, in the order made: at most 256.
+    /// The orders that the step gives, in the order made: at most `ORDER_LIMIT`.
     pub fn orders(&self) -> &[Order]
         ensures orders { result.now ≡ self.now.orders }
-        ensures few { length result.now ≤ 256 }
+        ensures few { length result.now ≤ order_limit }
     {
         self.pending.moves.orders.as_slice()
     }

@@ -10,6 +10,7 @@ ghost use Rattle.supervise_core.specs.Service.{AgreesAs};
 ghost use Rattle.svscan_core.specs.Asked.{work_asked, IsOrderly};
 ghost use Rattle.svscan_core.specs.Deaths.{deaths_after, deaths_given, KeepTallied};
 ghost use Rattle.svscan_core.specs.Moves.{service_mark, moment_of, services_after, events_after, orders_after};
+ghost use Rattle.svscan_core.specs.Limits.{order_limit, service_limit};
 ghost use Rattle.svscan_core.specs.Listing.{names_in};
 ghost use Rattle.svscan_core.specs.Names.{repeats_name};
 ghost use Rattle.svscan_core.specs.Scan.{after_scan, dropped_by};
@@ -36,7 +37,7 @@ use supervise_core::{Change, Out, Service, ServiceState};
 #[cfg(test)]
 mod tests;
 
-/// The services of a scan directory, at most 64, in rising serial. A step is worked out first (`prepare`), which changes nothing
+/// The services of a scan directory, at most `SERVICE_LIMIT`, in rising serial. A step is worked out first (`prepare`), which changes nothing
 /// that is shown, and then made (`commit`), which takes no memory; or one thing alone is done at once (`scan`, `control`,
 /// `change`). The memory in which a step is worked out is kept from step to step. Page `s6-svscan`.
 #[derive(Drop)]
@@ -67,7 +68,7 @@ fn settle<A: Allocator + Copy>(
     next_sid: u64,
     attempt: Result<(), NoMemory>,
 ) -> Result<RegistryPlan<A>, NoMemory>
-    requires { OnOk attempt (length spare.old.moves.orders.items ≤ 256) }
+    requires { OnOk attempt (length spare.old.moves.orders.items ≤ order_limit) }
     ensures services { slots.new.services ≡ slots.old.services }
     ensures ok { OnOk result (IsOk attempt) }
     ensures same { IfOk result (λ plan. plan ≡ planned_of spare.old) }
@@ -99,7 +100,7 @@ impl<A: Allocator + Copy> Registry<A> {
         }
     }
 
-    /// How many services stand: at most 64. No two of them have one name, and their serials rise, below that of the next one.
+    /// How many services stand: at most `SERVICE_LIMIT`. No two of them have one name, and their serials rise, below that of the next one.
     pub fn len(&self) -> usize
         ensures count { result ≡ length self.now.shown.services }
         ensures sound { IsSound self.now.shown.next_sid (charts_of self.now.shown.services) }
@@ -352,7 +353,7 @@ impl<A: Allocator + Copy> Registry<A> {
         requires listing { repeats_name (names_in listing.now) ≡ false }
         requires generations { All (λ c. c.generation + 1 < 2 ^ 64)
             (charts_of self.old.shown.services) }
-        requires next { self.old.shown.next_sid + 65 < 2 ^ 64 }
+        requires next { self.old.shown.next_sid + (service_limit + 1) < 2 ^ 64 }
         ensures services { OnOk result
             (charts_of self.new.shown.services
             ≡ (after_scan listing.now now

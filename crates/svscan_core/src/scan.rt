@@ -7,6 +7,7 @@ ghost use Rattle.supervise_core.specs.Service.{Supervised};
 ghost use Rattle.supervise_core.specs.declared.chart.ChartState.{ChartState};
 ghost use Rattle.svscan_core.specs.Adding.{adding_of, state_behind, GoesOn, Grows};
 ghost use Rattle.svscan_core.specs.Deaths.{KeepTallied};
+ghost use Rattle.svscan_core.specs.Limits.{service_limit};
 ghost use Rattle.svscan_core.specs.Listing.{names_in};
 ghost use Rattle.svscan_core.specs.Moves.{moment_of};
 ghost use Rattle.svscan_core.specs.Moving.{with_changes, timers_of, KeepNames};
@@ -21,7 +22,8 @@ ghost use Rattle.svscan_core.specs.Sound.{AllAgree, IsNumbered};
 ghost use Rattle.svscan_core.specs.Table.{charts_of, names_of, serials_of};
 
 use super::entry::{Entry, Listed};
-use super::listing::{config_in, sort_listing};
+use super::limits::SERVICE_LIMIT;
+use super::listing::{SortedListing, sort_listing};
 use super::moves::{ChangedService, Moves, standing_at};
 use super::slots::Slots;
 use super::visit::Visit;
@@ -29,9 +31,6 @@ use s6_events::{At, Name, NoMemory, Sid};
 use servicedir::Config;
 use std::alloc::Allocator;
 use supervise_core::{ChartState, Out, Phase, Service};
-
-// The most services that stand.
-const SERVICE_LIMIT: usize = 64;
 
 /// What a listing drops and adds, before anything is changed. The lists keep their memory from step to step.
 #[derive(Drop)]
@@ -180,7 +179,7 @@ impl<A: Allocator + Copy> Scanning<A> {
         found: Option<Config>,
         now: At,
     ) -> Result<(), NoMemory>
-        requires few { retained + length self.old.added.items ≤ 64 }
+        requires few { retained + length self.old.added.items ≤ service_limit }
         requires next { self.old.next_sid + 1 < 2 ^ 64 }
         ensures state { OnOk result
             ((services : List ChartState) → length services ≡ retained
@@ -214,10 +213,10 @@ impl<A: Allocator + Copy> Scanning<A> {
         moves: &mut Moves<A>,
         retained: usize,
         name: &Name,
-        listing: &[Entry],
+        listing: &SortedListing<A>,
         now: At,
     ) -> Result<(), NoMemory>
-        requires few { retained + length self.old.added.items ≤ 64 }
+        requires few { retained + length self.old.added.items ≤ service_limit }
         requires next { self.old.next_sid + 1 < 2 ^ 64 }
         ensures state { OnOk result ((services : List ChartState) → length services ≡ retained
             → stands name.now (services ++ charts_of self.old.added.items)
@@ -238,7 +237,7 @@ impl<A: Allocator + Copy> Scanning<A> {
         if slots.has(name) {
             return Ok(());
         }
-        let found = config_in(listing, name);
+        let found = listing.config_of(name);
         self.add_new_name(slots.allocator(), moves, retained, name, found, now)
     }
 
@@ -249,12 +248,12 @@ impl<A: Allocator + Copy> Scanning<A> {
         moves: &mut Moves<A>,
         retained: usize,
         names: &[Name],
-        listing: &[Entry],
+        listing: &SortedListing<A>,
         now: At,
     ) -> Result<(), NoMemory>
         requires once { repeats_name names.now ≡ false }
-        requires few { retained + length self.old.added.items ≤ 64 }
-        requires next { self.old.next_sid + 65 < 2 ^ 64 }
+        requires few { retained + length self.old.added.items ≤ service_limit }
+        requires next { self.old.next_sid + (service_limit + 1) < 2 ^ 64 }
         ensures state { OnOk result ((services : List ChartState) → length services ≡ retained
             → ((name : List ℕ) → lists names.now name ≡ true
             → stands name (services ++ charts_of self.old.added.items)
@@ -280,7 +279,7 @@ impl<A: Allocator + Copy> Scanning<A> {
 }
 
 /// What the listing does to the services as the step has them: each is looked at, those of which directory and supervisor are both
-/// gone leave, and each listed name for which none stands gets a new one, in the order of the names' bytes, while fewer than 64 stand.
+/// gone leave, and each listed name for which none stands gets a new one, in the order of the names' bytes, while fewer than `SERVICE_LIMIT` stand.
 /// Nothing of it is done yet. `NoMemory` where memory for the plan is refused. Page `s6-svscan`.
 pub fn plan_scan<A: Allocator + Copy>(
     slots: &Slots<A>,
@@ -298,11 +297,11 @@ pub fn plan_scan<A: Allocator + Copy>(
         (names_of (charts_of (with_changes slots.now.services moves.old.touched.items))) ≡ false }
     requires order { IsNumbered scan.old.next_sid
         (charts_of (with_changes slots.now.services moves.old.touched.items)) }
-    requires few { length slots.now.services ≤ 64 }
+    requires few { length slots.now.services ≤ service_limit }
     requires stand { names_of (charts_of (with_changes slots.now.services moves.old.touched.items))
         ≡ names_of (charts_of slots.now.services) }
     requires listing { repeats_name (names_in listing.now) ≡ false }
-    requires next { scan.old.next_sid + 65 < 2 ^ 64 }
+    requires next { scan.old.next_sid + (service_limit + 1) < 2 ^ 64 }
     requires generations { All (λ c. c.generation + 1 < 2 ^ 64)
         (charts_of (with_changes slots.now.services moves.old.touched.items)) }
     ensures services { OnOk result (charts_of (prepared_services slots.now.services moves.new.touched.items scan.new.dropped.items scan.new.added.items)
@@ -347,13 +346,14 @@ pub fn plan_scan<A: Allocator + Copy>(
         (charts_of (prepared_services slots.now.services moves.new.touched.items scan.new.dropped.items scan.new.added.items))) }
     ensures names { KeepNames slots.now.services moves.old.touched.items
         → OnOk result (KeepNames slots.now.services moves.new.touched.items) }
-    ensures few { OnOk result (length scan.new.added.items ≤ 64) }
-    ensures most { OnOk result (length moves.new.orders.items ≤ length moves.old.orders.items + 64) }
+    ensures few { OnOk result (length scan.new.added.items ≤ service_limit) }
+    ensures most { OnOk result
+        (length moves.new.orders.items ≤ length moves.old.orders.items + service_limit) }
 {
-    moves.visit_all(slots, Visit::Look(listing), now, out)?;
-    let retained = plan_drops(slots, moves.touched.as_slice(), scan)?;
     let sorted = sort_listing(slots.allocator(), listing)?;
-    let names = sorted.names.as_slice();
-    scan.add_names(slots, moves, retained, names, listing, now)?;
+    moves.visit_all(slots, Visit::Look(&sorted), now, out)?;
+    let retained = plan_drops(slots, moves.touched.as_slice(), scan)?;
+    let names = sorted.names(slots.allocator())?;
+    scan.add_names(slots, moves, retained, names.as_slice(), &sorted, now)?;
     Ok(())
 }

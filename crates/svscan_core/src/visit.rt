@@ -9,19 +9,20 @@ ghost use Rattle.svscan_core.specs.Visit.{visit_move};
 ghost use Rattle.svscan_core.specs.declared.visit.Visit.TheVariants.{Fire};
 ghost use Rattle.svscan_core.specs.Work.{leave_letters, nuke_move, terminate_move};
 
-use super::entry::{Entry, ScanOrder};
-use super::listing::{config_in, is_listed};
+use super::entry::ScanOrder;
+use super::listing::SortedListing;
 use arrayvec::ArrayVec;
 use s6_events::At;
+use std::alloc::Allocator;
 use supervise_core::{Change, Out, ServiceState};
 use svc_commands::{ControlLetter, Letters};
 
 /// What each service in turn takes: its timer rule, an order of all services, or a look at its directory.
 #[derive(Clone, Copy)]
-pub enum Visit<'a> {
+pub enum Visit<'a, A: Allocator> {
     Fire,
     Command(ScanOrder),
-    Look(&'a [Entry]),
+    Look(&'a SortedListing<A>),
 }
 
 // The letters of a service that leaves.
@@ -74,13 +75,13 @@ fn leave(standing: &mut ServiceState, now: At, out: &mut Out)
 }
 
 // Its directory is listed or not, and says what was read.
-fn look_at(standing: &mut ServiceState, listing: &[Entry], now: At)
+fn look_at<A: Allocator + Copy>(standing: &mut ServiceState, listing: &SortedListing<A>, now: At)
     ensures { standing.new ≡ record standing.old
         { chart = after_look listing.now now standing.old.chart } }
 {
     let name = standing.chart().name;
-    standing.set_active(is_listed(listing, &name), now);
-    if let Some(config) = config_in(listing, &name) {
+    standing.set_active(listing.has(&name), now);
+    if let Some(config) = listing.config_of(&name) {
         standing.set_config(config);
     }
 }
@@ -114,7 +115,7 @@ fn terminate(standing: &mut ServiceState, now: At, out: &mut Out)
     leave(standing, now, out);
 }
 
-impl Visit<'_> {
+impl<A: Allocator + Copy> Visit<'_, A> {
     /// Whether it leaves the service as it stands.
     pub fn passes(self, standing: &ServiceState, now: At) -> bool
         ensures { result ≡ true → visit_move self.entry now standing.now.chart

@@ -9,7 +9,7 @@ ghost use Rattle.svscan_core.specs.Table.{charts_of};
 ghost use Rattle.svscan_core.specs.Work.{AreDue};
 
 use super::*;
-use crate::listing::sort_listing;
+use crate::listing::has_repeats;
 use servicedir::Config;
 use std::alloc::Global;
 use std::process::Abort;
@@ -67,7 +67,7 @@ fn is_orderly(alloc: Global, work: &ServiceWork) -> Result<bool, NoMemory>
         → IsOrderly next (work_asked work.now)) }
 {
     match work {
-        ServiceWork::Listing(listing) => Ok(!sort_listing(alloc, listing)?.repeats),
+        ServiceWork::Listing(listing) => Ok(!has_repeats(alloc, listing)?),
         _ => Ok(true),
     }
 }
@@ -130,9 +130,9 @@ fn scan<A: Allocator + Copy>(
     listing: &[Entry],
     now: At,
 ) -> Result<Option<Answer<A>>, Fail> {
-    let sorted = sort_listing(alloc, listing)?;
+    let repeats = has_repeats(alloc, listing)?;
     let are_fit = are_fit(&registry.slots, &[], At::zero());
-    assert!(rt; !sorted.repeats);
+    assert!(rt; !repeats);
     assert!(rt; are_fit);
     assert!(rt; registry.next_sid < 1000);
     Ok(registry.scan(listing, now).ok())

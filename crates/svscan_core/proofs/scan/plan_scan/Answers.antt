@@ -2,14 +2,14 @@ use Rattle.std.proofs.Common.{◌≡◌, ◌∙◌, ◌≤◌, ◌++◌, [], app
 use Rattle.std.proofs.lemmas.List.{length-map}
 use Rattle.supervise_core.specs.Service.{Supervised}
 use Rattle.svscan_core.specs.declared.moves.ChangedService.{ChangedService}
-use Rattle.svscan_core.specs.Adding.{adding_of}
-use Rattle.svscan_core.specs.declared.visit.Visit.TheVariants.{Look}
+use Rattle.supervise_core.specs.ChartState.{no_move}
+use Rattle.svscan_core.specs.Adding.{adding_of, state_behind}
 use Rattle.svscan_core.specs.Deaths.{DeathOf, AllBefore, AllTallied}
 use Rattle.svscan_core.specs.Listing.{names_in}
 use Rattle.svscan_core.specs.Moves.{moment_of}
-use Rattle.svscan_core.specs.Moving.{with_changes, timers_of, step_so_far}
+use Rattle.svscan_core.specs.Moving.{with_changes, timers_of, step_so_far, Takes}
 use Rattle.svscan_core.specs.Names.{repeats_name}
-use Rattle.svscan_core.specs.Scan.{ScanState, stays, leaves, after_scan}
+use Rattle.svscan_core.specs.Scan.{ScanState, stays, leaves, after_look, after_scan}
 use Rattle.svscan_core.specs.Scanning.{prepared_services}
 use Rattle.deadlines.specs.declared.timer.TimerChange.TheVariants.{Clear}
 use Rattle.deadlines.specs.Timers.{with_timer_changes, is_rising}
@@ -17,13 +17,14 @@ use Rattle.svscan_core.specs.Timers.{timer_change_of, TimersAgree}
 use Rattle.svscan_core.specs.Work.Work.{apply_listing}
 use Rattle.svscan_core.specs.Sound.{AllAgree}
 use Rattle.svscan_core.specs.Table.{charts_of, names_of, serials_of}
+use Rattle.svscan_core.proofs.Alike.{takes_alike, names_alike}
 use Rattle.svscan_core.proofs.ByteOrder.{order_once}
 use Rattle.svscan_core.proofs.Few.{length-filter}
 use Rattle.svscan_core.proofs.Scanned.{LeadsToScanned, leads_to_scanned, same_events, same_orders}
 use Rattle.svscan_core.proofs.ScanTimers.{scan_timers}
 use Rattle.svscan_core.proofs.SerialsRise.{rising_before, looked_serials, work_numbers}
 use Rattle.svscan_core.proofs.Taking.{length_touched}
-use Rattle.svscan_core.proofs.Tallied.{no_visit_deaths}
+use Rattle.svscan_core.proofs.Tallied.{no_look_deaths}
 use Rattle.svscan_core.proofs.scan.plan_scan.Goals as goal
 
 pub visit_all-requires-clause-order : goal.visit_all-requires-clause-order
@@ -32,7 +33,7 @@ visit_all-requires-clause-order g c =
     c.requires.order
 
 pub add_names-requires-clause-once : goal.add_names-requires-clause-once
-add_names-requires-clause-once g c = ap repeats_name (c.as_slice-names.ensures.value ∙ c.in_ok-sorted.ensures.names)
+add_names-requires-clause-once g c = ap repeats_name (c.as_slice-2.ensures.value ∙ (c.in_ok-names.ensures ∙ c.in_ok-sorted.ensures.names))
     ∙ order_once (names_in c.args.listing.now)
 
 pub add_names-requires-clause-few : goal.add_names-requires-clause-few
@@ -45,16 +46,23 @@ add_names-requires-clause-few g c =
     let none : length c.plan_drops.new.scan.added.items ≡ 0 = ap length (c.plan_drops.ensures.added ∙ c.requires.added) in
     omega (arith, long, as_long, fewer, retained, none, c.requires.few)
 
+looked : (g : _) (c : goal.After-drop-sorted-inside-2 g)
+    → Takes c.args.now (λ k. no_move (after_look c.args.listing.now c.args.now k)) (step_so_far c.args.slots.now.services c.args.moves.now)
+    (step_so_far c.args.slots.now.services c.visit_all.new.self)
+looked g c = takes_alike c.in_ok-sorted.sorted c.args.listing.now c.in_ok-sorted.ensures.alike c.args.now
+    (step_so_far c.args.slots.now.services c.args.moves.now) (step_so_far c.args.slots.now.services c.visit_all.new.self)
+    c.in_ok-visit_all.ensures.takes
+
 pub returns-clause-most : goal.returns-clause-most
 returns-clause-most g c =
     let same : length c.visit_all.new.self.orders.items ≡ length c.args.moves.now.orders.items =
     ap length (same_orders c.args.now c.args.listing.now (step_so_far c.args.slots.now.services c.args.moves.now)
-    (step_so_far c.args.slots.now.services c.visit_all.new.self) c.in_ok-visit_all.ensures.takes) in
+    (step_so_far c.args.slots.now.services c.visit_all.new.self) (looked g c)) in
     let grows = c.in_ok-add_names.ensures.grows in
     let none : length c.plan_drops.new.scan.added.items ≡ 0 = ap length (c.plan_drops.ensures.added ∙ c.requires.added) in
     omega (arith, same, none, grows.orders, grows.few)
 
-leads : (g : _) (c : goal.After-drop-sorted-2 g)
+leads : (g : _) (c : goal.After-drop-sorted-inside-2 g)
     → LeadsToScanned c.args.listing.now c.args.now c.args.scan.now.next_sid (with_changes c.args.slots.now.services c.args.moves.now.touched.items)
     (with_changes c.args.slots.now.services c.visit_all.new.self.touched.items) c.plan_drops.new.scan.dropped.items
     (adding_of c.plan_drops.new.scan c.visit_all.new.self) (adding_of c.add_names.new.self c.add_names.new.moves)
@@ -68,14 +76,16 @@ leads g c =
     drops.retained ∙ ap (λ ss. length (filter stays (charts_of ss))) same in
     let adds = c.in_ok-add_names.ensures in
     leads_to_scanned c.args.listing.now c.args.now c.args.scan.now.next_sid slots standing visited c.plan_drops.new.scan.dropped.items
-    c.as_slice-names.result.now
+    c.as_slice-2.result.now
     (adding_of c.plan_drops.new.scan c.visit_all.new.self) (adding_of c.add_names.new.self c.add_names.new.moves)
-    c.in_ok-visit_all.ensures.takes.services c.requires.names c.requires.order c.requires.stand
+    (looked g c).services c.requires.names c.requires.order c.requires.stand
     (drops.dropped ∙ (ap (λ ns. ns ++ names_of (filter leaves (charts_of (with_changes slots c.as_slice.result.now)))) c.requires.dropped
     ∙ ap (λ ss. names_of (filter leaves (charts_of ss))) same))
-    (c.as_slice-names.ensures.value ∙ c.in_ok-sorted.ensures.names)
+    (c.as_slice-2.ensures.value ∙ (c.in_ok-names.ensures ∙ c.in_ok-sorted.ensures.names))
     (c.plan_drops.ensures.added ∙ c.requires.added) c.plan_drops.ensures.next_sid (c.plan_drops.ensures.listed ∙ c.requires.listed)
-    (λ services long finds. adds.state services (long ∙ sym retained) finds)
+    (λ services long finds. adds.state services (long ∙ sym retained) finds
+    ∙ names_alike c.in_ok-sorted.sorted c.args.listing.now c.in_ok-sorted.ensures.alike
+    (state_behind services (adding_of c.plan_drops.new.scan c.visit_all.new.self)) c.as_slice-2.result.now)
     (λ services numbered. adds.goes_on services numbered)
 
 pub returns-clause-services : goal.returns-clause-services
@@ -95,7 +105,7 @@ returns-clause-events g c =
     ∙ ap (λ es. es ++ (after_scan c.args.listing.now c.args.now
     (charts_of (with_changes c.args.slots.now.services c.args.moves.now.touched.items)) c.args.scan.now.next_sid).events)
     (same_events c.args.now c.args.listing.now (step_so_far c.args.slots.now.services c.args.moves.now)
-    (step_so_far c.args.slots.now.services c.visit_all.new.self) c.in_ok-visit_all.ensures.takes)
+    (step_so_far c.args.slots.now.services c.visit_all.new.self) (looked g c))
 
 pub returns-clause-orders : goal.returns-clause-orders
 returns-clause-orders g c =
@@ -103,7 +113,7 @@ returns-clause-orders g c =
     ∙ ap (λ os. os ++ (after_scan c.args.listing.now c.args.now
     (charts_of (with_changes c.args.slots.now.services c.args.moves.now.touched.items)) c.args.scan.now.next_sid).orders)
     (same_orders c.args.now c.args.listing.now (step_so_far c.args.slots.now.services c.args.moves.now)
-    (step_so_far c.args.slots.now.services c.visit_all.new.self) c.in_ok-visit_all.ensures.takes)
+    (step_so_far c.args.slots.now.services c.visit_all.new.self) (looked g c))
 
 pub returns-clause-listed : goal.returns-clause-listed
 returns-clause-listed g c = ap (λ (s : ScanState). s.listed) (leads g c).given
@@ -111,7 +121,7 @@ returns-clause-listed g c = ap (λ (s : ScanState). s.listed) (leads g c).given
 pub returns-clause-agrees : goal.returns-clause-agrees
 returns-clause-agrees g c = λ h at all.
     let slots = c.args.slots.now.services in
-    let seen = c.in_ok-visit_all.ensures.takes.agrees h at all in
+    let seen = (looked g c).agrees h at all in
     subst (λ (ts : List ChangedService). AllAgree (prepared_services slots ts c.add_names.new.self.dropped.items c.add_names.new.self.added.items)
     (h ++ map moment_of c.add_names.new.moves.events.items))
     (sym c.add_names.ensures.touched)
@@ -125,7 +135,7 @@ returns-clause-tallies g c = λ deaths before all.
     let standing = with_changes slots c.args.moves.now.touched.items in
     let seen : AllTallied (with_changes slots c.visit_all.new.self.touched.items) (deaths ++ []) =
     subst (λ (ds : List DeathOf). AllTallied (with_changes slots c.visit_all.new.self.touched.items) (deaths ++ ds))
-    (no_visit_deaths (Look c.args.listing) c.args.now (charts_of standing)) (c.in_ok-visit_all.ensures.takes.tallies deaths all) in
+    (no_look_deaths c.args.listing.now c.args.now (charts_of standing)) ((looked g c).tallies deaths all) in
     subst (λ (ts : List ChangedService). AllTallied (prepared_services slots ts c.add_names.new.self.dropped.items c.add_names.new.self.added.items)
     (deaths ++ []))
     (sym c.add_names.ensures.touched)
@@ -135,26 +145,36 @@ returns-clause-tallies g c = λ deaths before all.
     ((leads g c).tallies (deaths ++ []) (subst (λ (ds : List DeathOf). AllBefore c.args.scan.now.next_sid ds) (sym (append-nil deaths)) before)
     seen))
 
+dropped_serials : (g : _) (c : goal.After-drop-sorted-inside-2 g)
+    → c.add_names.new.self.dropped_sids.items
+    ≡ serials_of (filter leaves (charts_of (with_changes c.args.slots.now.services c.visit_all.new.self.touched.items)))
+dropped_serials g c =
+    let slots = c.args.slots.now.services in
+    let same : with_changes slots c.as_slice.result.now ≡ with_changes slots c.visit_all.new.self.touched.items =
+    ap (with_changes slots) c.as_slice.ensures.value in
+    c.add_names.ensures.dropped_sids
+    ∙ (c.in_ok-retained.ensures.dropped_sids
+    ∙ (ap (λ ns. ns ++ serials_of (filter leaves (charts_of (with_changes slots c.as_slice.result.now)))) c.requires.dropped_sids
+    ∙ ap (λ ss. serials_of (filter leaves (charts_of ss))) same))
+
+pub returns-clause-dropped : goal.returns-clause-dropped
+returns-clause-dropped g c = dropped_serials g c ∙ ap (λ cs. serials_of (filter leaves cs)) (looked g c).services
+
 pub returns-clause-timers : goal.returns-clause-timers
 returns-clause-timers g c = λ ts a.
     let slots = c.args.slots.now.services in
     let standing = with_changes slots c.args.moves.now.touched.items in
     let visited = with_changes slots c.visit_all.new.self.touched.items in
-    let same : with_changes slots c.as_slice.result.now ≡ visited = ap (with_changes slots) c.as_slice.ensures.value in
     let rising : is_rising (serials_of (charts_of standing)) ≡ true =
     rising_before (serials_of (charts_of standing)) c.args.scan.now.next_sid c.requires.order in
-    let looked : serials_of (charts_of visited) ≡ serials_of (charts_of standing) =
-    ap serials_of c.in_ok-visit_all.ensures.takes.services ∙ looked_serials c.args.listing.now c.args.now (charts_of standing) in
+    let numbers : serials_of (charts_of visited) ≡ serials_of (charts_of standing) =
+    ap serials_of (looked g c).services ∙ looked_serials c.args.listing.now c.args.now (charts_of standing) in
     let next = (after_scan c.args.listing.now c.args.now (charts_of standing) c.args.scan.now.next_sid).next_sid in
     let done = (after_scan c.args.listing.now c.args.now (charts_of standing) c.args.scan.now.next_sid).services in
     let rises : is_rising (serials_of done) ≡ true =
     rising_before (serials_of done) next (work_numbers (apply_listing c.args.listing.now) c.args.now
     (charts_of standing) c.args.scan.now.next_sid c.requires.order) in
-    let sids : c.add_names.new.self.dropped_sids.items ≡ serials_of (filter leaves (charts_of visited)) =
-    c.add_names.ensures.dropped_sids
-    ∙ (c.in_ok-retained.ensures.dropped_sids
-    ∙ (ap (λ ns. ns ++ serials_of (filter leaves (charts_of (with_changes slots c.as_slice.result.now)))) c.requires.dropped_sids
-    ∙ ap (λ ss. serials_of (filter leaves (charts_of ss))) same)) in
+    let sids = dropped_serials g c in
     subst (λ (us : List ChangedService). TimersAgree
     (with_timer_changes (timers_of us ++ (map (λ sid. Clear sid) c.add_names.new.self.dropped_sids.items
     ++ map timer_change_of (charts_of c.add_names.new.self.added.items))) ts)
@@ -165,7 +185,7 @@ returns-clause-timers g c = λ ts a.
     (charts_of (prepared_services slots c.visit_all.new.self.touched.items ns c.add_names.new.self.added.items))) (sym c.add_names.ensures.dropped)
     (scan_timers ts (timers_of c.visit_all.new.self.touched.items) c.add_names.new.self.dropped_sids.items
     (charts_of c.add_names.new.self.added.items) (charts_of visited) _
-    (ap is_rising looked ∙ rising) sids
+    (ap is_rising numbers ∙ rising) sids
     ((leads g c).services ∙ sym (ap (λ (s : ScanState). s.services) (leads g c).given))
     (ap (λ xs. is_rising (serials_of xs)) (leads g c).services ∙ rises)
-    (c.in_ok-visit_all.ensures.takes.timers ts a)))
+    ((looked g c).timers ts a)))

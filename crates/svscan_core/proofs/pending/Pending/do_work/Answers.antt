@@ -2,14 +2,13 @@ use Rattle.std.proofs.Common.{[], List, ◌∙◌, ◌++◌, sym, subst, ap}
 use Rattle.deadlines.specs.Timers.{is_rising}
 use Rattle.svscan_core.specs.Moving.{with_changes, step_so_far}
 use Rattle.supervise_core.specs.Service.{Supervised}
-use Rattle.svscan_core.specs.declared.visit.Visit.TheVariants as visit
 use Rattle.svscan_core.specs.declared.work.ServiceWork.{ServiceWork}
 use Rattle.svscan_core.specs.Asked.{work_asked}
 use Rattle.svscan_core.specs.Deaths.{DeathOf, deaths_given, AllTallied}
 use Rattle.svscan_core.specs.Scanning.{prepared_services}
 use Rattle.svscan_core.specs.Table.{charts_of}
 use Rattle.svscan_core.specs.Work.{change_move_at, with_earlier, work_result}
-use Rattle.svscan_core.proofs.Tallied.{no_visit_deaths}
+use Rattle.svscan_core.proofs.Tallied.{no_order_deaths}
 use Rattle.svscan_core.proofs.Working.{moves_work, nothing_dropped}
 use Rattle.svscan_core.proofs.pending.Pending.do_work.Goals as goal
 
@@ -50,7 +49,7 @@ returns-in_ok-visit_all-in-Command-clause-tallies g c = λ deaths before all.
     subst (λ (ss : List Supervised). AllTallied ss (deaths ++ deaths_given (work_asked c.args.work.now) c.args.now cs))
     (sym (nothing_dropped moved c.args.self.now.scan.dropped.items c.args.self.now.scan.added.items c.requires.dropped c.requires.added))
     (subst (λ (w : ServiceWork). AllTallied moved (deaths ++ deaths_given (work_asked w) c.args.now cs)) (sym c.in-Command.is)
-    (subst (λ (ds : List DeathOf). AllTallied moved (deaths ++ ds)) (no_visit_deaths (visit.Command c.in-Command.order) c.args.now cs)
+    (subst (λ (ds : List DeathOf). AllTallied moved (deaths ++ ds)) (no_order_deaths c.in-Command.order c.args.now cs)
     (c.in_ok-visit_all-in-Command.ensures.takes.tallies deaths all)))
 
 pub returns-in_ok-plan_scan-in-Listing-clause-tallies : goal.returns-in_ok-plan_scan-in-Listing-clause-tallies

@@ -6,7 +6,6 @@ use Rattle.supervise_core.specs.declared.chart.ChartState.{ChartState}
 use Rattle.supervise_core.specs.Chart.{fire_move}
 use Rattle.svscan_core.specs.declared.event.Event.{Event}
 use Rattle.svscan_core.specs.declared.moves.ChangedService.{ChangedService}
-use Rattle.svscan_core.specs.declared.visit.Visit.TheVariants.{Fire}
 use Rattle.svscan_core.specs.Asked.{work_asked}
 use Rattle.svscan_core.specs.Deaths.{DeathOf, deaths_after, deaths_given, AllBefore, AllTallied}
 use Rattle.svscan_core.specs.Moves.{services_after, moment_of}
@@ -18,7 +17,7 @@ use Rattle.svscan_core.specs.Sound.{AllAgree}
 use Rattle.svscan_core.specs.Table.{charts_of, names_of, serials_of}
 use Rattle.svscan_core.proofs.Generations.{all_fire}
 use Rattle.svscan_core.proofs.Names.{fired_names}
-use Rattle.svscan_core.proofs.Tallied.{no_visit_deaths}
+use Rattle.svscan_core.proofs.Tallied.{no_timer_deaths}
 use Rattle.svscan_core.proofs.SerialsRise.{fired_serials, fired_numbers, rising_before}
 use Rattle.svscan_core.proofs.pending.Pending.work_out.Goals as goal
 
@@ -98,7 +97,7 @@ returns-clause-tallies g c = λ deaths before all.
     c.in_ok-fire_due.ensures.takes.services ∙ ap
     (λ (ts : List ChangedService). services_after (fire_move c.args.now) (charts_of (with_changes slots ts))) c.clear.ensures.touched in
     let none : deaths ++ deaths_after (fire_move c.args.now) (charts_of (with_changes slots c.clear.new.self.moves.touched.items)) ≡ deaths =
-    ap (λ ds. deaths ++ ds) (no_visit_deaths Fire c.args.now (charts_of (with_changes slots c.clear.new.self.moves.touched.items)))
+    ap (λ ds. deaths ++ ds) (no_timer_deaths c.args.now (charts_of (with_changes slots c.clear.new.self.moves.touched.items)))
     ∙ append-nil deaths in
     let timed : AllTallied (with_changes slots c.fire_due.new.moves.touched.items) deaths =
     subst (λ (ds : List DeathOf). AllTallied (with_changes slots c.fire_due.new.moves.touched.items) ds) none

@@ -26,3 +26,6 @@ returns-clause-agrees g c = λ h at all. c.change.ensures.agrees h at (rw (← c
 
 pub returns-clause-tallies : goal.returns-clause-tallies
 returns-clause-tallies g c = rw (← c.self.view_is) (λ deaths before all. c.change.ensures.tallies deaths all)
+
+pub returns-clause-known : goal.returns-clause-known
+returns-clause-known g c = rw (← c.self.view_is) c.change.ensures.known

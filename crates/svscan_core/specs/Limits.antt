@@ -1,0 +1,10 @@
+-- How many there are at most.
+use Rattle.std.specs.Prelude.{ℕ}
+
+-- the most services that stand
+abbrev pub service_limit : ℕ
+service_limit = 64
+
+-- the most orders of a step
+abbrev pub order_limit : ℕ
+order_limit = 256
