@@ -1,7 +1,6 @@
 -- Looking a subscription up, and taking it out.
-use Rattle.std.proofs.Common.{◌≡◌, ℕ, List, [], ◌∷◌, Bool, true, false, map, ◌+◌, ◌<◌, ◌≤◌, ◌++◌, length, take, drop, get_or, sym, Some, None}
+use Rattle.std.proofs.Common.{◌≡◌, ℕ, List, [], ◌∷◌, Bool, true, false, map, ◌++◌, Some, None}
 use Rattle.std.proofs.Common.{refl, option_map, ap, ◌==◌, ◌∙◌, cond}
-use Rattle.std.proofs.lemmas.List.{drop_more, take_more, drop_all, take_all, append_assoc, append-nil}
 use Rattle.event_directory.specs.Sending.{view_of, kept_without}
 use Rattle.event_directory.specs.Stored.{StoredSubscription, all_standing, kept_in, planned_of, planned_standing, stored_of}
 use Rattle.event_directory.specs.Stored.{stored_without}
@@ -34,25 +33,6 @@ pub without_planned : (id : ℕ) (b : Bool) (text letters : List ℕ) (xs : List
     → planned_of b text letters (stored_without id xs) ≡ kept_without id (planned_of b text letters xs)
 without_planned id true text letters xs = without_planned_standing id (text ++ letters) xs
 without_planned id false text letters xs = without_standing id text xs
-
--- looking for the place: at the place i, none before it is meant
-pub without_here : (id : ℕ) (xs : List StoredSubscription) (i : ℕ) (d : StoredSubscription) → i < length xs
-    → ((get_or xs i d).standing.id == id) ≡ true →
-    stored_without id xs ≡ take i xs ++ stored_without id (drop i xs) → stored_without id xs ≡ take i xs ++ drop (i + 1) xs
-without_here id xs i d lt hit so_far = so_far ∙ ap (λ l. take i xs ++ l) (ap (stored_without id) (drop_more xs i d lt) ∙ rw hit refl)
-
-pub without_next : (id : ℕ) (xs : List StoredSubscription) (i : ℕ) (d : StoredSubscription) → i < length xs
-    → ((get_or xs i d).standing.id == id) ≡ false →
-    stored_without id xs ≡ take i xs ++ stored_without id (drop i xs)
-    → stored_without id xs ≡ take (i + 1) xs ++ stored_without id (drop (i + 1) xs)
-without_next id xs i d lt miss so_far =
-    so_far ∙ ap (λ l. take i xs ++ l) (ap (stored_without id) (drop_more xs i d lt) ∙ rw miss refl)
-    ∙ sym (append_assoc (take i xs) (get_or xs i d ∷ []) (stored_without id (drop (i + 1) xs)))
-    ∙ ap (λ l. l ++ stored_without id (drop (i + 1) xs)) (sym (take_more xs i d lt))
-
-pub without_none : (id : ℕ) (xs : List StoredSubscription) (i : ℕ) → length xs ≤ i
-    → stored_without id xs ≡ take i xs ++ stored_without id (drop i xs) → stored_without id xs ≡ xs
-without_none id xs i le so_far = so_far ∙ rw (drop_all i xs le, take_all i xs le) (append-nil xs)
 
 pub list_none : (id : ℕ) (text : List ℕ) (xs : List StoredSubscription) → stored_of id xs ≡ None → view_of id (all_standing text xs) ≡ None
 list_none id text xs e = view_as_stored id text xs ∙ ap (option_map shown) e

@@ -1,5 +1,5 @@
 -- What departures and arrivals do to the timers.
-use Rattle.std.proofs.Common.{◌≡◌, refl, sym, ap, ◌∙◌, ℕ, List, [], ◌∷◌, ◌++◌, Bool, true, false, ◌||◌, ◌==◌, cond, not, rules, filter, map, subst}
+use Rattle.std.proofs.Common.{◌≡◌, refl, sym, ap, ◌∙◌, ℕ, List, [], ◌∷◌, ◌++◌, Bool, true, false, ◌||◌, ◌==◌, cond, not, filter, map, subst}
 use Rattle.std.proofs.Common.{append-nil, append_assoc}
 use Rattle.std.specs.Prelude.{None, nat_lt}
 use Rattle.std.specs.List.{list_all, list_any}
@@ -165,12 +165,3 @@ scan_timers ts touched sids added cs final r s f rises a =
     (subst (λ (xs : List ChartState). TimersAgree
     (with_timer_changes (map timer_change_of added)
     (with_timer_changes (map (λ sid. Clear sid) (serials_of (filter leaves cs))) (with_timer_changes touched ts))) xs) (sym f) come)
-
--- lists of which nothing comes are empty
-pub none_of : {X Y : Type 0} (f : X → Y) (xs : List X) (ys : List Y) → map f xs ++ ys ≡ [] → (xs ≡ []) × (ys ≡ [])
-none_of f [] ys e = (refl, e)
-none_of f (x ∷ xs) ys e = search rules
-
-pub none_mapped : {X Y : Type 0} (f : X → Y) (xs : List X) → map f xs ≡ [] → xs ≡ []
-none_mapped f [] e = refl
-none_mapped f (x ∷ xs) e = search rules

@@ -1,6 +1,5 @@
 -- One more moment changes what is known of a service by its mark alone.
-use Rattle.std.proofs.Common.{◌≡◌, ◌<◌, ◌+◌, ℕ, List, [], ◌∷◌, ◌++◌, Option, is_some, length, take, get_or, sym, ap, ◌∙◌, rules}
-use Rattle.std.proofs.lemmas.List.{take_more}
+use Rattle.std.proofs.Common.{◌≡◌, ℕ, List, [], ◌∷◌, ◌++◌, Option, is_some, ◌∙◌, rules}
 use Rattle.wait_conditions.specs.declared.supervisor_state.SupervisorState.{SupervisorState}
 use Rattle.wait_conditions.specs.declared.supervisor_state.SinceState.{SinceState}
 use Rattle.s6_events.specs.declared.mark.Mark.{Mark}
