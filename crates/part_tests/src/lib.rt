@@ -11,3 +11,5 @@ mod restarts;
 mod timers;
 #[cfg(test)]
 mod waiters;
+#[cfg(test)]
+mod waiters_memory;

@@ -392,7 +392,7 @@ fn refusals(alloc: Global, deeds: &[(u64, Deed)]) -> Result<(u32, u32, u64), Fai
     let mut without = 0u32;
     let mut steps = 0u64;
     for step in 0..150usize {
-        let (refused, taken) = apply_with_little(alloc, 64 * step, deeds)?;
+        let (refused, taken) = apply_with_little(alloc, 256 * step, deeds)?;
         refusals = refusals.saturating_add(refused);
         steps = steps.saturating_add(taken);
         if refused == 0 {
