@@ -112,7 +112,7 @@ fn long_lines<R: Net>(rt: &R, alloc: Global, path: &str) -> io::Result<bool> {
 }
 
 // A connection that was answered once, so that it has its seat.
-fn seated<R: Net>(rt: &R, alloc: Global, path: &str) -> io::Result<Option<UnixStream>> {
+fn take_seat<R: Net>(rt: &R, alloc: Global, path: &str) -> io::Result<Option<UnixStream>> {
     let stream = connect(rt, path)?;
     if is_answered(alloc, &stream, b"x\n", b"echo x\n\n")? {
         Ok(Some(stream))
@@ -122,13 +122,13 @@ fn seated<R: Net>(rt: &R, alloc: Global, path: &str) -> io::Result<Option<UnixSt
 }
 
 // The same as soon as a seat is free: the server frees one a little after its client saw the end of the connection.
-fn seated_soon<R: Net + Clock>(
+fn take_free_seat<R: Net + Clock>(
     rt: &R,
     alloc: Global,
     path: &str,
 ) -> io::Result<Option<UnixStream>> {
     for _ in 0..500u32 {
-        if let Ok(Some(stream)) = seated(rt, alloc, path) {
+        if let Ok(Some(stream)) = take_seat(rt, alloc, path) {
             return Ok(Some(stream));
         }
         thread::sleep(rt, Duration::from_millis(10));
@@ -138,7 +138,7 @@ fn seated_soon<R: Net + Clock>(
 
 // Whether a line is answered on a connection that has its seat.
 fn is_served<R: Net + Clock>(rt: &R, alloc: Global, path: &str) -> io::Result<bool> {
-    match seated_soon(rt, alloc, path)? {
+    match take_free_seat(rt, alloc, path)? {
         Some(stream) => is_answered(alloc, &stream, b"still there\n", b"echo still there\n\n"),
         None => Ok(false),
     }
@@ -147,7 +147,7 @@ fn is_served<R: Net + Clock>(rt: &R, alloc: Global, path: &str) -> io::Result<bo
 fn full_house<R: Net + Clock>(rt: &R, alloc: Global, path: &str) -> io::Result<bool> {
     let mut streams = Vec::new(alloc);
     for _ in 0..SEAT_COUNT {
-        match seated_soon(rt, alloc, path)? {
+        match take_free_seat(rt, alloc, path)? {
             Some(stream) => streams.push(stream)?,
             None => return Ok(false),
         }
@@ -156,7 +156,7 @@ fn full_house<R: Net + Clock>(rt: &R, alloc: Global, path: &str) -> io::Result<b
     let told = read_bytes(alloc, &twelfth, 100)?;
     let is_busy = told.as_slice() == b"busy\n".as_slice();
     drop(streams.pop());
-    let is_taken = seated_soon(rt, alloc, path)?.is_some();
+    let is_taken = take_free_seat(rt, alloc, path)?.is_some();
     Ok(is_busy && is_taken)
 }
 
@@ -167,20 +167,15 @@ fn never_reads<R: Net + Wait + Clock>(
     server: &Server<Echo>,
 ) -> io::Result<bool> {
     let before = server.answers().counts(rt).floods;
-    let Some(deaf) = seated_soon(rt, alloc, path)? else {
+    let Some(deaf) = take_free_seat(rt, alloc, path)? else {
         return Ok(false);
     };
     let mut writer = &deaf;
     writer.write_all(b"flood\n")?;
     let serves_others = is_served(rt, alloc, path)?;
-    let mut is_closed = false;
-    for _ in 0..500u32 {
-        if server.answers().counts(rt).floods > before {
-            is_closed = true;
-            break;
-        }
-        thread::sleep(rt, Duration::from_millis(10));
-    }
+    let is_closed = server
+        .answers()
+        .wait_for_flood(rt, before, Duration::from_secs(20));
     let _ = deaf.shutdown(Shutdown::Both);
     Ok(is_closed && serves_others)
 }
@@ -194,7 +189,7 @@ fn garbage<R: Net + Clock>(rt: &R, alloc: Global, path: &str) -> io::Result<bool
             .wrapping_add(1_442_695_040_888_963_407);
         bytes.push(state.to_be_bytes()[0])?;
     }
-    let Some(stream) = seated_soon(rt, alloc, path)? else {
+    let Some(stream) = take_free_seat(rt, alloc, path)? else {
         return Ok(false);
     };
     let mut writer = &stream;

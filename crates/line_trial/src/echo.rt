@@ -1,6 +1,7 @@
 //! Who answers the lines of the trial: each line comes back, and what came is counted.
 use line_server::{Answers, Mailbox, Next, PostFault};
-use std::sync::{Mutex, Wait};
+use std::sync::{Condvar, Mutex, Wait};
+use std::time::{Clock, Duration};
 
 /// What came so far.
 #[derive(Clone, Copy, Debug, PartialEq, Eq)]
@@ -17,6 +18,7 @@ pub struct Counts {
 #[derive(Drop)]
 pub struct Echo {
     counts: Mutex<Counts>,
+    changed: Condvar,
 }
 
 impl Echo {
@@ -29,6 +31,7 @@ impl Echo {
                 floods: 0,
                 ended: 0,
             }),
+            changed: Condvar::new(),
         }
     }
 
@@ -43,6 +46,16 @@ impl Echo {
         counts.long_lines = counts.long_lines.saturating_add(long_lines);
         counts.floods = counts.floods.saturating_add(floods);
         counts.ended = counts.ended.saturating_add(ended);
+        self.changed.notify_all();
+    }
+
+    /// Waits until more floods came than so many, but at most so long. Whether they came.
+    pub fn wait_for_flood<R: Wait + Clock>(&self, rt: &R, before: u32, time: Duration) -> bool {
+        let counts = self.counts.lock(rt);
+        let (counts, _late) = self
+            .changed
+            .wait_timeout_while(rt, counts, time, |known| known.floods <= before);
+        counts.floods > before
     }
 }
 
