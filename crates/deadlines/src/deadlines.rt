@@ -14,6 +14,8 @@ use std::marker::Model;
 pub struct Deadlines<A: Allocator> {
     timers: Vec<Timer, A>,
     queue: Vec<Timer, A>,
+    // The memory of the changes of the last step, for those of the next.
+    spare: Vec<TimerChange, A>,
 }
 
 impl<A: Allocator> Model for Deadlines<A> {
@@ -86,6 +88,7 @@ impl<A: Allocator + Copy> Deadlines<A> {
         Deadlines {
             timers: Vec::new(alloc),
             queue: Vec::new(alloc),
+            spare: Vec::new(alloc),
         }
     }
 
@@ -162,11 +165,12 @@ impl<A: Allocator + Copy> Deadlines<A> {
         ensures same_room { self.old.spare_capacity ≤ self.new.spare_capacity }
         ensures quiet { changes.now ≡ [] → IsOk result }
     {
-        let mut planned = Vec::new(*self.timers.allocator());
-        planned.reserve(changes.len())?;
+        let none = Vec::new(*self.timers.allocator());
+        let mut planned = std::mem::replace(&mut self.spare, none);
+        planned.clear();
+        planned.extend_from_slice(changes)?;
         self.timers.reserve(changes.len())?;
         self.queue.reserve(changes.len())?;
-        planned.extend_from_slice(changes).unwrap();
         Ok(DeadlinesPlan { changes: planned })
     }
 
@@ -178,6 +182,7 @@ impl<A: Allocator + Copy> Deadlines<A> {
         for change in &plan.changes {
             self.make(change);
         }
+        self.spare = plan.changes;
     }
 
     // One change, for which there is room.

@@ -17,3 +17,5 @@ pub mod Letters
 pub mod Joins
 pub mod Leaves
 pub mod Written
+pub mod Crosses
+pub mod Unheard

@@ -3,7 +3,7 @@ ghost use Rattle.std.specs.Prelude.{◌≡◌, ◌≤◌, ◌<◌, ◌+◌, ◌^
 ghost use Rattle.event_directory.specs.Changes.{Offer, directory_request_of, matches_of, directory_answer, directories_after_change};
 ghost use Rattle.event_directory.specs.Changes.DirectoryRequest.{no_directory_request};
 ghost use Rattle.event_directory.specs.Directories.{WrittenDirectories, new_directories, list_named, matches_by, directories_after_moments};
-ghost use Rattle.event_directory.specs.Hearing.{hits_of_moments};
+ghost use Rattle.event_directory.specs.Hearing.{heard_moments, hits_of_moments};
 ghost use Rattle.event_directory.specs.Register.{prepared_change, given_change, told_change, after_step, view_in};
 ghost use Rattle.event_directory.specs.Remembered.{AreHeard, directories_after_commit, nothing_prepared, plan_number};
 ghost use Rattle.event_directory.specs.declared.directory_change.DirectoryAnswer.TheVariants as answer;
@@ -141,7 +141,7 @@ impl<F: Finds, A: Allocator + Copy> Directories<F, A> {
         self.is_prepared = false;
         self.number = self.number.wrapping_add(1);
         let number = self.number;
-        if moments.is_empty() && asks_nothing(change) {
+        if is_unheard(&self.register, moments, change) {
             return Ok(DirectoriesPlan {
                 matches,
                 answer: DirectoryAnswer::Done,
@@ -176,6 +176,28 @@ impl<F: Finds, A: Allocator + Copy> Directories<F, A> {
         finish_step(&mut self.register, pending, offered);
         drop(plan);
     }
+}
+
+// Whether a step gives nothing and changes nothing: it asks nothing, and there is no moment, or nobody who hears one.
+fn is_unheard<F: Finds, A: Allocator + Copy>(
+    register: &Register<F, A>,
+    moments: &[Moment],
+    change: &DirectoryChange<'_>,
+) -> bool
+    ensures request { result ≡ true → directory_request_of change.now ≡ no_directory_request }
+    ensures hits { result ≡ true → hits_of_moments F.test moments.now register.now.followed ≡ [] }
+    ensures after { result ≡ true → heard_moments F.test moments.now register.now.followed
+        ≡ register.now.followed }
+    ensures quiet { moments.now ≡ [] → directory_request_of change.now ≡ no_directory_request
+        → result ≡ true }
+{
+    if !asks_nothing(change) {
+        return false;
+    }
+    if moments.is_empty() {
+        return true;
+    }
+    register.is_silent()
 }
 
 fn asks_nothing(change: &DirectoryChange<'_>) -> bool

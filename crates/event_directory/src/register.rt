@@ -1,5 +1,5 @@
 //! What is stored of all event directories.
-ghost use Rattle.std.specs.Prelude.{◌≡◌, ◌<◌, ◌++◌, ◌+◌, ◌^◌, [], IfOk, OnOk, IfSome, IfNone, Some, drop, length, option_map, take};
+ghost use Rattle.std.specs.Prelude.{◌≡◌, ◌<◌, ◌++◌, ◌+◌, ◌^◌, [], IfOk, OnOk, IfSome, IfNone, Some, drop, length, option_map, take, true};
 ghost use Rattle.event_directory.specs.Changes.{directory_request_of};
 ghost use Rattle.event_directory.specs.Hearing.{heard_moments, heard_message, hits_of_moments, hits_of_message};
 ghost use Rattle.event_directory.specs.Register.{shown_in, prepared_in, without_prepared, without_followed, source_of, subscribers_without, with_free_name, without_subscription_by, prepared_by_pending, HasRoom, CanJoin, CanStart, stored_refusal, view_in};
@@ -79,6 +79,13 @@ impl<F: Finds, A: Allocator + Copy> Register<F, A> {
         ensures { result ≡ self.now.next }
     {
         SubId(self.next)
+    }
+
+    /// Whether nobody subscribes to anything.
+    pub fn is_silent(&self) -> bool
+        ensures { result ≡ true → self.now.followed ≡ [] }
+    {
+        self.listened.is_empty()
     }
 
     /// The source of the subscription of this serial.

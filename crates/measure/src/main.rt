@@ -44,8 +44,8 @@ fn run<R: Threads + Wait + Clock + Sync>(
             submit_and_take::<Brand, _>(rt, four_rings(alloc)?, load)?;
             ("submissions", load)
         }
-        Words::Read(load) => {
-            read_and_publish::<Brand, _>(rt, alloc, NewBoard::new(), load)?;
+        Words::Read(load, rows) => {
+            read_and_publish::<Brand, _>(rt, alloc, NewBoard::new(), load, rows)?;
             ("reads", load)
         }
     };

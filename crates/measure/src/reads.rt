@@ -13,29 +13,31 @@ use std::thread;
 use std::thread::Threads;
 use supervise_core::Row;
 
-// A shot with as many rows as there can be, each of which has the number of steps as its age.
-fn full_shot(at: u64) -> Shot {
+// A shot with so many rows, each of which has the number of steps as its age.
+fn shot_of(at: u64, count: usize) -> Shot {
     let row = Row {
         up_down_for: Some(at),
         ..Row::default()
     };
-    Shot {
-        at,
-        rows: ArrayVec::from([row; 64]),
+    let mut rows = ArrayVec::new();
+    for _ in 0..count {
+        let _fits = rows.try_push(row);
     }
+    Shot { at, rows }
 }
 
-/// So many threads read, while shots are published until they are done.
+/// So many threads read a board of so many rows, while shots are published until they are done.
 pub fn read_and_publish<C: Channels + Send + Sync, R: Threads + Wait + Sync>(
     rt: &R,
     alloc: Global,
     board: NewBoard,
     load: Load,
+    rows: usize,
 ) -> Result<(), Fault>
     requires { board ≡ C.board }
 {
     let mut writer = board
-        .open::<C, &R, Global>(alloc, rt, 4, &full_shot(0))
+        .open::<C, &R, Global>(alloc, rt, 4, &shot_of(0, rows))
         .map_err(|refused| refused.1)?;
     let (done, whole) = (AtomicU8::new(0), AtomicU8::new(0));
     let (done_by, whole_by) = (&done, &whole);
@@ -47,7 +49,7 @@ pub fn read_and_publish<C: Channels + Send + Sync, R: Threads + Wait + Sync>(
                 return Err(Fault::NoThread);
             }
         }
-        publish_until(rt, &mut writer, done_by, load.threads)
+        publish_until(rt, &mut writer, done_by, load.threads, rows)
     })?;
     if whole.load(Ordering::SeqCst) != load.threads {
         return Err(Fault::NoShot);
@@ -55,13 +57,13 @@ pub fn read_and_publish<C: Channels + Send + Sync, R: Threads + Wait + Sync>(
     Ok(())
 }
 
-// Reads so often, and counts itself as done, and among those that saw whole shots alone.
+// Reads so often into one shot, and counts itself as done, and among those that saw whole shots alone.
 fn read_all<C: Channels>(reader: BoardReader<C>, count: u32, done: &AtomicU8, whole: &AtomicU8) {
     let mut reader = reader;
+    let mut shot = Shot::empty();
     let mut is_whole = true;
     for number in 0..count {
-        let shot = reader.read();
-        is_whole = shot.is_some_and(|shot| is_age(&shot, number)) && is_whole;
+        is_whole = reader.read_into(&mut shot) && is_age(&shot, number) && is_whole;
     }
     if is_whole {
         whole.fetch_add(1, Ordering::SeqCst);
@@ -71,7 +73,8 @@ fn read_all<C: Channels>(reader: BoardReader<C>, count: u32, done: &AtomicU8, wh
 
 // Whether one row, another one for each number, has the number of steps as its age.
 fn is_age(shot: &Shot, number: u32) -> bool {
-    let row = shot.rows.as_slice().get(number as usize % 64);
+    let rows = shot.rows.as_slice();
+    let row = rows.get(number as usize % rows.len().max(1));
     row.is_some_and(|row| row.up_down_for == Some(shot.at))
 }
 
@@ -81,6 +84,7 @@ fn publish_until<C: Channels, R: Wait + Drop>(
     writer: &mut BoardWriter<C, R>,
     done: &AtomicU8,
     readers: u8,
+    rows: usize,
 ) -> Result<(), Fault> {
     let mut at = 0u64;
     for _ in rt.forever() {
@@ -88,7 +92,7 @@ fn publish_until<C: Channels, R: Wait + Drop>(
             break;
         }
         at = at.saturating_add(1);
-        writer.publish(&full_shot(at))?;
+        writer.publish(&shot_of(at, rows))?;
     }
     Ok(())
 }

@@ -1,25 +1,28 @@
 //! What the command line asks for.
 use servicedir::parse_digits;
+use status_board::ROW_LIMIT;
 use std::env::{Env, FillError};
 
 /// What `measure --help` prints.
 pub const HELP: &[u8] = b"usage: measure submit THREADS COUNT
-       measure read THREADS COUNT
+       measure read THREADS COUNT ROWS
        measure --help
 
   submit      so many threads submit COUNT acts each, each at a seat of
               its own, while one more takes them
-  read        so many threads read the board COUNT times each, each by
-              a reader of its own, while one more publishes
+  read        so many threads read a board of ROWS rows COUNT times each,
+              each by a reader of its own, while one more publishes
   THREADS     1, 2 or 4
   COUNT       1 to 1000000000
+  ROWS        1 to 256
 
 Prints one line, and ends with 0. Ends with 100 after a wrong usage,
 and with 111 where the system refused something.
 ";
 
 /// The line for words that ask for nothing.
-pub const USAGE: &[u8] = b"measure: usage: measure submit|read 1|2|4 COUNT\n";
+pub const USAGE: &[u8] =
+    b"measure: usage: measure submit 1|2|4 COUNT, or measure read 1|2|4 COUNT ROWS\n";
 
 /// The greatest count.
 const GREATEST_COUNT: u32 = 1_000_000_000;
@@ -46,7 +49,8 @@ impl Load {
 pub enum Words {
     Help,
     Submit(Load),
-    Read(Load),
+    /// Of a board with so many rows.
+    Read(Load, usize),
 }
 
 // Whether the command line has a word at this place; the program's name is at 0.
@@ -61,7 +65,7 @@ fn word<'a>(env: &impl Env, place: usize, room: &'a mut [u8; LONGEST_WORD]) -> O
     Some(&room[..count])
 }
 
-// The words behind the first one, and nothing after them.
+// How many threads, and how often each.
 fn read_load(env: &impl Env) -> Option<Load> {
     let mut room = [0; LONGEST_WORD];
     let threads = match word(env, 2, &mut room)? {
@@ -71,18 +75,25 @@ fn read_load(env: &impl Env) -> Option<Load> {
         _ => return None,
     };
     let count = parse_digits(word(env, 3, &mut room)?, GREATEST_COUNT)?;
-    if count == 0 || has_word(env, 4) {
+    if count == 0 {
         return None;
     }
     Some(Load { threads, count })
+}
+
+// How many rows the board has.
+fn read_rows(env: &impl Env) -> Option<usize> {
+    let mut room = [0; LONGEST_WORD];
+    let rows = parse_digits(word(env, 4, &mut room)?, ROW_LIMIT as u32)?;
+    if rows == 0 { None } else { Some(rows as usize) }
 }
 
 /// What the command line asks for; None where it has other words than `--help` tells.
 pub fn read_words(env: &impl Env) -> Option<Words> {
     let mut room = [0; LONGEST_WORD];
     match word(env, 1, &mut room)? {
-        b"submit" => Some(Words::Submit(read_load(env)?)),
-        b"read" => Some(Words::Read(read_load(env)?)),
+        b"submit" if !has_word(env, 4) => Some(Words::Submit(read_load(env)?)),
+        b"read" if !has_word(env, 5) => Some(Words::Read(read_load(env)?, read_rows(env)?)),
         b"--help" if !has_word(env, 2) => Some(Words::Help),
         _ => None,
     }

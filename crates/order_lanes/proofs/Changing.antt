@@ -7,7 +7,7 @@ use Rattle.std.proofs.lemmas.List.Elements.{filter-append}
 use Rattle.s6_events.specs.declared.order.Order.{Order}
 use Rattle.order_lanes.specs.Lane.{LaneView, sent_of, sent_in, HaveRoomBelow, HaveRoom}
 use Rattle.order_lanes.specs.LaneOrders.{lane_of, orders_of_lane}
-use Rattle.order_lanes.proofs.Places.{read_set, set_here, set_there, told_set}
+use Rattle.channel_names.proofs.Places.{read_set, set_here, set_there, told_set}
 
 -- a look at one lane keeps what was sent into each
 pub sent_set : (lanes : List LaneView) (k : ℕ) (p q : LaneView) → slice_get lanes k ≡ Some p → q.sent ≡ p.sent → (j : ℕ)

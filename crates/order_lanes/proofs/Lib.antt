@@ -1,4 +1,3 @@
-pub mod Places
 pub mod Changing
 pub mod Turns
 pub mod Numbers

@@ -100,7 +100,7 @@ fn a_history_is_the_list_of_its_pushes(rt: HostRuntime) -> Result<(), Fail> {
     let mut history = History::new(rt.alloc());
     let was_empty = history.is_empty();
     history.push(FIRST)?;
-    let plan = history.prepare(&[SECOND, THIRD])?;
+    let plan = history.prepare(vec![in rt.alloc(); SECOND, THIRD]?)?;
     let prepared = history.len();
     history.commit(plan);
     let lengths = (was_empty, prepared, history.len());
@@ -117,7 +117,7 @@ fn a_history_is_the_list_of_its_pushes(rt: HostRuntime) -> Result<(), Fail> {
 #[test]
 fn forgotten_places_of_the_history(rt: HostRuntime) -> Result<(), Fail> {
     let mut history = History::new(rt.alloc());
-    let plan = history.prepare(&[FIRST, SECOND, THIRD, FIRST, SECOND])?;
+    let plan = history.prepare(vec![in rt.alloc(); FIRST, SECOND, THIRD, FIRST, SECOND]?)?;
     history.commit(plan);
     history.forget(3);
     let kept = [FIRST, SECOND];
@@ -138,7 +138,10 @@ fn pushed<A: Allocator + Copy>(alloc: A) -> u64 {
     if history.push(FIRST).is_err() {
         return history.len();
     }
-    match history.prepare(&[SECOND; 9]) {
+    let Ok(moments) = Vec::from_slice(alloc, &[SECOND; 9]) else {
+        return history.len();
+    };
+    match history.prepare(moments) {
         Ok(plan) => history.commit(plan),
         Err(NoMemory) => {}
     }

@@ -268,10 +268,10 @@ fn refuses_in_the_order_of_the_faults(rt: HostRuntime) -> Result<(), Fail> {
     let many = numbered(rt.alloc(), 17)?;
     let most = numbered(rt.alloc(), 16)?;
     assert!(rt; fault_of(rt.alloc(), 0, &[])? == Some(AddFault::Empty));
-    assert!(rt; fault_of(rt.alloc(), 256, &[Sid(1), Sid(2), Sid(1)])? == Some(AddFault::Repeated));
-    assert!(rt; fault_of(rt.alloc(), 256, &many)? == Some(AddFault::TooManyServices));
-    assert!(rt; fault_of(rt.alloc(), 256, &most)? == Some(AddFault::TooMany));
-    assert!(rt; fault_of(rt.alloc(), 255, &most)?.is_none());
+    assert!(rt; fault_of(rt.alloc(), 1024, &[Sid(1), Sid(2), Sid(1)])? == Some(AddFault::Repeated));
+    assert!(rt; fault_of(rt.alloc(), 1024, &many)? == Some(AddFault::TooManyServices));
+    assert!(rt; fault_of(rt.alloc(), 1024, &most)? == Some(AddFault::TooMany));
+    assert!(rt; fault_of(rt.alloc(), 1023, &most)?.is_none());
     Ok(())
 }
 

@@ -141,21 +141,18 @@ impl<A: Allocator + Copy> History<A> {
         self.skipped = 0;
     }
 
-    /// Makes room for these pushes, and changes nothing else: a plan that was made before keeps its room, also where this one is
+    /// Makes room for the pushes of these moments, which the plan keeps, and changes nothing else: a plan that was made before keeps its room, also where this one is
     /// refused. `NoMemory` where a growth was refused; none is asked for where there is nothing to push.
-    pub fn prepare(&mut self, moments: &[Moment]) -> Result<HistoryPlan<A>, NoMemory>
-        ensures ok { IfOk result (λ plan. plan ≡ moments.now) }
-        ensures room { OnOk result (length moments.now ≤ self.new.spare_capacity) }
+    pub fn prepare(&mut self, moments: Vec<Moment, A>) -> Result<HistoryPlan<A>, NoMemory>
+        ensures ok { IfOk result (λ plan. plan ≡ moments.items) }
+        ensures room { OnOk result (length moments.items ≤ self.new.spare_capacity) }
         ensures forgotten { self.new.forgotten ≡ self.old.forgotten }
         ensures kept { self.new.kept ≡ self.old.kept }
         ensures same_room { self.old.spare_capacity ≤ self.new.spare_capacity }
-        ensures quiet { moments.now ≡ [] → IsOk result }
+        ensures quiet { moments.items ≡ [] → IsOk result }
     {
-        let mut planned = Vec::new(*self.moments.allocator());
-        planned.reserve(moments.len())?;
         self.moments.reserve(moments.len())?;
-        planned.extend_from_slice(moments).unwrap();
-        Ok(HistoryPlan { moments: planned })
+        Ok(HistoryPlan { moments })
     }
 
     /// Makes the pushes of a plan that this history made, where nothing was pushed in between.

@@ -1,6 +1,7 @@
 //! The status board: one writer publishes the rows of all services, and readers see them without waiting for anybody.
 #![tactic(auto)]
 
+mod board;
 mod history;
 mod reader;
 mod shot;
@@ -10,9 +11,10 @@ mod tests;
 mod told;
 mod writer;
 
+pub use board::Board;
 pub use history::Published;
 pub use reader::BoardReader;
-pub use shot::Shot;
+pub use shot::{ROW_LIMIT, Shot};
 pub use shown::{Next, Shown};
 pub use told::Told;
 pub use writer::{BoardWriter, NewBoard, NoReader};

@@ -1,5 +1,5 @@
 //! The end of the board that reads.
-ghost use Rattle.std.specs.Prelude.{◌≡◌, ◌≤◌, IfSome, IfNone, Some};
+ghost use Rattle.std.specs.Prelude.{◌≡◌, ◌≤◌, IfSome, IfNone, IsTrue, IsFalse, None, Some};
 ghost use mathlib.Core.List.{IsPrefix};
 ghost use Rattle.status_board.specs.Board.{last_shot, last_steps, shot_unless_older, NeverFalls};
 
@@ -37,18 +37,37 @@ impl<C: Channels, A: Allocator> BoardReader<C, A> {
         BoardReader { handle, known }
     }
 
-    #[tactic(auto, using(crate::proofs::Lasts::never_falls))]
     /// The shot that was published last; None where the board gives none, as once its writer is gone. What a reader saw or was told
-    /// of is never taken back. It takes no lock and no memory, and waits for nobody.
+    /// of is never taken back. It takes no lock and no memory, and waits for nobody. A shot has [`ROW_LIMIT`](crate::ROW_LIMIT) places, which
+    /// are filled and moved here: who reads often keeps one, for `read_into`.
     pub fn read(&mut self) -> Option<Shot>
         ensures later { IsPrefix self.old self.new }
         ensures last { IfSome result (λ shot. last_shot self.new ≡ Some shot) }
         ensures at { IfSome result (λ shot. NeverFalls self.new → last_steps self.old ≤ shot.at) }
         ensures none { IfNone result (self.new ≡ self.old) }
     {
-        let guard = self.handle.enter()?;
+        let mut shot = Shot::empty();
+        if self.read_into(&mut shot) {
+            Some(shot)
+        } else {
+            None
+        }
+    }
+
+    #[tactic(auto, using(crate::proofs::Lasts::never_falls))]
+    /// Reads as `read` does, into a shot that the caller keeps: it becomes the shot that was published last, of which only the rows that
+    /// stand are copied. Where the board gives none the answer is no, and the shot stays.
+    pub fn read_into(&mut self, shot: &mut Shot) -> bool
+        ensures later { IsPrefix self.old self.new }
+        ensures last { IsTrue result → last_shot self.new ≡ Some shot.new }
+        ensures at { IsTrue result → NeverFalls self.new → last_steps self.old ≤ shot.new.at }
+        ensures none { IsFalse result → (self.new ≡ self.old) × (shot.new ≡ shot.old) }
+    {
+        let Some(guard) = self.handle.enter() else {
+            return false;
+        };
         let shown: &Shown<C> = &guard;
-        take_shot(&mut self.known, shown)
+        take_shot(&mut self.known, shown, shot)
     }
 
     /// From now on it knows of all that was told too, so that no read gives an older shot than the last of these.
@@ -60,17 +79,21 @@ impl<C: Channels, A: Allocator> BoardReader<C, A> {
     }
 }
 
-// The shot of what is shown, unless more is known than was published up to it. What is shown is known from then on.
-fn take_shot<C: Channels>(known: &mut Published<C>, shown: &Shown<C>) -> Option<Shot>
-    ensures answer { result ≡ shot_unless_older known.old shown.now }
+// Copies the shot of what is shown, unless more is known than was published up to it. What is shown is known from then on.
+fn take_shot<C: Channels>(known: &mut Published<C>, shown: &Shown<C>, shot: &mut Shot) -> bool
+    ensures answer { IsTrue result → shot_unless_older known.old shown.now ≡ Some shot.new }
+    ensures older { IsFalse result → shot_unless_older known.old shown.now ≡ None }
     ensures later { IsPrefix known.old known.new }
-    ensures last { IfSome result (λ shot. last_shot known.new ≡ Some shot) }
-    ensures none { IfNone result (known.new ≡ known.old) }
+    ensures last { IsTrue result → last_shot known.new ≡ Some shot.new }
+    ensures none { IsFalse result → (known.new ≡ known.old) × (shot.new ≡ shot.old) }
 {
-    let shot = shown.shot()?;
+    let Some(published) = shown.shot() else {
+        return false;
+    };
     if known.follow(shown.published()) {
-        Some(shot)
+        shot.copy_from(published);
+        true
     } else {
-        None
+        false
     }
 }

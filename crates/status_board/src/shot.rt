@@ -1,25 +1,53 @@
 //! The status rows of all services after some number of steps.
-ghost use Rattle.std.specs.Prelude.{◌≡◌};
+ghost use Rattle.std.specs.Prelude.{◌≡◌, []};
 
 use arrayvec::ArrayVec;
 use supervise_core::Row;
 
-/// The status rows of all services, at most 64, in rising serial, and the number of steps that the tree had made when they were
+/// The most rows of a shot: as many as services stand.
+pub const ROW_LIMIT: usize = 256;
+
+/// The status rows of all services, at most [`ROW_LIMIT`], in rising serial, and the number of steps that the tree had made when they were
 /// taken. Page `s6-svstat` for the rows; that they are published together, and the number, are chosen here.
 #[derive(Drop)]
 pub struct Shot {
     pub at: u64,
-    pub rows: ArrayVec<Row, 64>,
+    pub rows: ArrayVec<Row, ROW_LIMIT>,
 }
 
 impl Shot {
+    /// No rows, after no step: a place for a shot that is read.
+    pub fn empty() -> Shot
+        ensures at { result.at ≡ 0 }
+        ensures rows { result.rows.items ≡ [] }
+    {
+        Shot {
+            at: 0,
+            rows: ArrayVec::new(),
+        }
+    }
+
     /// The same shot once more.
     pub fn copied(&self) -> Shot
         ensures { result ≡ self.now }
     {
-        let Ok(rows) = ArrayVec::try_from(self.rows.as_slice()) else {
+        let mut shot = Shot::empty();
+        shot.copy_from(self);
+        shot
+    }
+
+    /// Becomes the same as the other. Only rows that stand are written, in this one or in the other.
+    pub fn copy_from(&mut self, other: &Shot)
+        ensures { self.new ≡ other.now }
+    {
+        self.at = other.at;
+        self.rows.clear();
+        if self
+            .rows
+            .try_extend_from_slice(other.rows.as_slice())
+            .is_err()
+        {
             unreachable!()
-        };
-        Shot { at: self.at, rows }
+        }
     }
 }

@@ -1,5 +1,5 @@
 //! What `left_right` keeps two copies of, and how they change.
-ghost use Rattle.std.specs.Prelude.{◌≡◌};
+ghost use Rattle.std.specs.Prelude.{◌≡◌, option_map};
 ghost use Rattle.status_board.specs.Board.{last_shot};
 
 use crate::history::Published;
@@ -43,16 +43,16 @@ impl<C: Channels> Shown<C> {
         ensures { result ≡ self.now }
     {
         Shown {
-            shot: self.shot(),
+            shot: self.shot().map(|shot| shot.copied()),
             published: self.published.copied(),
         }
     }
 
     // The shot that was published last.
-    pub(crate) fn shot(&self) -> Option<Shot>
-        ensures { result ≡ last_shot self.now }
+    pub(crate) fn shot(&self) -> Option<&Shot>
+        ensures { option_map (λ s. s.now) result ≡ last_shot self.now }
     {
-        self.shot.as_ref().map(|shot| shot.copied())
+        self.shot.as_ref()
     }
 
     // All that were published.

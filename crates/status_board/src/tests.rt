@@ -28,7 +28,7 @@ fn shot(at: u64) -> Shot {
     };
     Shot {
         at,
-        rows: ArrayVec::from([row; 64]),
+        rows: ArrayVec::from([row; ROW_LIMIT]),
     }
 }
 
@@ -53,10 +53,10 @@ fn steps_and_rows_of(shot: Option<Shot>) -> Option<(u64, usize)> {
     }
 }
 
-// After how many steps a shot of 64 rows was taken.
+// After how many steps a shot of as many rows as there can be was taken.
 fn steps_of(shot: Option<Shot>) -> Option<u64> {
     match steps_and_rows_of(shot) {
-        Some((steps, 64)) => Some(steps),
+        Some((steps, ROW_LIMIT)) => Some(steps),
         _ => None,
     }
 }
@@ -66,7 +66,7 @@ fn a_reader_sees_what_it_was_told_of(rt: HostRuntime) -> Result<(), Fail> {
     tell_and_read::<Brand, _>(&rt, rt.alloc(), NewBoard::new())
 }
 
-// Shots of one row and of 64 are published in turn, and each is read once it was told of.
+// Shots of one row and of as many as there can be are published in turn, and each is read once it was told of.
 fn tell_and_read<C: Channels, R: Wait + Abort>(
     rt: &R,
     alloc: Global,
@@ -77,10 +77,10 @@ fn tell_and_read<C: Channels, R: Wait + Abort>(
     let opened = board.open::<C, &R, Global>(alloc, rt, 1, &shot(0));
     let mut writer = opened.map_err(|_| "no memory")?;
     let mut reader = writer.reader().map_err(|_| "no reader")?;
-    assert_eq!(rt; steps_and_rows_of(reader.read()), Some((0, 64)));
+    assert_eq!(rt; steps_and_rows_of(reader.read()), Some((0, ROW_LIMIT)));
     for at in 1..5 {
         let (next, rows) = if at % 2 == 0 {
-            (shot(at), 64)
+            (shot(at), ROW_LIMIT)
         } else {
             (small_shot(at), 1)
         };

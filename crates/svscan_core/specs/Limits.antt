@@ -3,8 +3,8 @@ use Rattle.std.specs.Prelude.{ℕ}
 
 -- the most services that stand
 abbrev pub service_limit : ℕ
-service_limit = 64
+service_limit = 256
 
 -- the most orders of a step
 abbrev pub order_limit : ℕ
-order_limit = 256
+order_limit = 768

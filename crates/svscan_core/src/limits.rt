@@ -1,7 +1,7 @@
 //! How many there are at most.
 
 /// The most services that stand.
-pub const SERVICE_LIMIT: usize = 64;
+pub const SERVICE_LIMIT: usize = 256;
 
 /// The most orders that a step gives: one for the timer of each service, and two more for each that is told to leave.
-pub const ORDER_LIMIT: usize = 256;
+pub const ORDER_LIMIT: usize = 768;

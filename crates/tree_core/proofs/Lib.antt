@@ -26,3 +26,7 @@ pub mod Resting
 pub mod RestsOn
 pub mod Pacing
 pub mod Pausing
+pub mod OneMoreService
+pub mod OneMoreInput
+pub mod HistoryGrows
+pub mod Crosses

@@ -20,7 +20,7 @@ use Rattle.svscan_core.proofs.Serials.{later_other, earlier_other}
 use Rattle.svscan_core.proofs.SerialsRise.{fired_serials, rising_before}
 use Rattle.svscan_core.proofs.Truth.{both_left, both_right, neither_left, neither_right, neither_of}
 use Rattle.wait_conditions.specs.declared.add_fault.AddFault.TheVariants as fault
-use Rattle.wait_conditions.specs.Refusal.{add_refusal, is_named_in, repeats_serial}
+use Rattle.wait_conditions.specs.Refusal.{add_refusal, is_named_in, repeats_serial, waiter_limit}
 use Rattle.wait_conditions.specs.Watch.{WrittenWaiter, is_waiter_of}
 use Rattle.tree_core.specs.declared.input.Act.TheVariants.{Wait, Cancel}
 use Rattle.tree_core.specs.declared.reply.Refusal.{Refusal}
@@ -115,7 +115,7 @@ as_many (n ∷ names) cs all = by (serial_of n cs) (as_many names cs) all
 -- a waiter for them is refused only where too many stand
 only_limit : (names : List (List ℕ)) (cs : List ChartState) (standing : ℕ) → is_rising (serials_of cs) ≡ true → (length names == 0) ≡ false
     → repeats_name names ≡ false → nat_lt 16 (length names) ≡ false
-    → all_named names cs ≡ true → add_refusal standing (serials_named names cs) ≡ cond (nat_le 256 standing) (Some fault.TooMany) None
+    → all_named names cs ≡ true → add_refusal standing (serials_named names cs) ≡ cond (nat_le waiter_limit standing) (Some fault.TooMany) None
 only_limit names cs standing rising some once few all =
     let many = as_many names cs all in
     rw (many, some, serials_once names cs rising once, few) refl
@@ -129,7 +129,7 @@ chooses_wait {A} condition mode timeout names m closing now services history cho
     chooses_this (Wait condition mode timeout names) m services chosen (wait_choice condition mode timeout names m.services)
     (is ∙ sym (ap (λ (f : List ℕ → Option ℕ). chosen_by f) same_serials))
     (by (length names == 0) (repeats_name names) (nat_lt 16 (length names)) (all_named names m.services)
-    (nat_le 256 (length m.waiters)) refl refl refl refl refl)
+    (nat_le waiter_limit (length m.waiters)) refl refl refl refl refl)
   where
     -- the choice, by the serials of names
     chosen_by : (List ℕ → Option ℕ) → Chosen
@@ -156,7 +156,7 @@ chooses_wait {A} condition mode timeout names m closing now services history cho
     })
 
     by : (a b c d e : Bool) → (length names == 0) ≡ a → repeats_name names ≡ b → nat_lt 16 (length names) ≡ c → all_named names m.services ≡ d
-        → nat_le 256 (length m.waiters) ≡ e
+        → nat_le waiter_limit (length m.waiters) ≡ e
         → Chooses {A = A} (Wait condition mode timeout names) m services (wait_choice condition mode timeout names m.services)
     by true b c d e ea eb ec ed ee = refuses Empty (rw ea refl) (rw ea refl)
     by false true c d e ea eb ec ed ee = refuses Repeated (rw (ea, eb) refl) (rw (ea, eb) refl)

@@ -20,7 +20,7 @@ use Rattle.svscan_core.specs.Listing.{names_in}
 use Rattle.svscan_core.specs.Names.{repeats_name}
 use Rattle.svscan_core.specs.Work.{Work, WorkResult, work_result}
 use Rattle.svscan_core.specs.Work.Work.{do_nothing, change_one, apply_listing, command}
-use Rattle.wait_conditions.specs.Refusal.{deadline_of}
+use Rattle.wait_conditions.specs.Refusal.{deadline_of, waiter_limit}
 use Rattle.wait_conditions.specs.Verdict.{WaitTerms}
 use Rattle.wait_conditions.specs.Watch.{wait_terms, is_waiter_of}
 use Rattle.tree_core.specs.declared.input.Act.{Act}
@@ -74,14 +74,14 @@ abbrev pub listing_refusal : List Entry → Machine → Option Refusal
 listing_refusal listing m = if m.closing then Some Closing else if repeats_name (names_in listing) then Some Repeated
     else None
 
--- a wait is refused where it names nothing, a name twice, over 16 names, a name that no service has, and where 256 waiters stand
+-- a wait is refused where it names nothing, a name twice, over 16 names, a name that no service has, and where waiter_limit waiters stand
 abbrev pub wait_refusal : List (List ℕ) → Machine → Option Refusal
 wait_refusal names m =
     if length names == 0 then Some Empty
     else if repeats_name names then Some Repeated
     else if nat_lt 16 (length names) then Some TooMany
     else if not (all_named names m.services) then Some NoService
-    else if nat_le 256 (length m.waiters) then Some TooMany
+    else if nat_le waiter_limit (length m.waiters) then Some TooMany
     else None
 
 -- a cancel is refused where no waiter has the serial

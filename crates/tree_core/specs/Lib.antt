@@ -2,10 +2,13 @@ pub mod Limits
 pub mod ScanReport
 pub mod Machine
 pub mod Rows
+pub mod Ended
+pub mod NextDue
 pub mod Tallies
 pub mod Listening
 pub mod Acts
 pub mod Effect
+pub mod Plain
 pub mod Step
 pub mod Run
 pub mod StandsFor
@@ -14,6 +17,7 @@ pub mod Plan
 pub mod Sound
 pub mod TreeFields
 pub mod ByteOrder
+pub mod HistoryGrows
 pub mod Closing
 pub mod Taken
 pub mod Letters

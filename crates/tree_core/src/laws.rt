@@ -3,6 +3,7 @@ ghost use Rattle.std.specs.Prelude.{List, ℕ};
 ghost use Rattle.svscan_core.specs.Listing.{in_byte_order};
 ghost use Rattle.tree_core.specs.ByteOrder.{IsInByteOrder};
 ghost use Rattle.tree_core.specs.Closing.{StaysClosed};
+ghost use Rattle.tree_core.specs.HistoryGrows.{GrowsHistory};
 ghost use Rattle.tree_core.specs.Letters.{FollowsGrammar};
 ghost use Rattle.tree_core.specs.Machine.{Machine};
 ghost use Rattle.tree_core.specs.OneLife.{HasOneLife};
@@ -17,6 +18,12 @@ use std::alloc::Allocator;
 /// listing.
 pub fn byte_order()
     ensures { (listing : List (List ℕ)) → IsInByteOrder listing (in_byte_order listing) }
+{}
+
+/// After a step the history is the one before, then the clock reading, where the input's moment is later, and then the marks that the
+/// step gives. A spent tree adds nothing.
+pub fn history<A: Allocator>()
+    ensures { (m : Machine) → (input : Input A) → GrowsHistory m input }
 {}
 
 /// After a step whose terminate was done no later step starts a run, whatever its inputs are. Page `s6-svscanctl`, `-t`.

@@ -1,12 +1,15 @@
 //! The supervision tree: one step for each input, and all that the step gives.
 #![tactic(auto)]
 
+mod ahead;
 mod choice;
+mod copied;
 mod effect;
 mod input;
 pub mod laws;
 mod limits;
 mod names;
+mod plain;
 mod plan;
 mod reply;
 mod rows;
@@ -16,7 +19,8 @@ pub use effect::{Effect, Match, Release};
 pub use event_directory::{Hit, Message, Pattern, State, SubView};
 pub use input::{Act, Input, Listing, Target};
 pub use names::Names;
+pub use plain::{PlainAct, PlainInput};
 pub use reply::{Refusal, Reply, ScanReport, TallyReport};
-pub use svscan_core::{Entry, Event, Listed, ScanOrder};
+pub use svscan_core::{Entry, Event, Listed, ORDER_LIMIT, SERVICE_LIMIT, ScanOrder};
 pub use tree::Tree;
 pub use wait_conditions::{Verdict, WaitState};

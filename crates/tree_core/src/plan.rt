@@ -222,7 +222,7 @@ pub fn plan_step<A: Allocator + Copy>(
     let joining = moments.as_slice();
     let waiters = waits.prepare(joining, &choice.wait_change(now))?;
     let letters = directories.prepare(joining, &choice.directory_change())?;
-    let history = history.prepare(joining)?;
+    let history = history.prepare(moments)?;
     let timers = deadlines.prepare(services.timers())?;
     effect.reply = reply_to(
         alloc,

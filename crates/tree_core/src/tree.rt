@@ -2,10 +2,12 @@
 ghost use Rattle.std.specs.Prelude.{◌≡◌, IfOk, OnOk, IfErr, OnErr, IsOk, None, false, option_map};
 ghost use Rattle.tree_core.specs.Acts.{offer_of};
 ghost use Rattle.tree_core.specs.Effect.{outcome_of};
+ghost use Rattle.tree_core.specs.Ended.{has_ended};
 ghost use Rattle.event_directory.specs.Directories.{list_named};
 ghost use Rattle.event_directory.specs.Pattern.{finds};
 ghost use Rattle.wait_conditions.specs.Watch.{state_named};
 ghost use Rattle.tree_core.specs.Machine.{new_machine, directories_of, watch_of, Machine};
+ghost use Rattle.tree_core.specs.NextDue.{next_due};
 ghost use Rattle.tree_core.specs.Plan.{IsQuiet};
 ghost use Rattle.tree_core.specs.Rows.{row_named, all_rows};
 ghost use Rattle.svscan_core.specs.Table.{charts_of};
@@ -13,6 +15,7 @@ ghost use Rattle.tree_core.specs.StandsFor.{StandsFor};
 ghost use Rattle.tree_core.specs.Run.{after, outcome};
 ghost use Rattle.tree_core.specs.Step.{step_limit};
 
+use super::ahead::{are_gone, next_timer};
 use super::effect::Effect;
 use super::input::{Act, Input};
 use super::limits::SERVICE_LIMIT;
@@ -27,7 +30,7 @@ use std::alloc::Allocator;
 use std::marker::Model;
 use supervise_core::Row;
 use svscan_core::Registry;
-use wait_conditions::{WaitState, Waits};
+use wait_conditions::{WaitState, Waits, earlier_of};
 
 /// The most steps of a tree: 2^48.
 const STEP_LIMIT: u64 = 281_474_976_710_656;
@@ -185,6 +188,21 @@ impl<A: Allocator + Copy> Tree<A> {
             ≡ list_named finds id (directories_of m) }
     {
         self.directories.list(id)
+    }
+
+    /// The next moment, in milliseconds, to which the timer of a service is set or the deadline of a waiter that waits still; None
+    /// where there is none. So long nothing happens by itself.
+    pub fn next_due(&self) -> Option<u64>
+        ensures { (m : Machine) → StandsFor self.now m → result ≡ next_due m }
+    {
+        earlier_of(next_timer(&self.registry), self.waits.next_deadline())
+    }
+
+    /// Whether it has ended: it is closing, and the supervisor of each service that stands has ended.
+    pub fn ended(&self) -> bool
+        ensures { (m : Machine) → StandsFor self.now m → result ≡ has_ended m }
+    {
+        self.closing && are_gone(&self.registry)
     }
 
     /// How many steps it has taken, at most 2^48.

@@ -7,7 +7,7 @@ use Rattle.wait_conditions.specs.declared.verdict.WaitState.{WaitState}
 use Rattle.wait_conditions.specs.declared.verdict.WaitState.TheVariants.{Waiting, Released}
 use Rattle.wait_conditions.specs.declared.watched_service.WatchedService.{WatchedService}
 use Rattle.wait_conditions.specs.Kept.{StoredWaiter, watched_while}
-use Rattle.wait_conditions.specs.Refusal.{repeats_serial, add_refusal}
+use Rattle.wait_conditions.specs.Refusal.{repeats_serial, waiter_limit, add_refusal}
 use Rattle.wait_conditions.specs.Stands.{ListChange, JoinsNext, new_stored_waiter}
 use Rattle.wait_conditions.specs.Stands.ListChange.{stay, join, leave}
 use Rattle.wait_conditions.specs.SupervisorState.{since_of}
@@ -23,7 +23,7 @@ repeats_by false false many full h = refl
 
 pub none_repeats : (standing : ℕ) (sids : List ℕ) → add_refusal standing sids ≡ None → repeats_serial sids ≡ false
 none_repeats standing sids h =
-    repeats_by (length sids == 0) (repeats_serial sids) (nat_lt 16 (length sids)) (nat_le 256 standing) h
+    repeats_by (length sids == 0) (repeats_serial sids) (nat_lt 16 (length sids)) (nat_le waiter_limit standing) h
 
 named_alike : (asked : WaitTerms) (states : ℕ → SupervisorState) (sids : List ℕ)
     → map (λ (w : WatchedService). w.sid) (map (λ sid. watched_as asked.condition sid (states sid) (since_of sid [])) sids) ≡ sids

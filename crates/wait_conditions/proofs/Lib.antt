@@ -17,3 +17,4 @@ pub mod Leaving
 pub mod Oldest
 pub mod Ordered
 pub mod Joining
+pub mod NextDeadline

@@ -18,4 +18,5 @@ pub mod Stands
 pub mod Planning
 pub mod WaitsFields
 pub mod PlanFields
+pub mod NextDeadline
 pub mod Laws

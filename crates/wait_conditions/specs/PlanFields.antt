@@ -10,9 +10,9 @@ use Rattle.wait_conditions.specs.Refusal.{repeats_serial}
 use Rattle.wait_conditions.specs.WaitsFields.{IsCounted}
 
 -- what becomes of the list of waiters
-abbrev pub list_change_of : PlannedChange → ListChange
+abbrev pub list_change_of : {A : Type 0} → PlannedChange A → ListChange
 list_change_of Stay = stay
-list_change_of (Join waiter) = join (waiter_view waiter)
+list_change_of (Join waiter) = join (waiter_view waiter.value)
 list_change_of (Leave id) = leave id
 
 abbrev pub plan_view : {A : Type 0} → Inside A → PlannedWaits
@@ -26,8 +26,8 @@ plan_view p = record {
 }
 
 -- the counters of a waiter that is to join count, and it watches each of its services once
-abbrev pub JoinsCounted : PlannedChange → Type 0
-JoinsCounted (Join waiter) = IsCounted waiter × (repeats_serial (map (λ w. w.sid) waiter.watched.items) ≡ false)
+abbrev pub JoinsCounted : {A : Type 0} → PlannedChange A → Type 0
+JoinsCounted (Join waiter) = IsCounted waiter.value × (repeats_serial (map (λ w. w.sid) waiter.value.watched.items) ≡ false)
 JoinsCounted change = ⊤
 
 abbrev pub IsSoundPlan : {A : Type 0} → Inside A → Type 0

@@ -14,13 +14,17 @@ abbrev pub repeats_serial : List ℕ → Bool
 repeats_serial [] = false
 repeats_serial (sid ∷ sids) = is_named_in sids sid || repeats_serial sids
 
--- no service, one named twice, over 16, or 256 waiters that stand: what is found first
+-- the most waiters that stand at one time
+abbrev pub waiter_limit : ℕ
+waiter_limit = 1024
+
+-- no service, one named twice, over 16, or waiter_limit waiters that stand: what is found first
 abbrev pub add_refusal : ℕ → List ℕ → Option AddFault
 add_refusal standing sids =
     if length sids == 0 then Some fault.Empty
     else if repeats_serial sids then Some fault.Repeated
     else if nat_lt 16 (length sids) then Some fault.TooManyServices
-    else if nat_le 256 standing then Some fault.TooMany
+    else if nat_le waiter_limit standing then Some fault.TooMany
     else None
 
 -- the timeout counts from the start, and the timeout 0 is none

@@ -17,8 +17,8 @@ pub enum AddFault {
     /// More than 16 services are named.
     #[error("over 16 services")]
     TooManyServices = 3,
-    /// 256 waiters stand already.
-    #[error("256 waiters stand")]
+    /// As many waiters stand as may.
+    #[error("as many waiters stand as may")]
     TooMany = 4,
     /// A growth was refused.
     #[error("out of memory")]

@@ -6,6 +6,7 @@ mod counts;
 mod failure;
 mod judging;
 pub mod laws;
+mod next_deadline;
 mod planning;
 mod reach;
 mod refusing;
@@ -22,6 +23,7 @@ mod watched_service;
 mod watchers;
 
 pub use add_fault::AddFault;
+pub use next_deadline::earlier_of;
 pub use verdict::{Verdict, WaitState};
 pub use wait_change::{WaitAnswer, WaitChange};
 pub use wait_plan::WaitsPlan;

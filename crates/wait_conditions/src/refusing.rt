@@ -9,7 +9,7 @@ use s6_events::{At, Sid};
 pub const MOST_SERVICES: usize = 16;
 
 /// The most waiters that stand at one time.
-pub const MOST_WAITERS: usize = 256;
+pub const WAITER_LIMIT: usize = 1024;
 
 fn is_among(sid: Sid, sids: &[Sid]) -> bool
     ensures { result ≡ is_named_in sids.now sid }
@@ -39,7 +39,7 @@ pub fn refusal_for(standing: usize, sids: &[Sid]) -> Option<AddFault>
         Some(AddFault::Repeated)
     } else if sids.len() > MOST_SERVICES {
         Some(AddFault::TooManyServices)
-    } else if standing >= MOST_WAITERS {
+    } else if standing >= WAITER_LIMIT {
         Some(AddFault::TooMany)
     } else {
         None

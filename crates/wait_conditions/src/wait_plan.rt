@@ -11,9 +11,10 @@ use std::marker::Model;
 
 /// What becomes of the list of waiters after the moments of a step.
 #[derive(Drop)]
-pub enum PlannedChange {
+pub enum PlannedChange<A: Allocator> {
     Stay,
-    Join(Waiter),
+    // A waiter is large, and most steps make none: so a plan has a place for its box alone.
+    Join(Box<Waiter, A>),
     Leave(WaitId),
 }
 
@@ -23,7 +24,7 @@ pub struct WaitsPlan<A: Allocator> {
     pub(crate) released: Vec<(WaitId, Verdict), A>,
     pub(crate) answer: WaitAnswer,
     pub(crate) moments: Vec<Moment, A>,
-    pub(crate) change: PlannedChange,
+    pub(crate) change: PlannedChange<A>,
     pub(crate) next: u64,
     pub(crate) touched: Vec<WaitId, A>,
 }
@@ -58,15 +59,15 @@ impl<A: Allocator> WaitsPlan<A> {
 
 /// What becomes of the list of waiters in a step, and what is answered.
 #[derive(Drop)]
-pub(crate) struct ChangePlan {
+pub(crate) struct ChangePlan<A: Allocator> {
     pub(crate) answer: WaitAnswer,
-    pub(crate) change: PlannedChange,
+    pub(crate) change: PlannedChange<A>,
     pub(crate) next: u64,
 }
 
-impl ChangePlan {
+impl<A: Allocator> ChangePlan<A> {
     /// The list stays.
-    pub(crate) fn stay(answer: WaitAnswer, next: u64) -> ChangePlan
+    pub(crate) fn stay(answer: WaitAnswer, next: u64) -> ChangePlan<A>
         ensures answer { result.answer ≡ answer }
         ensures change { result.change ≡ Stay }
         ensures next { result.next ≡ next }

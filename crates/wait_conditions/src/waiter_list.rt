@@ -2,12 +2,14 @@
 ghost use Rattle.std.specs.Prelude.{◌≡◌, ◌≤◌, ◌<◌, ◌++◌, [], ◌∷◌, All, IfOk, IsOk, OnOk, OnErr, None, false, length, map, filter, vec_len, vec_capacity};
 ghost use Rattle.std.specs.List.{list_any};
 ghost use Rattle.wait_conditions.specs.Kept.{waiter_view, standing_stored, standing_kept, is_other, oldest_place, still_waits, with_moments};
+ghost use Rattle.wait_conditions.specs.NextDeadline.{earliest, stored_until};
 ghost use Rattle.wait_conditions.specs.Refusal.{repeats_serial};
 ghost use Rattle.wait_conditions.specs.Verdict.{reaches};
 ghost use Rattle.wait_conditions.specs.Watchers.{AreDueFrom, BeganInOrder, earlier, serials_where, touched_by};
 ghost use Rattle.wait_conditions.specs.WaitsFields.{IsCounted, waiters_view};
 
 use crate::judging::reaches_deadline;
+use crate::next_deadline::earliest_deadline;
 use crate::planning::copy_touched;
 use crate::releasing::change_touched;
 use crate::verdict::WaitState;
@@ -61,6 +63,13 @@ impl<A: Allocator> WaiterList<A> {
         ensures { result ≡ oldest_place self.now.waiters }
     {
         oldest_of(&self.waiters)
+    }
+
+    /// The earliest deadline of those that wait still.
+    pub fn next_deadline(&self) -> Option<u64>
+        ensures { result ≡ earliest (map stored_until self.now.waiters) }
+    {
+        earliest_deadline(&self.waiters)
     }
 
     /// Makes room for one more waiter. `NoMemory` where a growth is refused; no more waiters fit then than before.

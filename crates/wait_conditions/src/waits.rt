@@ -2,6 +2,7 @@
 ghost use Rattle.std.specs.Prelude.{◌≡◌, ◌≤◌, ◌<◌, ◌+◌, ◌*◌, ◌^◌, [], ◌∷◌, IfOk, IfErr, IsOk, OnOk, OnErr, IsOkAnd, All, None, ℕ, is_some, length, map, filter};
 ghost use Rattle.std.specs.List.{filter_map};
 ghost use Rattle.wait_conditions.specs.Kept.{waiter_view, standing_stored, standing_kept, is_other, lower, oldest_place, NoneBegan, release_seen, releases_seen};
+ghost use Rattle.wait_conditions.specs.NextDeadline.{earliest, next_deadline, stored_until};
 ghost use Rattle.wait_conditions.specs.PlanFields.{list_change_of, JoinsCounted};
 ghost use Rattle.wait_conditions.specs.Refusal.{add_refusal, fault_told, deadline_of};
 ghost use Rattle.wait_conditions.specs.Stands.{WaitsFor, WaitsShown, WaitsStandFor, AddsWaiter, CancelsWaiter, FitsWaits, MakesPlan, MakesStep, PlansChange, waits_shown, needed_from, place_or_end, joining, adding, JoinsAt, JoinsNext};
@@ -31,7 +32,7 @@ use std::marker::Model;
 /// The most moments that are counted: 2^63.
 const COUNT_LIMIT: u64 = 9_223_372_036_854_775_808;
 
-/// The waiters that stand, at most 256, and what is known of every service. Pages `s6-svwait` and `s6-svlisten`; that the history
+/// The waiters that stand, at most `WAITER_LIMIT`, and what is known of every service. Pages `s6-svwait` and `s6-svlisten`; that the history
 /// alone says when a waiter is released is chosen here.
 ///
 /// A step is worked out first (`prepare`), which changes nothing that is shown, and its plan is then made (`commit`); or one thing
@@ -45,6 +46,8 @@ pub struct Waits<A: Allocator> {
     states: ServiceStates<A>,
     list: WaiterList<A>,
     next: u64,
+    // The memory of the moments of the last step, for those of the next.
+    spare: Vec<Moment, A>,
 }
 
 impl<A: Allocator> Model for Waits<A> {
@@ -70,6 +73,7 @@ impl<A: Allocator + Copy> Waits<A> {
             states: ServiceStates::new(alloc),
             list: WaiterList::new(alloc),
             next: 1,
+            spare: Vec::new(alloc),
         }
     }
 
@@ -85,6 +89,20 @@ impl<A: Allocator + Copy> Waits<A> {
         ensures { result ≡ standing_kept id self.now.waiters }
     {
         self.list.standing(id)
+    }
+
+    /// The earliest deadline of the waiters that wait still, or None where none has one.
+    pub fn next_deadline(&self) -> Option<u64>
+        ensures { (w : Watch) → WaitsFor self.now w → result ≡ next_deadline w }
+    {
+        self.stored_deadline()
+    }
+
+    // `next_deadline`, by what is stored alone.
+    fn stored_deadline(&self) -> Option<u64>
+        ensures { result ≡ earliest (map stored_until self.now.waiters) }
+    {
+        self.list.next_deadline()
     }
 
     /// The place of the moment from which on a history is needed: how many had come when the oldest waiter that waits still was
@@ -273,8 +291,9 @@ impl<A: Allocator + Copy> Waits<A> {
         let mut copies = self.list.copy_touched(moments)?;
         let touched = list_serials(alloc, &copies)?;
         let released = release_all(alloc, &mut copies, moments)?;
-        let planned = self.plan_change(moments, change);
-        let mut own = Vec::new(alloc);
+        let planned = self.plan_change(moments, change)?;
+        let mut own = std::mem::replace(&mut self.spare, Vec::new(alloc));
+        own.clear();
         own.extend_from_slice(moments)?;
         Ok(WaitsPlan {
             released,
@@ -306,30 +325,37 @@ impl<A: Allocator + Copy> Waits<A> {
 
     // The change of a step, after these moments.
     #[inline(always)]
-    fn plan_change(&self, moments: &[Moment], change: &WaitChange) -> ChangePlan
+    fn plan_change(
+        &self,
+        moments: &[Moment],
+        change: &WaitChange,
+    ) -> Result<ChangePlan<A>, NoMemory>
         requires serials { self.now.next < 2 ^ 63 }
         requires count { self.now.count + length moments.now < 2 ^ 63 }
-        ensures plans { PlansChange (waits_shown self.now) moments.now (wait_request_of change.now)
-            result.answer (list_change_of result.change) result.next }
-        ensures room { joining (list_change_of result.change) ≤ adding (wait_request_of change.now) }
-        ensures counted { JoinsCounted result.change }
-        ensures place { JoinsAt (self.now.count + length moments.now) (list_change_of result.change) }
-        ensures serial { JoinsNext self.now.next (list_change_of result.change) result.next }
+        ensures plans { IfOk result (λ planned. PlansChange (waits_shown self.now) moments.now (wait_request_of change.now)
+            planned.answer (list_change_of planned.change) planned.next) }
+        ensures room { IfOk result
+            (λ planned. joining (list_change_of planned.change) ≤ adding (wait_request_of change.now)) }
+        ensures counted { IfOk result (λ planned. JoinsCounted planned.change) }
+        ensures place { IfOk result (λ planned. JoinsAt (self.now.count + length moments.now)
+            (list_change_of planned.change)) }
+        ensures serial { IfOk result
+            (λ planned. JoinsNext self.now.next (list_change_of planned.change) planned.next) }
         ensures quiet { wait_request_of change.now ≡ no_wait_request
-            → result.answer ≡ answer.Nothing }
+            → IsOkAnd result (λ planned. planned.answer ≡ answer.Nothing) }
     {
         match change {
-            WaitChange::Nothing => ChangePlan::stay(WaitAnswer::Nothing, self.next),
+            WaitChange::Nothing => Ok(ChangePlan::stay(WaitAnswer::Nothing, self.next)),
             WaitChange::Add(condition, mode, sids, timeout, start) => {
                 self.plan_add(moments, *condition, *mode, sids, *timeout, *start)
             }
             WaitChange::Cancel(id) => {
                 let stood = self.stored_result(*id).is_some();
-                ChangePlan {
+                Ok(ChangePlan {
                     answer: WaitAnswer::Cancelled(stood),
                     change: PlannedChange::Leave(*id),
                     next: self.next,
-                }
+                })
             }
         }
     }
@@ -343,19 +369,21 @@ impl<A: Allocator + Copy> Waits<A> {
         sids: &[Sid],
         timeout: u32,
         start: At,
-    ) -> ChangePlan
+    ) -> Result<ChangePlan<A>, NoMemory>
         requires serials { self.now.next < 2 ^ 63 }
         requires count { self.now.count + length moments.now < 2 ^ 63 }
-        ensures plans { PlansChange (waits_shown self.now) moments.now
+        ensures plans { IfOk result (λ planned. PlansChange (waits_shown self.now) moments.now
             (add_one (wait_terms condition mode sids.now (deadline_of timeout start)))
-            result.answer (list_change_of result.change) result.next }
-        ensures room { joining (list_change_of result.change) ≤ 1 }
-        ensures counted { JoinsCounted result.change }
-        ensures place { JoinsAt (self.now.count + length moments.now) (list_change_of result.change) }
-        ensures serial { JoinsNext self.now.next (list_change_of result.change) result.next }
+            planned.answer (list_change_of planned.change) planned.next) }
+        ensures room { IfOk result (λ planned. joining (list_change_of planned.change) ≤ 1) }
+        ensures counted { IfOk result (λ planned. JoinsCounted planned.change) }
+        ensures place { IfOk result (λ planned. JoinsAt (self.now.count + length moments.now)
+            (list_change_of planned.change)) }
+        ensures serial { IfOk result
+            (λ planned. JoinsNext self.now.next (list_change_of planned.change) planned.next) }
     {
         if let Some(fault) = refusal_for(self.list.len(), sids) {
-            return ChangePlan::stay(WaitAnswer::Refused(fault), self.next);
+            return Ok(ChangePlan::stay(WaitAnswer::Refused(fault), self.next));
         }
         let id = WaitId(self.next);
         let place = self.count + moments.len() as u64;
@@ -370,11 +398,13 @@ impl<A: Allocator + Copy> Waits<A> {
             &self.states,
             moments,
         );
-        ChangePlan {
-            answer: WaitAnswer::Added(id, release_at_once(&waiter)),
+        let verdict = release_at_once(&waiter);
+        let waiter = Box::new(self.list.allocator(), waiter)?;
+        Ok(ChangePlan {
+            answer: WaitAnswer::Added(id, verdict),
             change: PlannedChange::Join(waiter),
             next: self.next + 1,
-        }
+        })
     }
 
     /// Makes the step of a plan that these waiters prepared, where nothing was changed in between.
@@ -404,9 +434,10 @@ impl<A: Allocator + Copy> Waits<A> {
         self.list.change(&touched, &moments);
         self.count += moments.len() as u64;
         self.next = next;
+        self.spare = moments;
         match change {
             PlannedChange::Stay => {}
-            PlannedChange::Join(waiter) => self.list.push(waiter),
+            PlannedChange::Join(waiter) => self.list.push(Box::into_inner(waiter)),
             PlannedChange::Leave(id) => self.list.remove(id),
         }
     }

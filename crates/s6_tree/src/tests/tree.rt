@@ -1,4 +1,4 @@
-//! What no clause says: that every act succeeds with ample memory, on a full table and with the longest lists, and that each growth
+//! What no clause says: that every act succeeds with ample memory, on a table of 64 and with the longest lists, and that each growth
 //! of a step may be refused. What a step gives is its clauses' matter; the worked rows run as scripts in `replay`.
 
 use arrayvec::ArrayVec;
@@ -17,7 +17,7 @@ use tree_core::{
 // What one service is told, or the scan directory, before the act has memory of its own.
 #[derive(Clone, Copy, Debug)]
 enum Deed {
-    /// So many names are listed, each with a `finish` and a notification descriptor; the 66th couldn't be read.
+    /// So many names are listed, each with a `finish` and a notification descriptor; the 65th couldn't be read.
     Scan(u8),
     /// So many names are listed, each with the plain configuration.
     ScanPlain(u8),
@@ -78,7 +78,7 @@ fn listing_of<A: Allocator + Copy>(
     let mut entries = Vec::new(alloc);
     for serial in 0..count {
         let name = name_of(serial.saturating_add(1))?;
-        let config = if serial < 65 { Some(config) } else { None };
+        let config = if serial < 64 { Some(config) } else { None };
         entries.push(Entry { name, config })?;
     }
     Ok(Listing::new(entries))
@@ -171,7 +171,7 @@ type Round = (u64, Deed, usize, usize, usize, usize);
 
 // Each waits for the first service and the last.
 const ROUNDS: &[Round] = &[
-    (0, Deed::Scan(66), 64, 64, 0, 0),
+    (0, Deed::Scan(65), 64, 64, 0, 0),
     (0, Deed::Started(1), 64, 0, 0, 0),
     (0, Deed::Notify(1, 63), 64, 0, 0, 0),
     (0, Deed::Svc(ControlLetter::Hangup, 63), 0, 4032, 0, 0),
@@ -193,9 +193,9 @@ const ROUNDS: &[Round] = &[
     (1009, Deed::Scanctl(ScanOrder::Nuke), 64, 0, 0, 0),
     (1010, Deed::Scan(0), 0, 0, 0, 0),
     (1011, Deed::Status, 0, 0, 0, 0),
-    (1012, Deed::Scan(66), 64, 64, 0, 0),
+    (1012, Deed::Scan(65), 64, 64, 0, 0),
     (1013, Deed::Scanctl(ScanOrder::Terminate), 0, 0, 0, 0),
-    (1014, Deed::Scan(66), 0, 0, 0, 0),
+    (1014, Deed::Scan(65), 0, 0, 0, 0),
 ];
 
 // All 64 services are told this, with ample memory: how many events, orders, matches and releases that gives.

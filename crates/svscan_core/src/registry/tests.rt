@@ -1,4 +1,4 @@
-//! What no clause says: that 64 services come and leave with ample memory, and that each growth of a step may be refused. What a step
+//! What no clause says: that 256 services come and leave with ample memory, and that each growth of a step may be refused. What a step
 //! gives is its clauses' matter; the worked rows run as scripts in `s6_replay`.
 ghost use Rattle.std.specs.Prelude.{◌≡◌, ℕ, ◌+◌, ◌<◌, ◌^◌, ◌==◌, All, IfOk, IfSome, true};
 ghost use Rattle.std.specs.List.{list_any};

@@ -1,6 +1,6 @@
 use Rattle.std.proofs.Common.{rules, ◌≡◌, ◌<◌, length, Some, slice_get, ◌∙◌, arith}
 use Rattle.std.proofs.lemmas.Option.{slice_get_read, slice_get_within}
-use Rattle.order_lanes.proofs.Places.{set_here}
+use Rattle.channel_names.proofs.Places.{set_here}
 use Rattle.order_lanes.proofs.Changing.{sent_set, room_before, room_below}
 use Rattle.order_lanes.proofs.sending.blocked_lane.Goals as goal
 

@@ -1,4 +1,4 @@
-//! The limits of a line, and scripts with many lines.
+//! The limits of a line and of a tree, and scripts with many lines.
 use super::rows::check_replay;
 use s6_replay::ReplayFault;
 use std::test::Fail;
@@ -125,6 +125,84 @@ fn one_subscription_more_than_may_stand(rt: HostRuntime) -> Result<(), Fail> {
         counts,
         blocks.as_slice(),
         "257 subscriptions",
+    );
+    Ok(())
+}
+
+// Adds the name of this number, n001, n002 and so on, behind this text.
+fn push_name(script: &mut Vec<u8>, before: &[u8], number: u32) -> Result<(), Fail> {
+    let hundreds = (number / 100 % 10) as u8;
+    let tens = (number / 10 % 10) as u8;
+    let ones = (number % 10) as u8;
+    script.extend_from_slice(before)?;
+    script.extend_from_slice(&[b'n', b'0' + hundreds, b'0' + tens, b'0' + ones])?;
+    Ok(())
+}
+
+// What a scan of n001 to n257 gives on an empty tree: 256 services start, and the last name finds no place.
+fn full_scan(rt: &HostRuntime) -> Result<Vec<u8>, Fail> {
+    let mut block = Vec::from_slice(rt.alloc(), b"1 scanned")?;
+    for serial in 1..257u32 {
+        let added = format!(in rt.alloc(); " +{serial}:")?;
+        push_name(&mut block, added.as_bytes(), serial)?;
+    }
+    push_name(&mut block, b" full:", 257)?;
+    block.push(b'\n')?;
+    for serial in 1..257u32 {
+        let mark = format!(in rt.alloc(); "e {serial} s\n")?;
+        block.extend_from_slice(mark.as_bytes())?;
+    }
+    for serial in 1..257u32 {
+        let order = format!(in rt.alloc(); "o run {serial} 1\n")?;
+        block.extend_from_slice(order.as_bytes())?;
+    }
+    Ok(block)
+}
+
+// The worked row `scan-beyond-two-hundred-fifty-six-services`.
+#[test]
+fn one_service_more_than_may_stand(rt: HostRuntime) -> Result<(), Fail> {
+    let mut script = Vec::from_slice(rt.alloc(), HEAD)?;
+    script.extend_from_slice(b"0 1 scan")?;
+    for number in 1..258u32 {
+        push_name(&mut script, b" ", number)?;
+    }
+    script.push(b'\n')?;
+    let block = full_scan(&rt)?;
+    check_replay(
+        &rt,
+        rt.alloc(),
+        script.as_slice(),
+        Ok((1, 256, 256)),
+        block.as_slice(),
+        "257 services",
+    );
+    Ok(())
+}
+
+const WAIT: &[u8] = b"0 1 wait u a 0 a\n";
+
+// The worked row `waiter-beyond-a-thousand-and-twenty-four`.
+#[test]
+fn one_waiter_more_than_may_stand(rt: HostRuntime) -> Result<(), Fail> {
+    let mut script = Vec::from_slice(rt.alloc(), HEAD)?;
+    let mut blocks = Vec::from_slice(rt.alloc(), b"1 scanned +1:a +2:b\ne 1 s\ne 2 s\n")?;
+    script.extend_from_slice(b"0 1 scan a:down b:down\n")?;
+    for serial in 1..1025u32 {
+        script.extend_from_slice(WAIT)?;
+        let number = serial + 1;
+        let block = format!(in rt.alloc(); "{number} wait {serial}\n")?;
+        blocks.extend_from_slice(block.as_bytes())?;
+    }
+    script.extend_from_slice(WAIT)?;
+    blocks.extend_from_slice(b"1026 refused TooMany\n")?;
+    check_replay(
+        &rt,
+        rt.alloc(),
+        script.as_slice(),
+        Ok((1026, 2, 0)),
+        blocks.as_slice(),
+        "1,025 waiters",
     );
     Ok(())
 }

@@ -72,31 +72,6 @@ const ROWS: &[Row] = &[
         answer: Ok((4, 3, 2)),
     },
     Row {
-        name: "scan-beyond-sixty-four-services",
-        script: "s6-script 1\n\
-        0 1 scan n01 n02 n03 n04 n05 n06 n07 n08 n09 n10 n11 n12 n13 n14 n15 n16 n17 n18 n19 n20 n21 n22 n23 n24 n25\
-        \x20n26 n27 n28 n29 n30 n31 n32 n33 n34 n35 n36 n37 n38 n39 n40 n41 n42 n43 n44 n45 n46 n47 n48 n49 n50 n51 n52\
-        \x20n53 n54 n55 n56 n57 n58 n59 n60 n61 n62 n63 n64 n65\n",
-        transcript: "1 scanned +1:n01 +2:n02 +3:n03 +4:n04 +5:n05 +6:n06 +7:n07 +8:n08 +9:n09 +10:n10 +11:n11 +12:n12 +13:n13\
-        \x20+14:n14 +15:n15 +16:n16 +17:n17 +18:n18 +19:n19 +20:n20 +21:n21 +22:n22 +23:n23 +24:n24 +25:n25 +26:n26\
-        \x20+27:n27 +28:n28 +29:n29 +30:n30 +31:n31 +32:n32 +33:n33 +34:n34 +35:n35 +36:n36 +37:n37 +38:n38 +39:n39\
-        \x20+40:n40 +41:n41 +42:n42 +43:n43 +44:n44 +45:n45 +46:n46 +47:n47 +48:n48 +49:n49 +50:n50 +51:n51 +52:n52\
-        \x20+53:n53 +54:n54 +55:n55 +56:n56 +57:n57 +58:n58 +59:n59 +60:n60 +61:n61 +62:n62 +63:n63 +64:n64 full:n65\ne 1 s\n\
-        e 2 s\ne 3 s\ne 4 s\ne 5 s\ne 6 s\ne 7 s\ne 8 s\ne 9 s\ne 10 s\ne 11 s\ne 12 s\ne 13 s\ne 14 s\ne 15 s\ne 16 s\n\
-        e 17 s\ne 18 s\ne 19 s\ne 20 s\ne 21 s\ne 22 s\ne 23 s\ne 24 s\ne 25 s\ne 26 s\ne 27 s\ne 28 s\ne 29 s\ne 30 s\n\
-        e 31 s\ne 32 s\ne 33 s\ne 34 s\ne 35 s\ne 36 s\ne 37 s\ne 38 s\ne 39 s\ne 40 s\ne 41 s\ne 42 s\ne 43 s\ne 44 s\n\
-        e 45 s\ne 46 s\ne 47 s\ne 48 s\ne 49 s\ne 50 s\ne 51 s\ne 52 s\ne 53 s\ne 54 s\ne 55 s\ne 56 s\ne 57 s\ne 58 s\n\
-        e 59 s\ne 60 s\ne 61 s\ne 62 s\ne 63 s\ne 64 s\no run 1 1\no run 2 1\no run 3 1\no run 4 1\no run 5 1\no run 6 1\n\
-        o run 7 1\no run 8 1\no run 9 1\no run 10 1\no run 11 1\no run 12 1\no run 13 1\no run 14 1\no run 15 1\no run 16 1\n\
-        o run 17 1\no run 18 1\no run 19 1\no run 20 1\no run 21 1\no run 22 1\no run 23 1\no run 24 1\no run 25 1\n\
-        o run 26 1\no run 27 1\no run 28 1\no run 29 1\no run 30 1\no run 31 1\no run 32 1\no run 33 1\no run 34 1\n\
-        o run 35 1\no run 36 1\no run 37 1\no run 38 1\no run 39 1\no run 40 1\no run 41 1\no run 42 1\no run 43 1\n\
-        o run 44 1\no run 45 1\no run 46 1\no run 47 1\no run 48 1\no run 49 1\no run 50 1\no run 51 1\no run 52 1\n\
-        o run 53 1\no run 54 1\no run 55 1\no run 56 1\no run 57 1\no run 58 1\no run 59 1\no run 60 1\no run 61 1\n\
-        o run 62 1\no run 63 1\no run 64 1\n",
-        answer: Ok((1, 64, 64)),
-    },
-    Row {
         name: "empty-script",
         script: "",
         transcript: "",

@@ -1,4 +1,4 @@
-//! A full table: 64 services are added and told to end.
+//! A full table: as many services as may stand are added and told to end.
 ghost use Rattle.std.specs.Prelude.{IfOk, IfSome};
 ghost use Rattle.svscan_core.specs.Registry.{Fits};
 
@@ -7,32 +7,35 @@ use crate::entry::Listed;
 use crate::event::Event;
 use s6_events::{Mark, Order};
 
-// The name of this number: n01, n02 and so on.
-fn name_of(number: u8) -> Result<Name, Fail> {
-    let text = [b'n', b'0' + number / 10, b'0' + number % 10];
+// The name of this number: n001, n002 and so on.
+fn name_of(number: u16) -> Result<Name, Fail> {
+    let hundreds = (number / 100 % 10) as u8;
+    let tens = (number / 10 % 10) as u8;
+    let ones = (number % 10) as u8;
+    let text = [b'n', b'0' + hundreds, b'0' + tens, b'0' + ones];
     Ok(Name::new(&text).ok_or("a name")?)
 }
 
-// 70 names, from the last one to the first.
-fn seventy(alloc: Global) -> Result<Vec<Entry, Global>, Fail> {
+// 260 names, from the last one to the first.
+fn too_many(alloc: Global) -> Result<Vec<Entry, Global>, Fail> {
     let mut entries = Vec::new(alloc);
-    for back in 0..70u8 {
-        let name = name_of(70 - back)?;
+    for back in 0..260u16 {
+        let name = name_of(260 - back)?;
         let config = Some(Config::plain());
         entries.push(Entry { name, config })?;
     }
     Ok(entries)
 }
 
-// What comes of them: the first 64 are added, in the order of their bytes, and the others find no place.
-fn sixty_four(alloc: Global) -> Result<Answer<Global>, Fail> {
+// What comes of them: the first 256 are added, in the order of their bytes, and the others find no place.
+fn full_table(alloc: Global) -> Result<Answer<Global>, Fail> {
     let mut events = Vec::new(alloc);
     let mut orders = Vec::new(alloc);
     let mut listed = Vec::new(alloc);
-    for number in 1..71u8 {
+    for number in 1..261u16 {
         let sid = Sid(u64::from(number));
         let name = name_of(number)?;
-        if number > 64 {
+        if number > 256 {
             listed.push(Listed::Full(name))?;
         } else {
             let mark = Mark::SupervisorStarted;
@@ -56,7 +59,7 @@ fn tells(rt: &impl Abort, plan: &RegistryPlan<Global>, wanted: &Answer<Global>) 
     assert_eq!(rt; plan.orders(), wanted.orders.as_slice());
     assert_eq!(rt; plan.listed(), wanted.listed.as_slice());
     assert_eq!(rt; (plan.dropped().is_empty(), plan.is_stale()), (true, false));
-    assert_eq!(rt; plan.timers().len(), 64);
+    assert_eq!(rt; plan.timers().len(), 256);
 }
 
 // What was answered is what was wanted.
@@ -80,23 +83,23 @@ fn prepare_listing(
 }
 
 #[test]
-fn a_step_adds_sixty_four_services(rt: HostRuntime) -> Result<(), Fail> {
-    let entries = seventy(rt.alloc())?;
-    let wanted = sixty_four(rt.alloc())?;
+fn a_step_fills_the_table(rt: HostRuntime) -> Result<(), Fail> {
+    let entries = too_many(rt.alloc())?;
+    let wanted = full_table(rt.alloc())?;
     let mut registry = Registry::new(rt.alloc());
     let planned = prepare_listing(&rt, rt.alloc(), &mut registry, entries.as_slice())?;
     let plan = planned.ok_or("memory")?;
     tells(&rt, &plan, &wanted);
     assert_eq!(rt; registry.len(), 0);
     registry.commit(plan);
-    assert_eq!(rt; shown(&rt, rt.alloc(), &registry)?.len(), 64);
+    assert_eq!(rt; shown(&rt, rt.alloc(), &registry)?.len(), 256);
     Ok(())
 }
 
 #[test]
-fn a_scan_adds_sixty_four_services(rt: HostRuntime) -> Result<(), Fail> {
-    let entries = seventy(rt.alloc())?;
-    let wanted = sixty_four(rt.alloc())?;
+fn a_scan_fills_the_table(rt: HostRuntime) -> Result<(), Fail> {
+    let entries = too_many(rt.alloc())?;
+    let wanted = full_table(rt.alloc())?;
     let mut registry = Registry::new(rt.alloc());
     let answer = scan(
         &rt,
@@ -106,7 +109,7 @@ fn a_scan_adds_sixty_four_services(rt: HostRuntime) -> Result<(), Fail> {
         At::zero(),
     )?;
     answers(&rt, &answer.ok_or("memory")?, &wanted);
-    assert_eq!(rt; shown(&rt, rt.alloc(), &registry)?.len(), 64);
+    assert_eq!(rt; shown(&rt, rt.alloc(), &registry)?.len(), 256);
     let left = control(&rt, &mut registry, ScanOrder::Terminate, At::zero());
     assert!(rt; left.is_some());
     Ok(())

@@ -2,7 +2,7 @@ use Rattle.std.proofs.Common.{◌≡◌, ◌∙◌, ◌+◌, ◌++◌, ap, sym, 
 use Rattle.std.specs.Prelude.{IsOk}
 use Rattle.wait_conditions.specs.Kept.{StoredWaiter, releases_seen}
 use Rattle.wait_conditions.specs.PlanFields.{list_change_of}
-use Rattle.wait_conditions.specs.Stands.{StoredWaits, WaitsShown, JoinsAt, waits_shown}
+use Rattle.wait_conditions.specs.Stands.{FitsWaits, PlannedWaits, StoredWaits, WaitsShown, JoinsAt, waits_shown}
 use Rattle.wait_conditions.specs.WaitsFields.{waiters_view}
 use Rattle.wait_conditions.specs.Watchers.{serials_where, touched_by}
 use Rattle.wait_conditions.proofs.Leaving.{alike_touched, none_by_nothing}
@@ -22,20 +22,29 @@ returns-clause-released g c =
 pub returns-clause-fits : goal.returns-clause-fits
 returns-clause-fits g c =
     let ms = c.args.moments.now in
-    let own : c.extend_from_slice.new.self.items ≡ ms = c.in_ok-extend_from_slice.ensures.items ∙ ap (λ xs. xs ++ ms) c.new-own.ensures.items in
-    record {
+    let own : c.extend_from_slice.new.self.items ≡ ms = c.in_ok-extend_from_slice.ensures.items ∙ ap (λ xs. xs ++ ms) c.clear.ensures.items in
+    let planned : PlannedWaits = record {
+      released = c.in_ok-released.released.items;
+      answer = c.in_ok-planned.planned.answer;
+      moments = c.extend_from_slice.new.self.items;
+      touched = c.in_ok-touched.touched.items;
+      change = list_change_of c.in_ok-planned.planned.change;
+      next = c.in_ok-planned.planned.next;
+    } in
+    subst (λ (s : StoredWaits). FitsWaits planned s) (sym c.self-2.view_is)
+    (record {
       count = omega (arith, c.in_ok-make_room.ensures.count, ap length own);
       runs = omega (arith, c.in_ok-make_room.ensures.runs, ap length own);
-      waiters = omega (arith, c.plan_change-planned.ensures.room, c.in_ok-make_room.ensures.waiters);
-      place = subst (λ xs. JoinsAt (c.make_room.new.self.count + length xs) (list_change_of c.plan_change-planned.result.change)) (sym own) c.plan_change-planned.ensures.place;
-      serial = c.plan_change-planned.ensures.serial;
+      waiters = omega (arith, c.in_ok-planned.ensures.room, c.in_ok-make_room.ensures.waiters);
+      place = subst (λ xs. JoinsAt (c.make_room.new.self.count + length xs) (list_change_of c.in_ok-planned.planned.change)) (sym own) c.in_ok-planned.ensures.place;
+      serial = c.in_ok-planned.ensures.serial;
       touched =
           c.in_ok-touched.ensures.serials
           ∙ (ap (λ ws. map (λ (k : StoredWaiter). k.id) (waiters_view ws)) c.deref.ensures.value
           ∙ (ap (map (λ (k : StoredWaiter). k.id)) c.in_ok-copies.ensures.copies
           ∙ (ap (λ (s : StoredWaits). serials_where (touched_by ms) s.waiters) c.self-2.view_is
           ∙ ap (λ xs. serials_where (touched_by xs) c.make_room.new.self.waiters) (sym own))));
-    }
+    })
 
 pub returns-in_err-touched-clause-quiet : goal.returns-in_err-touched-clause-quiet
 returns-in_err-touched-clause-quiet g c = λ none still.

@@ -1,5 +1,5 @@
 -- A list of which one place changes.
-use Rattle.std.proofs.Common.{◌≡◌, ◌≢◌, ℕ, zero, suc, ◌⊎◌, inl, inr, ⊎_elim, List, [], ◌∷◌, Option, Some, slice_get, slice_set, refl, ap, arith}
+use Rattle.std.proofs.Common.{◌≡◌, ◌≢◌, ℕ, zero, suc, ◌⊎◌, inl, inr, ⊎_elim, List, [], ◌∷◌, Option, Some, slice_get, slice_set, refl, ap, arith, ◌++◌, length}
 
 pub read_set : {A : Type 0} (l : List A) (i j : ℕ) (a b : A) → slice_get (slice_set l i a) j ≡ Some b
     → ((j ≡ i) × (a ≡ b)) ⊎ ((j ≢ i) × (slice_get l j ≡ Some b))
@@ -31,3 +31,11 @@ told_set f (x ∷ xs) zero p q here same zero = let e : x ≡ p = cc (here) in r
 told_set f (x ∷ xs) zero p q here same (suc j) = refl
 told_set f (x ∷ xs) (suc i) p q here same zero = refl
 told_set f (x ∷ xs) (suc i) p q here same (suc j) = told_set f xs i p q here same j
+
+-- what is read of a list that is one longer
+pub get_last : {A : Type 0} (xs : List A) (x : A) (k : ℕ) (r : A) → slice_get (xs ++ x ∷ []) k ≡ Some r
+    → (slice_get xs k ≡ Some r) ⊎ ((length xs ≡ k) × (x ≡ r))
+get_last [] x zero r e = inr (refl, cc (e))
+get_last [] x (suc k) r e = absurd (cc (e))
+get_last (y ∷ ys) x zero r e = inl e
+get_last (y ∷ ys) x (suc k) r e = ⊎_elim inl (λ t. inr (ap suc t.0, t.1)) (get_last ys x k r e)

@@ -1,0 +1,39 @@
+//! Where shots are published.
+ghost use Rattle.std.specs.Prelude.{◌≡◌, List, [], ◌∷◌, ◌++◌, OnErr, OnOk};
+ghost use Rattle.status_board.specs.declared.shot.Shot.{Shot as Published};
+
+use crate::shot::Shot;
+use crate::told::Told;
+use crate::writer::BoardWriter;
+use channel_names::Channels;
+use s6_events::NoMemory;
+use std::alloc::Global;
+use std::sync::Wait;
+
+/// A board, as whoever publishes on it holds it. `BoardWriter` is one; who keeps a board under a lock is generic in it. It stands for
+/// all shots that were published, oldest first.
+pub trait Board<C: Channels>: Drop {
+    /// All shots that were published.
+    ghost shots: { Self → List Published };
+
+    /// Shows this shot from now on. `NoMemory` where a growth was refused: the board is then as it was.
+    fn publish(&mut self, shot: &Shot) -> Result<(), NoMemory>
+        ensures added { OnOk result (shots self.new ≡ shots self.old ++ shot.now ∷ []) }
+        ensures same { OnErr result (shots self.new ≡ shots self.old) };
+
+    /// Names all that was published so far, for a reader to learn.
+    fn tell(&self) -> Told<C>
+        ensures { result ≡ shots self.now };
+}
+
+impl<C: Channels, R: Wait + Drop> Board<C> for BoardWriter<C, R, Global> {
+    ghost shots = { λ w. w };
+
+    fn publish(&mut self, shot: &Shot) -> Result<(), NoMemory> {
+        BoardWriter::publish(self, shot)
+    }
+
+    fn tell(&self) -> Told<C> {
+        BoardWriter::tell(self)
+    }
+}

@@ -1,0 +1,27 @@
+-- The next deadline of the waiters that wait still.
+use Rattle.std.specs.Prelude.{ℕ, List, Option, Some, None, fold, map, min, if◌then◌else◌}
+use Rattle.s6_events.specs.declared.moment.Moment.{Moment}
+use Rattle.wait_conditions.specs.Kept.{StoredWaiter, is_waiting, still_waits}
+use Rattle.wait_conditions.specs.Watch.{Watch, WrittenWaiter, waiter_state}
+
+-- the earlier of two moments, where there are any
+abbrev pub earlier_of : Option ℕ → Option ℕ → Option ℕ
+earlier_of None other = other
+earlier_of (Some one) None = Some one
+earlier_of (Some one) (Some other) = Some (min one other)
+
+-- the earliest of some moments, where there are any
+abbrev pub earliest : List (Option ℕ) → Option ℕ
+earliest moments = fold earlier_of None moments
+
+-- the deadline of a waiter that waits still, if it has one
+abbrev pub awaited_until : List Moment → WrittenWaiter → Option ℕ
+awaited_until history p = if is_waiting (waiter_state history p) then p.asked.deadline else None
+
+-- the earliest of these
+abbrev pub next_deadline : Watch → Option ℕ
+next_deadline w = earliest (map (awaited_until w.history) w.waiters)
+
+-- the same by what is stored of a waiter
+abbrev pub stored_until : StoredWaiter → Option ℕ
+stored_until k = if still_waits k then k.deadline else None
