@@ -11,5 +11,9 @@ mod unbuilt;
 mod waiting;
 mod words;
 
+pub use death_list::push_permafailon;
 pub use digits::{push_number, push_spaced};
 pub use parse::{LineFault, parse_line, parse_with};
+pub use spelling::{push_named, push_svc};
+pub use subscribing::{push_send, push_subscribe};
+pub use waiting::push_wait;

@@ -58,8 +58,8 @@ fn push_scan<A: Allocator>(text: &mut Vec<u8, A>, entries: &[Entry]) -> Result<(
     Ok(())
 }
 
-// Adds the words of letters for a service.
-fn push_svc<A: Allocator>(
+/// Adds the words of letters for a service. An error where a growth was refused; what was added before stays.
+pub fn push_svc<A: Allocator>(
     text: &mut Vec<u8, A>,
     name: &Name,
     letters: &[ControlLetter],
@@ -89,8 +89,8 @@ fn push_notify<A: Allocator + Copy>(
     push_word(text, digits.as_bytes())
 }
 
-// Adds the words of a verb and a name.
-fn push_named<A: Allocator>(
+/// Adds the words of a verb and a name. An error where a growth was refused; what was added before stays.
+pub fn push_named<A: Allocator>(
     text: &mut Vec<u8, A>,
     verb: &str,
     name: &Name,

@@ -53,7 +53,7 @@ returns-clause-step g c = λ steps left m is later made.
     let given = c.in_ok-waiters.waiters.released in
     let matches = c.in_ok-letters.letters.matches.items in
     let told : ListenersAnswer = record { waiters = c.in_ok-waiters.waiters.answer; directories = c.in_ok-letters.letters.answer } in
-    let planned : c.in_ok-history.history ≡ moments = c.in_ok-history.ensures.ok ∙ c.as_slice-joining.ensures.value in
+    let planned : c.in_ok-history.history ≡ moments = c.in_ok-history.ensures.ok in
     plans_all (present_state c.args.clock steps c.args.closing services next kept heard) c.later-now.result c.args.input.now _
     prepared later hearing c.release_all.new.self (chosen_of c.in_ok-choice.choice) left c.later-now.ensures.later
     (record {
@@ -131,7 +131,7 @@ returns-clause-count g c =
     let few = step_events (work_asked c.work.result) c.later-now.result
     (charts_of c.args.registry.now.shown.services) c.args.registry.now.shown.next_sid c.len-count.ensures.sound.few in
     let seen = ap length c.events.ensures in
-    let planned = ap length (c.in_ok-history.ensures.ok ∙ c.as_slice-joining.ensures.value) in
+    let planned = ap length c.in_ok-history.ensures.ok in
     omega (arith, events, few, seen, planned, c.in_ok-moments.ensures.count)
 
 pub returns-in_err-tell-clause-quiet : goal.returns-in_err-tell-clause-quiet
@@ -176,7 +176,7 @@ returns-in_err-history-clause-quiet g c = λ q.
     let still = c.work.ensures ∙ (c.in_ok-choice.ensures.idle q.reading).work in
     let idle = c.in_ok-services.ensures.still none still in
     let nothing = ap (λ (p : RegistryPrepared). p.events) idle in
-    let silent = c.as_slice-joining.ensures.value ∙ c.in_ok-moments.ensures.quiet q.early (c.events.ensures ∙ nothing) in
+    let silent = c.in_ok-moments.ensures.quiet q.early (c.events.ensures ∙ nothing) in
     not_ok c.prepare-4.result _ _ c.in_err-history.was (c.prepare-4.ensures.quiet silent)
 
 pub returns-in_err-timers-clause-quiet : goal.returns-in_err-timers-clause-quiet
