@@ -13,15 +13,19 @@ use std::thread;
 use std::thread::Threads;
 use supervise_core::Row;
 
-// A shot with so many rows, each of which has the number of steps as its age.
-fn shot_of(at: u64, count: usize) -> Shot {
-    let row = Row {
+// A row whose age is the number of steps.
+fn row_of(at: u64) -> Row {
+    Row {
         up_down_for: Some(at),
         ..Row::default()
-    };
+    }
+}
+
+// A shot with so many such rows.
+fn shot_of(at: u64, count: usize) -> Shot {
     let mut rows = ArrayVec::new();
     for _ in 0..count {
-        let _fits = rows.try_push(row);
+        let _fits = rows.try_push(row_of(at));
     }
     Shot { at, rows }
 }

@@ -1,3 +1,0 @@
-pub mod Growing
-pub mod Reading
-pub mod Placing

@@ -1,0 +1,85 @@
+//! `mkfifodir`, `ftrig-notify` and `ftrig-wait`.
+use crate::answer::Answer;
+use crate::connection::Connection;
+use crate::request::{make_directory_request, send_request, subscribe_request};
+use crate::tool_fault::ToolFault;
+use s6_events::Name;
+use std::alloc::Global;
+use std::io::Write;
+use std::net::Net;
+use tree_core::{Message, Target};
+
+// The event directory that a word names: NAME a free one, NAME/event that of a service.
+fn target_of(word: &str) -> Result<Target, ToolFault> {
+    match word.strip_suffix("/event") {
+        Some(name) => Ok(Target::Service(name_of(name)?)),
+        None => Ok(Target::Directory(name_of(word)?)),
+    }
+}
+
+fn name_of(word: &str) -> Result<Name, ToolFault> {
+    Name::new(word.as_bytes()).ok_or(ToolFault::Usage)
+}
+
+/// Makes a free event directory. Page `s6-mkfifodir`.
+pub fn run_mkfifodir<R: Net>(
+    rt: &R,
+    alloc: Global,
+    socket: &str,
+    words: &[&str],
+) -> Result<u8, ToolFault> {
+    let [name] = words else {
+        return Err(ToolFault::Usage);
+    };
+    let request = make_directory_request(alloc, &name_of(name)?)?;
+    let mut connection = Connection::open(rt, alloc, socket)?;
+    connection.ask(request.as_slice())?;
+    Ok(0)
+}
+
+/// Sends letters to an event directory. Page `s6-ftrig-notify`.
+pub fn run_ftrig_notify<R: Net>(
+    rt: &R,
+    alloc: Global,
+    socket: &str,
+    words: &[&str],
+) -> Result<u8, ToolFault> {
+    let [target, message] = words else {
+        return Err(ToolFault::Usage);
+    };
+    let target = target_of(target)?;
+    let message = Message::new(message.as_bytes()).ok_or(ToolFault::Usage)?;
+    let request = send_request(alloc, &target, &message)?;
+    let mut connection = Connection::open(rt, alloc, socket)?;
+    connection.ask(request.as_slice())?;
+    Ok(0)
+}
+
+/// Waits until the letters of an event directory match a pattern, and prints the letter that made them match. Page `s6-ftrig-wait`.
+pub fn run_ftrig_wait<R: Net, W: Write>(
+    rt: &R,
+    alloc: Global,
+    socket: &str,
+    words: &[&str],
+    output: &mut W,
+) -> Result<u8, ToolFault> {
+    let [target, pattern] = words else {
+        return Err(ToolFault::Usage);
+    };
+    let request = subscribe_request(alloc, &target_of(target)?, pattern)?;
+    let mut connection = Connection::open(rt, alloc, socket)?;
+    match connection.ask(request.as_slice())? {
+        Answer::Subscription => {}
+        _ => return Err(ToolFault::Socket),
+    }
+    match connection.answer()? {
+        Answer::Matched(letter) => {
+            if output.write_all(&[letter, b'\n']).is_err() || output.flush().is_err() {
+                return Err(ToolFault::Write);
+            }
+            Ok(0)
+        }
+        Answer::Overlong => Ok(1),
+        _ => Err(ToolFault::Socket),
+    }
+}

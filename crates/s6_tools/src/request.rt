@@ -1,0 +1,111 @@
+//! The requests of the tools. Each is a line of a script without its moment and its actor, so a request says just the act that it
+//! is in a script.
+ghost use Rattle.std.specs.Prelude.{◌≡◌, ◌++◌, ◌∷◌, [], IfOk, false};
+ghost use Rattle.std.specs.List.{join_with_byte};
+ghost use Rattle.tree_core.specs.declared.input.Act.TheVariants.{Svc, Status, Permafailon, Wait, Subscribe, Send, MakeDir};
+ghost use Rattle.s6_tools.specs.Requests.{request_of};
+
+use s6_events::Name;
+use s6_script::{push_named, push_permafailon, push_send, push_subscribe, push_svc, push_wait};
+use std::alloc::{AllocError, Global};
+use svc_commands::{PermafailCommand, ScanLetter, SvcCommand, WaitCommand};
+use tree_core::{Message, Target};
+
+/// The request of `svc`.
+pub fn svc_request(alloc: Global, command: &SvcCommand) -> Result<Vec<u8>, AllocError>
+    ensures { IfOk result
+        (λ text. text.items ≡ request_of (Svc command.now.name command.now.letters)) }
+{
+    let mut text = Vec::new(alloc);
+    push_svc(&mut text, &command.name, command.letters.as_slice())?;
+    Ok(text)
+}
+
+/// The request of a letter of `svscanctl`.
+pub fn scan_request(letter: ScanLetter) -> &'static [u8] {
+    match letter {
+        ScanLetter::Scan => b"scanctl a",
+        ScanLetter::Nuke => b"scanctl n",
+        ScanLetter::Terminate => b"scanctl t",
+    }
+}
+
+/// The request of `svwait` and `svlisten`.
+pub fn wait_request(alloc: Global, command: &WaitCommand) -> Result<Vec<u8>, AllocError>
+    ensures { IfOk result (λ text. text.items ≡ request_of
+        (Wait command.now.condition command.now.mode command.now.timeout command.now.names.items)) }
+{
+    let mut text = Vec::new(alloc);
+    push_wait(
+        &mut text,
+        command.condition,
+        command.mode,
+        command.timeout,
+        command.names.as_slice(),
+    )?;
+    Ok(text)
+}
+
+/// The request of `svstat`.
+pub fn status_request(alloc: Global, name: &Name) -> Result<Vec<u8>, AllocError>
+    ensures { IfOk result (λ text. text.items ≡ request_of (Status name.now)) }
+{
+    named_request(alloc, "status", name)
+}
+
+/// The request of `mkfifodir`.
+pub fn make_directory_request(alloc: Global, name: &Name) -> Result<Vec<u8>, AllocError>
+    ensures { IfOk result (λ text. text.items ≡ request_of (MakeDir name.now)) }
+{
+    named_request(alloc, "mkdir", name)
+}
+
+fn named_request(alloc: Global, verb: &str, name: &Name) -> Result<Vec<u8>, AllocError>
+    ensures { IfOk result (λ text. text.items ≡ join_with_byte 32 (verb.now ∷ name.now ∷ [])) }
+{
+    let mut text = Vec::new(alloc);
+    push_named(&mut text, verb, name)?;
+    Ok(text)
+}
+
+/// The request of `permafailon`.
+pub fn permafailon_request(alloc: Global, command: &PermafailCommand) -> Result<Vec<u8>, AllocError>
+    ensures { IfOk result (λ text. text.items ≡ request_of
+        (Permafailon command.now.name command.now.secs command.now.count command.now.list)) }
+{
+    let mut text = Vec::new(alloc);
+    push_permafailon(
+        &mut text,
+        &command.name,
+        command.secs,
+        command.count,
+        &command.list,
+    )?;
+    Ok(text)
+}
+
+/// The request of `ftrig-notify`.
+pub fn send_request(
+    alloc: Global,
+    target: &Target,
+    message: &Message,
+) -> Result<Vec<u8>, AllocError>
+    ensures { IfOk result (λ text. text.items ≡ request_of (Send target.now message.now)) }
+{
+    let mut text = Vec::new(alloc);
+    push_send(&mut text, target, message)?;
+    Ok(text)
+}
+
+/// The request of `ftrig-wait`: one match of a pattern.
+pub fn subscribe_request(
+    alloc: Global,
+    target: &Target,
+    pattern: &str,
+) -> Result<Vec<u8>, AllocError>
+    ensures { IfOk result (λ text. text.items ≡ request_of (Subscribe target.now pattern.now false)) }
+{
+    let mut text = Vec::new(alloc);
+    push_subscribe(&mut text, target, pattern, false)?;
+    Ok(text)
+}

@@ -1,0 +1,53 @@
+//! `svstat` and `permafailon`.
+use crate::answer::Answer;
+use crate::connection::Connection;
+use crate::request::{permafailon_request, status_request};
+use crate::status_line::svstat_line;
+use crate::tool_fault::ToolFault;
+use std::alloc::Global;
+use std::io::Write;
+use std::net::Net;
+use svc_commands::{compile_permafailon, compile_svstat};
+
+/// The status of `permafailon` where the service fails for good.
+const PERMANENT_FAILURE: u8 = 125;
+
+/// Prints fields of the status of a service. Page `s6-svstat`.
+pub fn run_svstat<R: Net, W: Write>(
+    rt: &R,
+    alloc: Global,
+    socket: &str,
+    words: &[&str],
+    output: &mut W,
+) -> Result<u8, ToolFault> {
+    let command = compile_svstat(alloc, words)?;
+    let request = status_request(alloc, &command.name)?;
+    let mut connection = Connection::open(rt, alloc, socket)?;
+    match connection.ask(request.as_slice())? {
+        Answer::Row => {}
+        _ => return Err(ToolFault::Socket),
+    }
+    let mut line = svstat_line(alloc, connection.line(), command.fields.as_slice())?;
+    line.extend_from_slice(b"\n")?;
+    if output.write_all(line.as_slice()).is_err() || output.flush().is_err() {
+        return Err(ToolFault::Write);
+    }
+    Ok(0)
+}
+
+/// Tells by its status whether a service fails for good. Page `s6-permafailon`.
+pub fn run_permafailon<R: Net>(
+    rt: &R,
+    alloc: Global,
+    socket: &str,
+    words: &[&str],
+) -> Result<u8, ToolFault> {
+    let command = compile_permafailon(alloc, words)?;
+    let request = permafailon_request(alloc, &command)?;
+    let mut connection = Connection::open(rt, alloc, socket)?;
+    match connection.ask(request.as_slice())? {
+        Answer::PermanentFailure(true) => Ok(PERMANENT_FAILURE),
+        Answer::PermanentFailure(false) => Ok(0),
+        _ => Err(ToolFault::Socket),
+    }
+}

@@ -1,0 +1,107 @@
+//! Which client is meant, and running it.
+use crate::ending::tell_fault;
+use crate::event_tools::{run_ftrig_notify, run_ftrig_wait, run_mkfifodir};
+use crate::letter_tools::{run_svc, run_svscanctl};
+use crate::status_tools::{run_permafailon, run_svstat};
+use crate::tool_fault::ToolFault;
+use crate::wait_tools::{run_svlisten, run_svwait};
+use std::alloc::Global;
+use std::io::Write;
+use std::net::Net;
+use std::process::Processes;
+
+/// A tool that is a client of a running tree.
+#[derive(Clone, Copy, Debug, PartialEq, Eq)]
+pub enum Tool {
+    /// `svc`: letters for a service. Page `s6-svc`.
+    Svc,
+    /// `svstat`: fields of its status. Page `s6-svstat`.
+    Svstat,
+    /// `svwait`: waits for services. Page `s6-svwait`.
+    Svwait,
+    /// `svlisten`: starts a program, and waits for services. Page `s6-svlisten`.
+    Svlisten,
+    /// `svscanctl`: letters for the supervisor of the scan directory. Page `s6-svscanctl`.
+    Svscanctl,
+    /// `mkfifodir`: makes a free event directory. Page `s6-mkfifodir`.
+    Mkfifodir,
+    /// `ftrig-notify`: sends letters to an event directory. Page `s6-ftrig-notify`.
+    FtrigNotify,
+    /// `ftrig-wait`: waits until its letters match. Page `s6-ftrig-wait`.
+    FtrigWait,
+    /// `permafailon`: whether a service fails for good. Page `s6-permafailon`.
+    Permafailon,
+}
+
+const ALL: [Tool; 9] = [
+    Tool::Svc,
+    Tool::Svstat,
+    Tool::Svwait,
+    Tool::Svlisten,
+    Tool::Svscanctl,
+    Tool::Mkfifodir,
+    Tool::FtrigNotify,
+    Tool::FtrigWait,
+    Tool::Permafailon,
+];
+
+impl Tool {
+    /// Its name, as the first word of the program.
+    pub fn name(self) -> &'static str {
+        match self {
+            Tool::Svc => "svc",
+            Tool::Svstat => "svstat",
+            Tool::Svwait => "svwait",
+            Tool::Svlisten => "svlisten",
+            Tool::Svscanctl => "svscanctl",
+            Tool::Mkfifodir => "mkfifodir",
+            Tool::FtrigNotify => "ftrig-notify",
+            Tool::FtrigWait => "ftrig-wait",
+            Tool::Permafailon => "permafailon",
+        }
+    }
+}
+
+/// The tool of this name.
+pub fn tool_named(name: &str) -> Option<Tool> {
+    ALL.iter().copied().find(|tool| tool.name() == name)
+}
+
+/// Runs a client: the words are those behind its name, the path of the socket first. Answers its exit status; where it isn't that of
+/// a result, a line on `errors` says why.
+pub fn run_client<R: Net + Processes, W: Write, E: Write>(
+    rt: &R,
+    alloc: Global,
+    tool: Tool,
+    words: &[&str],
+    output: &mut W,
+    errors: &mut E,
+) -> u8 {
+    match run(rt, alloc, tool, words, output) {
+        Ok(status) => status,
+        Err(fault) => tell_fault(tool, &fault, errors),
+    }
+}
+
+fn run<R: Net + Processes, W: Write>(
+    rt: &R,
+    alloc: Global,
+    tool: Tool,
+    words: &[&str],
+    output: &mut W,
+) -> Result<u8, ToolFault> {
+    let [socket, words @ ..] = words else {
+        return Err(ToolFault::Usage);
+    };
+    match tool {
+        Tool::Svc => run_svc(rt, alloc, socket, words),
+        Tool::Svstat => run_svstat(rt, alloc, socket, words, output),
+        Tool::Svwait => run_svwait(rt, alloc, socket, words),
+        Tool::Svlisten => run_svlisten(rt, alloc, socket, words),
+        Tool::Svscanctl => run_svscanctl(rt, alloc, socket, words),
+        Tool::Mkfifodir => run_mkfifodir(rt, alloc, socket, words),
+        Tool::FtrigNotify => run_ftrig_notify(rt, alloc, socket, words),
+        Tool::FtrigWait => run_ftrig_wait(rt, alloc, socket, words, output),
+        Tool::Permafailon => run_permafailon(rt, alloc, socket, words),
+    }
+}
