@@ -97,13 +97,13 @@ fn tell_and_read<C: Channels, R: Wait + Abort>(
 
 #[test]
 fn a_refused_publish_leaves_the_board_as_it_was(rt: HostRuntime) -> Result<(), Fail> {
-    let heap = LocalHeap::new(rt.alloc(), 100_000)?;
+    let heap = LocalHeap::new(rt.alloc(), 400_000)?;
     publish_without_room::<Brand, _>(&rt, &heap, NewBoard::new())
 }
 
 #[test]
 fn a_board_that_is_refused_comes_back(rt: HostRuntime) -> Result<(), Fail> {
-    let heap = LocalHeap::new(rt.alloc(), 100_000)?;
+    let heap = LocalHeap::new(rt.alloc(), 400_000)?;
     open_without_room::<Brand, _>(&rt, &heap, NewBoard::new())
 }
 
