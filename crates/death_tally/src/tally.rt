@@ -53,6 +53,13 @@ impl<A: Allocator + Copy> Tally<A> {
         }
     }
 
+    /// How many deaths it keeps at most.
+    pub fn most(&self) -> u16
+        ensures { result ≡ self.now.most }
+    {
+        self.most
+    }
+
     /// The deaths that it has, oldest first, as they lie in the ring: up to its end, and those that wrapped round.
     pub fn as_slices(&self) -> (&[(At, Exit)], &[(At, Exit)])
         ensures { result.0.now ++ result.1.now ≡ self.now.kept }

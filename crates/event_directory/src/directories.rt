@@ -11,6 +11,8 @@ ghost use Rattle.event_directory.specs.declared.directory_change.DirectoryAnswer
 use crate::directory_change::{DirectoryAnswer, DirectoryChange};
 use crate::directory_plan::DirectoriesPlan;
 use crate::finds::Finds;
+use crate::image::DirectoriesImage;
+use crate::pattern::Pattern;
 use crate::pending::Pending;
 use crate::register::Register;
 use crate::step::{finish_step, work_out};
@@ -175,6 +177,15 @@ impl<F: Finds, A: Allocator + Copy> Directories<F, A> {
         }
         finish_step(&mut self.register, pending, offered);
         drop(plan);
+    }
+}
+
+impl<A: Allocator + Copy> Directories<Pattern, A> {
+    /// All that is shown as plain data, of each pattern its text. `NoMemory` where a growth was refused.
+    pub fn image(&self, alloc: A) -> Result<DirectoriesImage<A>, NoMemory>
+        ensures { IfOk result (λ image. image ≡ self.now.shown) }
+    {
+        self.register.image(alloc)
     }
 }
 

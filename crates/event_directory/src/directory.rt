@@ -6,6 +6,8 @@ ghost use Rattle.event_directory.specs.Stored.{greatest_offset, last_letters, st
 
 use crate::finds::Finds;
 use crate::hit::Hit;
+use crate::image::{SubscriptionImage, images_of};
+use crate::pattern::Pattern;
 use crate::plan::LettersPlan;
 use crate::sub_view::SubView;
 use crate::subscription::Subscription;
@@ -344,6 +346,15 @@ impl<F: Finds, A: Allocator + Copy> Directory<F, A> {
         commit_all(&mut self.subscriptions);
         self.is_planned = false;
         self.heard = forget(&mut self.text, &self.subscriptions);
+    }
+}
+
+impl<A: Allocator + Copy> Directory<Pattern, A> {
+    // Its subscriptions as plain data.
+    pub(crate) fn images(&self, alloc: A) -> Result<Vec<SubscriptionImage<A>, A>, NoMemory>
+        ensures { IfOk result (λ images. images.items ≡ self.now.standing) }
+    {
+        images_of(alloc, &self.text[..self.heard], &self.subscriptions)
     }
 }
 

@@ -9,8 +9,10 @@ use crate::directory_change::{DirectoryChange, DirectoryFault};
 use crate::finds::Finds;
 use crate::hearing::{hear_letters, hear_moments};
 use crate::hit::Hit;
+use crate::image::{DirectoriesImage, source_images};
 use crate::listened::{begin_each, commit_each, leave_at, list_at, reserve_at, take_in_at};
 use crate::message::Message;
+use crate::pattern::Pattern;
 use crate::pending::Pending;
 use crate::refusing::refusal;
 use crate::source::Source;
@@ -230,6 +232,20 @@ impl<F: Finds, A: Allocator + Copy> Register<F, A> {
     {
         drop_subscriber(&mut self.subscribers, id);
         leave_at(&mut self.listened, source, id);
+    }
+}
+
+impl<A: Allocator + Copy> Register<Pattern, A> {
+    /// All that is there now as plain data.
+    pub fn image(&self, alloc: A) -> Result<DirectoriesImage<A>, NoMemory>
+        ensures { IfOk result (λ image. image ≡ shown_in self.now) }
+    {
+        Ok(DirectoriesImage {
+            names: Vec::from_slice(alloc, &self.names)?,
+            subscribers: Vec::from_slice(alloc, &self.subscribers)?,
+            followed: source_images(alloc, &self.listened)?,
+            next: self.next,
+        })
     }
 }
 

@@ -1,11 +1,14 @@
 //! The event directory of one source.
 ghost use Rattle.std.specs.Prelude.{◌≡◌, ◌<◌, ◌++◌, ◌∷◌, ◌==◌, [], IfOk, OnOk, length, option_map};
 ghost use Rattle.event_directory.specs.Directories.{is_same_source};
+ghost use Rattle.event_directory.specs.Parts.{followed_of};
 ghost use Rattle.event_directory.specs.Sending.{after_letter, hits_from, new_kept_subscription, view_of, kept_without};
 
 use crate::directory::Directory;
 use crate::finds::Finds;
 use crate::hit::Hit;
+use crate::image::SourceImage;
+use crate::pattern::Pattern;
 use crate::source::{Source, same_source};
 use crate::sub_view::SubView;
 use s6_events::{Letter, NoMemory, SubId};
@@ -120,5 +123,18 @@ impl<F: Finds, A: Allocator + Copy> SourceDirectory<F, A> {
             ≡ view_of id self.now.kept.standing }
     {
         self.directory.list(id)
+    }
+}
+
+impl<A: Allocator + Copy> SourceDirectory<Pattern, A> {
+    /// Its source and its subscriptions as plain data.
+    pub fn image(&self, alloc: A) -> Result<SourceImage<A>, NoMemory>
+        ensures { IfOk result (λ image. image ≡ followed_of self.now) }
+    {
+        let standing = self.directory.images(alloc)?;
+        Ok(SourceImage {
+            source: self.source,
+            standing,
+        })
     }
 }

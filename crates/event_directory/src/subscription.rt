@@ -112,6 +112,20 @@ impl<F: Finds, A: Allocator + Copy> Subscription<F, A> {
         self.id
     }
 
+    /// Its pattern.
+    pub fn pattern(&self) -> &F
+        ensures { F.source result.now ≡ self.now.standing.pattern }
+    {
+        &self.pattern
+    }
+
+    /// Whether it listens again after a match.
+    pub fn repeats(&self) -> bool
+        ensures { result ≡ self.now.standing.repeats }
+    {
+        self.repeats
+    }
+
     /// The letters at which its texts matched.
     pub fn letters(&self) -> &[Letter]
         ensures { result.now ≡ self.now.standing.reading.letters }
@@ -124,6 +138,16 @@ impl<F: Finds, A: Allocator + Copy> Subscription<F, A> {
         ensures { result ≡ self.now.standing.reading.state }
     {
         self.state
+    }
+
+    /// Of its directory's text, which is this one, the letters since its last match, while it is live.
+    pub fn text_in<'t>(&self, text: &'t [Letter]) -> &'t [Letter]
+        ensures { result.now ≡ (heard_in text.now self.now.standing.reading).text }
+    {
+        if self.state != State::Live {
+            return &[];
+        }
+        &text[text.len().saturating_sub(self.offset)..]
     }
 
     /// From which place on, from the end of its directory's text, it looks at it.

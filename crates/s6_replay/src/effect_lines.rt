@@ -94,7 +94,8 @@ fn push_hit<A: Allocator>(text: &mut Vec<u8, A>, hit: Hit) -> Result<(), AllocEr
     }
 }
 
-fn push_match<A: Allocator>(text: &mut Vec<u8, A>, found: &Match) -> Result<(), AllocError>
+/// Adds the line of a match, with its newline.
+pub fn push_match<A: Allocator>(text: &mut Vec<u8, A>, found: &Match) -> Result<(), AllocError>
     ensures { OnOk result (text.new.items ≡ text.old.items ++ match_line found.now) }
 {
     text.extend_from_slice(b"m ")?;
@@ -127,7 +128,8 @@ fn verdict_bytes(verdict: Verdict) -> &'static str
     }
 }
 
-fn push_release<A: Allocator>(text: &mut Vec<u8, A>, release: &Release) -> Result<(), AllocError>
+/// Adds the line of a release, with its newline.
+pub fn push_release<A: Allocator>(text: &mut Vec<u8, A>, release: &Release) -> Result<(), AllocError>
     ensures { OnOk result (text.new.items ≡ text.old.items ++ release_line release.now) }
 {
     text.extend_from_slice(b"r ")?;

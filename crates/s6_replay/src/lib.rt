@@ -12,5 +12,7 @@ mod turn;
 
 pub use block::{WriteFault, write_effect, write_whole};
 pub use counts::Counts;
+pub use effect_lines::{push_match, push_release};
 pub use fault::ReplayFault;
 pub use replay::run;
+pub use reply_text::{push_reply, push_row};

@@ -147,7 +147,8 @@ fn push_numbers<A: Allocator>(text: &mut Vec<u8, A>, row: &Row) -> Result<(), Al
 }
 
 // Adds a row: its serial, its name, and its ten fields.
-fn push_row<A: Allocator>(text: &mut Vec<u8, A>, row: &Row) -> Result<(), AllocError>
+/// Adds a row.
+pub fn push_row<A: Allocator>(text: &mut Vec<u8, A>, row: &Row) -> Result<(), AllocError>
     ensures { OnOk result (text.new.items ≡ text.old.items ++ row_text row.now) }
 {
     text.extend_from_slice(b"row ")?;

@@ -3,6 +3,7 @@
 
 mod change;
 mod chart;
+mod image;
 mod letters;
 mod moves;
 mod out;
@@ -16,6 +17,7 @@ mod timer;
 
 pub use change::Change;
 pub use chart::ChartState;
+pub use image::ServiceImage;
 pub use out::Out;
 pub use phase::Phase;
 pub use row::Row;

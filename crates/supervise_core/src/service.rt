@@ -15,6 +15,7 @@ ghost use Rattle.supervise_core.specs.StatusRow.{status_row};
 
 use super::change::Change;
 use super::chart::ChartState;
+use super::image::ServiceImage;
 use super::out::Out;
 use super::row::Row;
 use super::service_state::ServiceState;
@@ -109,6 +110,18 @@ impl<A: Allocator + Copy> Service<A> {
         ensures { result.now ≡ self.now.tally }
     {
         &self.tally
+    }
+
+    /// All of it as plain data. `NoMemory` where a growth was refused.
+    pub fn image(&self, alloc: A) -> Result<ServiceImage<A>, NoMemory>
+        ensures { IfOk result (λ image. image ≡ self.now) }
+    {
+        Ok(ServiceImage {
+            chart: self.chart,
+            status: self.status,
+            deaths: self.tally.list(alloc)?,
+            most: self.tally.most(),
+        })
     }
 
     /// Its state and what it stores of its marks, in a copy that takes the same changes.

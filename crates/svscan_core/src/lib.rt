@@ -4,6 +4,7 @@
 mod commit;
 mod entry;
 mod event;
+mod image;
 mod limits;
 mod listing;
 mod moves;
@@ -21,6 +22,7 @@ mod work;
 
 pub use entry::{Entry, Listed, ScanOrder};
 pub use event::Event;
+pub use image::RegistryImage;
 pub use limits::{ORDER_LIMIT, SERVICE_LIMIT};
 pub use listing::has_repeats;
 pub use plan::{Answer, RegistryPlan};

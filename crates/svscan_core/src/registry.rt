@@ -24,6 +24,7 @@ ghost use Rattle.svscan_core.specs.Work.Work.{do_nothing};
 
 use super::commit::commit_changes;
 use super::entry::{Entry, ScanOrder};
+use super::image::{RegistryImage, images_of};
 use super::pending::Pending;
 use super::plan::{Answer, RegistryPlan};
 use super::slots::Slots;
@@ -150,6 +151,17 @@ impl<A: Allocator + Copy> Registry<A> {
             ≡ find (λ s. bytes_eq name s.chart.name) self.now.shown.services }
     {
         self.slots.find(&name)
+    }
+
+    /// All services as plain data, and the serial of the next one. `NoMemory` where a growth was refused.
+    pub fn image(&self, alloc: A) -> Result<RegistryImage<A>, NoMemory>
+        ensures { IfOk result (λ image. image ≡ self.now.shown) }
+    {
+        let services = images_of(alloc, &self.slots)?;
+        Ok(RegistryImage {
+            services,
+            next_sid: self.next_sid,
+        })
     }
 
     /// What the service of this name is once all due timers went off, where that is not done yet; None where none has the name. Every

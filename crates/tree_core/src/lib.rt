@@ -5,6 +5,7 @@ mod ahead;
 mod choice;
 mod copied;
 mod effect;
+mod image;
 mod input;
 pub mod laws;
 mod limits;
@@ -17,6 +18,7 @@ mod tree;
 
 pub use effect::{Effect, Match, Release};
 pub use event_directory::{Hit, Message, Pattern, State, SubView};
+pub use image::Image;
 pub use input::{Act, Input, Listing, Target};
 pub use names::Names;
 pub use plain::{PlainAct, PlainInput};

@@ -17,6 +17,7 @@ ghost use Rattle.tree_core.specs.Step.{step_limit};
 
 use super::ahead::{are_gone, next_timer};
 use super::effect::Effect;
+use super::image::Image;
 use super::input::{Act, Input};
 use super::limits::SERVICE_LIMIT;
 use super::plan::plan_step;
@@ -25,7 +26,7 @@ use super::rows::{row_of, rows_of};
 use arrayvec::ArrayVec;
 use deadlines::Deadlines;
 use event_directory::{Directories, Pattern, SubView};
-use s6_events::{At, History, Name, NoMemory, SubId, WaitId};
+use s6_events::{At, History, Moment, Name, NoMemory, SubId, WaitId};
 use std::alloc::Allocator;
 use std::marker::Model;
 use supervise_core::Row;
@@ -205,11 +206,44 @@ impl<A: Allocator + Copy> Tree<A> {
         self.closing && are_gone(&self.registry)
     }
 
+    /// All that it stores as plain data: an image stands for just what its tree stands for. `NoMemory` where a growth was refused.
+    pub fn image(&self) -> Result<Image<A>, NoMemory>
+        ensures { IfOk result (λ image. image ≡ self.now) }
+    {
+        let alloc = self.registry.allocator();
+        let registry = self.registry.image(alloc)?;
+        let forgotten = self.waits.needed_from();
+        let kept = Vec::from_slice(alloc, kept_of(&self.history, forgotten))?;
+        let waits = self.waits.image(alloc)?;
+        let directories = self.directories.image(alloc)?;
+        Ok(Image {
+            clock: self.clock,
+            steps: self.steps,
+            closing: self.closing,
+            registry,
+            forgotten,
+            kept,
+            waits,
+            directories,
+        })
+    }
+
     /// How many steps it has taken, at most 2^48.
     pub fn steps(&self) -> u64
         ensures { (m : Machine) → StandsFor self.now m → result ≡ m.steps }
     {
         self.steps
+    }
+}
+
+// The moments that a history keeps, which are those from this place on.
+fn kept_of<A: Allocator + Copy>(history: &History<A>, forgotten: u64) -> &[Moment]
+    requires { history.now.forgotten ≡ forgotten }
+    ensures { result.now ≡ history.now.kept }
+{
+    match history.from(forgotten) {
+        Some(moments) => moments,
+        None => unreachable!(),
     }
 }
 

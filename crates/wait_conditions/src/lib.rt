@@ -4,6 +4,7 @@
 mod add_fault;
 mod counts;
 mod failure;
+mod image;
 mod judging;
 pub mod laws;
 mod next_deadline;
@@ -23,8 +24,13 @@ mod watched_service;
 mod watchers;
 
 pub use add_fault::AddFault;
+pub use failure::Failure;
+pub use image::{WaiterImage, WaitsImage};
 pub use next_deadline::earlier_of;
+pub use service_states::StateRun;
+pub use supervisor_state::{SinceState, SupervisorState};
 pub use verdict::{Verdict, WaitState};
 pub use wait_change::{WaitAnswer, WaitChange};
 pub use wait_plan::WaitsPlan;
 pub use waits::Waits;
+pub use watched_service::WatchedService;

@@ -169,6 +169,13 @@ impl<A: Allocator + Copy> ServiceStates<A> {
 }
 
 impl<A: Allocator> ServiceStates<A> {
+    /// The runs in their order.
+    pub fn runs(&self) -> &[StateRun]
+        ensures { result.now ≡ self.now.runs }
+    {
+        &self.runs
+    }
+
     /// What is known of a service once these moments have come too, one after the other.
     pub fn after(&self, sid: Sid, moments: &[Moment]) -> SupervisorState
         ensures { result ≡ state_over sid moments.now (state_in self.now.runs sid) }

@@ -8,6 +8,7 @@ ghost use Rattle.wait_conditions.specs.Verdict.{reaches};
 ghost use Rattle.wait_conditions.specs.Watchers.{AreDueFrom, BeganInOrder, earlier, serials_where, touched_by};
 ghost use Rattle.wait_conditions.specs.WaitsFields.{IsCounted, waiters_view};
 
+use crate::image::{WaiterImage, images_of};
 use crate::judging::reaches_deadline;
 use crate::next_deadline::earliest_deadline;
 use crate::planning::copy_touched;
@@ -134,6 +135,13 @@ impl<A: Allocator + Copy> WaiterList<A> {
     /// Its allocator.
     pub fn allocator(&self) -> A {
         *self.waiters.allocator()
+    }
+
+    /// All of them as plain data. `NoMemory` where a growth was refused.
+    pub fn images(&self, alloc: A) -> Result<Vec<WaiterImage<A>, A>, NoMemory>
+        ensures { IfOk result (λ images. images.items ≡ self.now.waiters) }
+    {
+        images_of(alloc, &self.waiters)
     }
 
     /// Those that these moments touch, once more.

@@ -17,6 +17,7 @@ ghost use Rattle.wait_conditions.specs.Watch.{Watch, new_watch, releases, waits_
 ghost use Rattle.wait_conditions.specs.Watch.{wait_terms, new_waiter, new_release, waiter_state};
 
 use crate::add_fault::AddFault;
+use crate::image::WaitsImage;
 use crate::planning::{list_serials, release_all};
 use crate::refusing::{deadline_for, refusal_for};
 use crate::service_states::ServiceStates;
@@ -89,6 +90,19 @@ impl<A: Allocator + Copy> Waits<A> {
         ensures { result ≡ standing_kept id self.now.waiters }
     {
         self.list.standing(id)
+    }
+
+    /// All that is shown as plain data. `NoMemory` where a growth was refused.
+    pub fn image(&self, alloc: A) -> Result<WaitsImage<A>, NoMemory>
+        ensures { IfOk result (λ image. image ≡ waits_shown self.now) }
+    {
+        let waiters = self.list.images(alloc)?;
+        Ok(WaitsImage {
+            count: self.count,
+            states: Vec::from_slice(alloc, self.states.runs())?,
+            waiters,
+            next: self.next,
+        })
     }
 
     /// The earliest deadline of the waiters that wait still, or None where none has one.

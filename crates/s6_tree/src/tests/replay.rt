@@ -5,6 +5,7 @@ use std::process::Abort;
 
 mod cut;
 mod fakes;
+mod images;
 mod limits;
 mod lines;
 mod printing;

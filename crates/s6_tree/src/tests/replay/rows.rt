@@ -9,14 +9,14 @@ type Answer = Result<(u64, u128, u128), ReplayFault>;
 
 // A script, all that is written, and the answer.
 #[derive(Clone, Copy)]
-struct Row {
+pub(super) struct Row {
     name: &'static str,
-    script: &'static str,
+    pub(super) script: &'static str,
     transcript: &'static str,
     answer: Answer,
 }
 
-const ROWS: &[Row] = &[
+pub(super) const ROWS: &[Row] = &[
     Row {
         name: "restart-after-pause",
         script: "s6-script 1\n0 1 scan web\n0 1 started 1 1 500\n300 1 death 1 1 code 1\n1299 1 tick\n1300 1 tick\n",

@@ -1,0 +1,5 @@
+pub mod Submitted
+pub mod Lasting
+pub mod Shown
+pub mod Opened
+pub mod Finished

@@ -1,0 +1,49 @@
+use Rattle.std.proofs.Common.{rules, ◌≡◌, ◌≤◌, [], ◌∷◌, ◌++◌, List, length, slice_get, Some, None, refl, sym, ap, subst, ◌∙◌, arith}
+use Rattle.std.specs.declared.alloc.Global.{Global}
+use Rattle.order_lanes.specs.Lane.{sent_in}
+use Rattle.order_lanes.specs.LaneOrders.{orders_of_lane}
+use Rattle.s6_events.specs.declared.order.Order.{Order}
+use Rattle.tree_core.specs.Effect.{outcome_of}
+use Rattle.tree_core.specs.Limits.{order_limit}
+use Rattle.tree_core.specs.declared.input.Input.{Input}
+use Rattle.run_records.specs.Runs.{RunStep}
+use Rattle.locked_services.specs.Running.{RunningView}
+use Rattle.locked_services.proofs.Lasting.{sound_step}
+use Rattle.locked_services.proofs.running.RunningTree.make_step.Goals as goal
+
+pub invariant_of-self-in-Ok : goal.invariant_of-self-in-Ok
+invariant_of-self-in-Ok g c =
+    let old = c.self.inside in
+    let v : RunningView = record { opening = old.opening; tree = old.tree; steps = old.run.steps; drains = old.drains.items; held = old.held; lanes = old.lanes.items } in
+    let w : RunningView = record { opening = old.opening; tree = c.apply_into.new.self; steps = c.add.new.self.steps; drains = old.drains.items; held = c.take.new.self; lanes = c.send_all.new.lanes.items } in
+    let i = c.in-Some-take.input in
+    let s : RunStep = record { input = i; outcome = outcome_of c.apply_into.new.effect } in
+    let held : old.held ≡ Some i = sym c.take.ensures.value ∙ c.in-Some-take.is in
+    let same : c.in-Some.input ≡ i = cc (c.in-Some.is, held) in
+    let steps : c.add.new.self.steps ≡ old.run.steps ++ s ∷ [] =
+    c.add.ensures
+    ∙ (ap (λ (xs : List RunStep). xs ++ record { input = c.in_ok-plain-in-Some.plain; outcome = s.outcome } ∷ []) c.reserve.ensures.steps
+    ∙ ap (λ (j : Input Global). old.run.steps ++ record { input = j; outcome = s.outcome } ∷ []) (c.in_ok-plain-in-Some.ensures ∙ same)) in
+    sound_step v w s c.self.invariant held (record { goes = c.in-Ok.ensures.step }) refl steps refl c.take.ensures.after c.send_all.ensures.len
+    (λ k below. c.send_all.ensures.sent k below
+    ∙ ap (λ (os : List Order). sent_in k old.lanes.items ++ orders_of_lane (length old.lanes.items) k os) c.as_slice.ensures.value)
+
+pub returns-in-Ok-clause-made : goal.returns-in-Ok-clause-made
+returns-in-Ok-clause-made g c =
+    let i = c.in-Some-take.input in
+    let s : RunStep = record { input = i; outcome = outcome_of c.apply_into.new.effect } in
+    let held : c.self.inside.held ≡ Some i = sym c.take.ensures.value ∙ c.in-Some-take.is in
+    let same : c.in-Some.input ≡ i = cc (c.in-Some.is, held) in
+    let steps : c.add.new.self.steps ≡ c.self.inside.run.steps ++ s ∷ [] =
+    c.add.ensures
+    ∙ (ap (λ (xs : List RunStep). xs ++ record { input = c.in_ok-plain-in-Some.plain; outcome = s.outcome } ∷ []) c.reserve.ensures.steps
+    ∙ ap (λ (j : Input Global). c.self.inside.run.steps ++ record { input = j; outcome = s.outcome } ∷ []) (c.in_ok-plain-in-Some.ensures ∙ same)) in (
+      c.take.ensures.after,
+      (s, ap (λ (v : RunningView). v.held) (sym c.self.view_is) ∙ held, steps ∙ ap (λ (v : RunningView). v.steps ++ s ∷ []) c.self.view_is),
+    )
+
+pub send_all-requires-clause-room : goal.send_all-requires-clause-room
+send_all-requires-clause-room g c k l at =
+    let r : order_limit ≤ l.free = c.requires.room k l (subst (λ (v : RunningView). slice_get v.lanes k ≡ Some l) c.self.view_is at) in
+    let n : length c.as_slice.result.now ≤ order_limit = c.as_slice.ensures.fits in
+    omega arith

@@ -1,0 +1,5 @@
+pub mod Submissions
+pub mod Running
+pub mod Shots
+pub mod Opening
+pub mod Closing

@@ -1,0 +1,17 @@
+//! A tree that several threads run: what one lock guards, and its promises.
+#![tactic(auto)]
+
+mod beginning;
+mod closing;
+mod opening;
+mod room;
+mod running;
+mod stop;
+mod taking;
+
+pub use beginning::Beginning;
+pub use closing::{CloseFault, Closed};
+pub use opening::{SeatEnds, seat_ends};
+pub use room::Room;
+pub use running::{RUN_LIMIT, RunningTree};
+pub use stop::{DriveStop, Driven, Stop};

@@ -1,0 +1,202 @@
+//! What the lock guards: the running tree and its board.
+ghost use Rattle.std.specs.Prelude.{◌≡◌, ◌≢◌, ◌≤◌, ◌∷◌, ◌++◌, [], None, IsSome, IsTrue, OnOk, OnErr, IfOk, length, ℕ, true, Some, option_map};
+ghost use Rattle.tree_core.specs.Effect.{outcome_of};
+ghost use Rattle.tree_core.specs.Limits.{order_limit};
+ghost use Rattle.tree_core.specs.Machine.{Machine};
+ghost use Rattle.tree_core.specs.StandsFor.{StandsFor};
+ghost use Rattle.run_records.specs.Runs.{RunStep, end_of, actor_at, outcome_at, reply_at};
+ghost use Rattle.locked_services.specs.Submissions.{NoneSeen};
+ghost use Rattle.locked_services.specs.Running.{run_limit};
+ghost use Rattle.locked_services.specs.Shots.{shot_of, Grows};
+ghost use Rattle.status_board.specs.Board.{last_shot};
+ghost use Rattle.locked_services.specs.declared.stop.Stop.TheVariants.{Done, Idle, RunFull, Blocked};
+ghost use Rattle.order_lanes.specs.Lane.{IsBlocked};
+ghost use Rattle.locked_services.specs.declared.stop.DriveStop.TheVariants as ended;
+
+use crate::running::RunningTree;
+use crate::stop::{DriveStop, Driven, Stop};
+use channel_names::Channels;
+use inbox::Ticket;
+use order_lanes::Lanes;
+use s6_events::{Actor, NoMemory};
+use status_board::{Board, Told};
+use std::alloc::Global;
+use std::marker::Model;
+use tree_core::{Effect, Reply};
+
+/// What one lock guards: the running tree, the board on which it is published, and whether its present state was published.
+#[derive(Drop)]
+pub struct Room<C: Channels + Lanes, B: Board<C>> {
+    running: RunningTree<C>,
+    board: B,
+    is_shown: bool,
+}
+
+impl<C: Channels + Lanes, B: Board<C>> Model for Room<C, B> {
+    ghost use Rattle.locked_services.specs.Shots.{RoomView, IsSoundRoom};
+
+    ghost Value = { RoomView };
+
+    ghost view = { λ r. record { running = r.running; shots = B.shots r.board; is_shown = r.is_shown } };
+
+    ghost invariant = { λ r. IsSoundRoom (record { running = r.running; shots = B.shots r.board; is_shown = r.is_shown }) };
+}
+
+impl<C: Channels + Lanes, B: Board<C>> Room<C, B> {
+    /// A room of this running tree, whose present state alone was published on the board.
+    pub fn begin(running: RunningTree<C>, board: B) -> Room<C, B>
+        requires { (m : Machine) → StandsFor running.opening m →
+            B.shots board ≡ shot_of (end_of m running.steps) ∷ [] }
+        ensures { result ≡ record { running = running; shots = B.shots board; is_shown = true } }
+    {
+        Room {
+            running,
+            board,
+            is_shown: true,
+        }
+    }
+
+    /// Makes one step, of the input that is held or, where none is held, of one newly taken.
+    pub fn step_one(&mut self) -> Stop
+        ensures opening { self.new.running.opening ≡ self.old.running.opening }
+        ensures shots { self.new.shots ≡ self.old.shots }
+        ensures done { result ≡ Done → (s : RunStep)
+            × (self.new.running.steps ≡ self.old.running.steps ++ s ∷ [])
+            × (IsSome self.old.running.held → self.old.running.held ≡ Some s.input) }
+        ensures other { result ≢ Done → (self.new.running.steps ≡ self.old.running.steps)
+            × (self.new.running.tree ≡ self.old.running.tree) }
+        ensures blocked { (k : ℕ) → result ≡ Blocked k
+            → IsBlocked order_limit k self.new.running.lanes }
+        ensures full { result ≡ RunFull → run_limit ≤ length self.new.running.steps }
+        ensures idle { result ≡ Idle → (self.new.running.held ≡ None)
+            × NoneSeen self.new.running.drains }
+    {
+        let stop = self.running.step_one();
+        if stop == Stop::Done {
+            self.is_shown = false;
+        }
+        stop
+    }
+
+    /// Publishes the present state. `NoMemory` where that is refused: the board is then as it was.
+    pub fn publish(&mut self) -> Result<(), NoMemory>
+        ensures running { self.new.running ≡ self.old.running }
+        ensures added { OnOk result ((m : Machine) → StandsFor self.old.running.opening m →
+            self.new.shots ≡ self.old.shots ++ shot_of (end_of m self.old.running.steps) ∷ []) }
+        ensures shown { OnOk result (self.new.is_shown ≡ true) }
+        ensures same { OnErr result ((self.new.shots ≡ self.old.shots)
+            × (self.new.is_shown ≡ self.old.is_shown)) }
+    {
+        let shot = self.running.shot();
+        self.board.publish(&shot)?;
+        self.is_shown = true;
+        Ok(())
+    }
+
+    /// Names all that was published so far.
+    pub fn tell(&self) -> Told<C>
+        ensures { result ≡ self.now.shots }
+    {
+        self.board.tell()
+    }
+
+    /// The reply to the input of a ticket; None where its step isn't made yet. `NoMemory` where a growth was refused.
+    pub fn reply(&self, ticket: Ticket) -> Result<Option<Reply<Global>>, NoMemory>
+        ensures { IfOk result
+            (λ reply. reply ≡ reply_at ticket.actor ticket.number self.now.running.steps) }
+    {
+        self.running.reply(ticket)
+    }
+
+    /// All that the step of this number gave, from 1; None where there are fewer. `NoMemory` where a growth was refused.
+    pub fn effect(&self, number: u64) -> Result<Option<Effect<Global>>, NoMemory>
+        ensures { IfOk result (λ effect. option_map (λ e. outcome_of e) effect
+            ≡ outcome_at number self.now.running.steps) }
+    {
+        self.running.effect(number)
+    }
+
+    /// Whose input the step of this number took, from 1; None where there are fewer.
+    pub fn actor(&self, number: u64) -> Option<Actor>
+        ensures { result ≡ actor_at number self.now.running.steps }
+    {
+        self.running.actor(number)
+    }
+
+    // Makes at most so many steps.
+    fn step_many(&mut self, most: u64) -> Driven
+        ensures opening { self.new.running.opening ≡ self.old.running.opening }
+        ensures shots { self.new.shots ≡ self.old.shots }
+        ensures steps { Grows result.steps self.old.running.steps self.new.running.steps }
+        ensures most { result.steps ≤ most }
+        ensures count { result.stop ≡ ended.Count → result.steps ≡ most }
+        ensures blocked { (k : ℕ) → result.stop ≡ ended.Blocked k
+            → IsBlocked order_limit k self.new.running.lanes }
+        ensures full { result.stop ≡ ended.RunFull → run_limit ≤ length self.new.running.steps }
+        ensures idle { result.stop ≡ ended.Idle → (self.new.running.held ≡ None)
+            × NoneSeen self.new.running.drains }
+    {
+        for steps in 0..most {
+            let stop = match self.step_one() {
+                Stop::Done => continue,
+                Stop::Idle => DriveStop::Idle,
+                Stop::Blocked(lane) => DriveStop::Blocked(lane),
+                Stop::RunFull => DriveStop::RunFull,
+                Stop::NoMemory => DriveStop::NoMemory,
+            };
+            return Driven { steps, stop };
+        }
+        Driven {
+            steps: most,
+            stop: DriveStop::Count,
+        }
+    }
+
+    /// Makes at most so many steps, and then publishes, if it made any. What an earlier drive could not publish is published first.
+    pub fn drive(&mut self, most: u64) -> Driven
+        ensures opening { self.new.running.opening ≡ self.old.running.opening }
+        ensures steps { Grows result.steps self.old.running.steps self.new.running.steps }
+        ensures most { result.steps ≤ most }
+        ensures count { result.stop ≡ ended.Count → result.steps ≡ most }
+        ensures blocked { (k : ℕ) → result.stop ≡ ended.Blocked k
+            → IsBlocked order_limit k self.new.running.lanes }
+        ensures full { result.stop ≡ ended.RunFull → run_limit ≤ length self.new.running.steps }
+        ensures idle { result.stop ≡ ended.Idle → (self.new.running.held ≡ None)
+            × NoneSeen self.new.running.drains }
+        ensures shown { result.stop ≢ ended.NoMemory → self.new.is_shown ≡ true }
+    {
+        if !self.is_shown && self.publish().is_err() {
+            return Driven {
+                steps: 0,
+                stop: DriveStop::NoMemory,
+            };
+        }
+        let driven = self.step_many(most);
+        if !self.is_shown && self.publish().is_err() {
+            return Driven {
+                steps: driven.steps,
+                stop: DriveStop::NoMemory,
+            };
+        }
+        driven
+    }
+
+    /// Whether the present state is the last that was published.
+    pub fn is_shown(&self) -> bool
+        ensures value { result ≡ self.now.is_shown }
+        ensures last { IsTrue result → (m : Machine) → StandsFor self.now.running.opening m
+            → last_shot self.now.shots ≡ Some (shot_of (end_of m self.now.running.steps)) }
+    {
+        self.is_shown
+    }
+
+    /// Whether the tree has ended: it is closing, and the supervisor of each service that stands has ended.
+    pub fn ended(&self) -> bool {
+        self.running.ended()
+    }
+
+    /// The next moment, in milliseconds, to which a timer or a deadline is set; None where there is none.
+    pub fn next_due(&self) -> Option<u64> {
+        self.running.next_due()
+    }
+}

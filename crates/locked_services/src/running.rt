@@ -1,0 +1,262 @@
+//! A tree with its run, the ends of the rings that it takes from, and the lanes that it sends into.
+ghost use Rattle.std.specs.Prelude.{◌≡◌, ◌≢◌, ◌∷◌, ◌++◌, [], ◌≤◌, ◌<◌, ℕ, length, None, IfSome, IfNone, IsSome, IsTrue, IsFalse, OnOk, OnErr, IfOk, IfErr, Some, option_map};
+ghost use Rattle.tree_core.specs.Effect.{outcome_of};
+ghost use Rattle.tree_core.specs.Limits.{order_limit};
+ghost use Rattle.tree_core.specs.Machine.{Machine};
+ghost use Rattle.tree_core.specs.StandsFor.{StandsFor};
+ghost use Rattle.run_records.specs.Runs.{RunStep, IsLegal, end_of, actor_at, outcome_at, reply_at};
+ghost use Rattle.locked_services.specs.Submissions.{AreNumbered, NoneSeen, taken_from};
+ghost use Rattle.locked_services.specs.Running.{run_limit};
+ghost use Rattle.locked_services.specs.Closing.{AreDone};
+ghost use Rattle.locked_services.specs.Shots.{shot_of};
+ghost use Rattle.locked_services.specs.declared.stop.Stop.TheVariants.{Done, Idle, RunFull, Blocked};
+ghost use Rattle.order_lanes.specs.Lane.{HaveRoom, IsBlocked, sent_in};
+
+use crate::beginning::Beginning;
+use crate::closing::{CloseFault, Closed, are_drained};
+use crate::stop::Stop;
+use crate::taking::take_next;
+use channel_names::Channels;
+use inbox::{Drain, Finished, Ticket};
+use order_lanes::{Lane, Lanes, blocked_lane, send_all};
+use run_records::Run;
+use s6_events::{Actor, NoMemory};
+use status_board::Shot;
+use std::alloc::Global;
+use std::marker::Model;
+use tree_core::{Effect, Image, Input, ORDER_LIMIT, Reply, Tree};
+
+/// The most steps of a run.
+pub const RUN_LIMIT: usize = 262_144;
+
+/// A tree with its run so far, the ends of the rings that it takes inputs from, an input that was taken and isn't done, and the lanes
+/// that it sends orders into. Its invariant is what is promised of a run at every moment.
+#[derive(Drop)]
+pub struct RunningTree<C: Channels + Lanes> {
+    alloc: Global,
+    opening: Image<Global>,
+    tree: Tree<Global>,
+    run: Run,
+    drains: Vec<Drain<C>>,
+    held: Option<Input<Global>>,
+    lanes: Vec<Lane<C>>,
+}
+
+impl<C: Channels + Lanes> Model for RunningTree<C> {
+    ghost use Rattle.locked_services.specs.Running.{RunningView, IsSoundRunning};
+
+    ghost Value = { RunningView };
+
+    ghost view = { λ r. record { opening = r.opening; tree = r.tree; steps = r.run.steps; drains = r.drains.items; held = r.held; lanes = r.lanes.items } };
+
+    ghost invariant = { λ r. IsSoundRunning (record { opening = r.opening; tree = r.tree; steps = r.run.steps; drains = r.drains.items; held = r.held; lanes = r.lanes.items }) };
+}
+
+impl<C: Channels + Lanes> RunningTree<C> {
+    /// A run that begins with this tree: no step is made, and nothing was taken or sent.
+    pub fn begin(
+        alloc: Global,
+        beginning: Beginning,
+        tree: Tree<Global>,
+        drains: Vec<Drain<C>>,
+        lanes: Vec<Lane<C>>,
+    ) -> RunningTree<C>
+        requires opening { beginning.opening ≡ tree }
+        requires steps { beginning.run.steps ≡ [] }
+        requires numbered { AreNumbered drains.items }
+        requires untaken { (actor : ℕ) → taken_from actor drains.items ≡ [] }
+        requires lanes { 0 < length lanes.items }
+        requires unsent { (k : ℕ) → sent_in k lanes.items ≡ [] }
+        ensures { result ≡ record {
+          opening = tree;
+          tree = tree;
+          steps = [];
+          drains = drains.items;
+          held = None;
+          lanes = lanes.items;
+        } }
+    {
+        let Beginning { opening, run } = beginning;
+        RunningTree {
+            alloc,
+            opening,
+            tree,
+            run,
+            drains,
+            held: None,
+            lanes,
+        }
+    }
+
+    // Takes an input from the rings, if none is held. Whether one is held then.
+    fn fetch(&mut self) -> bool
+        ensures opening { self.new.opening ≡ self.old.opening }
+        ensures tree { self.new.tree ≡ self.old.tree }
+        ensures steps { self.new.steps ≡ self.old.steps }
+        ensures lanes { self.new.lanes ≡ self.old.lanes }
+        ensures kept { IsSome self.old.held → self.new.held ≡ self.old.held }
+        ensures yes { IsTrue result → IsSome self.new.held }
+        ensures no { IsFalse result → (self.new.held ≡ None) × NoneSeen self.new.drains }
+    {
+        if self.held.is_some() {
+            return true;
+        }
+        self.held = take_next(&mut self.drains);
+        self.held.is_some()
+    }
+
+    // The least lane that may have no room for the orders of a step.
+    fn blocked(&mut self) -> Option<usize>
+        ensures opening { self.new.opening ≡ self.old.opening }
+        ensures tree { self.new.tree ≡ self.old.tree }
+        ensures steps { self.new.steps ≡ self.old.steps }
+        ensures held { self.new.held ≡ self.old.held }
+        ensures blocked { IfSome result (λ k. IsBlocked order_limit k self.new.lanes) }
+        ensures room { IfNone result (HaveRoom order_limit self.new.lanes) }
+    {
+        blocked_lane(&mut self.lanes, ORDER_LIMIT)
+    }
+
+    // Makes the step of the input that is held.
+    fn make_step(&mut self) -> Result<(), NoMemory>
+        requires held { IsSome self.old.held }
+        requires room { HaveRoom order_limit self.old.lanes }
+        ensures opening { self.new.opening ≡ self.old.opening }
+        ensures made { OnOk result ((self.new.held ≡ None)
+            × ((s : RunStep) × (self.old.held ≡ Some s.input)
+            × (self.new.steps ≡ self.old.steps ++ s ∷ []))) }
+        ensures refused { OnErr result ((self.new.held ≡ self.old.held)
+            × (self.new.tree ≡ self.old.tree) × (self.new.steps ≡ self.old.steps)) }
+    {
+        let plain = match &self.held {
+            Some(input) => input.plain(self.alloc)?,
+            None => unreachable!(),
+        };
+        self.run.reserve(plain.actor)?;
+        let Some(input) = self.held.take() else {
+            unreachable!()
+        };
+        let mut effect = Effect::new(self.alloc);
+        match self.tree.apply_into(input, &mut effect) {
+            Ok(()) => {
+                let _count = effect.orders.len();
+                send_all(&mut self.lanes, effect.orders.as_slice());
+                self.run.add(plain, effect);
+                Ok(())
+            }
+            Err((input, refused)) => {
+                self.held = Some(input);
+                Err(refused)
+            }
+        }
+    }
+
+    /// Makes one step, of the input that is held or, where none is held, of one newly taken. What keeps it from that is looked for in
+    /// this order: a full run, a lane without room, no input.
+    pub fn step_one(&mut self) -> Stop
+        ensures opening { self.new.opening ≡ self.old.opening }
+        ensures done { result ≡ Done → (s : RunStep) × (self.new.steps ≡ self.old.steps ++ s ∷ [])
+            × (IsSome self.old.held → self.old.held ≡ Some s.input) }
+        ensures other { result ≢ Done → (self.new.steps ≡ self.old.steps)
+            × (self.new.tree ≡ self.old.tree) }
+        ensures blocked { (k : ℕ) → result ≡ Blocked k → IsBlocked order_limit k self.new.lanes }
+        ensures full { result ≡ RunFull → run_limit ≤ length self.new.steps }
+        ensures idle { result ≡ Idle → (self.new.held ≡ None) × NoneSeen self.new.drains }
+    {
+        if self.run.len() >= RUN_LIMIT {
+            return Stop::RunFull;
+        }
+        if let Some(lane) = self.blocked() {
+            return Stop::Blocked(lane);
+        }
+        if !self.fetch() {
+            return Stop::Idle;
+        }
+        match self.make_step() {
+            Ok(()) => Stop::Done,
+            Err(NoMemory) => Stop::NoMemory,
+        }
+    }
+
+    /// The present state, to be published.
+    pub fn shot(&self) -> Shot
+        ensures { (m : Machine) → StandsFor self.now.opening m → result ≡ shot_of (end_of m self.now.steps) }
+    {
+        Shot {
+            at: self.tree.steps(),
+            rows: self.tree.rows(),
+        }
+    }
+
+    /// The reply to the input of a ticket; None where its step isn't made yet. `NoMemory` where a growth was refused.
+    pub fn reply(&self, ticket: Ticket) -> Result<Option<Reply<Global>>, NoMemory>
+        ensures { IfOk result (λ reply. reply ≡ reply_at ticket.actor ticket.number self.now.steps) }
+    {
+        self.run.reply(self.alloc, ticket.actor, ticket.number)
+    }
+
+    /// All that the step of this number gave, from 1; None where there are fewer. `NoMemory` where a growth was refused.
+    pub fn effect(&self, number: u64) -> Result<Option<Effect<Global>>, NoMemory>
+        ensures { IfOk result
+            (λ effect. option_map (λ e. outcome_of e) effect ≡ outcome_at number self.now.steps) }
+    {
+        self.run.effect(self.alloc, number)
+    }
+
+    /// Whose input the step of this number took, from 1; None where there are fewer.
+    pub fn actor(&self, number: u64) -> Option<Actor>
+        ensures { result ≡ actor_at number self.now.steps }
+    {
+        self.run.actor(number)
+    }
+
+    // The tree alone.
+    fn into_tree(self) -> Tree<Global>
+        ensures { result ≡ self.tree }
+    {
+        let RunningTree { tree, .. } = self;
+        tree
+    }
+
+    /// Ends the run, where there are as many finishes as seats, and all that they submitted was taken and done. Else all comes back.
+    pub fn close(
+        self,
+        finishes: Vec<Finished<C>>,
+    ) -> Result<Closed, (RunningTree<C>, Vec<Finished<C>>, CloseFault)>
+        ensures tree { IfOk result (λ closed. (closed.tree ≡ self.tree)
+            × (closed.steps ≡ length self.steps)) }
+        ensures legal { IfOk result (λ closed. (m : Machine) → StandsFor self.opening m
+            → IsLegal m self.steps × StandsFor closed.tree (end_of m self.steps)) }
+        ensures whole { IfOk result (λ closed. AreDone self.steps finishes.items) }
+        ensures each { IfOk result (λ closed. length finishes.items ≡ length self.drains) }
+        ensures back { IfErr result (λ e. (e.0.opening ≡ self.opening) × (e.0.tree ≡ self.tree)
+            × (e.0.steps ≡ self.steps) × (e.0.held ≡ self.held) × (e.1.items ≡ finishes.items)) }
+    {
+        let mut running = self;
+        let mut finishes = finishes;
+        if finishes.len() != running.drains.len() {
+            return Err((running, finishes, CloseFault::Missing));
+        }
+        match are_drained(&mut running.drains, &mut finishes) {
+            None => return Err((running, finishes, CloseFault::Missing)),
+            Some(false) => return Err((running, finishes, CloseFault::Left)),
+            Some(true) => {}
+        }
+        if running.held.is_some() {
+            return Err((running, finishes, CloseFault::Left));
+        }
+        let steps = running.run.len() as u64;
+        let tree = running.into_tree();
+        Ok(Closed { tree, steps })
+    }
+
+    /// Whether the tree has ended: it is closing, and the supervisor of each service that stands has ended.
+    pub fn ended(&self) -> bool {
+        self.tree.ended()
+    }
+
+    /// The next moment, in milliseconds, to which a timer or a deadline is set; None where there is none.
+    pub fn next_due(&self) -> Option<u64> {
+        self.tree.next_due()
+    }
+}

@@ -1,0 +1,4 @@
+pub mod Named
+pub mod Filled
+pub mod Numbered
+pub mod Readers

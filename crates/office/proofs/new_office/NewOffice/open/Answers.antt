@@ -1,0 +1,32 @@
+use Rattle.std.proofs.Common.{◌≡◌, ℕ, List, [], ◌∷◌, Vec, Global, slice_get, sym, ap, subst, ◌∙◌}
+use Rattle.inbox.specs.Ends.{SeatView}
+use Rattle.status_board.specs.declared.shot.Shot.{Shot}
+use Rattle.tree_core.specs.StandsFor.{StandsFor}
+use Rattle.locked_services.specs.Opening.{AreUnused}
+use Rattle.locked_services.specs.Shots.{shot_of}
+use Rattle.office.proofs.Named.{named_lanes, named_before}
+use Rattle.office.specs.Names.{lane_ring_of, asked_of}
+use Rattle.office.specs.NewOffice.{NewOfficeView}
+use Rattle.office.specs.Opening.{AreReaders}
+use Rattle.office.proofs.new_office.NewOffice.open.Goals as goal
+
+pub into_open-requires-clause-rings : goal.into_open-requires-clause-rings
+into_open-requires-clause-rings g c =
+    named_lanes g.C.Lanes.lane_ring c.self.inside.lane_rings.items c.self.invariant.numbered
+    (λ k. c.requires.lanes k ∙ ap (λ (v : NewOfficeView g.row.B.Denot). lane_ring_of (slice_get v.lane_rings k)) (sym c.self.view_is))
+
+pub into_open-requires-clause-before : goal.into_open-requires-clause-before
+into_open-requires-clause-before g c =
+    named_before g.B.Backend.asked g.C.Lanes.asked_before c.self.inside.backends.items
+    (λ k. c.requires.before k
+    ∙ ap (λ (v : NewOfficeView g.row.B.Denot). asked_of g.B.Backend.asked (slice_get v.backends k)) (sym c.self.view_is))
+
+pub returns-in-Ok-clause-unused : goal.returns-in-Ok-clause-unused
+returns-in-Ok-clause-unused g c =
+    subst (λ (seats : Vec SeatView Global). AreUnused seats.items) (sym c.into_open.ensures.seats) c.in-Ok.ensures.unused
+
+pub returns-in-Ok-clause-first : goal.returns-in-Ok-clause-first
+returns-in-Ok-clause-first g c m stands =
+    let here = subst (λ (v : NewOfficeView g.row.B.Denot). StandsFor v.tree m) (sym c.self.view_is) stands in
+    subst (λ (readers : Vec (List Shot) Global). AreReaders (shot_of m ∷ []) readers.items) (sym c.into_open.ensures.readers)
+    (subst (λ (published : List Shot). AreReaders published c.in-Ok.parts.readers.items) (c.in-Ok.ensures.first m here) c.in-Ok.ensures.known)

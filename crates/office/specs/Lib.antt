@@ -1,0 +1,3 @@
+pub mod NewOffice
+pub mod Names
+pub mod Opening

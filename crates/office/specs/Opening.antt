@@ -1,0 +1,18 @@
+-- What holds of the parts of an office when it is opened.
+use Rattle.std.specs.Prelude.{◌≡◌, ℕ, ◌+◌, List, slice_get, Some}
+use Rattle.channel_names.specs.RingName.{RingName}
+use Rattle.order_lanes.specs.Lane.{LaneRingView}
+use Rattle.s6_events.specs.declared.order.Order.{Order}
+use Rattle.status_board.specs.declared.shot.Shot.{Shot}
+
+-- each reader knows just what was published so far
+abbrev pub AreReaders : List Shot → List (List Shot) → Type 0
+AreReaders published readers = (k : ℕ) (known : List Shot) → slice_get readers k ≡ Some known → known ≡ published
+
+-- from this number on, each ring stands at its lane's place and has the name of the lane's ring
+abbrev pub AreLaneRings : (ℕ → RingName) → ℕ → List LaneRingView → Type 0
+AreLaneRings names n rings = (k : ℕ) (r : LaneRingView) → slice_get rings k ≡ Some r → (r.number ≡ n + k) × (r.ring ≡ names r.number)
+
+-- from this number on, each lane's backend was asked before what is said of its lane
+abbrev pub AreAsked : {B : Type 0} → (B → List Order) → (ℕ → List Order) → ℕ → List B → Type 0
+AreAsked {B} asked before n backends = (k : ℕ) (b : B) → slice_get backends k ≡ Some b → asked b ≡ before (n + k)

@@ -1,0 +1,71 @@
+//! The ends of a new board: its writer, and a reader for each seat.
+ghost use Rattle.std.specs.Prelude.{◌≡◌, ◌≤◌, ◌⊎◌, ◌∷◌, [], IfOk, IfErr, length};
+ghost use Rattle.tree_core.specs.Machine.{Machine};
+ghost use Rattle.tree_core.specs.StandsFor.{StandsFor};
+ghost use Rattle.locked_services.specs.Shots.{shot_of};
+ghost use Rattle.office.specs.Opening.{AreReaders};
+ghost use Rattle.office.specs.declared.new_office.OpenFault.TheVariants as fault;
+
+use crate::new_office::OpenFault;
+use channel_names::Channels;
+use status_board::{BoardReader, BoardWriter, NewBoard, Shot};
+use std::alloc::Global;
+use std::sync::Wait;
+use tree_core::Tree;
+
+// The first shot of a run of this tree.
+fn first_shot(tree: &Tree<Global>) -> Shot
+    ensures { (m : Machine) → StandsFor tree.now m → result ≡ shot_of m }
+{
+    Shot {
+        at: tree.steps(),
+        rows: tree.rows(),
+    }
+}
+
+// So many readers of this board.
+#[tactic(auto, using(crate::proofs::Readers::readers_more))]
+fn readers_of<C: Channels, R: Wait + Drop>(
+    alloc: Global,
+    writer: &BoardWriter<C, R>,
+    count: usize,
+) -> Result<Vec<BoardReader<C>>, OpenFault>
+    ensures each { IfOk result (λ readers. AreReaders writer.now readers.items) }
+    ensures count { IfOk result (λ readers. length readers.items ≡ count) }
+    ensures fault { IfErr result (λ e. (e ≡ fault.NoMemory) ⊎ (e ≡ fault.Board)) }
+{
+    let mut readers = Vec::new(alloc);
+    for _ in 0..count {
+        let Ok(reader) = writer.reader() else {
+            return Err(OpenFault::Board);
+        };
+        if readers.push(reader).is_err() {
+            return Err(OpenFault::NoMemory);
+        }
+    }
+    Ok(readers)
+}
+
+/// The writer and so many readers of a board on which the first shot of this tree was published, in a run whose board it is.
+pub fn board_ends<C: Channels, R: Wait + Drop>(
+    alloc: Global,
+    rt: R,
+    board: NewBoard,
+    tree: &Tree<Global>,
+    readers: usize,
+) -> Result<(BoardWriter<C, R>, Vec<BoardReader<C>>), OpenFault>
+    requires board { board ≡ C.board }
+    requires readers { (1 ≤ readers) × (readers ≤ 16) }
+    ensures first { IfOk result (λ ends. (m : Machine) → StandsFor tree.now m
+        → ends.0 ≡ shot_of m ∷ []) }
+    ensures readers { IfOk result (λ ends. AreReaders ends.0 ends.1.items) }
+    ensures count { IfOk result (λ ends. length ends.1.items ≡ readers) }
+    ensures fault { IfErr result (λ e. (e ≡ fault.NoMemory) ⊎ (e ≡ fault.Board)) }
+{
+    let shot = first_shot(tree);
+    let Ok(writer) = board.open::<C, R, Global>(alloc, rt, readers, &shot) else {
+        return Err(OpenFault::NoMemory);
+    };
+    let all = readers_of(alloc, &writer, readers)?;
+    Ok((writer, all))
+}

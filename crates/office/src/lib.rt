@@ -1,0 +1,13 @@
+//! The office: a tree that several threads run, behind one lock, with its lanes beside it.
+#![tactic(auto)]
+
+mod board_ends;
+mod carrying;
+mod lane_ends;
+mod new_office;
+mod office;
+mod opening;
+
+pub use new_office::{ACTOR_LIMIT, LANE_LIMIT, NewOffice, OpenFault};
+pub use office::{NotStarted, Office};
+pub use opening::Opened;

@@ -1,0 +1,152 @@
+//! The office: a room behind its lock, and desks behind theirs.
+ghost use Rattle.std.specs.Prelude.{◌≡◌, ◌≤◌, ◌<◌, length};
+ghost use Rattle.locked_services.specs.declared.stop.DriveStop.TheVariants as ended;
+
+use crate::carrying::{carry_in_turns, carry_many};
+use channel_names::Channels;
+use inbox::Ticket;
+use locked_services::{Driven, Room};
+use order_lanes::{Backend, Carried, Desk, Lanes, Report};
+use s6_events::{Actor, NoMemory};
+use status_board::{Board, Told};
+use std::alloc::Global;
+use std::marker::Model;
+use std::sync::{Mutex, Wait};
+use std::thread;
+use std::thread::Threads;
+use thiserror::Error;
+use tree_core::{Effect, Reply};
+
+/// The thread of this lane, and maybe those of greater ones, could not be made.
+#[derive(Clone, Copy, PartialEq, Eq, Debug, Error)]
+#[error("no thread for lane {lane}")]
+pub struct NotStarted {
+    pub lane: usize,
+}
+
+/// A tree that several threads run: a room, which one thread at a time enters, and beside it a desk for each lane behind a lock of
+/// its own, so that no backend keeps anybody out of the room. What is promised of a room and of a desk holds whenever their lock is
+/// free. Contracts see how many lanes there are.
+#[derive(Drop)]
+pub struct Office<C: Channels + Lanes, D: Board<C>, B: Backend> {
+    room: Mutex<Room<C, D>>,
+    pub(crate) desks: Vec<Mutex<Desk<B, C>>>,
+}
+
+impl<C: Channels + Lanes, D: Board<C>, B: Backend> Model for Office<C, D, B> {
+    ghost use Rattle.std.specs.Prelude.{ℕ, length};
+
+    ghost Value = { ℕ };
+
+    ghost view = { λ o. length o.desks.items };
+}
+
+impl<C: Channels + Lanes, D: Board<C>, B: Backend> Office<C, D, B> {
+    /// An office of this room and these desks.
+    pub fn over(room: Room<C, D>, desks: Vec<Mutex<Desk<B, C>>>) -> Office<C, D, B>
+        ensures { result ≡ length desks.items }
+    {
+        Office {
+            room: Mutex::new(room),
+            desks,
+        }
+    }
+
+    /// How many lanes it has.
+    pub fn lanes(&self) -> usize
+        ensures { result ≡ self.now }
+    {
+        self.desks.len()
+    }
+
+    /// Makes at most so many steps in the room, and publishes where it made any.
+    pub fn drive<W: Wait>(&self, rt: &W, most: u64) -> Driven
+        ensures most { result.steps ≤ most }
+        ensures count { result.stop ≡ ended.Count → result.steps ≡ most }
+    {
+        self.room.lock(rt).drive(most)
+    }
+
+    /// Names all that was published so far.
+    pub fn tell<W: Wait>(&self, rt: &W) -> Told<C> {
+        self.room.lock(rt).tell()
+    }
+
+    /// The reply to the input of a ticket; None where its step isn't made yet. `NoMemory` where a growth was refused.
+    pub fn reply<W: Wait>(
+        &self,
+        rt: &W,
+        ticket: Ticket,
+    ) -> Result<Option<Reply<Global>>, NoMemory> {
+        self.room.lock(rt).reply(ticket)
+    }
+
+    /// All that the step of this number gave, from 1; None where there are fewer. `NoMemory` where a growth was refused.
+    pub fn effect<W: Wait>(&self, rt: &W, number: u64) -> Result<Option<Effect<Global>>, NoMemory> {
+        self.room.lock(rt).effect(number)
+    }
+
+    /// Whose input the step of this number took, from 1; None where there are fewer.
+    pub fn actor<W: Wait>(&self, rt: &W, number: u64) -> Option<Actor> {
+        self.room.lock(rt).actor(number)
+    }
+
+    /// Whether the tree has ended: it is closing, and the supervisor of each service that stands has ended.
+    pub fn ended<W: Wait>(&self, rt: &W) -> bool {
+        self.room.lock(rt).ended()
+    }
+
+    /// The next moment, in milliseconds, to which a timer or a deadline is set; None where there is none.
+    pub fn next_due<W: Wait>(&self, rt: &W) -> Option<u64> {
+        self.room.lock(rt).next_due()
+    }
+
+    /// Asks a lane's backend what its ring gives, while it takes that, and at most so many times: the last answer.
+    pub fn carry<W: Wait>(&self, rt: &W, lane: usize, most: u64) -> Carried
+        requires lane { lane < self.now }
+        requires most { 1 ≤ most }
+    {
+        let mut desk = self.desks[lane].lock(rt);
+        carry_many(&mut *desk, most)
+    }
+
+    /// The next report of a lane's backend, if it has one.
+    pub fn report<W: Wait>(&self, rt: &W, lane: usize) -> Option<Report>
+        requires { lane < self.now }
+    {
+        self.desks[lane].lock(rt).report_one()
+    }
+}
+
+impl<C: Channels + Lanes + Send + Sync, D: Board<C>, B: Backend + Send> Office<C, D, B> {
+    /// Serves each lane in a thread of its own: so many times its backend is asked what its ring gives. `NotStarted` names the least
+    /// lane whose thread could not be made; the others were served.
+    pub fn serve_lanes<R: Threads + Wait + Sync>(
+        &self,
+        rt: &R,
+        turns: u64,
+    ) -> Result<(), NotStarted> {
+        match serve_each(rt, self.desks.as_slice(), turns) {
+            Some(lane) => Err(NotStarted { lane }),
+            None => Ok(()),
+        }
+    }
+}
+
+// Serves each desk in a thread of its own: the least place of one whose thread could not be made.
+fn serve_each<B: Backend + Send, L: Lanes + Send + Sync, R: Threads + Wait + Sync>(
+    rt: &R,
+    desks: &[Mutex<Desk<B, L>>],
+    turns: u64,
+) -> Option<usize> {
+    thread::scope(thread::scope_env(), rt, |scope| {
+        let mut first = None;
+        for (lane, desk) in desks.iter().enumerate() {
+            let is_started = scope.spawn(move || carry_in_turns(rt, desk, turns)).is_ok();
+            if !is_started && first.is_none() {
+                first = Some(lane);
+            }
+        }
+        first
+    })
+}

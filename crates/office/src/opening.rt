@@ -1,0 +1,198 @@
+//! How an office is opened.
+ghost use Rattle.std.specs.Prelude.{◌≡◌, ◌⊎◌, ◌∷◌, [], ◌<◌, ◌≤◌, ℕ, true, IfOk, IfErr, Some, length, slice_get, vec_capacity};
+ghost use Rattle.tree_core.specs.Machine.{Machine};
+ghost use Rattle.tree_core.specs.StandsFor.{StandsFor};
+ghost use Rattle.locked_services.specs.Opening.{AreNamed, AreUnused};
+ghost use Rattle.locked_services.specs.Shots.{shot_of};
+ghost use Rattle.order_lanes.specs.Lane.{sent_in};
+ghost use Rattle.locked_services.specs.Submissions.{AreNumbered, taken_from};
+ghost use Rattle.office.specs.Names.{ring_of, lane_ring_of, asked_of};
+ghost use Rattle.office.specs.Opening.{AreReaders, AreLaneRings, AreAsked};
+ghost use Rattle.office.specs.declared.new_office.OpenFault.TheVariants as fault;
+
+use crate::board_ends::board_ends;
+use crate::lane_ends::LaneEnds;
+use crate::new_office::{NewOffice, OpenFault};
+use crate::office::Office;
+use channel_names::Channels;
+use inbox::{Drain, Ring, Seat};
+use locked_services::{Beginning, Room, RunningTree, SeatEnds, seat_ends};
+use order_lanes::{Backend, Lane, LaneRing, Lanes};
+use status_board::{Board, BoardReader, BoardWriter, NewBoard};
+use std::alloc::Global;
+use std::sync::Wait;
+use tree_core::Tree;
+
+/// An open office, a seat for each actor, and as many readers of the board.
+#[derive(Drop)]
+pub struct Opened<C: Channels + Lanes, D: Board<C>, B: Backend> {
+    pub office: Office<C, D, B>,
+    pub seats: Vec<Seat<C>>,
+    pub readers: Vec<BoardReader<C>>,
+}
+
+// All that an office has but its tree and its lanes' ends.
+#[derive(Drop)]
+struct Parts<C: Channels + Lanes, D: Board<C>, B: Backend> {
+    beginning: Beginning,
+    ends: SeatEnds<C>,
+    board: D,
+    readers: Vec<BoardReader<C>>,
+    lanes: LaneEnds<B, C>,
+}
+
+// Makes all for which memory is needed, in a run that names the rings and the board so.
+fn make_parts<C: Channels + Lanes, R: Wait + Drop, B: Backend>(
+    alloc: Global,
+    rt: R,
+    tree: &Tree<Global>,
+    rings: Vec<Ring>,
+    board: NewBoard,
+    lanes: usize,
+) -> Result<Parts<C, BoardWriter<C, R>, B>, OpenFault>
+    requires rings { AreNamed C.seat_ring rings.items }
+    requires actors { (1 ≤ length rings.items) × (length rings.items ≤ 16) }
+    requires board { board ≡ C.board }
+    ensures opening { IfOk result (λ p. p.beginning.opening ≡ tree.now) }
+    ensures steps { IfOk result (λ p. p.beginning.run.steps ≡ []) }
+    ensures numbered { IfOk result (λ p. AreNumbered p.ends.drains.items) }
+    ensures untaken { IfOk result (λ p. (actor : ℕ) → taken_from actor p.ends.drains.items ≡ []) }
+    ensures unused { IfOk result (λ p. AreUnused p.ends.seats.items) }
+    ensures seats { IfOk result (λ p. length p.ends.seats.items ≡ length rings.items) }
+    ensures first { IfOk result (λ p. (m : Machine) → StandsFor tree.now m
+        → p.board ≡ shot_of m ∷ []) }
+    ensures known { IfOk result (λ p. AreReaders p.board p.readers.items) }
+    ensures readers { IfOk result (λ p. length p.readers.items ≡ length rings.items) }
+    ensures lanes { IfOk result (λ p. (p.lanes.lanes.items ≡ [])
+        × (lanes ≤ vec_capacity p.lanes.lanes)) }
+    ensures desks { IfOk result (λ p. (p.lanes.desks.items ≡ [])
+        × (lanes ≤ vec_capacity p.lanes.desks)) }
+    ensures fault { IfErr result (λ e. (e ≡ fault.NoMemory) ⊎ (e ≡ fault.Board)) }
+{
+    let count = rings.len();
+    let Ok(beginning) = Beginning::of(alloc, tree) else {
+        return Err(OpenFault::NoMemory);
+    };
+    let Ok(ends) = seat_ends::<C>(alloc, rings) else {
+        return Err(OpenFault::NoMemory);
+    };
+    let Ok(lanes) = LaneEnds::with_room(alloc, lanes) else {
+        return Err(OpenFault::NoMemory);
+    };
+    let (board, readers) = board_ends::<C, R>(alloc, rt, board, tree, count)?;
+    Ok(Parts {
+        beginning,
+        ends,
+        board,
+        readers,
+        lanes,
+    })
+}
+
+// The room of a run that begins with this tree, whose first shot alone was published.
+fn new_room<C: Channels + Lanes, D: Board<C>>(
+    alloc: Global,
+    beginning: Beginning,
+    tree: Tree<Global>,
+    drains: Vec<Drain<C>>,
+    lanes: Vec<Lane<C>>,
+    board: D,
+) -> Room<C, D>
+    requires opening { beginning.opening ≡ tree }
+    requires steps { beginning.run.steps ≡ [] }
+    requires numbered { AreNumbered drains.items }
+    requires untaken { (actor : ℕ) → taken_from actor drains.items ≡ [] }
+    requires lanes { 0 < length lanes.items }
+    requires unsent { (k : ℕ) → sent_in k lanes.items ≡ [] }
+    requires first { (m : Machine) → StandsFor tree m → D.shots board ≡ shot_of m ∷ [] }
+    ensures opening { result.running.opening ≡ tree }
+    ensures tree { result.running.tree ≡ tree }
+    ensures steps { result.running.steps ≡ [] }
+    ensures shots { result.shots ≡ D.shots board }
+    ensures shown { result.is_shown ≡ true }
+{
+    let running = RunningTree::begin(alloc, beginning, tree, drains, lanes);
+    Room::begin(running, board)
+}
+
+impl<C: Channels + Lanes, D: Board<C>, B: Backend> Parts<C, D, B> {
+    // The open office of these parts. It takes no memory.
+    fn into_open(
+        self,
+        alloc: Global,
+        tree: Tree<Global>,
+        rings: Vec<LaneRing>,
+        backends: Vec<B>,
+    ) -> Opened<C, D, B>
+        requires opening { self.beginning.opening ≡ tree }
+        requires steps { self.beginning.run.steps ≡ [] }
+        requires numbered { AreNumbered self.ends.drains.items }
+        requires untaken { (actor : ℕ) → taken_from actor self.ends.drains.items ≡ [] }
+        requires first { (m : Machine) → StandsFor tree m → D.shots self.board ≡ shot_of m ∷ [] }
+        requires lanes { (self.lanes.lanes.items ≡ [])
+            × (length rings.items ≤ vec_capacity self.lanes.lanes) }
+        requires desks { (self.lanes.desks.items ≡ [])
+            × (length rings.items ≤ vec_capacity self.lanes.desks) }
+        requires some { 0 < length rings.items }
+        requires rings { AreLaneRings C.lane_ring 0 rings.items }
+        requires backends { length backends.items ≡ length rings.items }
+        requires before { AreAsked B.asked C.asked_before 0 backends.items }
+        ensures office { result.office ≡ length rings.items }
+        ensures seats { result.seats ≡ self.ends.seats }
+        ensures readers { result.readers ≡ self.readers }
+    {
+        let Parts {
+            beginning,
+            ends,
+            board,
+            readers,
+            lanes,
+        } = self;
+        let SeatEnds { seats, drains } = ends;
+        let LaneEnds { lanes, desks } = lanes.fill(rings, backends);
+        let room = new_room(alloc, beginning, tree, drains, lanes, board);
+        Opened {
+            office: Office::over(room, desks),
+            seats,
+            readers,
+        }
+    }
+}
+
+impl<B: Backend> NewOffice<B> {
+    /// Opens it, in a run whose rings and board these are: with a seat for each actor and as many readers, and with no step made.
+    /// `NoMemory` where a growth was refused, and `Board` where the board gave no reader: the tree and the backends then come back.
+    pub fn open<C: Channels + Lanes, R: Wait + Drop>(
+        self,
+        alloc: Global,
+        rt: R,
+    ) -> Result<Opened<C, BoardWriter<C, R>, B>, (OpenFault, Tree<Global>, Vec<B>)>
+        requires seats { (k : ℕ) → C.seat_ring k ≡ ring_of (slice_get self.rings k) }
+        requires board { C.board ≡ self.board }
+        requires lanes { (k : ℕ) → C.lane_ring k ≡ lane_ring_of (slice_get self.lane_rings k) }
+        requires before { (k : ℕ) → C.asked_before k
+            ≡ asked_of B.asked (slice_get self.backends k) }
+        ensures lanes { IfOk result (λ o. o.office ≡ length self.lane_rings) }
+        ensures seats { IfOk result (λ o. length o.seats.items ≡ length self.rings) }
+        ensures unused { IfOk result (λ o. AreUnused o.seats.items) }
+        ensures readers { IfOk result (λ o. length o.readers.items ≡ length self.rings) }
+        ensures first { IfOk result (λ o. (m : Machine) → StandsFor self.tree m
+            → AreReaders (shot_of m ∷ []) o.readers.items) }
+        ensures fault { IfErr result (λ e. (e.0 ≡ fault.NoMemory) ⊎ (e.0 ≡ fault.Board)) }
+        ensures tree { IfErr result (λ e. e.1 ≡ self.tree) }
+        ensures backends { IfErr result (λ e. e.2.items ≡ self.backends) }
+    {
+        let NewOffice {
+            tree,
+            rings,
+            lane_rings,
+            board,
+            backends,
+        } = self;
+        let count = lane_rings.len();
+        match make_parts::<C, R, B>(alloc, rt, &tree, rings, board, count) {
+            Ok(parts) => Ok(parts.into_open(alloc, tree, lane_rings, backends)),
+            Err(fault) => Err((fault, tree, backends)),
+        }
+    }
+}

@@ -1,0 +1,19 @@
+//! Tests of the office, with and without threads.
+#![tactic(auto)]
+
+#[cfg(test)]
+mod acts;
+#[cfg(test)]
+mod effects;
+#[cfg(test)]
+mod lanes;
+#[cfg(test)]
+mod offices;
+#[cfg(test)]
+mod opening;
+#[cfg(test)]
+mod replaying;
+#[cfg(test)]
+mod storm;
+#[cfg(test)]
+mod two_seats;

@@ -1,0 +1,96 @@
+-- A run as contracts see it: each input with what the machine gave.
+use Rattle.std.specs.Prelude.{◌≡◌, ℕ, zero, suc, ◌+◌, ◌≤◌, ◌==◌, List, [], ◌∷◌, ◌++◌, map, filter, take, drop, length, slice_get, option_map, Option, None, Some, if◌then◌else◌}
+use Rattle.std.specs.declared.alloc.Global.{Global}
+use Rattle.s6_events.specs.declared.order.Order.{Order}
+use Rattle.tree_core.specs.declared.input.Input.{Input}
+use Rattle.tree_core.specs.declared.reply.Reply.{Reply}
+use Rattle.tree_core.specs.Limits.{order_limit}
+use Rattle.tree_core.specs.Machine.{Machine, Outcome}
+use Rattle.tree_core.specs.Run.{after_all, outcomes}
+use Rattle.run_records.specs.declared.record.Record.{Record}
+
+-- an input, and all that its step gave
+pub record RunStep : Type 0 where
+  pub input : Input Global
+  pub outcome : Outcome Global
+
+-- where the steps of one actor stand, and how many more it has room for
+pub record PlaceList : Type 0 where
+  pub places : List ℕ
+  pub room : ℕ
+
+-- a run, and the room that is left: for records, for orders, and for the places of each actor's steps
+pub record RunView : Type 0 where
+  pub steps : List RunStep
+  pub room : ℕ
+  pub order_room : ℕ
+  pub place_room : List ℕ
+
+-- there is room for a step of this actor, whatever it gives
+pub record HasRoom (actor : ℕ) (run : RunView) : Type 0 where
+  pub record_fits : 1 ≤ run.room
+  pub orders_fit : order_limit ≤ run.order_room
+  pub place_fits : (free : ℕ) → slice_get run.place_room actor ≡ Some free → 1 ≤ free
+
+-- the step of a record, whose orders are a part of these
+abbrev pub step_of : List Order → Record → RunStep
+step_of orders one = record {
+  input = one.input;
+  outcome = record {
+    reply = one.reply;
+    events = one.events.items;
+    orders = take one.count (drop one.first orders);
+    matched = one.matched.items;
+    released = one.released.items;
+  };
+}
+
+-- its part lies within them, and is no more than those of one step
+abbrev pub IsWithin : List Order → Record → Type 0
+IsWithin orders one = (one.first + one.count ≤ length orders) × (one.count ≤ order_limit)
+
+abbrev pub inputs_of : List RunStep → List (Input Global)
+inputs_of steps = map (λ s. s.input) steps
+
+abbrev pub outcomes_of : List RunStep → List (Outcome Global)
+outcomes_of steps = map (λ s. s.outcome) steps
+
+-- each step gave what the machine gives at its place
+abbrev pub IsLegal : Machine → List RunStep → Type 0
+IsLegal m steps = outcomes_of steps ≡ outcomes m (inputs_of steps)
+
+-- the machine after these steps
+abbrev pub end_of : Machine → List RunStep → Machine
+end_of m steps = after_all m (inputs_of steps)
+
+-- what the step of this number gave, from 1, if there is one
+abbrev pub outcome_at : ℕ → List RunStep → Option (Outcome Global)
+outcome_at zero steps = None
+outcome_at (suc n) steps = option_map (λ s. s.outcome) (slice_get steps n)
+
+-- whose input the step of this number took, from 1, if there is one
+abbrev pub actor_at : ℕ → List RunStep → Option ℕ
+actor_at zero steps = None
+actor_at (suc n) steps = option_map (λ s. s.input.actor) (slice_get steps n)
+
+-- this actor's steps, in order
+abbrev pub steps_of : ℕ → List RunStep → List RunStep
+steps_of actor steps = filter (λ s. s.input.actor == actor) steps
+
+-- the reply to this actor's input of this number, from 1, if there is one
+abbrev pub reply_at : ℕ → ℕ → List RunStep → Option (Reply Global)
+reply_at actor zero steps = None
+reply_at actor (suc n) steps = option_map (λ s. s.outcome.reply) (slice_get (steps_of actor steps) n)
+
+-- the places of this actor's steps, of which the first stands at this place
+abbrev pub places_from : ℕ → ℕ → List RunStep → List ℕ
+places_from place actor [] = []
+places_from place actor (s ∷ steps) = (if s.input.actor == actor then place ∷ [] else []) ++ places_from (suc place) actor steps
+
+-- at each actor's place stand the places of that actor's steps
+abbrev pub ArePlaced : List PlaceList → List RunStep → Type 0
+ArePlaced all steps = (actor : ℕ) (one : PlaceList) → slice_get all actor ≡ Some one → one.places ≡ places_from 0 actor steps
+
+-- no actor has a step
+abbrev pub AreEmpty : List PlaceList → Type 0
+AreEmpty all = (actor : ℕ) (one : PlaceList) → slice_get all actor ≡ Some one → one.places ≡ []

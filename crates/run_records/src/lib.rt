@@ -1,0 +1,10 @@
+//! What a run of a tree was: its steps, each with its input and all that it gave.
+#![tactic(auto)]
+
+mod record;
+mod run;
+mod step_places;
+
+pub use record::Record;
+pub use run::Run;
+pub use step_places::StepPlaces;

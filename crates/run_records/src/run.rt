@@ -1,0 +1,174 @@
+//! The steps of a run.
+ghost use Rattle.std.specs.Prelude.{◌≡◌, ◌-◌, ◌<◌, ◌≤◌, [], ◌∷◌, ◌++◌, length, OnOk, IfOk, IfSome, slice_get, option_map};
+ghost use Rattle.tree_core.specs.Effect.{outcome_of};
+ghost use Rattle.tree_core.specs.Limits.{order_limit};
+ghost use Rattle.run_records.specs.Runs.{AreEmpty, IsWithin, HasRoom, step_of, actor_at, outcome_at, reply_at};
+
+use crate::record::Record;
+use crate::step_places::StepPlaces;
+use s6_events::{Actor, NoMemory, Order};
+use std::alloc::Global;
+use std::marker::Model;
+use tree_core::{Effect, ORDER_LIMIT, PlainInput, Reply};
+
+/// How many actors there may be.
+const ACTORS: usize = 16;
+
+/// The steps of a run, oldest first, and where those of each actor stand. Contracts see each step as its input and all that it gave.
+#[derive(Drop)]
+pub struct Run {
+    records: Vec<Record>,
+    orders: Vec<Order>,
+    places: Vec<StepPlaces>,
+}
+
+impl Model for Run {
+    ghost use Rattle.run_records.specs.Runs.{RunView};
+    ghost use Rattle.run_records.specs.RunFields.{run_view, IsSoundRun};
+
+    ghost Value = { RunView };
+
+    ghost view = { run_view };
+
+    ghost invariant = { IsSoundRun };
+}
+
+impl Run {
+    /// No step yet. `NoMemory` where a growth was refused.
+    pub fn new(alloc: Global) -> Result<Run, NoMemory>
+        ensures { IfOk result (λ run. run.steps ≡ []) }
+    {
+        Ok(Run {
+            records: Vec::new(alloc),
+            orders: Vec::new(alloc),
+            places: no_places(alloc)?,
+        })
+    }
+
+    /// How many steps there are.
+    pub fn len(&self) -> usize
+        ensures { result ≡ length self.now.steps }
+    {
+        self.records.len()
+    }
+
+    /// Makes room for one step more of this actor, whatever it gives. `NoMemory` where a growth was refused; the steps stay.
+    pub fn reserve(&mut self, actor: Actor) -> Result<(), NoMemory>
+        ensures steps { self.new.steps ≡ self.old.steps }
+        ensures room { OnOk result (HasRoom actor self.new) }
+    {
+        self.records.reserve(1)?;
+        self.orders.reserve(ORDER_LIMIT)?;
+        self.places[usize::from(actor.number())].reserve()?;
+        Ok(())
+    }
+
+    /// Adds a step, for which there is room.
+    pub fn add(&mut self, input: PlainInput<Global>, effect: Effect<Global>)
+        requires room { HasRoom input.actor self.old }
+        requires orders { length effect.orders.items ≤ order_limit }
+        ensures { self.new.steps ≡ self.old.steps ++ record { input = input; outcome = outcome_of effect } ∷ [] }
+    {
+        let Effect {
+            reply,
+            events,
+            orders,
+            matched,
+            released,
+        } = effect;
+        let first = self.orders.len();
+        let count = orders.len();
+        if self.orders.extend_from_slice(orders.as_slice()).is_err() {
+            unreachable!()
+        }
+        self.places[usize::from(input.actor.number())].push(self.records.len());
+        self.records.push_reserved(Record {
+            input,
+            reply,
+            events,
+            matched,
+            released,
+            first,
+            count,
+        });
+    }
+
+    /// All that the step of this number gave, from 1; None where there are fewer. `NoMemory` where a growth was refused.
+    pub fn effect(&self, alloc: Global, number: u64) -> Result<Option<Effect<Global>>, NoMemory>
+        ensures { IfOk result
+            (λ effect. option_map (λ e. outcome_of e) effect ≡ outcome_at number self.now.steps) }
+    {
+        if number == 0 {
+            return Ok(None);
+        }
+        let place = (number - 1) as usize;
+        if place >= self.records.len() {
+            return Ok(None);
+        }
+        let effect = effect_of(alloc, self.orders.as_slice(), &self.records[place])?;
+        Ok(Some(effect))
+    }
+
+    /// Whose input the step of this number took, from 1; None where there are fewer.
+    pub fn actor(&self, number: u64) -> Option<Actor>
+        ensures { result ≡ actor_at number self.now.steps }
+    {
+        if number == 0 {
+            return None;
+        }
+        let place = (number - 1) as usize;
+        if place >= self.records.len() {
+            return None;
+        }
+        Some(self.records[place].input.actor)
+    }
+
+    /// The reply to this actor's input of this number, from 1; None where there are fewer. `NoMemory` where a growth was refused.
+    pub fn reply(
+        &self,
+        alloc: Global,
+        actor: Actor,
+        number: u64,
+    ) -> Result<Option<Reply<Global>>, NoMemory>
+        ensures { IfOk result (λ reply. reply ≡ reply_at actor number self.now.steps) }
+    {
+        if number == 0 {
+            return Ok(None);
+        }
+        let places = &self.places[usize::from(actor.number())];
+        let Some(place) = places.nth((number - 1) as usize) else {
+            return Ok(None);
+        };
+        let reply = self.records[place].reply.copied(alloc)?;
+        Ok(Some(reply))
+    }
+}
+
+// For each actor no step yet.
+fn no_places(alloc: Global) -> Result<Vec<StepPlaces>, NoMemory>
+    ensures count { IfOk result (λ all. length all.items ≡ 16) }
+    ensures empty { IfOk result (λ all. AreEmpty all.items) }
+{
+    let mut all = Vec::new(alloc);
+    for _ in 0..ACTORS {
+        all.push(StepPlaces::new(alloc))?;
+    }
+    Ok(all)
+}
+
+// What a record says that its step gave.
+fn effect_of(alloc: Global, orders: &[Order], one: &Record) -> Result<Effect<Global>, NoMemory>
+    requires { IsWithin orders.now one.now }
+    ensures { IfOk result (λ effect. outcome_of effect ≡ (step_of orders.now one.now).outcome) }
+{
+    let mut effect = Effect::new(alloc);
+    let part = &orders[one.first..one.first + one.count];
+    if effect.orders.try_extend_from_slice(part).is_err() {
+        unreachable!()
+    }
+    effect.reply = one.reply.copied(alloc)?;
+    effect.events.extend_from_slice(one.events.as_slice())?;
+    effect.matched.extend_from_slice(one.matched.as_slice())?;
+    effect.released.extend_from_slice(one.released.as_slice())?;
+    Ok(effect)
+}

@@ -1,0 +1,56 @@
+//! Where the steps of one actor stand in a run.
+ghost use Rattle.std.specs.Prelude.{◌≡◌, ◌+◌, ◌≤◌, [], ◌∷◌, ◌++◌, OnOk, OnErr, slice_get};
+
+use s6_events::NoMemory;
+use std::alloc::Global;
+use std::marker::Model;
+
+/// The places of one actor's steps in a run, oldest first.
+#[derive(Drop)]
+pub struct StepPlaces {
+    list: Vec<usize>,
+}
+
+impl Model for StepPlaces {
+    ghost use Rattle.std.specs.Prelude.{◌-◌, vec_len, vec_capacity};
+    ghost use Rattle.run_records.specs.Runs.{PlaceList};
+
+    ghost Value = { PlaceList };
+
+    ghost view = { λ p. record { places = p.list.items; room = vec_capacity p.list - vec_len p.list } };
+}
+
+impl StepPlaces {
+    /// No step yet.
+    pub fn new(alloc: Global) -> StepPlaces
+        ensures { result.places ≡ [] }
+    {
+        StepPlaces {
+            list: Vec::new(alloc),
+        }
+    }
+
+    /// Makes room for one step more. `NoMemory` where a growth was refused.
+    pub fn reserve(&mut self) -> Result<(), NoMemory>
+        ensures places { self.new.places ≡ self.old.places }
+        ensures room { OnOk result (1 ≤ self.new.room) }
+    {
+        self.list.reserve(1)?;
+        Ok(())
+    }
+
+    /// A step of the actor stands at this place; there is room for it.
+    pub fn push(&mut self, place: usize)
+        requires { 1 ≤ self.old.room }
+        ensures { self.new.places ≡ self.old.places ++ place ∷ [] }
+    {
+        self.list.push_reserved(place);
+    }
+
+    /// The place of the actor's step of this number, from 0; None where there are fewer.
+    pub fn nth(&self, number: usize) -> Option<usize>
+        ensures { result ≡ slice_get self.now.places number }
+    {
+        self.list.get(number).copied()
+    }
+}
