@@ -11,8 +11,9 @@ use std::process::{Child, SystemProcess};
 use std::sync::{Arc, Condvar, Mutex, Wait};
 use std::time::{Clock, Duration};
 
-/// How many milliseconds an end waits for what the descriptor still holds, where another program keeps the descriptor open.
-const LAST_WORDS: u64 = 200;
+/// How many milliseconds an end waits for a first newline that the descriptor may still hold, where another program keeps the
+/// descriptor open.
+const LAST_WORDS: u64 = 1000;
 
 /// What the thread of a child takes over.
 #[derive(Drop)]
@@ -91,6 +92,12 @@ impl ServiceProcess {
     /// Nothing more is read.
     pub fn stop_reading<R: Wait>(&self, rt: &R) {
         self.progress.lock(rt).stop_reading();
+        self.changed.notify_all();
+    }
+
+    /// It wrote its first newline, and what it wrote up to there was noted: its end waits for no more of it.
+    pub fn stop_hearing<R: Wait>(&self, rt: &R) {
+        self.progress.lock(rt).stop_hearing();
         self.changed.notify_all();
     }
 

@@ -27,6 +27,8 @@ pub(crate) struct Progress {
     written: ArrayVec<u8, 64>,
     // The descriptor by which it is read.
     reading: Option<RawFd>,
+    // Whether it wrote its first newline, after which nothing is told of what it writes.
+    is_heard: bool,
     exit: Option<Exit>,
     is_given_up: bool,
 }
@@ -39,6 +41,7 @@ impl Progress {
             pid: None,
             written: ArrayVec::new(),
             reading: None,
+            is_heard: false,
             exit: None,
             is_given_up: false,
         }
@@ -74,14 +77,19 @@ impl Progress {
         self.reading = None;
     }
 
+    /// It wrote its first newline: what it writes from now on is told to nobody.
+    pub fn stop_hearing(&mut self) {
+        self.is_heard = true;
+    }
+
     /// The descriptor by which it is still read.
     pub fn reading(&self) -> Option<RawFd> {
         self.reading
     }
 
-    /// Whether its end can be told: all that it wrote was read, or nobody listens.
+    /// Whether its end can be told: all that matters of what it wrote was read, or nobody listens.
     pub fn may_end(&self) -> bool {
-        self.reading.is_none() || self.is_given_up
+        self.reading.is_none() || self.is_heard || self.is_given_up
     }
 
     pub fn end(&mut self, exit: Exit) {

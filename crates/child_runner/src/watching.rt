@@ -133,6 +133,7 @@ fn tell<R: Wait>(rt: &R, process: &ServiceProcess, bytes: &[u8]) -> bool {
     match bytes.iter().position(|byte| *byte == b'\n') {
         Some(place) => {
             process.write(rt, &bytes[..=place]);
+            process.stop_hearing(rt);
             true
         }
         None => {

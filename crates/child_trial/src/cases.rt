@@ -28,7 +28,7 @@ pub struct Case {
 }
 
 /// Tells its own process number on its descriptor, and stays.
-const CASES: [Case; 9] = [
+const CASES: [Case; 10] = [
     Case {
         title: "exits 3",
         script: "exit 3",
@@ -91,6 +91,13 @@ const CASES: [Case; 9] = [
         fd: Some(3),
         when: When::Never,
         signal: 0,
+    },
+    Case {
+        title: "ready, and a grandchild keeps the descriptor",
+        script: "sleep 2 & echo $$ >&3; exec sleep 60",
+        fd: Some(3),
+        when: When::Ready,
+        signal: 9,
     },
 ];
 
