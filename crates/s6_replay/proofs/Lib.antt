@@ -1,4 +1,9 @@
 pub mod Buffered
 pub mod HeadRead
+pub mod Heads
 pub mod LineRead
+pub mod Places
+pub mod Steps
 pub mod Runs
+pub mod Checks
+pub mod Migrations

@@ -1,34 +1,17 @@
 -- What reading a line says of an input, and an effect of its answer.
-use Rattle.std.proofs.Common.{◌≡◌, ℕ, ◌<◌, ◌≤◌, List, [], ◌∷◌, ◌++◌, length, take, refl, sym, ap, ◌∙◌, subst, arith}
+use Rattle.std.proofs.Common.{◌≡◌, ℕ, ◌≤◌, List, [], ◌∷◌, ◌++◌, length, sym, ap, ◌∙◌, subst, arith}
 use Rattle.std.specs.Prelude.{Option}
 use Rattle.std.specs.Io.KnownBytes.{Consumes, Appends}
-use Rattle.std.proofs.Math.Seq.{take-append_seam}
 use Rattle.std.proofs.lemmas.List.{length-append}
 use Rattle.tree_core.specs.declared.input.Input.{Input}
 use Rattle.tree_core.specs.Machine.{Machine, Outcome}
 use Rattle.tree_core.specs.Run.{after, outcome}
 use Rattle.tree_core.specs.StandsFor.{StoredTree, StandsFor}
 use Rattle.s6_replay.specs.Lines.{HasNoNewline, AppendsFront}
-use Rattle.s6_script.specs.Spelling.{HasExpression, Spells, SpellsButForPattern, spelling}
-use Rattle.s6_replay.specs.Replay.{HasLine, IsNoInputLine, IsLineButForPattern, input_line, input_limit}
-use Rattle.s6_replay.specs.Replay.IsNoInputLine.{spells_nothing, too_long}
+use Rattle.s6_script.specs.Spelling.{HasExpression, Spells, spelling}
+use Rattle.s6_replay.specs.Script.{HasLine, input_line}
 use Rattle.s6_replay.specs.Transcript.{block}
 use Rattle.s6_replay.specs.Turn.{Answers}
-
-pub is_too_long : (A : Type 0) (line : List ℕ) (b : ℕ) → HasNoNewline line → length line ≡ 65536
-    → (before : ℕ) → before < input_limit → IsNoInputLine A before (line ++ b ∷ [])
-is_too_long A line b plain long before room =
-    too_long room
-    (subst (λ (n : ℕ). HasNoNewline (take n (line ++ b ∷ []))) long (subst HasNoNewline (sym (take-append_seam line (b ∷ []))) plain))
-    (omega (arith, length-append line (b ∷ []), long))
-
-pub is_no_spelling : (A : Type 0) (line : List ℕ) → HasNoNewline line → length line ≤ 65535 → ((i : Input A) → Spells line i → ⊥)
-    → (before : ℕ) → before < input_limit → IsNoInputLine A before (line ++ 10 ∷ [])
-is_no_spelling A line plain within none before room = spells_nothing room line (record { plain = plain; within = within; none = none }) refl
-
-pub is_but_for_pattern : (A : Type 0) (line : List ℕ) → HasNoNewline line → length line ≤ 65535 → SpellsButForPattern A line
-    → IsLineButForPattern A line
-is_but_for_pattern A line plain within but = record { plain = plain; within = within; but_for_pattern = but }
 
 pub has_line : {A : Type 0} (line : List ℕ) (i : Input A) → Spells line i → HasExpression i.act → length line ≤ 65535 → HasLine i
 has_line line i s expression within = record

@@ -1,5 +1,8 @@
 pub mod Transcript
 pub mod Lines
+pub mod Script
 pub mod Replay
 pub mod Turn
+pub mod Checking
+pub mod Migration
 pub mod FaultNumber

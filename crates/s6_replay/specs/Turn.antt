@@ -1,15 +1,20 @@
--- One turn of a replay: a line is read, its input is done, and its block is written.
-use Rattle.std.specs.Prelude.{◌≡◌, ◌≢◌, ℕ, ◌+◌, ◌<◌, ◌^◌, List, [], ◌∷◌, ◌++◌, length, Option, Some, None, ◌⊎◌}
+-- One turn: the lines of a step are read, its input is done, and its block is written.
+use Rattle.std.specs.Prelude.{◌≡◌, ◌≢◌, ℕ, ◌+◌, ◌*◌, ◌<◌, ◌^◌, Bool, true, false, List, [], ◌∷◌, ◌++◌, All, codes, drop, length, take, Option, Some, None, ◌⊎◌}
 use Rattle.std.specs.Io.KnownBytes.{Consumes, Appends, IsAtEnd}
 use Rattle.tree_core.specs.declared.input.Input.{Input}
 use Rattle.tree_core.specs.Machine.{Machine, Outcome}
 use Rattle.tree_core.specs.Run.{after, outcome}
 use Rattle.tree_core.specs.StandsFor.{StoredTree, StandsFor}
-use Rattle.s6_replay.specs.Lines.{HasNoNewline, IsPart, IsWithinLine, AppendsFront}
-use Rattle.s6_replay.specs.Replay.{HasLine, IsNoInputLine, IsLineButForPattern, ReadsHead, input_line, input_limit}
-use Rattle.s6_replay.specs.Replay.{head_line}
 use Rattle.s6_script.specs.Spelling.{spelling}
+use Rattle.s6_replay.specs.Lines.{HasNoNewline, IsPart, IsWithinLine, AppendsFront}
+use Rattle.s6_replay.specs.Script.{Recorded, HasLines, HasLine, IsPrintable, IsNoLine, StopsBehind, BeginsOtherwise, ReadsHead, step_lines, input_line}
+use Rattle.s6_replay.specs.Script.Place.{at_reply}
+use Rattle.s6_replay.specs.Script.{input_limit, input_line_number}
 use Rattle.s6_replay.specs.Transcript.{block}
+use Rattle.s6_replay.specs.declared.version.Version.{Version}
+use Rattle.s6_replay.specs.declared.version.Version.TheVariants.{One, Two}
+use Rattle.s6_replay.specs.declared.line.ReadFault.{ReadFault}
+use Rattle.s6_replay.specs.declared.line.ReadFault.TheVariants as reads
 use Rattle.s6_replay.specs.declared.turn.Turn.{Turn}
 use Rattle.s6_replay.specs.declared.turn.Turn.TheVariants.{Done, End}
 use Rattle.s6_replay.specs.declared.fault.ReplayFault.{ReplayFault}
@@ -40,49 +45,85 @@ AnswerStops Write number tree input held held' =
 AnswerStops NoMemory number tree input held held' = held' ≡ held
 AnswerStops fault number tree input held held' = ⊥
 
--- an input was read, or there was none
-abbrev pub WasRead : {A : Type 0} → Option (Input A) → Option (List ℕ) → Option (List ℕ) → Type 0
-WasRead (Some input) left left' = HasLine input × HasNoNewline (spelling input) × Consumes left left' (input_line input)
-WasRead None left left' = Consumes left left' [] × IsAtEnd left'
+-- an input line was read, or there was none
+abbrev pub InputWasRead : {A : Type 0} → Option (Input A) → List ℕ → Option (List ℕ) → Option (List ℕ) → Type 0
+InputWasRead (Some input) line left left' =
+    HasLine input × HasNoNewline line × (spelling input ≡ line) × Consumes left left' (input_line input)
+InputWasRead None line left left' = Consumes left left' [] × IsAtEnd left'
 
--- why no input was read
-abbrev pub ReadingStops : (A : Type 0) → ReplayFault → ℕ → Option (List ℕ) → Option (List ℕ) → Type 0
-ReadingStops A (Line n) number left left' =
-    (n ≡ number + 1) × ((bytes : List ℕ) × ((before : ℕ) → before < input_limit → IsNoInputLine A before bytes)
-    × Consumes left left' bytes)
-ReadingStops A (Pattern n) number left left' =
-    (n ≡ number + 1) × ((line : List ℕ) × IsLineButForPattern A line × Consumes left left' (line ++ 10 ∷ []))
-ReadingStops A Truncated number left left' =
-    IsAtEnd left' × ((line : List ℕ) × IsPart line × (line ≢ []) × Consumes left left' line)
-ReadingStops A Read number left left' = (part : List ℕ) × IsPart part × Consumes left left' part
-ReadingStops A NoMemory number left left' = (bytes : List ℕ) × IsWithinLine bytes × Consumes left left' bytes
-ReadingStops A fault number left left' = ⊥
+-- the text of a reply, in its line
+abbrev pub text_in : List ℕ → List ℕ
+text_in line = drop 2 line
 
--- a turn: an input was read and answered, or there was none
-abbrev pub Turns : (A : Type 0) → Turn → ℕ → StoredTree → StoredTree → Option (List ℕ) → Option (List ℕ)
+-- the truth says whether a line holds a reply
+abbrev pub HoldsReply : List ℕ → Bool → Type 0
+HoldsReply line true = (line ≡ codes "= " ++ text_in line) × (text_in line ≢ []) × All IsPrintable (text_in line)
+HoldsReply line false = (text : List ℕ) → text ≢ [] → All IsPrintable text → line ≡ codes "= " ++ text → ⊥
+
+-- a failed read, as a fault of a replay
+abbrev pub fault_of : ReadFault → ReplayFault
+fault_of reads.Read = Read
+fault_of reads.NoMemory = NoMemory
+
+-- why no reply line was read, behind so many steps and the input
+abbrev pub ReplyStops : (A : Type 0) → ReplayFault → ℕ → Option (List ℕ) → Option (List ℕ) → Type 0
+ReplyStops A (Line n) before left left' = (n ≡ before * 2 + 3)
+    × ((bytes : List ℕ) × ((i : Input A) → IsNoLine (at_reply i) before bytes) × Consumes left left' bytes)
+ReplyStops A Truncated before left left' =
+    IsAtEnd left' × ((line : List ℕ) × IsPart 262144 line × Consumes left left' line)
+ReplyStops A Read before left left' = (part : List ℕ) × IsPart 262144 part × Consumes left left' part
+ReplyStops A NoMemory before left left' = (bytes : List ℕ) × IsWithinLine 262144 bytes × Consumes left left' bytes
+ReplyStops A fault before left left' = ⊥
+
+-- a step was read, or there was none
+abbrev pub WasRead : {A : Type 0} → Version → List ℕ → Option (Input A) → Option (List ℕ) → Option (List ℕ) → Type 0
+WasRead version reply (Some input) left left' =
+    HasLines version (record { input = input; reply = reply }) × HasNoNewline (spelling input)
+    × Consumes left left' (step_lines version (record { input = input; reply = reply }))
+WasRead version reply None left left' = Consumes left left' [] × IsAtEnd left'
+
+-- a turn: a step was read and answered, or there was none
+abbrev pub Turns : (A : Type 0) → Turn → Version → ℕ → StoredTree → StoredTree → Option (List ℕ) → Option (List ℕ)
     → Option (List ℕ) → Option (List ℕ) → Type 0
-Turns A (Done events orders) number tree tree' left left' held held' =
-    (input : Input A) × HasLine input × Consumes left left' (input_line input)
-    × IsAnswered events orders number tree tree' input held held'
-Turns A End number tree tree' left left' held held' = Consumes left left' [] × IsAtEnd left' × (held' ≡ held)
+Turns A (Done events orders) version before tree tree' left left' held held' =
+    (s : Recorded A) × HasLines version s × Consumes left left' (step_lines version s)
+    × IsAnswered events orders (before + 1) tree tree' s.input held held'
+Turns A End version before tree tree' left left' held held' = Consumes left left' [] × IsAtEnd left' × (held' ≡ held)
 
--- where a turn stopped: no input was read, or it was read and not answered
-abbrev pub TurnStops : (A : Type 0) → ReplayFault → ℕ → StoredTree → Option (List ℕ) → Option (List ℕ) → Option (List ℕ)
-    → Option (List ℕ) → Type 0
-TurnStops A fault number tree left left' held held' =
-    (ReadingStops A fault number left left' × (held' ≡ held))
-    ⊎ ((input : Input A) × HasLine input × HasNoNewline (spelling input) × Consumes left left' (input_line input)
-    × AnswerStops fault number tree input held held')
+-- where a turn stopped: no step was read, or it was read and not answered
+abbrev pub TurnStops : (A : Type 0) → ReplayFault → Version → ℕ → StoredTree → Option (List ℕ) → Option (List ℕ)
+    → Option (List ℕ) → Option (List ℕ) → Type 0
+TurnStops A fault version before tree left left' held held' =
+    (StopsBehind A version before fault [] left left' × (held' ≡ held))
+    ⊎ ((s : Recorded A) × HasLines version s × HasNoNewline (spelling s.input) × Consumes left left' (step_lines version s)
+    × AnswerStops fault (before + 1) tree s.input held held')
 
 -- why the head line was not read: the input begins otherwise, or the reader failed in it
 abbrev pub HeadStops : ReplayFault → Option (List ℕ) → Option (List ℕ) → Type 0
-HeadStops Head left left' = (rest : List ℕ) → left ≢ Some (head_line ++ rest)
+HeadStops Head left left' = (version : Version) → BeginsOtherwise version left
 HeadStops Read left left' = ReadsHead left left'
 HeadStops fault left left' = ⊥
 
+-- why a text was not read: the input begins otherwise, or the reader failed in it
+abbrev pub LiteralStops : ReplayFault → List ℕ → Option (List ℕ) → Option (List ℕ) → Type 0
+LiteralStops Head text left left' = (rest : List ℕ) → left ≢ Some (text ++ rest)
+LiteralStops Read text left left' = (n : ℕ) × (n < length text) × Consumes left left' (take n text)
+LiteralStops fault text left left' = ⊥
+
+-- the digit of a version
+abbrev pub version_digit : Version → ℕ
+version_digit One = 49
+version_digit Two = 50
+
+-- why no version was read: another byte comes or none, or the reader failed
+abbrev pub VersionStops : ReplayFault → Option (List ℕ) → Option (List ℕ) → Type 0
+VersionStops Head left left' = (version : Version) (rest : List ℕ) → left ≢ Some (version_digit version ∷ rest)
+VersionStops Read left left' = Consumes left left' []
+VersionStops fault left left' = ⊥
+
 -- why the script did not end after its last input: there is one line too many, or the reader failed
-abbrev pub EndStops : ReplayFault → Option (List ℕ) → Option (List ℕ) → Type 0
-EndStops (Line n) left left' = (n ≡ input_limit + 2)
+abbrev pub EndStops : ReplayFault → Version → Option (List ℕ) → Option (List ℕ) → Type 0
+EndStops (Line n) version left left' = (n ≡ input_line_number version input_limit)
     × ((bytes : List ℕ) × (length bytes ≡ 1) × Consumes left left' bytes)
-EndStops Read left left' = Consumes left left' []
-EndStops fault left left' = ⊥
+EndStops Read version left left' = Consumes left left' []
+EndStops fault version left left' = ⊥

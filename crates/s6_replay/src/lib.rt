@@ -2,17 +2,26 @@
 #![tactic(auto)]
 
 mod block;
+mod checked;
+mod checking;
 mod counts;
 mod effect_lines;
 mod fault;
+mod head;
 mod line;
+mod migration;
+mod reading;
 mod replay;
 mod reply_text;
 mod turn;
+mod version;
 
 pub use block::{WriteFault, write_effect, write_whole};
+pub use checked::Checked;
+pub use checking::check;
 pub use counts::Counts;
 pub use effect_lines::{push_match, push_release};
 pub use fault::ReplayFault;
+pub use migration::migrate;
 pub use replay::run;
 pub use reply_text::{push_reply, push_row};

@@ -7,9 +7,6 @@ use memchr::memchr;
 use std::alloc::Allocator;
 use std::io::{BufRead, Read};
 
-/// The most bytes of an input line, with its newline.
-const LINE_LIMIT: usize = 65_536;
-
 // How a line ended.
 #[derive(Clone, Copy, Debug, PartialEq, Eq)]
 pub enum Ended {
@@ -28,23 +25,23 @@ pub enum ReadFault {
     NoMemory,
 }
 
-// Reads the next line, without its newline. At a fault, what the line holds was read.
-pub fn read_line<A: Allocator + Copy, R: BufRead>(
+// Reads the next line, without its newline, which may have so many bytes with it. At a fault, what the line holds was read.
+pub fn read_line<A: Allocator + Copy, R: BufRead, const LIMIT: usize>(
     reader: &mut R,
     line: &mut Vec<u8, A>,
 ) -> Result<Ended, ReadFault>
     ensures ok { IfOk result (λ ended.
-        EndsAs ended (R.remaining reader.old) (R.remaining reader.new) line.new.items) }
+        EndsAs LIMIT ended (R.remaining reader.old) (R.remaining reader.new) line.new.items) }
     ensures err { OnErr result (Consumes (R.remaining reader.old)
         (R.remaining reader.new) line.new.items) }
-    ensures part { OnErr result (IsPart line.new.items) }
+    ensures part { OnErr result (IsPart LIMIT line.new.items) }
 {
     line.clear();
-    while line.len() < LINE_LIMIT {
-        if let Some(ended) = read_byte(reader, line)? {
+    while line.len() < LIMIT {
+        if let Some(ended) = read_byte::<A, R, LIMIT>(reader, line)? {
             return Ok(ended);
         }
-        if let Some(ended) = read_buffered(reader, line)? {
+        if let Some(ended) = read_buffered::<A, R, LIMIT>(reader, line)? {
             return Ok(ended);
         }
     }
@@ -58,15 +55,15 @@ pub fn read_line<A: Allocator + Copy, R: BufRead>(
 
 // Reads one byte more of a line, and tells how the line ended if it did. Only `read` says for sure that the input has
 // ended: an empty buffer says so of a reader whose bytes are known, and of no other.
-fn read_byte<A: Allocator + Copy, R: BufRead>(
+fn read_byte<A: Allocator + Copy, R: BufRead, const LIMIT: usize>(
     reader: &mut R,
     line: &mut Vec<u8, A>,
 ) -> Result<Option<Ended>, ReadFault>
-    requires part { IsPart line.old.items }
-    requires room { length line.old.items < 65536 }
+    requires part { IsPart LIMIT line.old.items }
+    requires room { length line.old.items < LIMIT }
     ensures ok { IfOk result (λ ended. (start : Option (List ℕ))
         → Consumes start (R.remaining reader.old) line.old.items
-        → GoesOnOrEnds ended start (R.remaining reader.new) line.new.items) }
+        → GoesOnOrEnds LIMIT ended start (R.remaining reader.new) line.new.items) }
     ensures more { result ≡ Ok None → length line.old.items < length line.new.items }
     ensures err { OnErr result ((line.new.items ≡ line.old.items)
         × Keeps (R.remaining reader.old) (R.remaining reader.new)) }
@@ -88,14 +85,14 @@ fn read_byte<A: Allocator + Copy, R: BufRead>(
 }
 
 // Reads what the reader's buffer has of a line, and tells whether its newline came.
-fn read_buffered<A: Allocator + Copy, R: BufRead>(
+fn read_buffered<A: Allocator + Copy, R: BufRead, const LIMIT: usize>(
     reader: &mut R,
     line: &mut Vec<u8, A>,
 ) -> Result<Option<Ended>, ReadFault>
-    requires part { IsPart line.old.items }
+    requires part { IsPart LIMIT line.old.items }
     ensures ok { IfOk result (λ ended. (start : Option (List ℕ))
         → Consumes start (R.remaining reader.old) line.old.items
-        → GoesOnOrEnds ended start (R.remaining reader.new) line.new.items) }
+        → GoesOnOrEnds LIMIT ended start (R.remaining reader.new) line.new.items) }
     ensures more { result ≡ Ok None → length line.old.items ≤ length line.new.items }
     ensures err { OnErr result ((line.new.items ≡ line.old.items)
         × Keeps (R.remaining reader.old) (R.remaining reader.new)) }
@@ -103,7 +100,7 @@ fn read_buffered<A: Allocator + Copy, R: BufRead>(
     let Ok(buffered) = reader.fill_buf() else {
         return Err(ReadFault::Read);
     };
-    let room = LINE_LIMIT - line.len();
+    let room = LIMIT - line.len();
     let within = &buffered[..buffered.len().min(room)];
     let newline = memchr(b'\n', within);
     let end = newline.unwrap_or(within.len());

@@ -1,0 +1,7 @@
+use Rattle.s6_replay.proofs.Places.{stops_at_reply}
+use Rattle.s6_replay.proofs.reading.read_step.Goals as goal
+
+pub returns-in-Err-clause-fault : goal.returns-in-Err-clause-fault
+returns-in-Err-clause-fault g c =
+    let read = rw c.in-Some.is at c.in_ok-input.ensures.ok in
+    rw c.in-Two.is (stops_at_reply _ c.args.done c.in-Err.fault c.in-Some.input _ _ _ c.requires read.0 read.3 c.in-Err.ensures.fault)

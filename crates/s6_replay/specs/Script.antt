@@ -1,0 +1,155 @@
+-- Scripts of both versions, and where reading one stops.
+use Rattle.std.specs.Prelude.{◌≡◌, ◌≢◌, ℕ, ◌+◌, ◌*◌, ◌<◌, ◌≤◌, List, [], ◌∷◌, ◌++◌, All, length, take, map, codes, Option, Some, ⊤}
+use Rattle.std.specs.List.{flat_map, AllByRecursion}
+use Rattle.std.specs.Io.KnownBytes.{Consumes, IsAtEnd}
+use Rattle.tree_core.specs.declared.input.Input.{Input}
+use Rattle.s6_replay.specs.Lines.{HasNoNewline, IsPart, IsWithinLine}
+use Rattle.s6_script.specs.Spelling.{IsSpelt, HasExpression, Spells, SpellsButForPattern, spelling}
+use Rattle.s6_replay.specs.declared.version.Version.{Version}
+use Rattle.s6_replay.specs.declared.version.Version.TheVariants.{One, Two}
+use Rattle.s6_replay.specs.declared.fault.ReplayFault.{ReplayFault}
+use Rattle.s6_replay.specs.declared.fault.ReplayFault.TheVariants.{Head, Line, Pattern, Truncated, Read, Write}
+use Rattle.s6_replay.specs.declared.fault.ReplayFault.TheVariants.{NoMemory}
+
+-- the head line of a script
+abbrev pub head_line : Version → List ℕ
+head_line One = codes "s6-script 1\n"
+head_line Two = codes "s6-script 2\n"
+
+-- the most inputs of a script
+abbrev pub input_limit : ℕ
+input_limit = 1000000
+
+-- what a script says of a step: its input and, in version 2, the text of its reply
+pub record Recorded (A : Type 0) : Type 0 where
+  pub input : Input A
+  pub reply : List ℕ
+
+-- the line of an input, and that of a reply
+abbrev pub input_line : {A : Type 0} → Input A → List ℕ
+input_line i = spelling i ++ 10 ∷ []
+
+abbrev pub reply_record : List ℕ → List ℕ
+reply_record text = codes "= " ++ text ++ 10 ∷ []
+
+-- the lines of a step
+abbrev pub step_lines : {A : Type 0} → Version → Recorded A → List ℕ
+step_lines One s = input_line s.input
+step_lines Two s = input_line s.input ++ reply_record s.reply
+
+-- the script of some steps: the head line, and the lines of each
+abbrev pub script : {A : Type 0} → Version → List (Recorded A) → List ℕ
+script version steps = head_line version ++ flat_map (step_lines version) steps
+
+abbrev pub inputs_of : {A : Type 0} → List (Recorded A) → List (Input A)
+inputs_of steps = map (λ s. s.input) steps
+
+-- the input has a spelling, its line is within the limit, and its pattern, if it has one, is an expression
+pub record HasLine {A : Type 0} (i : Input A) : Type 0 where
+  pub spelt : IsSpelt i
+  pub within : length (input_line i) ≤ 65536
+  pub expression : HasExpression i.act
+
+-- a byte that is printed, or a space
+abbrev pub IsPrintable : ℕ → Type 0
+IsPrintable b = (32 ≤ b) × (b ≤ 126)
+
+-- what a reply line may hold: some printable bytes, within the limit
+pub record IsReplyText (text : List ℕ) : Type 0 where
+  pub some : text ≢ []
+  pub printable : All IsPrintable text
+  pub within : length (reply_record text) ≤ 262144
+
+-- a step that a script may have
+abbrev pub HasLines : {A : Type 0} → Version → Recorded A → Type 0
+HasLines One s = HasLine s.input
+HasLines Two s = HasLine s.input × IsReplyText s.reply
+
+-- where a line begins behind some whole steps: that of an input, or that of the reply to an input that was read
+pub data Place (A : Type 0) : Type 0 where
+  at_input : Place A
+  at_reply : Input A → Place A
+
+-- such a line comes in a script of this version
+abbrev pub Comes : {A : Type 0} → Version → Place A → Type 0
+Comes version at_input = ⊤
+Comes One (at_reply i) = ⊥
+Comes Two (at_reply i) = HasLine i
+
+-- what was read of its step before the line
+abbrev pub lead : {A : Type 0} → Place A → List ℕ
+lead at_input = []
+lead (at_reply i) = input_line i
+
+-- the most bytes of the line, with its newline
+abbrev pub line_limit : {A : Type 0} → Place A → ℕ
+line_limit at_input = 65536
+line_limit (at_reply i) = 262144
+
+-- the number of the input line behind so many steps; the head line is the first
+abbrev pub input_line_number : Version → ℕ → ℕ
+input_line_number One before = before + 2
+input_line_number Two before = before * 2 + 2
+
+-- the number of the line, which in a script of version 2 is that of a reply behind each input
+abbrev pub line_number : {A : Type 0} → Version → Place A → ℕ → ℕ
+line_number version at_input before = input_line_number version before
+line_number version (at_reply i) before = before * 2 + 3
+
+-- a line, without its newline, that is none there: it spells no input, or holds no reply
+abbrev pub IsOther : {A : Type 0} → Place A → List ℕ → Type 0
+IsOther {A} at_input line = (i : Input A) → Spells line i → ⊥
+IsOther (at_reply i) line = (text : List ℕ) → IsReplyText text → line ≡ codes "= " ++ text → ⊥
+
+-- what is no line there, behind so many steps: one that holds something else, or is too long, where a line may follow; else any byte
+pub data IsNoLine {A : Type 0} (p : Place A) (before : ℕ) (bytes : List ℕ) : Type 0 where
+  holds_other : before < input_limit → (line : List ℕ) → HasNoNewline line → length line < line_limit p → IsOther p line
+      → bytes ≡ line ++ 10 ∷ [] → IsNoLine p before bytes
+  too_long : before < input_limit → HasNoNewline (take (line_limit p) bytes) → length bytes ≡ line_limit p + 1
+      → IsNoLine p before bytes
+  too_many : p ≡ at_input → before ≡ input_limit → length bytes ≡ 1 → IsNoLine p before bytes
+
+-- a line, within the limit, that spells an input but for its pattern, which is refused
+pub record IsLineButForPattern (A : Type 0) (line : List ℕ) : Type 0 where
+  pub plain : HasNoNewline line
+  pub within : length line ≤ 65535
+  pub but_for_pattern : SpellsButForPattern A line
+
+-- the end of the input is no whole line there: something stands before it, or a reply is owed
+abbrev pub IsOwed : {A : Type 0} → Place A → List ℕ → Type 0
+IsOwed at_input line = line ≢ []
+IsOwed (at_reply i) line = ⊤
+
+-- this was read ahead, then what leads to the place, and then these bytes
+abbrev pub ReadsOn : {A : Type 0} → List ℕ → Place A → List ℕ → Option (List ℕ) → Option (List ℕ) → Type 0
+ReadsOn ahead p bytes left left' = Consumes left left' (ahead ++ (lead p ++ bytes))
+
+-- where reading stopped behind so many steps, of which this was read ahead: behind it no more than some of one line was read, at
+-- NoMemory perhaps all of it, at Pattern all of it
+abbrev pub StopsBehind : (A : Type 0) → Version → ℕ → ReplayFault → List ℕ → (left left' : Option (List ℕ)) → Type 0
+StopsBehind A version before (Line n) ahead left left' =
+    (p : Place A) × Comes version p × (n ≡ line_number version p before)
+    × ((bytes : List ℕ) × IsNoLine p before bytes × ReadsOn ahead p bytes left left')
+StopsBehind A version before (Pattern n) ahead left left' =
+    (before < input_limit) × (n ≡ input_line_number version before)
+    × ((line : List ℕ) × IsLineButForPattern A line × Consumes left left' (ahead ++ (line ++ 10 ∷ [])))
+StopsBehind A version before Truncated ahead left left' =
+    (p : Place A) × Comes version p × (before < input_limit) × IsAtEnd left'
+    × ((line : List ℕ) × IsPart (line_limit p) line × IsOwed p line × ReadsOn ahead p line left left')
+StopsBehind A version before Read ahead left left' =
+    (p : Place A) × Comes version p × (before ≤ input_limit)
+    × ((part : List ℕ) × IsPart (line_limit p) part × (before ≡ input_limit → lead p ++ part ≡ [])
+    × ReadsOn ahead p part left left')
+StopsBehind A version before NoMemory ahead left left' =
+    (p : Place A) × Comes version p × (before < input_limit)
+    × ((bytes : List ℕ) × IsWithinLine (line_limit p) bytes × ReadsOn ahead p bytes left left')
+StopsBehind A version before Head ahead left left' = ⊥
+StopsBehind A version before Write ahead left left' = ⊥
+
+-- the input does not begin with this head line
+abbrev pub BeginsOtherwise : Version → Option (List ℕ) → Type 0
+BeginsOtherwise version left = (rest : List ℕ) → left ≢ Some (head_line version ++ rest)
+
+-- some of a head line was read, from the front on, and nothing else
+abbrev pub ReadsHead : Option (List ℕ) → Option (List ℕ) → Type 0
+ReadsHead left left' = (version : Version) × ((n : ℕ) × Consumes left left' (take n (head_line version)))

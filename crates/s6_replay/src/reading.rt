@@ -1,0 +1,182 @@
+//! Reading the lines of a step.
+ghost use Rattle.std.specs.Prelude.{◌≡◌, ◌<◌, ◌≤◌, [], IfOk, IfErr, OnOk, IfSome};
+ghost use Rattle.std.specs.Io.KnownBytes.{Consumes, IsAtEnd};
+ghost use Rattle.s6_script.specs.Spelling.{spelling};
+ghost use Rattle.s6_replay.specs.Script.{IsReplyText, StopsBehind, input_limit, input_line_number, reply_record};
+ghost use Rattle.s6_replay.specs.Turn.{InputWasRead, WasRead, ReplyStops, HoldsReply, EndStops, text_in};
+
+use super::fault::ReplayFault;
+use super::line::{Ended, ReadFault, read_line};
+use super::version::Version;
+use s6_script::{LineFault, parse_with};
+use std::alloc::{Allocator, Global};
+use std::io::{BufRead, Read};
+use tree_core::{Effect, Input};
+
+/// The most input lines of a script.
+pub const INPUT_LIMIT: u64 = 1_000_000;
+
+/// The most bytes of an input line, with its newline.
+const INPUT_LINE_LIMIT: usize = 65_536;
+
+/// The most bytes of a reply line, with its newline.
+const REPLY_LINE_LIMIT: usize = 262_144;
+
+// What is used again for each step, so that one that needs no more room than those before it takes no memory: its lines, a text of what
+// was read or is written, and what the tree gave.
+#[derive(Drop)]
+pub struct Scratch<A: Allocator> {
+    pub line: Vec<u8, A>,
+    pub reply: Vec<u8, A>,
+    pub text: Vec<u8, A>,
+    pub effect: Effect<A>,
+}
+
+impl<A: Allocator + Copy> Scratch<A> {
+    pub fn new(alloc: A) -> Scratch<A> {
+        Scratch {
+            line: Vec::new(alloc),
+            reply: Vec::new(alloc),
+            text: Vec::new(alloc),
+            effect: Effect::new(alloc),
+        }
+    }
+}
+
+impl From<ReadFault> for ReplayFault {
+    ghost use Rattle.s6_replay.specs.Turn.{fault_of};
+
+    ghost from_gives = { λ refused fault. fault ≡ fault_of refused };
+
+    fn from(refused: ReadFault) -> ReplayFault {
+        match refused {
+            ReadFault::Read => ReplayFault::Read,
+            ReadFault::NoMemory => ReplayFault::NoMemory,
+        }
+    }
+}
+
+// The number of the input line behind so many steps. The head line is the first.
+pub fn input_line_number(version: Version, done: u64) -> u64
+    requires { done ≤ input_limit }
+    ensures { result ≡ input_line_number version done }
+{
+    match version {
+        Version::One => done + 2,
+        Version::Two => done * 2 + 2,
+    }
+}
+
+// Reads the next input, if there is one, behind so many steps.
+fn read_input<A: Allocator + Copy, R: BufRead>(
+    alloc: A,
+    patterns: Global,
+    reader: &mut R,
+    line: &mut Vec<u8, A>,
+    text: &mut Vec<u8, A>,
+    version: Version,
+    done: u64,
+) -> Result<Option<Input<A>>, ReplayFault>
+    requires { done < input_limit }
+    ensures fault { IfErr result
+        (λ fault. StopsBehind A version done fault [] (R.remaining reader.old) (R.remaining reader.new)) }
+    ensures ok { IfOk result (λ found.
+        InputWasRead found line.new.items (R.remaining reader.old) (R.remaining reader.new)) }
+{
+    match read_line::<A, R, INPUT_LINE_LIMIT>(reader, line)? {
+        Ended::TooLong => return Err(ReplayFault::Line(input_line_number(version, done))),
+        Ended::End if line.is_empty() => return Ok(None),
+        Ended::End => return Err(ReplayFault::Truncated),
+        Ended::Newline => {}
+    }
+    match parse_with(alloc, patterns, line.as_slice(), text) {
+        Ok(input) => Ok(Some(input)),
+        Err(LineFault::Line) => Err(ReplayFault::Line(input_line_number(version, done))),
+        Err(LineFault::Pattern) => Err(ReplayFault::Pattern(input_line_number(version, done))),
+        Err(LineFault::NoMemory) => Err(ReplayFault::NoMemory),
+    }
+}
+
+// Whether a line holds a reply: an equals sign, a space, and some printable bytes.
+fn holds_reply(line: &[u8]) -> bool
+    ensures { HoldsReply line.now result }
+{
+    match line.strip_prefix(b"= ") {
+        Some(text) => !text.is_empty() && text.iter().all(|byte| matches!(*byte, 32..=126)),
+        None => false,
+    }
+}
+
+// Reads the reply line of the input that was read behind so many steps.
+fn read_reply<A: Allocator + Copy, R: BufRead>(
+    reader: &mut R,
+    line: &mut Vec<u8, A>,
+    done: u64,
+) -> Result<(), ReplayFault>
+    requires { done < input_limit }
+    ensures fault { IfErr result
+        (λ fault. ReplyStops A fault done (R.remaining reader.old) (R.remaining reader.new)) }
+    ensures reply { IfOk result (λ _. IsReplyText (text_in line.new.items)) }
+    ensures read { IfOk result (λ _. Consumes (R.remaining reader.old) (R.remaining reader.new)
+        (reply_record (text_in line.new.items))) }
+{
+    match read_line::<A, R, REPLY_LINE_LIMIT>(reader, line)? {
+        Ended::TooLong => return Err(ReplayFault::Line(done * 2 + 3)),
+        Ended::End => return Err(ReplayFault::Truncated),
+        Ended::Newline => {}
+    }
+    if holds_reply(line.as_slice()) {
+        Ok(())
+    } else {
+        Err(ReplayFault::Line(done * 2 + 3))
+    }
+}
+
+// Reads the lines of the next step, if there is one, behind so many steps.
+pub fn read_step<A: Allocator + Copy, R: BufRead>(
+    alloc: A,
+    patterns: Global,
+    reader: &mut R,
+    scratch: &mut Scratch<A>,
+    version: Version,
+    done: u64,
+) -> Result<Option<Input<A>>, ReplayFault>
+    requires { done < input_limit }
+    ensures fault { IfErr result
+        (λ fault. StopsBehind A version done fault [] (R.remaining reader.old) (R.remaining reader.new)) }
+    ensures ok { IfOk result (λ found. WasRead version (text_in scratch.new.reply.items) found
+        (R.remaining reader.old) (R.remaining reader.new)) }
+    ensures line { IfOk result (λ found. IfSome found (λ i. scratch.new.line.items ≡ spelling i)) }
+{
+    let Scratch {
+        line,
+        reply,
+        text,
+        ..
+    } = scratch;
+    let Some(input) = read_input(alloc, patterns, reader, line, text, version, done)? else {
+        return Ok(None);
+    };
+    match version {
+        Version::One => Ok(Some(input)),
+        Version::Two => match read_reply(reader, reply, done) {
+            Ok(()) => Ok(Some(input)),
+            Err(fault) => Err(fault),
+        },
+    }
+}
+
+// Looks for the end of the input, after the last line that a script may have.
+pub fn read_end<R: BufRead>(reader: &mut R, version: Version) -> Result<(), ReplayFault>
+    ensures ok { OnOk result (Consumes (R.remaining reader.old) (R.remaining reader.new) []
+        × IsAtEnd (R.remaining reader.new)) }
+    ensures fault { IfErr result
+        (λ fault. EndStops fault version (R.remaining reader.old) (R.remaining reader.new)) }
+{
+    let mut byte = [0; 1];
+    match reader.read(&mut byte) {
+        Err(_) => Err(ReplayFault::Read),
+        Ok(0) => Ok(()),
+        Ok(_) => Err(ReplayFault::Line(input_line_number(version, INPUT_LIMIT))),
+    }
+}
