@@ -42,10 +42,7 @@ fn read_service<R: Files, E: Write>(
     name: Name,
     errors: &mut E,
 ) -> Option<Config> {
-    let Ok(mut files) = ServiceFiles::of(rt, alloc, path) else {
-        tell(text, DirFault::NoMemory, errors);
-        return None;
-    };
+    let mut files = ServiceFiles::of(rt, alloc, path);
     match read(alloc, &mut files, name) {
         Ok(found) => {
             if let Some(note) = found.note {

@@ -1,7 +1,7 @@
 //! The line on standard error and the exit status of each fault.
 ghost use Rattle.std.specs.Prelude.{◌≡◌, ℕ, take, IfOk, OnOk};
 ghost use Rattle.std.specs.Io.KnownBytes.{Appends};
-ghost use Rattle.s6_tree.specs.FaultLines.{status_of, fault_line};
+ghost use Rattle.replay_tool.specs.FaultLines.{status_of, fault_line};
 
 use arrayvec::ArrayVec;
 use s6_replay::{ReplayFault, write_whole};

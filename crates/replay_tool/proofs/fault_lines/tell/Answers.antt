@@ -1,6 +1,6 @@
 use Rattle.std.proofs.Common.{◌∙◌}
-use Rattle.s6_tree.proofs.LineFront.{line_front}
-use Rattle.s6_tree.proofs.fault_lines.tell.Goals as goal
+use Rattle.replay_tool.proofs.LineFront.{line_front}
+use Rattle.replay_tool.proofs.fault_lines.tell.Goals as goal
 
 pub returns-in-Ok : goal.returns-in-Ok
 returns-in-Ok g c =

@@ -4,10 +4,8 @@ ghost use Rattle.std.specs.Io.{WritesAtMost};
 mod replay;
 mod tree;
 
-use super::fault_lines::replay_fault;
-use super::replay_tool::replay;
-use super::tool::run_tool;
 use linked_list_allocator::LocalHeap;
+use replay_tool::{replay, replay_fault, run_tool};
 use s6_replay::ReplayFault;
 use std::alloc::Global;
 use std::env::{Env, FillError};

@@ -1,7 +1,7 @@
 use Rattle.std.proofs.Common.{◌==◌, rules}
 use Rattle.std.proofs.lemmas.Iterator.Consumers.{nth_from_yields_List}
 use Rattle.std.proofs.lemmas.Iterator.Splits.{YieldsList-from_slice_split}
-use Rattle.s6_tools.proofs.status_line.word_at.Goals as goal
+use Rattle.s6_tools.proofs.words.word_at.Goals as goal
 
 pub returns : goal.returns
 returns c =

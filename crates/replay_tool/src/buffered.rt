@@ -2,7 +2,7 @@
 ghost use Rattle.std.specs.Prelude.{◌≡◌, ◌⊎◌, List, IfOk, IfErr};
 ghost use Rattle.tree_core.specs.declared.input.Input.{Input};
 ghost use Rattle.s6_replay.specs.Replay.{IsWhole};
-ghost use Rattle.s6_tree.specs.Flushed.{StopsFlushed};
+ghost use Rattle.replay_tool.specs.Flushed.{StopsFlushed};
 ghost use Rattle.s6_replay.specs.declared.fault.ReplayFault.TheVariants.{Write};
 
 use s6_replay::{Counts, ReplayFault, run};
