@@ -1,12 +1,12 @@
 -- What is wanted of actor 0 at a moment.
-use Rattle.std.specs.Prelude.{ℕ, List, Bool, true, false, Option, Some, None, not, is_none, is_empty, nat_le, nat_lt, ◌&&◌, ◌||◌, if◌then◌else◌}
+use Rattle.std.specs.Prelude.{ℕ, Bool, not, length, ◌==◌, true, false, Option, Some, None, is_none, nat_le, nat_lt, ◌&&◌, ◌||◌, if◌then◌else◌}
 use Rattle.tree_server.specs.declared.plans.Plans.{Plans}
 use Rattle.tree_server.specs.declared.plans.Wanted.{Wanted}
 use Rattle.tree_server.specs.declared.plans.Wanted.TheVariants as wanted
 
 -- somebody waits for more than a moment: the tree has ended, or a client asks for a scan, and none is under way
 abbrev pub is_called : Plans → Bool
-is_called plans = plans.is_over || (not (is_empty plans.askers.items) && is_none plans.scan)
+is_called plans = plans.is_over || (not (length plans.askers.items == 0) && is_none plans.scan)
 
 -- a tick is wanted once the moment that is due has come
 abbrev pub wanted_by : Option ℕ → ℕ → Wanted

@@ -1,5 +1,5 @@
 -- What a line of a client asks for.
-use Rattle.std.specs.Prelude.{◌≡◌, ◌×◌, ⊥, ℕ, List, ◌∷◌, ◌++◌, codes, decimal}
+use Rattle.std.specs.Prelude.{◌≡◌, ℕ, List, ◌∷◌, ◌++◌, codes, decimal}
 use Rattle.std.specs.declared.alloc.Global.{Global}
 use Rattle.s6_script.specs.Spelling.{Spells}
 use Rattle.tree_core.specs.declared.input.Act.{Act}

@@ -1,5 +1,5 @@
 //! What a line of a client asks for.
-ghost use Rattle.std.specs.Prelude.{◌≡◌, codes, IfOk, ⊥};
+ghost use Rattle.std.specs.Prelude.{◌≡◌, IfOk, true};
 ghost use Rattle.std.specs.Str.{bytes_eq};
 ghost use Rattle.s6_script.specs.Spelling.{Spells, SpellsButForPattern};
 ghost use Rattle.tree_core.specs.declared.input.Act.{Act};

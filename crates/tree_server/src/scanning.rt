@@ -43,7 +43,8 @@ pub fn attend<
                 let _ = submit(rt, world, &mut seat, Act::Tick);
             }
             Errand::Scan(askers) => {
-                if let Err(answer) = scan(rt, world, &mut seat, &askers, directory, errors) {
+                let begun = scan(rt, world, &mut seat, askers, directory, errors);
+                if let Err((answer, askers)) = begun {
                     refuse(rt, server, &askers, answer);
                 }
             }
@@ -66,7 +67,7 @@ fn submit<C: Channels + Lanes, D: Board<C>, B: Backend, T: Clock + Drop, R: Wait
     is_taken
 }
 
-// Scans for these clients.
+// Scans for these clients. Where there is no scan they come back.
 fn scan<
     C: Channels + Lanes,
     D: Board<C>,
@@ -78,10 +79,10 @@ fn scan<
     rt: &R,
     world: &World<C, D, B, T>,
     seat: &mut Seat<C>,
-    askers: &Askers,
+    askers: Askers,
     directory: &str,
     errors: &mut E,
-) -> Result<(), OwnAnswer> {
+) -> Result<(), (OwnAnswer, Askers)> {
     let listing = match read_listing(rt, world.alloc, directory, errors) {
         Ok(listing) => listing,
         Err(error) => {
@@ -89,16 +90,15 @@ fn scan<
                 ErrorKind::OutOfMemory => OwnAnswer::NoMemory,
                 _ => OwnAnswer::Directory,
             };
-            return Err(answer);
+            return Err((answer, askers));
         }
     };
     let number = seat.sent().saturating_add(1);
-    world.agenda.begin_scan(rt, number, askers.clone());
+    world.agenda.begin_scan(rt, number, askers);
     if submit(rt, world, seat, Act::Scan(listing)) {
         return Ok(());
     }
-    let _ = world.agenda.take_served(rt, number);
-    Err(OwnAnswer::Full)
+    Err((OwnAnswer::Full, world.agenda.take_served(rt, number)))
 }
 
 // Tells the clients that asked for a scan why there is none.

@@ -45,16 +45,17 @@ impl Standing {
             × (self.new.subscriptions.items ≡ self.old.subscriptions.items)) }
     {
         match reply {
-            Reply::Waiter(id) => self.waiters.push(*id),
-            Reply::Subscription(id) => self.subscriptions.push(*id),
-            _ => Ok(()),
+            Reply::Waiter(id) => self.waiters.push(*id)?,
+            Reply::Subscription(id) => self.subscriptions.push(*id)?,
+            _ => {}
         }
+        Ok(())
     }
 
     /// Whether it is a subscription of this connection.
     pub fn has_subscription(&self, id: SubId) -> bool
-        ensures yes { IsTrue result → Contains id self.now.subscriptions.items }
-        ensures no { IsFalse result → Contains id self.now.subscriptions.items → ⊥ }
+        ensures yes { IsTrue result → Contains self.now.subscriptions.items id }
+        ensures no { IsFalse result → Contains self.now.subscriptions.items id → ⊥ }
     {
         self.subscriptions.as_slice().contains(&id)
     }
