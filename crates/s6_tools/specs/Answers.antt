@@ -1,5 +1,5 @@
 -- What a line of the server says.
-use Rattle.std.specs.Prelude.{ℕ, List, [], ◌∷◌, Bool, true, false, Option, Some, None, codes, take, if◌then◌else◌, ◌||◌}
+use Rattle.std.specs.Prelude.{ℕ, List, [], ◌∷◌, true, false, Option, Some, None, codes, take, if◌then◌else◌, ◌||◌}
 use Rattle.std.specs.Str.{bytes_eq}
 use Rattle.s6_tools.specs.Words.{word_in}
 use Rattle.s6_tools.specs.declared.answer.Answer.{Answer}

@@ -1,5 +1,5 @@
 //! What stands of a connection: the waiters and the subscriptions that it made.
-ghost use Rattle.std.specs.Prelude.{◌≡◌, ◌++◌, [], OnOk, OnErr, IsTrue, IsFalse};
+ghost use Rattle.std.specs.Prelude.{◌≡◌, ◌++◌, [], OnOk, OnErr, IsTrue, IsFalse, IfSome, Some, slice_get};
 ghost use Rattle.std.specs.List.{Contains};
 ghost use Rattle.tree_server.specs.Standing.{waiters_of, subscriptions_of, Ends, IsWithout};
 
@@ -12,6 +12,20 @@ use tree_core::{Act, Reply};
 pub struct Standing {
     pub waiters: Vec<WaitId>,
     pub subscriptions: Vec<SubId>,
+}
+
+// Where a waiter stands.
+fn place_of_waiter(waiters: &[WaitId], id: WaitId) -> Option<usize>
+    ensures { IfSome result (λ k. slice_get waiters.now k ≡ Some id) }
+{
+    let mut place = 0;
+    for waiter in waiters {
+        if *waiter == id {
+            return Some(place);
+        }
+        place += 1;
+    }
+    None
 }
 
 impl Standing {
@@ -66,8 +80,7 @@ impl Standing {
         ensures no { IsFalse result → self.new.waiters.items ≡ self.old.waiters.items }
         ensures rest { self.new.subscriptions ≡ self.old.subscriptions }
     {
-        let waiters = self.waiters.as_slice();
-        match waiters.iter().position(|waiter| *waiter == id) {
+        match place_of_waiter(self.waiters.as_slice(), id) {
             Some(place) => {
                 let _ = self.waiters.remove(place);
                 true

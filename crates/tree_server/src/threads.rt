@@ -18,8 +18,11 @@ use std::thread::{self, Builder, Scope, Threads};
 use std::time::Clock;
 use tree_core::Listing;
 
-/// The stack of a thread, in bytes.
-const STACK_SIZE: usize = 512 * 1024;
+/// The stack of the thread that drives, in bytes: a step may publish all rows of the board. Only what is touched takes memory.
+const DRIVER_STACK: usize = 8 * 1024 * 1024;
+
+/// The stack of the thread of a lane, and of the one that accepts connections, in bytes.
+const STACK_SIZE: usize = 1024 * 1024;
 
 /// Starts the threads, does what actor 0 does in this one, and waits for the end of all of them.
 pub fn run_threads<
@@ -70,7 +73,7 @@ where
     R: Threads + Wait + Clock + Sync,
 {
     Builder::new()
-        .stack_size(STACK_SIZE)
+        .stack_size(DRIVER_STACK)
         .spawn_scoped(scope, move || drive_and_tell(rt, server, outcome))
         .is_ok()
 }
