@@ -1,7 +1,7 @@
 //! Which tool the command line asks for, and running it. The first word is the tool, today `replay`, or `--help` or `--version`.
+use crate::buffered::replay;
 use crate::fault_lines::{NO_TOOL, REPLAY_USAGE, SYSTEM_STATUS, USAGE_STATUS, replay_fault};
 use crate::help_texts::{HELP, REPLAY_HELP, VERSION};
-use crate::buffered::replay;
 use std::alloc::{Allocator, Global};
 use std::env::{Env, FillError};
 use std::io::{Read, Write};

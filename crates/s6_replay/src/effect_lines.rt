@@ -129,7 +129,10 @@ fn verdict_bytes(verdict: Verdict) -> &'static str
 }
 
 /// Adds the line of a release, with its newline.
-pub fn push_release<A: Allocator>(text: &mut Vec<u8, A>, release: &Release) -> Result<(), AllocError>
+pub fn push_release<A: Allocator>(
+    text: &mut Vec<u8, A>,
+    release: &Release,
+) -> Result<(), AllocError>
     ensures { OnOk result (text.new.items ≡ text.old.items ++ release_line release.now) }
 {
     text.extend_from_slice(b"r ")?;

@@ -1,11 +1,10 @@
 //! What the thread of actor 0 is to do, and how it waits for it.
+use crate::plans::{Askers, Plans, Wanted};
+use crate::time::RunClock;
 use arrayvec::ArrayVec;
 use std::mem;
 use std::sync::{Condvar, Mutex, Wait};
 use std::time::{Clock, Duration};
-
-use crate::plans::{Askers, Plans, Wanted};
-use crate::time::RunClock;
 
 /// What is to be done next.
 #[derive(Drop)]

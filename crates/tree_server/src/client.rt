@@ -42,7 +42,11 @@ pub struct Client<C: Channels> {
 }
 
 // Hands in an act. Where the ring is full, or has taken as many inputs as it ever may, the act comes back.
-fn hand_in<C: Channels>(seat: &mut Seat<C>, at: At, act: Act<Global>) -> Result<Ticket, Act<Global>> {
+fn hand_in<C: Channels>(
+    seat: &mut Seat<C>,
+    at: At,
+    act: Act<Global>,
+) -> Result<Ticket, Act<Global>> {
     if seat.sent() >= i64::MAX as u64 {
         return Err(act);
     }

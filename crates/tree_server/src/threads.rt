@@ -59,6 +59,7 @@ pub fn run_threads<
     });
     *outcome.lock(rt)
 }
+
 fn start_driver<'s, E, C, D, B, T, R>(
     scope: &Scope<'s, E>,
     rt: &'s R,
@@ -144,4 +145,3 @@ where
         .spawn_scoped(scope, move || serve_lane(rt, world, lane, bell, seat))
         .is_ok()
 }
-

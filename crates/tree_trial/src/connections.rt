@@ -77,15 +77,23 @@ fn try_requests<R: Net, W: Write>(rt: &R, stage: &Stage, output: &mut W) -> io::
     let reply = ask(stage.alloc, &stream, b"wait u a 0 web\n")?;
     let is_waiter = reply.as_slice().starts_with(b"wait ");
     let release = read_reply(stage.alloc, &stream)?;
-    let is_held = release.as_slice().starts_with(b"r ") && release.as_slice().ends_with(b" held\n\n");
-    write!(output, "a waiter, and then its release: {is_waiter} {is_held}\n")?;
+    let is_held = release.as_slice().starts_with(b"r ")
+        && release.as_slice().ends_with(b" held\n\n");
+    write!(
+        output,
+        "a waiter, and then its release: {is_waiter} {is_held}\n"
+    )?;
     let mut long = Vec::new(stage.alloc);
     for _ in 0..9_000u32 {
         long.push(b'a')?;
     }
     let reply = ask(stage.alloc, &stream, long.as_slice())?;
     output.write_all(reply.as_slice())?;
-    write!(output, "a long line ends its connection: {}\n", ends(&stream))
+    write!(
+        output,
+        "a long line ends its connection: {}\n",
+        ends(&stream)
+    )
 }
 
 // Half a line, and the end of the connection.
@@ -151,7 +159,10 @@ fn try_deaf<R: Net + Processes + Clock, W: Write>(
             break;
         }
     }
-    write!(output, "a client that never reads is closed: {is_free} {is_closed}\n")
+    write!(
+        output,
+        "a client that never reads is closed: {is_free} {is_closed}\n"
+    )
 }
 
 // Bytes that mean nothing.

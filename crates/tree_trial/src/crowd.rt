@@ -35,10 +35,13 @@ pub fn try_crowd<R: Net + Files + Processes + Clock, W: Write>(
         stage.remove_service(rt, name.as_str())?;
     }
     stage.tell(rt, "svscanctl -an", output)?;
-    let is_gone = stage.comes_to(rt, "svstat -o up dies0", "1 svstat: refused NoService")?;
+    let is_gone = stage.comes_to(rt, "svc -u dies0", "1 svc: refused Ended")?;
     write!(output, "all gone: {is_gone}\n")?;
     let is_as_before = returns_to(rt, stage, server, &before)?;
-    write!(output, "no zombie, descriptors and threads as before: {is_as_before}\n")
+    write!(
+        output,
+        "no zombie, descriptors and threads as before: {is_as_before}\n"
+    )
 }
 
 // The census once it stays the same.
@@ -80,7 +83,11 @@ fn die<R: Net + Clock>(rt: &R, stage: &Stage) -> io::Result<bool> {
         for number in 0..SERVICES {
             let request = format!(in stage.alloc; "tally dies{number}\n")?;
             let reply = ask(stage.alloc, &stream, request.as_bytes())?;
-            let count = reply.as_slice().iter().filter(|byte| **byte == b' ').count();
+            let count = reply
+                .as_slice()
+                .iter()
+                .filter(|byte| **byte == b' ')
+                .count();
             deaths = deaths.saturating_add(count);
         }
         if deaths >= DEATHS {

@@ -1,10 +1,10 @@
 //! How the tree ends.
 use crate::stage::Stage;
+use std::fs;
 use std::io::{self, Write};
 use std::process::{Child, Processes, SystemProcess};
 use std::rt::Files;
 use std::time::Clock;
-use std::fs;
 
 /// Ends the tree, and looks what is left.
 pub fn try_end<R: Files + Processes + Clock, W: Write>(

@@ -60,7 +60,11 @@ fn try_restart<R: Processes, W: Write>(rt: &R, stage: &Stage, output: &mut W) ->
 }
 
 // Free event directories, and those of services.
-fn try_directories<R: Processes, W: Write>(rt: &R, stage: &Stage, output: &mut W) -> io::Result<()> {
+fn try_directories<R: Processes, W: Write>(
+    rt: &R,
+    stage: &Stage,
+    output: &mut W,
+) -> io::Result<()> {
     for words in [
         "mkfifodir queue",
         "mkfifodir queue",
@@ -87,8 +91,11 @@ fn try_coming<R: Files + Processes + Clock, W: Write>(
     stage.tell(rt, "svstat -o up guest", output)?;
     stage.remove_service(rt, "guest")?;
     stage.tell(rt, "svscanctl -an", output)?;
-    let is_gone = stage.comes_to(rt, "svstat -o up guest", "1 svstat: refused NoService")?;
-    write!(output, "the guest is gone: {is_gone}\n")
+    let is_gone = stage.comes_to(rt, "svc -u guest", "1 svc: refused Ended")?;
+    write!(output, "the guest is gone: {is_gone}\n")?;
+    stage.tell(rt, "svwait guest", output)?;
+    stage.tell(rt, "svscanctl -a", output)?;
+    stage.tell(rt, "svstat -o up guest", output)
 }
 
 impl Stage {

@@ -18,13 +18,7 @@ pub fn try_all<
     R: Env + Net + Files + Processes<Started = SystemProcess> + Clock,
     W: Write + Drop,
     E: Write,
->(
-    rt: &R,
-    alloc: Global,
-    this: Process,
-    output: W,
-    errors: &mut E,
-) -> u8 {
+>(rt: &R, alloc: Global, this: Process, output: W, errors: &mut E) -> u8 {
     let mut output = output;
     match try_in_folder(rt, alloc, this, &mut output) {
         Ok(()) => 0,
@@ -36,10 +30,7 @@ pub fn try_all<
 }
 
 // Makes the folder of the trial, a new one for each run, since two runs may go on at once. It is removed at the end.
-fn try_in_folder<
-    R: Env + Net + Files + Processes<Started = SystemProcess> + Clock,
-    W: Write,
->(
+fn try_in_folder<R: Env + Net + Files + Processes<Started = SystemProcess> + Clock, W: Write>(
     rt: &R,
     alloc: Global,
     this: Process,
