@@ -18,10 +18,6 @@ abbrev pub subscriptions_of : Reply Global → List SubId
 subscriptions_of (reply.Subscription id) = id ∷ []
 subscriptions_of r = []
 
--- the second list is the first without one item
-abbrev pub IsWithout : {A : Type 0} → A → List A → List A → Type 0
-IsWithout {A} item old new = (before : List A) × (after : List A) × (old ≡ before ++ item ∷ after) × (new ≡ before ++ after)
-
 -- the act ends the waiter that stands last, or where none stands the subscription, and that stands no more
 abbrev pub Ends : Option (Act Global) → (waiters : List WaitId) → (subscriptions : List SubId)
     → (waiters' : List WaitId) → (subscriptions' : List SubId) → Type 0

@@ -182,9 +182,9 @@ impl<C: Channels> Client<C> {
             .wait_timeout_while(rt, turn, time, |turn| turn.is_here);
     }
 
-    /// The waiter was released. Whether it is one of this connection.
-    pub fn release<R: Wait>(&self, rt: &R, id: WaitId) -> bool {
-        self.turn.lock(rt).standing.release(id)
+    /// Whether it is a waiter of this connection.
+    pub fn has_waiter<R: Wait>(&self, rt: &R, id: WaitId) -> bool {
+        self.turn.lock(rt).standing.has_waiter(id)
     }
 
     /// Whether it is a subscription of this connection.

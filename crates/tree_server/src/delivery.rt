@@ -175,7 +175,7 @@ fn tell_release<C: Channels + Lanes, D: Board<C>, B: Backend, T: Clock + Drop, R
     let world = server.answers();
     let mut seat = 0;
     for client in &world.clients {
-        if client.release(rt, release.waiter) {
+        if client.has_waiter(rt, release.waiter) {
             post(rt, server, seat, &release_lines(world.alloc, release));
         }
         seat += 1;

@@ -71,7 +71,7 @@ fn drive_to_end<C: Channels + Lanes, D: Board<C>, B: Backend, T: Clock + Drop, R
         if after == After::Full {
             return Err(ServeFault::Full);
         }
-        if world.office.ended(rt) {
+        if after == After::Wait && world.office.ended(rt) {
             break;
         }
     }

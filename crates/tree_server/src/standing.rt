@@ -1,31 +1,18 @@
 //! What stands of a connection: the waiters and the subscriptions that it made.
-ghost use Rattle.std.specs.Prelude.{◌≡◌, ◌++◌, [], OnOk, OnErr, IsTrue, IsFalse, IfSome, Some, slice_get};
+ghost use Rattle.std.specs.Prelude.{◌≡◌, ◌++◌, [], OnOk, OnErr, IsTrue, IsFalse};
 ghost use Rattle.std.specs.List.{Contains};
-ghost use Rattle.tree_server.specs.Standing.{waiters_of, subscriptions_of, Ends, IsWithout};
+ghost use Rattle.tree_server.specs.Standing.{waiters_of, subscriptions_of, Ends};
 
 use s6_events::{SubId, WaitId};
 use std::alloc::{AllocError, Global};
 use tree_core::{Act, Reply};
 
-/// The waiters and the subscriptions that a connection made, and of which it isn't known that they have ended.
+/// The waiters and the subscriptions that a connection made. One that is over stands too: it counts for the limits of the tree until it
+/// is cancelled.
 #[derive(Drop)]
 pub struct Standing {
     pub waiters: Vec<WaitId>,
     pub subscriptions: Vec<SubId>,
-}
-
-// Where a waiter stands.
-fn place_of_waiter(waiters: &[WaitId], id: WaitId) -> Option<usize>
-    ensures { IfSome result (λ k. slice_get waiters.now k ≡ Some id) }
-{
-    let mut place = 0;
-    for waiter in waiters {
-        if *waiter == id {
-            return Some(place);
-        }
-        place += 1;
-    }
-    None
 }
 
 impl Standing {
@@ -74,19 +61,12 @@ impl Standing {
         self.subscriptions.as_slice().contains(&id)
     }
 
-    /// Forgets a waiter, since it was released. Whether it was one of this connection.
-    pub fn release(&mut self, id: WaitId) -> bool
-        ensures yes { IsTrue result → IsWithout id self.old.waiters.items self.new.waiters.items }
-        ensures no { IsFalse result → self.new.waiters.items ≡ self.old.waiters.items }
-        ensures rest { self.new.subscriptions ≡ self.old.subscriptions }
+    /// Whether it is a waiter of this connection.
+    pub fn has_waiter(&self, id: WaitId) -> bool
+        ensures yes { IsTrue result → Contains self.now.waiters.items id }
+        ensures no { IsFalse result → Contains self.now.waiters.items id → ⊥ }
     {
-        match place_of_waiter(self.waiters.as_slice(), id) {
-            Some(place) => {
-                let _ = self.waiters.remove(place);
-                true
-            }
-            None => false,
-        }
+        self.waiters.as_slice().contains(&id)
     }
 
     /// The act that ends what was made last, of the waiters first; None where nothing stands.
