@@ -1,4 +1,4 @@
-//! Which tool the command line asks for, and running it. The first word is the tool, today `replay`, or `--help` or `--version`.
+//! What the command line asks for, and doing it: `replay`, or the texts of the program. Its other tools are looked for before.
 use crate::buffered::replay;
 use crate::fault_lines::{NO_TOOL, REPLAY_USAGE, SYSTEM_STATUS, USAGE_STATUS, replay_fault};
 use crate::help_texts::{HELP, REPLAY_HELP, VERSION};
