@@ -1,7 +1,8 @@
 -- What a client is told of the status of a service.
-use Rattle.std.specs.Prelude.{ℕ, List, [], ◌∷◌, ◌++◌, Option, Some, None, codes, find}
+use Rattle.std.specs.Prelude.{ℕ, List, [], ◌∷◌, ◌++◌, Option, Some, None, codes}
+use Rattle.std.specs.List.{find}
 use Rattle.std.specs.Str.{bytes_eq}
-use Rattle.s6_replay.specs.ReplyText.{row_text}
+use Rattle.s6_replay.specs.Transcript.{row_text}
 use Rattle.supervise_core.specs.declared.row.Row.{Row}
 
 -- a row is told, and where there is none that
