@@ -148,11 +148,11 @@ fn run<
         return Err(ServeFault::NoMemory);
     };
     let Parts {
-        scanner: Some(scanner),
+        scanner,
         lanes,
         clients,
-    } = parts
-    else {
+    } = parts;
+    let Some(scanner) = scanner else {
         return Err(ServeFault::NoMemory);
     };
     let Ok(seats) = Seats::new(alloc) else {

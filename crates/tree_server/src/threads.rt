@@ -43,14 +43,7 @@ pub fn run_threads<
 ) -> Result<(), ServeFault> {
     let outcome = Mutex::new(Ok(()));
     thread::scope(thread::scope_env(), rt, |scope| {
-        let mut is_started = start_driver(scope, rt, server, &outcome)
-            && start_listener(scope, rt, server);
-        let mut lane = 0;
-        for seat in lanes {
-            is_started = is_started && start_lane(scope, rt, server.answers(), lane, seat);
-            lane += 1;
-        }
-        if is_started {
+        if start_all(scope, rt, server, &outcome, lanes) {
             attend(rt, server, scanner, first, directory, errors);
         } else {
             *outcome.lock(rt) = Err(ServeFault::Thread);
@@ -58,6 +51,35 @@ pub fn run_threads<
         }
     });
     *outcome.lock(rt)
+}
+
+// Starts all threads but this one. Whether they run.
+fn start_all<'s, E, C, D, B, T, R>(
+    scope: &Scope<'s, E>,
+    rt: &'s R,
+    server: &'s Server<World<C, D, B, T>>,
+    outcome: &'s Mutex<Result<(), ServeFault>>,
+    lanes: Vec<Seat<C>>,
+) -> bool
+where
+    C: Channels + Lanes + Send + Sync,
+    D: Board<C> + Send,
+    B: Backend + Send,
+    T: Clock + Sync + Send + Drop,
+    R: Threads + Wait + Clock + Sync,
+{
+    if !start_driver(scope, rt, server, outcome) || !start_listener(scope, rt, server) {
+        return false;
+    }
+    let world = server.answers();
+    let mut lane = 0;
+    for seat in lanes {
+        if !start_lane(scope, rt, world, lane, seat) {
+            return false;
+        }
+        lane += 1;
+    }
+    true
 }
 
 fn start_driver<'s, E, C, D, B, T, R>(
