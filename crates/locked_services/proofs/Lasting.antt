@@ -44,12 +44,17 @@ legal_snoc m steps s legal is =
     ∙ (sym (outcomes_more m (inputs_of steps) s.input)
     ∙ ap (λ (is : List (Input Global)). outcomes m is) (sym (map-append (λ (x : RunStep). x.input) steps (s ∷ []))))))
 
+still_begins : (v w : RunningView) → IsSoundRunning v → w.opening ≡ v.opening → (m : Machine) × StandsFor w.opening m
+still_begins v w sound opening =
+    (sound.begins.0, subst (λ (o : StoredTree). StandsFor o sound.begins.0) (sym opening) sound.begins.1)
+
 -- the step of the held input was made
 pub sound_step : (v w : RunningView) (s : RunStep) → IsSoundRunning v → v.held ≡ Some s.input → GoesTo v.tree w.tree s
     → w.opening ≡ v.opening → w.steps ≡ v.steps ++ s ∷ [] → w.drains ≡ v.drains → w.held ≡ None → length w.lanes ≡ length v.lanes
     → ((k : ℕ) → k < length v.lanes → sent_in k w.lanes ≡ sent_in k v.lanes ++ orders_of_lane (length v.lanes) k s.outcome.orders)
     → IsSoundRunning w
 sound_step v w s sound held goes opening steps drains none lanes sent = record {
+  begins = still_begins v w sound opening;
   legal = λ m stands.
       let old : StandsFor v.opening m = subst (λ (o : StoredTree). StandsFor o m) opening stands in
       subst (λ (ss : List RunStep). IsLegal m ss) (sym steps)
@@ -82,6 +87,7 @@ pub sound_fetch : (v w : RunningView) → IsSoundRunning v → v.held ≡ None �
     → w.opening ≡ v.opening → w.tree ≡ v.tree → w.steps ≡ v.steps → length w.lanes ≡ length v.lanes
     → ((k : ℕ) → sent_in k w.lanes ≡ sent_in k v.lanes) → IsSoundRunning w
 sound_fetch v w sound none numbered more opening tree steps lanes sent = record {
+  begins = still_begins v w sound opening;
   legal = λ m stands. subst (λ (ss : List RunStep). IsLegal m ss) (sym steps)
       (sound.legal m (subst (λ (o : StoredTree). StandsFor o m) opening stands));
   stands = λ m stands. subst (λ (ss : List RunStep). StandsFor w.tree (end_of m ss)) (sym steps)
@@ -102,9 +108,10 @@ sound_fetch v w sound none numbered more opening tree steps lanes sent = record 
 }
 
 -- no step was made yet
-pub sound_begin : (v : RunningView) → v.opening ≡ v.tree → v.steps ≡ [] → v.held ≡ None → AreNumbered v.drains
+pub sound_begin : (v : RunningView) → ((m : Machine) × StandsFor v.tree m) → v.opening ≡ v.tree → v.steps ≡ [] → v.held ≡ None → AreNumbered v.drains
     → ((a : ℕ) → taken_from a v.drains ≡ []) → 0 < length v.lanes → ((k : ℕ) → sent_in k v.lanes ≡ []) → IsSoundRunning v
-sound_begin v tree steps held numbered untaken lanes unsent = record {
+sound_begin v there tree steps held numbered untaken lanes unsent = record {
+  begins = (there.0, subst (λ (o : StoredTree). StandsFor o there.0) (sym tree) there.1);
   legal = λ m stands. subst (λ (ss : List RunStep). IsLegal m ss) (sym steps) refl;
   stands = λ m stands. subst (λ (ss : List RunStep). StandsFor v.tree (end_of m ss)) (sym steps)
       (subst (λ (o : StoredTree). StandsFor o m) tree stands);
@@ -121,6 +128,7 @@ pub sound_looked : (v w : RunningView) → IsSoundRunning v → AreNumbered w.dr
     → w.opening ≡ v.opening → w.tree ≡ v.tree → w.steps ≡ v.steps → w.held ≡ v.held → length w.lanes ≡ length v.lanes
     → ((k : ℕ) → sent_in k w.lanes ≡ sent_in k v.lanes) → IsSoundRunning w
 sound_looked v w sound numbered same opening tree steps held lanes sent = record {
+  begins = still_begins v w sound opening;
   legal = λ m stands. subst (λ (ss : List RunStep). IsLegal m ss) (sym steps)
       (sound.legal m (subst (λ (o : StoredTree). StandsFor o m) opening stands));
   stands = λ m stands. subst (λ (ss : List RunStep). StandsFor w.tree (end_of m ss)) (sym steps)

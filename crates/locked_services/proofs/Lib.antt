@@ -3,3 +3,4 @@ pub mod Lasting
 pub mod Shown
 pub mod Opened
 pub mod Finished
+pub mod Crosses

@@ -8,7 +8,7 @@ use Rattle.tree_core.specs.StandsFor.{StoredTree, StandsFor}
 use Rattle.status_board.specs.Board.{last_shot}
 use Rattle.tree_core.specs.Rows.{all_rows}
 use Rattle.run_records.specs.Runs.{RunStep, end_of}
-use Rattle.locked_services.specs.Shots.{shot_of, IsShotOf, RoomView, IsSoundRoom}
+use Rattle.locked_services.specs.Shots.{first_shot, shot_of, IsShotOf, RoomView, IsSoundRoom}
 
 pub shot_later : (m : Machine) (ts : List RunStep) (t : RunStep) (s : Shot) → IsShotOf m ts s → IsShotOf m (ts ++ t ∷ []) s
 shot_later m ts t s is =
@@ -38,8 +38,13 @@ all_snoc P [] x all p (suc k) d below = absurd (omega arith)
 all_snoc P (y ∷ ys) x all p zero d below = all zero y (omega arith)
 all_snoc P (y ∷ ys) x all p (suc k) d below = all_snoc P ys x (λ j e b. all (suc j) e (omega arith)) p k d (omega arith)
 
+pub first_more : (x s : Shot) (xs : List Shot) → first_shot xs ≡ Some x → first_shot (xs ++ s ∷ []) ≡ Some x
+first_more x s [] e = absurd (cc (e))
+first_more x s (y ∷ ys) e = e
+
 pub shows_step : (v w : RoomView) (t : RunStep) → IsSoundRoom v → w.running.opening ≡ v.running.opening → w.shots ≡ v.shots → w.running.steps ≡ v.running.steps ++ t ∷ [] → w.is_shown ≡ false → IsSoundRoom w
 shows_step v w t k opening shots steps hidden = record {
+  first = λ m s. ap first_shot shots ∙ k.first m (subst (λ (o : StoredTree). StandsFor o m) opening s);
   each = λ m s.
       subst (λ (ss : List Shot). All (IsShotOf m w.running.steps) ss) (sym shots)
       (subst (λ (ts : List RunStep). All (IsShotOf m ts) v.shots) (sym steps) (shots_later m v.running.steps t v.shots (k.each m (subst (λ (o : StoredTree). StandsFor o m) opening s))));
@@ -48,6 +53,7 @@ shows_step v w t k opening shots steps hidden = record {
 
 pub shows_same : (v w : RoomView) → IsSoundRoom v → w.running.opening ≡ v.running.opening → w.shots ≡ v.shots → w.running.steps ≡ v.running.steps → w.is_shown ≡ v.is_shown → IsSoundRoom w
 shows_same v w k opening shots steps shown = record {
+  first = λ m s. ap first_shot shots ∙ k.first m (subst (λ (o : StoredTree). StandsFor o m) opening s);
   each = λ m s.
       subst (λ (ss : List Shot). All (IsShotOf m w.running.steps) ss) (sym shots)
       (subst (λ (ts : List RunStep). All (IsShotOf m ts) v.shots) (sym steps) (k.each m (subst (λ (o : StoredTree). StandsFor o m) opening s)));
@@ -57,9 +63,10 @@ shows_same v w k opening shots steps shown = record {
 }
 
 -- the present state alone was published
-pub shows_begin : (v : RoomView) → ((m : Machine) → StandsFor v.running.opening m → v.shots ≡ shot_of (end_of m v.running.steps) ∷ [])
+pub shows_begin : (v : RoomView) → v.running.steps ≡ [] → ((m : Machine) → StandsFor v.running.opening m → v.shots ≡ shot_of (end_of m v.running.steps) ∷ [])
     → IsSoundRoom v
-shows_begin v one = record {
+shows_begin v none one = record {
+  first = λ m s. ap first_shot (one m s) ∙ ap (λ (ts : List RunStep). Some (shot_of (end_of m ts))) none;
   each = λ m s.
       subst (λ (ss : List Shot). All (IsShotOf m v.running.steps) ss) (sym (one m s))
       (all_snoc (IsShotOf m v.running.steps) [] (shot_of (end_of m v.running.steps)) (λ k d below. absurd (omega arith))

@@ -29,9 +29,10 @@ pub record RunningView : Type 0 where
 abbrev pub orders_of : List RunStep → List Order
 orders_of steps = flat_map (λ s. s.outcome.orders) steps
 
--- the steps are a legal history from each machine for which the tree stood when the run began, and the tree stands for its end; each
--- actor's steps, and then the held input, where it is the actor's, are what its ring gave; and each lane was sent its orders
+-- there is a machine for which the tree stood when the run began; the steps are a legal history from each such machine, and the tree
+-- stands for its end; each actor's steps, and then the held input, where it is the actor's, are what its ring gave; and each lane was sent its orders
 pub record IsSoundRunning (v : RunningView) : Type 0 where
+  pub begins : (m : Machine) × StandsFor v.opening m
   pub legal : (m : Machine) → StandsFor v.opening m → IsLegal m v.steps
   pub stands : (m : Machine) → StandsFor v.opening m → StandsFor v.tree (end_of m v.steps)
   pub numbered : AreNumbered v.drains

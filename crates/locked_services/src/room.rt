@@ -1,13 +1,15 @@
 //! What the lock guards: the running tree and its board.
 ghost use Rattle.std.specs.Prelude.{◌≡◌, ◌≢◌, ◌≤◌, ◌∷◌, ◌++◌, [], None, IsSome, IsTrue, OnOk, OnErr, IfOk, length, ℕ, true, Some, option_map};
 ghost use Rattle.tree_core.specs.Effect.{outcome_of};
+ghost use Rattle.tree_core.specs.Ended.{has_ended};
 ghost use Rattle.tree_core.specs.Limits.{order_limit};
 ghost use Rattle.tree_core.specs.Machine.{Machine};
+ghost use Rattle.tree_core.specs.NextDue.{next_due};
 ghost use Rattle.tree_core.specs.StandsFor.{StandsFor};
 ghost use Rattle.run_records.specs.Runs.{RunStep, end_of, actor_at, outcome_at, reply_at};
 ghost use Rattle.locked_services.specs.Submissions.{NoneSeen};
 ghost use Rattle.locked_services.specs.Running.{run_limit};
-ghost use Rattle.locked_services.specs.Shots.{shot_of, Grows};
+ghost use Rattle.locked_services.specs.Shots.{shot_of, Grows, IsSoundHistory};
 ghost use Rattle.status_board.specs.Board.{last_shot};
 ghost use Rattle.locked_services.specs.declared.stop.Stop.TheVariants.{Done, Idle, RunFull, Blocked};
 ghost use Rattle.order_lanes.specs.Lane.{IsBlocked};
@@ -43,9 +45,10 @@ impl<C: Channels + Lanes, B: Board<C>> Model for Room<C, B> {
 }
 
 impl<C: Channels + Lanes, B: Board<C>> Room<C, B> {
-    /// A room of this running tree, whose present state alone was published on the board.
+    /// A room of this running tree, in which no step was made, and whose state alone was published on the board.
     pub fn begin(running: RunningTree<C>, board: B) -> Room<C, B>
-        requires { (m : Machine) → StandsFor running.opening m →
+        requires steps { running.steps ≡ [] }
+        requires first { (m : Machine) → StandsFor running.opening m →
             B.shots board ≡ shot_of (end_of m running.steps) ∷ [] }
         ensures { result ≡ record { running = running; shots = B.shots board; is_shown = true } }
     {
@@ -93,7 +96,7 @@ impl<C: Channels + Lanes, B: Board<C>> Room<C, B> {
         Ok(())
     }
 
-    /// Names all that was published so far.
+    /// Names all that was published so far: first the state with which the run began, and then states that it came to.
     pub fn tell(&self) -> Told<C>
         ensures { result ≡ self.now.shots }
     {
@@ -121,6 +124,16 @@ impl<C: Channels + Lanes, B: Board<C>> Room<C, B> {
         ensures { result ≡ actor_at number self.now.running.steps }
     {
         self.running.actor(number)
+    }
+
+    /// How many steps were made. What holds at every moment: the steps are a legal history from each machine for which the first tree
+    /// stood, and the tree stands for its end; each actor's steps and the held input are what its ring gave; each lane was sent its
+    /// orders; and the shots are states of this history, the first of them that with which it began.
+    pub fn steps(&self) -> usize
+        ensures count { result ≡ length self.now.running.steps }
+        ensures sound { IsSoundHistory self.now }
+    {
+        self.running.steps()
     }
 
     // Makes at most so many steps.
@@ -191,12 +204,18 @@ impl<C: Channels + Lanes, B: Board<C>> Room<C, B> {
     }
 
     /// Whether the tree has ended: it is closing, and the supervisor of each service that stands has ended.
-    pub fn ended(&self) -> bool {
+    pub fn ended(&self) -> bool
+        ensures { (m : Machine) → StandsFor self.now.running.opening m
+            → result ≡ has_ended (end_of m self.now.running.steps) }
+    {
         self.running.ended()
     }
 
     /// The next moment, in milliseconds, to which a timer or a deadline is set; None where there is none.
-    pub fn next_due(&self) -> Option<u64> {
+    pub fn next_due(&self) -> Option<u64>
+        ensures { (m : Machine) → StandsFor self.now.running.opening m
+            → result ≡ next_due (end_of m self.now.running.steps) }
+    {
         self.running.next_due()
     }
 }

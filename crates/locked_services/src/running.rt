@@ -1,12 +1,14 @@
 //! A tree with its run, the ends of the rings that it takes from, and the lanes that it sends into.
 ghost use Rattle.std.specs.Prelude.{◌≡◌, ◌≢◌, ◌∷◌, ◌++◌, [], ◌≤◌, ◌<◌, ℕ, length, None, IfSome, IfNone, IsSome, IsTrue, IsFalse, OnOk, OnErr, IfOk, IfErr, Some, option_map};
 ghost use Rattle.tree_core.specs.Effect.{outcome_of};
+ghost use Rattle.tree_core.specs.Ended.{has_ended};
 ghost use Rattle.tree_core.specs.Limits.{order_limit};
 ghost use Rattle.tree_core.specs.Machine.{Machine};
+ghost use Rattle.tree_core.specs.NextDue.{next_due};
 ghost use Rattle.tree_core.specs.StandsFor.{StandsFor};
 ghost use Rattle.run_records.specs.Runs.{RunStep, IsLegal, end_of, actor_at, outcome_at, reply_at};
 ghost use Rattle.locked_services.specs.Submissions.{AreNumbered, NoneSeen, taken_from};
-ghost use Rattle.locked_services.specs.Running.{run_limit};
+ghost use Rattle.locked_services.specs.Running.{run_limit, IsSoundRunning};
 ghost use Rattle.locked_services.specs.Closing.{AreDone};
 ghost use Rattle.locked_services.specs.Shots.{shot_of};
 ghost use Rattle.locked_services.specs.declared.stop.Stop.TheVariants.{Done, Idle, RunFull, Blocked};
@@ -77,6 +79,8 @@ impl<C: Channels + Lanes> RunningTree<C> {
         } }
     {
         let Beginning { opening, run } = beginning;
+        // There is a machine for which the tree stands.
+        let _clock = tree.now();
         RunningTree {
             alloc,
             opening,
@@ -178,6 +182,14 @@ impl<C: Channels + Lanes> RunningTree<C> {
         }
     }
 
+    /// How many steps were made; and what is promised of a run at every moment.
+    pub fn steps(&self) -> usize
+        ensures count { result ≡ length self.now.steps }
+        ensures sound { IsSoundRunning self.now }
+    {
+        self.run.len()
+    }
+
     /// The present state, to be published.
     pub fn shot(&self) -> Shot
         ensures { (m : Machine) → StandsFor self.now.opening m → result ≡ shot_of (end_of m self.now.steps) }
@@ -251,12 +263,18 @@ impl<C: Channels + Lanes> RunningTree<C> {
     }
 
     /// Whether the tree has ended: it is closing, and the supervisor of each service that stands has ended.
-    pub fn ended(&self) -> bool {
+    pub fn ended(&self) -> bool
+        ensures { (m : Machine) → StandsFor self.now.opening m
+            → result ≡ has_ended (end_of m self.now.steps) }
+    {
         self.tree.ended()
     }
 
     /// The next moment, in milliseconds, to which a timer or a deadline is set; None where there is none.
-    pub fn next_due(&self) -> Option<u64> {
+    pub fn next_due(&self) -> Option<u64>
+        ensures { (m : Machine) → StandsFor self.now.opening m
+            → result ≡ next_due (end_of m self.now.steps) }
+    {
         self.tree.next_due()
     }
 }

@@ -2,3 +2,4 @@ pub mod Named
 pub mod Filled
 pub mod Numbered
 pub mod Readers
+pub mod Crosses

@@ -1,5 +1,12 @@
 //! The office: a room behind its lock, and desks behind theirs.
-ghost use Rattle.std.specs.Prelude.{◌≡◌, ◌≤◌, ◌<◌, length};
+ghost use Rattle.std.specs.Prelude.{◌≡◌, ◌≤◌, ◌<◌, IfOk, length, option_map};
+ghost use Rattle.tree_core.specs.Effect.{outcome_of};
+ghost use Rattle.tree_core.specs.Ended.{has_ended};
+ghost use Rattle.tree_core.specs.Machine.{Machine};
+ghost use Rattle.tree_core.specs.NextDue.{next_due};
+ghost use Rattle.tree_core.specs.StandsFor.{StandsFor};
+ghost use Rattle.run_records.specs.Runs.{end_of, actor_at, outcome_at, reply_at};
+ghost use Rattle.locked_services.specs.Shots.{RoomView, IsSoundHistory};
 ghost use Rattle.locked_services.specs.declared.stop.DriveStop.TheVariants as ended;
 
 use crate::carrying::{carry_in_turns, carry_many};
@@ -26,7 +33,8 @@ pub struct NotStarted {
 
 /// A tree that several threads run: a room, which one thread at a time enters, and beside it a desk for each lane behind a lock of
 /// its own, so that no backend keeps anybody out of the room. What is promised of a room and of a desk holds whenever their lock is
-/// free. Contracts see how many lanes there are.
+/// free. Contracts see how many lanes there are. What a call finds under a lock no clause of its caller can name: an answer is that of
+/// some room `v` of which all is true that is true of a room, and what an order or a report is, the desk's own calls say.
 #[derive(Drop)]
 pub struct Office<C: Channels + Lanes, D: Board<C>, B: Backend> {
     room: Mutex<Room<C, D>>,
@@ -68,37 +76,69 @@ impl<C: Channels + Lanes, D: Board<C>, B: Backend> Office<C, D, B> {
     }
 
     /// Names all that was published so far.
-    pub fn tell<W: Wait>(&self, rt: &W) -> Told<C> {
-        self.room.lock(rt).tell()
+    pub fn tell<W: Wait>(&self, rt: &W) -> Told<C>
+        ensures { (v : RoomView) × IsSoundHistory v × (result ≡ v.shots) }
+    {
+        let room = self.room.lock(rt);
+        let _steps = room.steps();
+        room.tell()
     }
 
     /// The reply to the input of a ticket; None where its step isn't made yet. `NoMemory` where a growth was refused.
-    pub fn reply<W: Wait>(
-        &self,
-        rt: &W,
-        ticket: Ticket,
-    ) -> Result<Option<Reply<Global>>, NoMemory> {
-        self.room.lock(rt).reply(ticket)
+    pub fn reply<W: Wait>(&self, rt: &W, ticket: Ticket) -> Result<Option<Reply<Global>>, NoMemory>
+        ensures { (v : RoomView) × IsSoundHistory v × IfOk result
+            (λ reply. reply ≡ reply_at ticket.actor ticket.number v.running.steps) }
+    {
+        let room = self.room.lock(rt);
+        let _steps = room.steps();
+        room.reply(ticket)
     }
 
     /// All that the step of this number gave, from 1; None where there are fewer. `NoMemory` where a growth was refused.
-    pub fn effect<W: Wait>(&self, rt: &W, number: u64) -> Result<Option<Effect<Global>>, NoMemory> {
-        self.room.lock(rt).effect(number)
+    pub fn effect<W: Wait>(&self, rt: &W, number: u64) -> Result<Option<Effect<Global>>, NoMemory>
+        ensures { (v : RoomView) × IsSoundHistory v × IfOk result
+            (λ effect. option_map (λ e. outcome_of e) effect ≡ outcome_at number v.running.steps) }
+    {
+        let room = self.room.lock(rt);
+        let _steps = room.steps();
+        room.effect(number)
     }
 
     /// Whose input the step of this number took, from 1; None where there are fewer.
-    pub fn actor<W: Wait>(&self, rt: &W, number: u64) -> Option<Actor> {
-        self.room.lock(rt).actor(number)
+    pub fn actor<W: Wait>(&self, rt: &W, number: u64) -> Option<Actor>
+        ensures { (v : RoomView) × IsSoundHistory v × (result ≡ actor_at number v.running.steps) }
+    {
+        let room = self.room.lock(rt);
+        let _steps = room.steps();
+        room.actor(number)
+    }
+
+    /// How many steps the run has.
+    pub fn steps<W: Wait>(&self, rt: &W) -> usize
+        ensures { (v : RoomView) × IsSoundHistory v × (result ≡ length v.running.steps) }
+    {
+        let room = self.room.lock(rt);
+        room.steps()
     }
 
     /// Whether the tree has ended: it is closing, and the supervisor of each service that stands has ended.
-    pub fn ended<W: Wait>(&self, rt: &W) -> bool {
-        self.room.lock(rt).ended()
+    pub fn ended<W: Wait>(&self, rt: &W) -> bool
+        ensures { (v : RoomView) × IsSoundHistory v × ((m : Machine)
+            → StandsFor v.running.opening m → result ≡ has_ended (end_of m v.running.steps)) }
+    {
+        let room = self.room.lock(rt);
+        let _steps = room.steps();
+        room.ended()
     }
 
     /// The next moment, in milliseconds, to which a timer or a deadline is set; None where there is none.
-    pub fn next_due<W: Wait>(&self, rt: &W) -> Option<u64> {
-        self.room.lock(rt).next_due()
+    pub fn next_due<W: Wait>(&self, rt: &W) -> Option<u64>
+        ensures { (v : RoomView) × IsSoundHistory v × ((m : Machine)
+            → StandsFor v.running.opening m → result ≡ next_due (end_of m v.running.steps)) }
+    {
+        let room = self.room.lock(rt);
+        let _steps = room.steps();
+        room.next_due()
     }
 
     /// Asks a lane's backend what its ring gives, while it takes that, and at most so many times: the last answer.

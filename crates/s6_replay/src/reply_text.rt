@@ -146,8 +146,7 @@ fn push_numbers<A: Allocator>(text: &mut Vec<u8, A>, row: &Row) -> Result<(), Al
     push_field(text, row.ready_for)
 }
 
-// Adds a row: its serial, its name, and its ten fields.
-/// Adds a row.
+/// Adds a row: its serial, its name, and its ten fields, without a newline.
 pub fn push_row<A: Allocator>(text: &mut Vec<u8, A>, row: &Row) -> Result<(), AllocError>
     ensures { OnOk result (text.new.items ≡ text.old.items ++ row_text row.now) }
 {
@@ -205,7 +204,7 @@ fn failure_bytes(fails: bool) -> &'static str
     }
 }
 
-// Adds the text of the reply.
+/// Adds the text of the reply, without a newline.
 pub fn push_reply<A: Allocator>(text: &mut Vec<u8, A>, reply: &Reply<A>) -> Result<(), AllocError>
     ensures { OnOk result (text.new.items ≡ text.old.items ++ reply_text reply.now) }
 {

@@ -1,2 +1,6 @@
+pub mod Answers
+pub mod Endings
 pub mod Requests
 pub mod StatusLine
+pub mod Targets
+pub mod Words

@@ -1,6 +1,7 @@
 -- The line of `svstat`.
-use Rattle.std.specs.Prelude.{ℕ, List, [], ◌∷◌, ◌++◌, ◌==◌, slice_get, unwrap_or}
-use Rattle.std.specs.List.{flat_map, slice_split}
+use Rattle.std.specs.Prelude.{ℕ, List, [], ◌∷◌, ◌++◌}
+use Rattle.std.specs.List.{flat_map}
+use Rattle.s6_tools.specs.Words.{word_in}
 use Rattle.s6_events.specs.declared.field.Field.{Field}
 use Rattle.s6_events.specs.declared.field.Field.TheVariants as field
 
@@ -19,7 +20,7 @@ place_of field.ReadyFor = 12
 
 -- a field of a row, or no byte where the row has no such word
 abbrev pub field_in : List ℕ → Field → List ℕ
-field_in row f = unwrap_or (slice_get (slice_split (λ b. b == 32) row) (place_of f)) []
+field_in row f = word_in row (place_of f)
 
 -- the fields that are asked for, with one space between each two
 abbrev pub status_line : List ℕ → List Field → List ℕ

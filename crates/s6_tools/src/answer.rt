@@ -1,5 +1,9 @@
 //! A line of the server, read. What the lines are is chosen here.
+ghost use Rattle.std.specs.Prelude.{◌≡◌};
+ghost use Rattle.s6_tools.specs.Answers.{kind_of, outcome_of, release_of, match_of, failure_of, answer_of};
+
 use crate::reason::Reason;
+use crate::words::{is_word, word_or_none};
 
 /// How a waiter was released.
 #[derive(Clone, Copy, Debug, PartialEq, Eq)]
@@ -42,19 +46,50 @@ pub enum Answer {
     Strange,
 }
 
-// The first word of a line, and what stands behind the space after it.
-fn cut_word(line: &[u8]) -> (&[u8], &[u8]) {
-    match line.iter().position(|byte| *byte == b' ') {
-        Some(at) => (&line[..at], &line[at + 1..]),
-        None => (line, &line[line.len()..]),
+// What a line is, by its first word.
+#[derive(Clone, Copy, Debug, PartialEq, Eq)]
+enum Kind {
+    Done,
+    Refused,
+    Row,
+    Waiter,
+    Subscription,
+    Failure,
+    Release,
+    Match,
+    Busy,
+    Strange,
+}
+
+fn kind_of(word: &[u8]) -> Kind
+    ensures { result ≡ kind_of word.now }
+{
+    if is_word(word, b"done") || is_word(word, b"scanned") || is_word(word, b"tally") {
+        Kind::Done
+    } else if is_word(word, b"refused") {
+        Kind::Refused
+    } else if is_word(word, b"row") {
+        Kind::Row
+    } else if is_word(word, b"wait") {
+        Kind::Waiter
+    } else if is_word(word, b"sub") {
+        Kind::Subscription
+    } else if is_word(word, b"permafail") {
+        Kind::Failure
+    } else if is_word(word, b"r") {
+        Kind::Release
+    } else if is_word(word, b"m") {
+        Kind::Match
+    } else if is_word(word, b"busy") {
+        Kind::Busy
+    } else {
+        Kind::Strange
     }
 }
 
-fn is_word(word: &[u8], text: &[u8]) -> bool {
-    word == text
-}
-
-fn outcome_of(word: &[u8]) -> Option<Outcome> {
+fn outcome_of(word: &[u8]) -> Option<Outcome>
+    ensures { result ≡ outcome_of word.now }
+{
     if is_word(word, b"held") {
         Some(Outcome::Held)
     } else if is_word(word, b"failed") {
@@ -68,18 +103,20 @@ fn outcome_of(word: &[u8]) -> Option<Outcome> {
     }
 }
 
-// What an `r` line says, by the words behind its `r`.
-fn release_of(words: &[u8]) -> Answer {
-    let (_waiter, word) = cut_word(words);
+// What an `r` line says, by its third word.
+fn release_of(word: &[u8]) -> Answer
+    ensures { result ≡ release_of word.now }
+{
     match outcome_of(word) {
         Some(outcome) => Answer::Released(outcome),
         None => Answer::Strange,
     }
 }
 
-// What an `m` line says, by the words behind its `m`.
-fn match_of(words: &[u8]) -> Answer {
-    let (_subscription, word) = cut_word(words);
+// What an `m` line says, by its third word.
+fn match_of(word: &[u8]) -> Answer
+    ensures { result ≡ match_of word.now }
+{
     if is_word(word, b"overlong") {
         return Answer::Overlong;
     }
@@ -90,7 +127,9 @@ fn match_of(words: &[u8]) -> Answer {
 }
 
 // Whether a service fails for good, by the word behind `permafail`.
-fn failure_of(word: &[u8]) -> Answer {
+fn failure_of(word: &[u8]) -> Answer
+    ensures { result ≡ failure_of word.now }
+{
     if is_word(word, b"125") {
         Answer::PermanentFailure(true)
     } else if is_word(word, b"0") {
@@ -101,27 +140,19 @@ fn failure_of(word: &[u8]) -> Answer {
 }
 
 /// What a line says, without its newline.
-pub fn read_answer(line: &[u8]) -> Answer {
-    let (word, rest) = cut_word(line);
-    if is_word(word, b"done") || is_word(word, b"scanned") || is_word(word, b"tally") {
-        Answer::Done
-    } else if is_word(word, b"refused") {
-        Answer::Refused(Reason::new(rest))
-    } else if is_word(word, b"row") {
-        Answer::Row
-    } else if is_word(word, b"wait") {
-        Answer::Waiter
-    } else if is_word(word, b"sub") {
-        Answer::Subscription
-    } else if is_word(word, b"permafail") {
-        failure_of(rest)
-    } else if is_word(word, b"r") {
-        release_of(rest)
-    } else if is_word(word, b"m") {
-        match_of(rest)
-    } else if is_word(word, b"busy") {
-        Answer::Busy
-    } else {
-        Answer::Strange
+pub fn read_answer(line: &[u8]) -> Answer
+    ensures { result ≡ answer_of line.now }
+{
+    match kind_of(word_or_none(line, 0)) {
+        Kind::Done => Answer::Done,
+        Kind::Refused => Answer::Refused(Reason::new(word_or_none(line, 1))),
+        Kind::Row => Answer::Row,
+        Kind::Waiter => Answer::Waiter,
+        Kind::Subscription => Answer::Subscription,
+        Kind::Failure => failure_of(word_or_none(line, 1)),
+        Kind::Release => release_of(word_or_none(line, 2)),
+        Kind::Match => match_of(word_or_none(line, 2)),
+        Kind::Busy => Answer::Busy,
+        Kind::Strange => Answer::Strange,
     }
 }

@@ -1,4 +1,7 @@
 //! The line and the status for what a tool could not do.
+ghost use Rattle.std.specs.Prelude.{◌≡◌};
+ghost use Rattle.s6_tools.specs.Endings.{status_of_fault};
+
 use crate::tool::Tool;
 use crate::tool_fault::ToolFault;
 use std::io::{self, Write};
@@ -13,12 +16,16 @@ const USAGE_STATUS: u8 = 100;
 const SYSTEM_STATUS: u8 = 111;
 
 /// Writes the line that tells of a fault, and answers the exit status.
-pub fn tell_fault<E: Write>(tool: Tool, fault: &ToolFault, errors: &mut E) -> u8 {
+pub fn tell_fault<E: Write>(tool: Tool, fault: &ToolFault, errors: &mut E) -> u8
+    ensures { result ≡ status_of_fault tool fault.now }
+{
     let _ = write_line(tool, fault, errors);
     status_of(tool, fault)
 }
 
-fn status_of(tool: Tool, fault: &ToolFault) -> u8 {
+fn status_of(tool: Tool, fault: &ToolFault) -> u8
+    ensures { result ≡ status_of_fault tool fault.now }
+{
     match fault {
         ToolFault::Usage => USAGE_STATUS,
         ToolFault::Refused(_) => match tool {

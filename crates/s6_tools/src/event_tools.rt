@@ -1,4 +1,7 @@
 //! `mkfifodir`, `ftrig-notify` and `ftrig-wait`.
+ghost use Rattle.std.specs.Prelude.{◌≡◌, option_map};
+ghost use Rattle.s6_tools.specs.Targets.{before_event, target_of};
+
 use crate::answer::Answer;
 use crate::connection::Connection;
 use crate::request::{make_directory_request, send_request, subscribe_request};
@@ -9,12 +12,26 @@ use std::io::Write;
 use std::net::Net;
 use tree_core::{Message, Target};
 
+// What stands before `/event`, where a word ends so.
+fn before_event(word: &[u8]) -> Option<&[u8]>
+    ensures { option_map (λ w. w.now) result ≡ before_event word.entry.now }
+{
+    word.strip_suffix(b"/event")
+}
+
 // The event directory that a word names: NAME a free one, NAME/event that of a service.
-fn target_of(word: &str) -> Result<Target, ToolFault> {
-    match word.strip_suffix("/event") {
-        Some(name) => Ok(Target::Service(name_of(name)?)),
-        None => Ok(Target::Directory(name_of(word)?)),
+fn target_of(word: &[u8]) -> Option<Target>
+    ensures { result ≡ target_of word.now }
+{
+    if let Some(name) = Name::new(word) {
+        return Some(Target::Directory(name));
     }
+    let name = Name::new(before_event(word)?)?;
+    Some(Target::Service(name))
+}
+
+fn read_target(word: &str) -> Result<Target, ToolFault> {
+    target_of(word.as_bytes()).ok_or(ToolFault::Usage)
 }
 
 fn name_of(word: &str) -> Result<Name, ToolFault> {
@@ -47,7 +64,7 @@ pub fn run_ftrig_notify<R: Net>(
     let [target, message] = words else {
         return Err(ToolFault::Usage);
     };
-    let target = target_of(target)?;
+    let target = read_target(target)?;
     let message = Message::new(message.as_bytes()).ok_or(ToolFault::Usage)?;
     let request = send_request(alloc, &target, &message)?;
     let mut connection = Connection::open(rt, alloc, socket)?;
@@ -66,7 +83,7 @@ pub fn run_ftrig_wait<R: Net, W: Write>(
     let [target, pattern] = words else {
         return Err(ToolFault::Usage);
     };
-    let request = subscribe_request(alloc, &target_of(target)?, pattern)?;
+    let request = subscribe_request(alloc, &read_target(target)?, pattern)?;
     let mut connection = Connection::open(rt, alloc, socket)?;
     match connection.ask(request.as_slice())? {
         Answer::Subscription => {}

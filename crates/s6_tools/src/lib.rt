@@ -5,6 +5,7 @@ mod answer;
 mod connection;
 mod ending;
 mod event_tools;
+mod help_texts;
 mod letter_tools;
 mod reason;
 mod request;
@@ -13,6 +14,7 @@ mod status_tools;
 mod tool;
 mod tool_fault;
 mod wait_tools;
+mod words;
 
 pub use answer::{Answer, Outcome, read_answer};
 pub use reason::Reason;

@@ -3,7 +3,7 @@
 ghost use Rattle.std.specs.Prelude.{◌≡◌, ◌++◌, ◌∷◌, [], IfOk, false};
 ghost use Rattle.std.specs.List.{join_with_byte};
 ghost use Rattle.tree_core.specs.declared.input.Act.TheVariants.{Svc, Status, Permafailon, Wait, Subscribe, Send, MakeDir};
-ghost use Rattle.s6_tools.specs.Requests.{request_of};
+ghost use Rattle.s6_tools.specs.Requests.{request_of, scan_request_of};
 
 use s6_events::Name;
 use s6_script::{push_named, push_permafailon, push_send, push_subscribe, push_svc, push_wait};
@@ -22,7 +22,9 @@ pub fn svc_request(alloc: Global, command: &SvcCommand) -> Result<Vec<u8>, Alloc
 }
 
 /// The request of a letter of `svscanctl`.
-pub fn scan_request(letter: ScanLetter) -> &'static [u8] {
+pub fn scan_request(letter: ScanLetter) -> &'static [u8]
+    ensures { result.now ≡ scan_request_of letter }
+{
     match letter {
         ScanLetter::Scan => b"scanctl a",
         ScanLetter::Nuke => b"scanctl n",

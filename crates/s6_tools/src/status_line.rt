@@ -1,8 +1,9 @@
 //! The line of `svstat`.
-ghost use Rattle.std.specs.Prelude.{◌≡◌, ◌==◌, ◌∷◌, ◌++◌, IfOk, OnOk, option_map, slice_get};
-ghost use Rattle.std.specs.List.{flat_map, slice_split};
+ghost use Rattle.std.specs.Prelude.{◌≡◌, ◌∷◌, ◌++◌, IfOk, OnOk};
+ghost use Rattle.std.specs.List.{flat_map};
 ghost use Rattle.s6_tools.specs.StatusLine.{field_in, place_of, status_line};
 
+use crate::words::word_or_none;
 use s6_events::Field;
 use std::alloc::{AllocError, Global};
 
@@ -24,22 +25,11 @@ fn place_of(field: Field) -> usize
     }
 }
 
-// A word of a line, by its place.
-fn word_at(line: &[u8], place: usize) -> Option<&[u8]>
-    ensures { option_map (λ w. w.now) result
-        ≡ slice_get (slice_split (λ b. b == 32) line.entry.now) place }
-{
-    line.split(|byte| *byte == b' ').nth(place)
-}
-
 // A field of a row, or no byte where the row has no such word.
 fn field_of(row: &[u8], field: Field) -> &[u8]
     ensures { result.now ≡ field_in row.entry.now field }
 {
-    match word_at(row, place_of(field)) {
-        Some(word) => word,
-        None => &[],
-    }
+    word_or_none(row, place_of(field))
 }
 
 // Adds a field of a row behind a space.

@@ -1,6 +1,7 @@
 //! Which client is meant, and running it.
 use crate::ending::tell_fault;
 use crate::event_tools::{run_ftrig_notify, run_ftrig_wait, run_mkfifodir};
+use crate::help_texts::help_of;
 use crate::letter_tools::{run_svc, run_svscanctl};
 use crate::status_tools::{run_permafailon, run_svstat};
 use crate::tool_fault::ToolFault;
@@ -67,7 +68,7 @@ pub fn tool_named(name: &str) -> Option<Tool> {
     ALL.iter().copied().find(|tool| tool.name() == name)
 }
 
-/// Runs a client: the words are those behind its name, the path of the socket first. Answers its exit status; where it isn't that of
+/// Runs a client: the words are those behind its name, the path of the socket first, or `--help` alone. Answers its exit status; where it isn't that of
 /// a result, a line on `errors` says why.
 pub fn run_client<R: Net + Processes, W: Write, E: Write>(
     rt: &R,
@@ -83,6 +84,19 @@ pub fn run_client<R: Net + Processes, W: Write, E: Write>(
     }
 }
 
+// Whether the words ask for the help text.
+fn is_help(word: &str, further: &[&str]) -> bool {
+    word == "--help" && further.is_empty()
+}
+
+fn print_help<W: Write>(tool: Tool, output: &mut W) -> Result<u8, ToolFault> {
+    let text = help_of(tool).as_bytes();
+    if output.write_all(text).is_err() || output.flush().is_err() {
+        return Err(ToolFault::Write);
+    }
+    Ok(0)
+}
+
 fn run<R: Net + Processes, W: Write>(
     rt: &R,
     alloc: Global,
@@ -93,6 +107,9 @@ fn run<R: Net + Processes, W: Write>(
     let [socket, words @ ..] = words else {
         return Err(ToolFault::Usage);
     };
+    if is_help(socket, words) {
+        return print_help(tool, output);
+    }
     match tool {
         Tool::Svc => run_svc(rt, alloc, socket, words),
         Tool::Svstat => run_svstat(rt, alloc, socket, words, output),

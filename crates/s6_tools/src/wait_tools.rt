@@ -1,4 +1,7 @@
 //! `svwait` and `svlisten`.
+ghost use Rattle.std.specs.Prelude.{◌≡◌};
+ghost use Rattle.s6_tools.specs.Endings.{status_of_outcome};
+
 use crate::answer::{Answer, Outcome};
 use crate::connection::Connection;
 use crate::request::wait_request;
@@ -9,7 +12,9 @@ use std::process::{Command, Processes};
 use svc_commands::{WaitCommand, compile_svlisten, compile_svwait};
 
 // The status for a waiter that was released so.
-fn status_of(outcome: Outcome) -> u8 {
+fn status_of(outcome: Outcome) -> u8
+    ensures { result ≡ status_of_outcome outcome }
+{
     match outcome {
         Outcome::Held => 0,
         Outcome::Failed => 1,

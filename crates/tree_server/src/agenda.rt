@@ -1,13 +1,10 @@
-//! What the thread of actor 0 is to do: scans that clients asked for, and ticks.
+//! What the thread of actor 0 is to do, and how it waits for it.
+use crate::plans::{Askers, Plans, Wanted};
+use crate::time::RunClock;
 use arrayvec::ArrayVec;
-use line_server::SEAT_COUNT;
+use std::mem;
 use std::sync::{Condvar, Mutex, Wait};
 use std::time::{Clock, Duration};
-
-use crate::time::RunClock;
-
-/// The places of clients that asked for a scan.
-pub type Askers = ArrayVec<usize, SEAT_COUNT>;
 
 /// What is to be done next.
 #[derive(Drop)]
@@ -18,20 +15,6 @@ pub enum Errand {
     Tick,
     /// Nothing more.
     End,
-}
-
-#[derive(Drop)]
-struct Plans {
-    // The moment to which a timer or a deadline is set.
-    due: Option<u64>,
-    // Who waits for a scan that isn't begun.
-    askers: Askers,
-    // The number of the input of actor 0 that is a scan for these clients.
-    scan: Option<u64>,
-    served: Askers,
-    is_over: bool,
-    // The moment of the last step.
-    last_step: u64,
 }
 
 /// What is to be done, and whoever does it waits for it.
@@ -45,14 +28,7 @@ impl Agenda {
     /// Nothing is to be done.
     pub fn new() -> Agenda {
         Agenda {
-            plans: Mutex::new(Plans {
-                due: None,
-                askers: ArrayVec::new(),
-                scan: None,
-                served: ArrayVec::new(),
-                is_over: false,
-                last_step: 0,
-            }),
+            plans: Mutex::new(Plans::new()),
             changed: Condvar::new(),
         }
     }
@@ -60,11 +36,7 @@ impl Agenda {
     /// A timer or a deadline is set to this moment, and none to an earlier one.
     pub fn set_due<R: Wait>(&self, rt: &R, due: Option<u64>) {
         let mut plans = self.plans.lock(rt);
-        let is_nearer = match (plans.due, due) {
-            (_, None) => false,
-            (None, Some(_)) => true,
-            (Some(before), Some(after)) => after < before,
-        };
+        let is_nearer = plans.is_nearer(due);
         plans.due = due;
         if is_nearer {
             self.changed.notify_all();
@@ -84,14 +56,15 @@ impl Agenda {
         plans.served = askers;
     }
 
-    /// The clients for which the input of actor 0 of this number was a scan.
+    /// The clients for which the input of actor 0 of this number was a scan. The next scan may begin.
     pub fn take_served<R: Wait>(&self, rt: &R, number: u64) -> Askers {
         let mut plans = self.plans.lock(rt);
         if plans.scan != Some(number) {
             return ArrayVec::new();
         }
         plans.scan = None;
-        std::mem::replace(&mut plans.served, ArrayVec::new())
+        self.changed.notify_all();
+        mem::replace(&mut plans.served, ArrayVec::new())
     }
 
     /// A step was made at this moment.
@@ -115,39 +88,48 @@ impl Agenda {
         self.plans.lock(rt).is_over
     }
 
-    /// Waits until something is to be done. While a scan is under way, the next one waits.
+    /// Waits until something is to be done.
     pub fn next<R: Wait + Clock>(&self, rt: &R, clock: &RunClock) -> Errand {
-        let mut plans = self.plans.lock(rt);
         for _ in rt.forever() {
             let now = clock.millis(rt);
-            if plans.is_over {
-                return Errand::End;
+            match self.take_wanted(rt, now) {
+                (Wanted::End, _) => return Errand::End,
+                (Wanted::Scan, askers) => return Errand::Scan(askers),
+                (Wanted::Tick, _) => return Errand::Tick,
+                (Wanted::At(due), _) => self.wait_until(rt, now, due),
+                (Wanted::Nothing, _) => self.wait_for_plans(rt),
             }
-            if !plans.askers.is_empty() && plans.scan.is_none() {
-                return Errand::Scan(std::mem::replace(&mut plans.askers, ArrayVec::new()));
-            }
-            plans = match plans.due {
-                Some(due) if due <= now => {
-                    plans.due = None;
-                    return Errand::Tick;
-                }
-                Some(due) => {
-                    let time = Duration::from_millis(due - now);
-                    let (plans, _late) = self.changed.wait_timeout_while(rt, plans, time, |plans| {
-                        !is_called(plans) && plans.due == Some(due)
-                    });
-                    plans
-                }
-                None => self
-                    .changed
-                    .wait_while(rt, plans, |plans| !is_called(plans) && plans.due.is_none()),
-            };
         }
         Errand::End
     }
-}
 
-// Whether somebody waits for more than a moment.
-fn is_called(plans: &Plans) -> bool {
-    plans.is_over || (!plans.askers.is_empty() && plans.scan.is_none())
+    // What is wanted at this moment, and for whom; it isn't planned any more then.
+    fn take_wanted<R: Wait>(&self, rt: &R, now: u64) -> (Wanted, Askers) {
+        let mut plans = self.plans.lock(rt);
+        let wanted = plans.wanted(now);
+        let mut askers = ArrayVec::new();
+        match wanted {
+            Wanted::Scan => mem::swap(&mut askers, &mut plans.askers),
+            Wanted::Tick => plans.due = None,
+            _ => {}
+        }
+        (wanted, askers)
+    }
+
+    // Waits until the moment that is due has come, another one is due, or somebody calls.
+    fn wait_until<R: Wait + Clock>(&self, rt: &R, now: u64, due: u64) {
+        let plans = self.plans.lock(rt);
+        let time = Duration::from_millis(due.saturating_sub(now));
+        let _plans = self.changed.wait_timeout_while(rt, plans, time, |plans| {
+            !plans.is_called() && plans.due == Some(due)
+        });
+    }
+
+    // Waits until a moment is due, or somebody calls.
+    fn wait_for_plans<R: Wait>(&self, rt: &R) {
+        let plans = self.plans.lock(rt);
+        let _plans = self.changed.wait_while(rt, plans, |plans| {
+            !plans.is_called() && plans.due.is_none()
+        });
+    }
 }

@@ -35,6 +35,7 @@ pub fn serve_lane<C: Channels + Lanes, D: Board<C>, B: Backend, T: Clock + Drop,
             break;
         }
         is_refused = serve_some(rt, world, lane, &mut seat, &mut kept);
+        world.driver.ring(rt);
     }
 }
 
@@ -46,13 +47,14 @@ fn serve_some<C: Channels + Lanes, D: Board<C>, B: Backend, T: Clock + Drop, R: 
     seat: &mut Seat<C>,
     kept: &mut Option<Report>,
 ) -> bool {
+    if lane >= world.office.lanes() {
+        return false;
+    }
     for _ in rt.forever() {
         let carried = world.office.carry(rt, lane, ORDERS);
-        if hand_in(rt, world, lane, seat, kept) {
-            world.driver.ring(rt);
-        }
+        hand_in(rt, world, lane, seat, kept);
         match carried {
-            Carried::Asked => {}
+            Carried::Asked => world.driver.ring(rt),
             Carried::Idle => return false,
             Carried::Refused(_) => return true,
         }
@@ -60,27 +62,39 @@ fn serve_some<C: Channels + Lanes, D: Board<C>, B: Backend, T: Clock + Drop, R: 
     false
 }
 
-// Hands in reports while there are some and the seat takes them. Whether one was handed in.
+// Hands in reports while there are some and the seat takes them. One that it doesn't take is kept.
 fn hand_in<C: Channels + Lanes, D: Board<C>, B: Backend, T: Clock + Drop, R: Wait + Clock>(
     rt: &R,
     world: &World<C, D, B, T>,
     lane: usize,
     seat: &mut Seat<C>,
     kept: &mut Option<Report>,
-) -> bool {
-    let mut some = false;
+) {
     for _ in 0..u64::MAX {
         if kept.is_none() {
-            *kept = world.office.report(rt, lane);
+            *kept = next_report(rt, world, lane);
         }
         let Some(report) = kept.as_ref() else {
             break;
         };
+        if seat.sent() >= i64::MAX as u64 {
+            break;
+        }
         if seat.submit(world.clock.now(rt), report.act()).is_err() {
             break;
         }
         *kept = None;
-        some = true;
     }
-    some
+}
+
+// The next report of the lane's backend.
+fn next_report<C: Channels + Lanes, D: Board<C>, B: Backend, T: Clock + Drop, R: Wait>(
+    rt: &R,
+    world: &World<C, D, B, T>,
+    lane: usize,
+) -> Option<Report> {
+    if lane >= world.office.lanes() {
+        return None;
+    }
+    world.office.report(rt, lane)
 }

@@ -21,7 +21,14 @@ pub fn read_listing<R: Files + Copy + Drop, E: Write>(
         match name_of(entry.file_name()) {
             Seen::Service(name) => {
                 let path = format!(in alloc; "{directory}/{}", entry.file_name())?;
-                let config = read_service(rt, alloc, path.as_str(), entry.file_name(), name, errors);
+                let config = read_service(
+                    rt,
+                    alloc,
+                    path.as_str(),
+                    entry.file_name(),
+                    name,
+                    errors,
+                );
                 entries.push(Entry { name, config })?;
             }
             Seen::Hidden => {}
@@ -42,10 +49,7 @@ fn read_service<R: Files, E: Write>(
     name: Name,
     errors: &mut E,
 ) -> Option<Config> {
-    let Ok(mut files) = ServiceFiles::of(rt, alloc, path) else {
-        tell(text, DirFault::NoMemory, errors);
-        return None;
-    };
+    let mut files = ServiceFiles::of(rt, alloc, path);
     match read(alloc, &mut files, name) {
         Ok(found) => {
             if let Some(note) = found.note {

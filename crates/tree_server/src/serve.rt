@@ -1,144 +1,128 @@
 //! A tree that runs, from its first scan to its end.
-use crate::agenda::{Agenda, Errand};
+ghost use Rattle.std.specs.Prelude.{◌≡◌, ℕ, slice_get};
+ghost use Rattle.office.specs.Names.{ring_of, lane_ring_of, asked_of};
+
+use crate::agenda::Agenda;
 use crate::client::Client;
-use crate::driving::drive_all;
-use crate::lane_service::serve_lane;
+use crate::fault::ServeFault;
 use crate::listing::read_listing;
+use crate::places::{Place, place_of};
 use crate::socket::listen;
+use crate::threads::run_threads;
 use crate::time::RunClock;
-use crate::world::{FIRST_CLIENT, World};
+use crate::world::World;
 use channel_names::Channels;
 use child_runner::Bell;
 use inbox::Seat;
-use line_server::{Seats, Server, serve as serve_lines};
+use line_server::{Seats, Server};
 use office::{NewOffice, Opened};
 use order_lanes::{Backend, Lanes};
+use s6_events::NoMemory;
 use status_board::{Board, BoardReader};
 use std::alloc::Global;
 use std::fs;
-use std::io::Write;
+use std::io::{self, ErrorKind, Write};
+use std::marker::Brand;
 use std::net::Net;
 use std::os::unix::net::UnixListener;
 use std::rt::Files;
 use std::sync::{Arc, Wait};
-use std::thread::{self, Builder, Scope, Threads};
+use std::thread::Threads;
 use std::time::Clock;
-use tree_core::Act;
+use tree_core::{Listing, Tree};
 
-/// The stack of a thread, in bytes.
-const STACK_SIZE: usize = 1024 * 1024;
+/// How many actors there are: one for ticks and scans, one for each lane, and one for each connection.
+const ACTOR_COUNT: usize = 16;
 
-/// Why a tree did not run to its end.
-#[derive(Clone, Copy, Debug, PartialEq, Eq)]
-pub enum ServeFault {
-    /// The socket could not be made.
-    Socket,
-    /// The office could not be opened, or a thread not be started.
-    System,
-    /// The scan directory could not be read.
-    Directory,
+/// Runs a tree of the services of a directory, and serves clients on a socket, until it has ended. There is a backend for each lane,
+/// at most four, each with its bell. Page `s6-svscan`.
+pub fn run_tree<
+    B: Backend + Send,
+    R: Net + Files + Threads + Wait + Clock + Copy + Sync + Send + Drop,
+    E: Write,
+>(
+    rt: &R,
+    alloc: Global,
+    backends: Vec<B>,
+    bells: Vec<Arc<Bell, Global>>,
+    directory: &str,
+    socket: &str,
+    errors: &mut E,
+) -> Result<(), ServeFault> {
+    let Ok(office) = NewOffice::new(alloc, Tree::new(alloc), ACTOR_COUNT, backends) else {
+        return Err(ServeFault::NoMemory);
+    };
+    let Ok(listener) = listen(rt, socket) else {
+        return Err(ServeFault::Socket);
+    };
+    let done = match prepare(rt, alloc, directory, errors) {
+        Ok(start) => serve_named::<B, Brand, R, E>(
+            rt, alloc, office, bells, listener, start, directory, errors,
+        ),
+        Err(fault) => Err(fault),
+    };
+    let _ = fs::remove_file(rt, socket);
+    done
 }
 
-/// Runs a tree of the services of a directory, and serves clients on a socket, until it has ended.
-pub fn serve<
+// What is there before the tree: its clock, and its first listing.
+#[derive(Drop)]
+struct Start {
+    clock: RunClock,
+    listing: Listing<Global>,
+}
+
+fn prepare<R: Files + Clock + Copy + Drop, E: Write>(
+    rt: &R,
+    alloc: Global,
+    directory: &str,
+    errors: &mut E,
+) -> Result<Start, ServeFault> {
+    let Some(clock) = RunClock::start(rt) else {
+        return Err(ServeFault::Clock);
+    };
+    match read_listing(rt, alloc, directory, errors) {
+        Ok(listing) => Ok(Start { clock, listing }),
+        Err(error) => Err(fault_of(&error)),
+    }
+}
+
+fn fault_of(error: &io::Error) -> ServeFault {
+    match error.kind() {
+        ErrorKind::OutOfMemory => ServeFault::NoMemory,
+        _ => ServeFault::Directory,
+    }
+}
+
+// The office is opened, in a run that names its rings and its board.
+fn serve_named<
     B: Backend + Send,
     C: Channels + Lanes + Send + Sync,
-    R: Net + Files + Threads + Wait + Clock + Copy + Sync + Send + Drop,
+    R: Files + Threads + Wait + Clock + Copy + Sync + Send + Drop,
     E: Write,
 >(
     rt: &R,
     alloc: Global,
     office: NewOffice<B>,
     bells: Vec<Arc<Bell, Global>>,
+    listener: UnixListener,
+    start: Start,
     directory: &str,
-    socket: &str,
     errors: &mut E,
-) -> Result<(), ServeFault> {
-    let listener = listen(rt, socket).map_err(|_| ServeFault::Socket)?;
-    let clock = RunClock::start(rt).ok_or(ServeFault::System)?;
-    let opened = office
-        .open::<C, R>(alloc, *rt)
-        .map_err(|_| ServeFault::System)?;
-    let done = run(rt, alloc, clock, opened, bells, listener, directory, errors);
-    let _ = fs::remove_file(rt, socket);
-    done
+) -> Result<(), ServeFault>
+    requires seats { (k : ℕ) → C.seat_ring k ≡ ring_of (slice_get office.rings k) }
+    requires board { C.board ≡ office.board }
+    requires lanes { (k : ℕ) → C.lane_ring k ≡ lane_ring_of (slice_get office.lane_rings k) }
+    requires before { (k : ℕ) → C.asked_before k ≡ asked_of B.asked (slice_get office.backends k) }
+{
+    match office.open::<C, R>(alloc, *rt) {
+        Ok(opened) => run(rt, alloc, opened, bells, listener, start, directory, errors),
+        Err(_) => Err(ServeFault::NoMemory),
+    }
 }
 
 // The office is open.
 fn run<
-    C: Channels + Lanes + Send + Sync,
-    D: Board<C> + Send,
-    B: Backend + Send,
-    R: Net + Files + Threads + Wait + Clock + Copy + Sync + Send + Drop,
-    E: Write,
->(
-    rt: &R,
-    alloc: Global,
-    clock: RunClock,
-    opened: Opened<C, D, B>,
-    bells: Vec<Arc<Bell, Global>>,
-    listener: UnixListener,
-    directory: &str,
-    errors: &mut E,
-) -> Result<(), ServeFault> {
-    let Opened {
-        office,
-        seats,
-        readers,
-    } = opened;
-    let parts = share_out(alloc, seats, readers).ok_or(ServeFault::System)?;
-    let world = World {
-        rt: *rt,
-        alloc,
-        clock,
-        office,
-        clients: parts.clients,
-        agenda: Agenda::new(),
-        driver: Bell::new(),
-        lanes: bells,
-    };
-    let seats = Seats::new(alloc).map_err(|_| ServeFault::System)?;
-    let server = Server::new(alloc, listener, seats, world);
-    run_threads(rt, alloc, &server, parts.scanner, parts.lanes, directory, errors)
-}
-
-// The seats, shared out.
-#[derive(Drop)]
-struct Parts<C: Channels> {
-    scanner: Seat<C>,
-    lanes: Vec<Seat<C>>,
-    clients: Vec<Client<C>>,
-}
-
-fn share_out<C: Channels>(
-    alloc: Global,
-    seats: Vec<Seat<C>>,
-    readers: Vec<BoardReader<C>>,
-) -> Option<Parts<C>> {
-    let mut scanner = None;
-    let mut lanes = Vec::new(alloc);
-    let mut clients = Vec::new(alloc);
-    let mut readers = readers.into_iter();
-    for seat in seats {
-        let reader = readers.next()?;
-        let actor = usize::from(seat.actor().number());
-        if actor == 0 {
-            scanner = Some(seat);
-        } else if actor < FIRST_CLIENT {
-            lanes.push(seat).ok()?;
-        } else {
-            clients.push(Client::new(alloc, seat, reader)).ok()?;
-        }
-    }
-    Some(Parts {
-        scanner: scanner?,
-        lanes,
-        clients,
-    })
-}
-
-// Starts the threads, and does what actor 0 does in this one.
-fn run_threads<
     C: Channels + Lanes + Send + Sync,
     D: Board<C> + Send,
     B: Backend + Send,
@@ -147,135 +131,76 @@ fn run_threads<
 >(
     rt: &R,
     alloc: Global,
-    server: &Server<World<C, D, B, R>>,
-    scanner: Seat<C>,
-    lanes: Vec<Seat<C>>,
+    opened: Opened<C, D, B>,
+    bells: Vec<Arc<Bell, Global>>,
+    listener: UnixListener,
+    start: Start,
     directory: &str,
     errors: &mut E,
 ) -> Result<(), ServeFault> {
-    thread::scope(thread::scope_env(), rt, |scope| {
-        let mut is_started = start_driver(scope, rt, server) && start_listener(scope, rt, server);
-        let mut number = 0;
-        for seat in lanes {
-            is_started = is_started && start_lane(scope, rt, server.answers(), number, seat);
-            number += 1;
-        }
-        let done = if is_started {
-            attend(rt, alloc, server.answers(), scanner, directory, errors)
-        } else {
-            Err(ServeFault::System)
-        };
-        if done.is_err() {
-            server.answers().agenda.end(rt);
-            server.end(rt);
-        }
-        done
-    })
-}
-
-fn start_driver<'s, E, C, D, B, T, R>(
-    scope: &Scope<'s, E>,
-    rt: &'s R,
-    server: &'s Server<World<C, D, B, T>>,
-) -> bool
-where
-    C: Channels + Lanes + Send + Sync,
-    D: Board<C> + Send,
-    B: Backend + Send,
-    T: Clock + Sync + Send + Drop,
-    R: Threads + Wait + Clock + Sync,
-{
-    Builder::new()
-        .stack_size(STACK_SIZE)
-        .spawn_scoped(scope, move || drive_all(rt, server))
-        .is_ok()
-}
-
-fn start_listener<'s, E, C, D, B, T, R>(
-    scope: &Scope<'s, E>,
-    rt: &'s R,
-    server: &'s Server<World<C, D, B, T>>,
-) -> bool
-where
-    C: Channels + Lanes + Send + Sync,
-    D: Board<C> + Send,
-    B: Backend + Send,
-    T: Clock + Sync + Send + Drop,
-    R: Threads + Wait + Clock + Sync,
-{
-    Builder::new()
-        .stack_size(STACK_SIZE)
-        .spawn_scoped(scope, move || serve_lines(rt, server))
-        .is_ok()
-}
-
-fn start_lane<'s, E, C, D, B, T, R>(
-    scope: &Scope<'s, E>,
-    rt: &'s R,
-    world: &'s World<C, D, B, T>,
-    lane: usize,
-    seat: Seat<C>,
-) -> bool
-where
-    C: Channels + Lanes + Send + Sync,
-    D: Board<C> + Send,
-    B: Backend + Send,
-    T: Clock + Sync + Send + Drop,
-    R: Threads + Wait + Clock + Sync,
-{
-    let Some(bell) = world.lanes.get(lane) else {
-        return false;
+    let Opened {
+        office,
+        seats,
+        readers,
+    } = opened;
+    let Start { clock, listing } = start;
+    let Ok(parts) = share_out(alloc, seats, readers) else {
+        return Err(ServeFault::NoMemory);
     };
-    let bell: &Bell = bell;
-    Builder::new()
-        .stack_size(STACK_SIZE)
-        .spawn_scoped(scope, move || serve_lane(rt, world, lane, bell, seat))
-        .is_ok()
+    let Parts {
+        scanner,
+        lanes,
+        clients,
+    } = parts;
+    let Some(scanner) = scanner else {
+        return Err(ServeFault::NoMemory);
+    };
+    let Ok(seats) = Seats::new(alloc) else {
+        return Err(ServeFault::NoMemory);
+    };
+    let world = World {
+        rt: *rt,
+        alloc,
+        clock,
+        office,
+        clients,
+        agenda: Agenda::new(),
+        driver: Bell::new(),
+        lanes: bells,
+    };
+    let server = Server::new(alloc, listener, seats, world);
+    run_threads(rt, &server, scanner, lanes, listing, directory, errors)
 }
 
-// What actor 0 does: the first scan, those that clients ask for, and ticks.
-fn attend<
-    C: Channels + Lanes,
-    D: Board<C>,
-    B: Backend,
-    T: Clock + Drop,
-    R: Files + Wait + Clock + Copy + Drop,
-    E: Write,
->(
-    rt: &R,
+// The seats, shared out.
+#[derive(Drop)]
+struct Parts<C: Channels> {
+    scanner: Option<Seat<C>>,
+    lanes: Vec<Seat<C>>,
+    clients: Vec<Client<C>>,
+}
+
+// Each seat goes to whose actor it is. There are as many readers as seats.
+fn share_out<C: Channels>(
     alloc: Global,
-    world: &World<C, D, B, T>,
-    seat: Seat<C>,
-    directory: &str,
-    errors: &mut E,
-) -> Result<(), ServeFault> {
-    let mut seat = seat;
-    let listing = read_listing(rt, alloc, directory, errors).map_err(|_| ServeFault::Directory)?;
-    let _ = seat.submit(world.clock.now(rt), Act::Scan(listing));
-    world.driver.ring(rt);
-    for _ in rt.forever() {
-        match world.agenda.next(rt, &world.clock) {
-            Errand::End => break,
-            Errand::Tick => {
-                let _ = seat.submit(world.clock.now(rt), Act::Tick);
-                world.driver.ring(rt);
-            }
-            Errand::Scan(askers) => match read_listing(rt, alloc, directory, errors) {
-                Ok(listing) => {
-                    world.agenda.begin_scan(rt, seat.sent().wrapping_add(1), askers);
-                    let _ = seat.submit(world.clock.now(rt), Act::Scan(listing));
-                    world.driver.ring(rt);
-                }
-                Err(_) => {
-                    let _ = errors.write_all(b"svscan: directory\n");
-                    for place in &askers {
-                        if let Some(client) = world.clients.get(*place) {
-                            client.finish_scan(rt);
-                        }
-                    }
-                }
-            },
+    seats: Vec<Seat<C>>,
+    readers: Vec<BoardReader<C>>,
+) -> Result<Parts<C>, NoMemory> {
+    let mut parts = Parts {
+        scanner: None,
+        lanes: Vec::new(alloc),
+        clients: Vec::new(alloc),
+    };
+    let mut readers = readers.into_iter();
+    for seat in seats {
+        let Some(reader) = readers.next() else {
+            break;
+        };
+        match place_of(seat.actor()) {
+            Place::Scanner => parts.scanner = Some(seat),
+            Place::Lane(_) => parts.lanes.push(seat)?,
+            Place::Client(_) => parts.clients.push(Client::new(alloc, seat, reader))?,
         }
     }
-    Ok(())
+    Ok(parts)
 }

@@ -17,6 +17,9 @@ pub fn listen<R: Net + Files>(rt: &R, path: &str) -> io::Result<UnixListener> {
             UnixListener::bind(rt, path)?
         }
     };
-    fs::set_permissions(rt, path, fs::Permissions::from_mode(0o600))?;
+    if let Err(error) = fs::set_permissions(rt, path, fs::Permissions::from_mode(0o600)) {
+        let _ = fs::remove_file(rt, path);
+        return Err(error);
+    }
     Ok(listener)
 }

@@ -17,15 +17,15 @@ impl RunClock {
         }
     }
 
-    /// The present moment, in milliseconds.
+    /// The present moment, in milliseconds; 0 where the system has no clock any more.
     pub fn millis<R: Clock>(&self, rt: &R) -> u64 {
         match self.start.elapsed(rt) {
-            Ok(passed) => passed.as_millis() as u64,
+            Ok(passed) => u64::try_from(passed.as_millis()).unwrap_or(u64::MAX),
             Err(_) => 0,
         }
     }
 
-    /// The present moment.
+    /// The present moment. The clock of a tree never goes back, so a later step is no harm.
     pub fn now<R: Clock>(&self, rt: &R) -> At {
         At::new(self.millis(rt)).unwrap_or(At::zero())
     }

@@ -4,8 +4,8 @@ use Rattle.status_board.specs.declared.shot.Shot.{Shot}
 use Rattle.tree_core.specs.StandsFor.{StandsFor}
 use Rattle.locked_services.specs.Opening.{AreUnused}
 use Rattle.locked_services.specs.Shots.{shot_of}
-use Rattle.office.proofs.Named.{named_lanes, named_before}
-use Rattle.office.specs.Names.{lane_ring_of, asked_of}
+use Rattle.office.proofs.Named.{named_rings, named_lanes, named_before}
+use Rattle.office.specs.Names.{ring_of, lane_ring_of, asked_of}
 use Rattle.office.specs.NewOffice.{NewOfficeView}
 use Rattle.office.specs.Opening.{AreReaders}
 use Rattle.office.proofs.new_office.NewOffice.open.Goals as goal
@@ -30,3 +30,8 @@ returns-in-Ok-clause-first g c m stands =
     let here = subst (λ (v : NewOfficeView g.row.B.Denot). StandsFor v.tree m) (sym c.self.view_is) stands in
     subst (λ (readers : Vec (List Shot) Global). AreReaders (shot_of m ∷ []) readers.items) (sym c.into_open.ensures.readers)
     (subst (λ (published : List Shot). AreReaders published c.in-Ok.parts.readers.items) (c.in-Ok.ensures.first m here) c.in-Ok.ensures.known)
+
+pub make_parts-requires-clause-rings : goal.make_parts-requires-clause-rings
+make_parts-requires-clause-rings g c =
+    named_rings g.C.Channels.seat_ring c.self.inside.rings.items c.self.invariant.ordered
+    (λ k. c.requires.seats k ∙ ap (λ (v : NewOfficeView g.row.B.Denot). ring_of (slice_get v.rings k)) (sym c.self.view_is))

@@ -1,0 +1,12 @@
+use Rattle.std.proofs.Common.{◌≡◌, sym, ap, subst, ◌∙◌}
+use Rattle.tree_core.specs.NextDue.{next_due}
+use Rattle.tree_core.specs.StandsFor.{StandsFor}
+use Rattle.run_records.specs.Runs.{end_of}
+use Rattle.locked_services.specs.Running.{RunningView}
+use Rattle.locked_services.proofs.running.RunningTree.next_due.Goals as goal
+
+pub returns : goal.returns
+returns g c m s =
+    let steps = c.self.inside.run.steps in
+    let here : StandsFor c.self.inside.opening m = subst (λ (v : RunningView). StandsFor v.opening m) (sym c.self.view_is) s in
+    c.next_due.ensures (end_of m steps) (c.self.invariant.stands m here) ∙ ap (λ (v : RunningView). next_due (end_of m v.steps)) c.self.view_is

@@ -1,0 +1,60 @@
+//! What `--help` and `--version` print.
+
+/// What `s6_tree --help` prints.
+pub const HELP: &[u8] = b"usage: s6_tree TOOL ..
+       s6_tree --help | --version
+       s6_tree TOOL --help
+
+The programs of a proved s6 supervision tree.
+
+tools:
+  svscan        run a supervision tree, and serve its clients
+  svc           send letters to a service
+  svstat        print the status of a service
+  svwait        wait for services
+  svlisten      wait for services, with a program started meanwhile
+  svscanctl     tell the tree to scan or to end
+  mkfifodir     make an event directory
+  ftrig-notify  send letters to an event directory
+  ftrig-wait    wait for letters of an event directory
+  permafailon   tell whether a service fails for good
+  replay        read a script of inputs, write what the tree answers
+
+options:
+  --help        print this text
+  --version     print the version
+
+exit status:
+  0             done
+  1             a client was refused, or what it asked for isn't so
+  100           wrong usage, or the input is no script
+  111           the system refused something, or no server answers
+";
+
+/// What `s6_tree --version` prints.
+pub const VERSION: &[u8] = b"s6_tree (Reskjavin) 0.1.0\n";
+
+/// What `s6_tree replay --help` prints.
+pub const REPLAY_HELP: &[u8] = b"usage: s6_tree replay < SCRIPT
+
+Reads a script on standard input and writes its transcript to standard
+output: for each input line a reply, and then its events, orders,
+matches and releases.
+
+limits:
+  65,536 bytes an input line, with its newline
+  1,000,000 input lines
+
+exit status, and the line on standard error:
+  0           the whole script was replayed
+  100         replay: no head line
+              replay: line N
+              replay: pattern in line N
+              replay: truncated
+              replay: usage
+  111         replay: read
+              replay: write
+              replay: no memory
+Lines are counted from 1, the head line included. At a fault the
+transcript of the inputs before it was written.
+";

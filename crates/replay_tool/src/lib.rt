@@ -1,0 +1,11 @@
+//! The tool `replay`: its words, what it prints, and the line and the status of each fault.
+#![tactic(auto)]
+
+mod buffered;
+mod fault_lines;
+mod help_texts;
+mod tool;
+
+pub use buffered::replay;
+pub use fault_lines::replay_fault;
+pub use tool::run_tool;

@@ -1,0 +1,104 @@
+//! What the command line asks for, and doing it: `replay`, or the texts of the program. Its other tools are looked for before.
+use crate::buffered::replay;
+use crate::fault_lines::{NO_TOOL, REPLAY_USAGE, SYSTEM_STATUS, USAGE_STATUS, replay_fault};
+use crate::help_texts::{HELP, REPLAY_HELP, VERSION};
+use std::alloc::{Allocator, Global};
+use std::env::{Env, FillError};
+use std::io::{Read, Write};
+
+// No word that is known is longer.
+const LONGEST_WORD: usize = 16;
+
+// What the command line asks for.
+#[derive(Clone, Copy, Debug, PartialEq, Eq)]
+enum Asked {
+    Help,
+    Version,
+    Replay,
+    ReplayHelp,
+    ReplayUsage,
+    Unknown,
+}
+
+// Whether the command line has a word at this place; the program's name is at 0.
+fn has_word(env: &impl Env, place: usize) -> bool {
+    let mut word = [0; LONGEST_WORD];
+    !matches!(env.arg(place, &mut word), Err(FillError::NotPresent))
+}
+
+// Whether the command line has this word at this place.
+fn is_word(env: &impl Env, place: usize, text: &[u8]) -> bool {
+    let mut word = [0; LONGEST_WORD];
+    match env.arg(place, &mut word) {
+        Ok(count) => &word[..count] == text,
+        Err(_) => false,
+    }
+}
+
+// What the words behind `replay` ask for.
+fn asked_of_replay(env: &impl Env) -> Asked {
+    if !has_word(env, 2) {
+        Asked::Replay
+    } else if is_word(env, 2, b"--help") && !has_word(env, 3) {
+        Asked::ReplayHelp
+    } else {
+        Asked::ReplayUsage
+    }
+}
+
+fn asked_tool(env: &impl Env) -> Asked {
+    if is_word(env, 1, b"replay") {
+        return asked_of_replay(env);
+    }
+    if has_word(env, 2) {
+        Asked::Unknown
+    } else if is_word(env, 1, b"--help") {
+        Asked::Help
+    } else if is_word(env, 1, b"--version") {
+        Asked::Version
+    } else {
+        Asked::Unknown
+    }
+}
+
+// Prints a text. Where it can't be written whole, that is told.
+fn print<W: Write, E: Write>(mut output: W, errors: &mut E, text: &[u8]) -> u8
+where
+    W: Drop,
+{
+    if output.write_all(text).is_ok() && output.flush().is_ok() {
+        return 0;
+    }
+    let _ = errors.write_all(b"s6_tree: write\n");
+    SYSTEM_STATUS
+}
+
+// Tells that the program was not used as it says.
+fn refuse<E: Write>(errors: &mut E, line: &[u8]) -> u8 {
+    let _ = errors.write_all(line);
+    USAGE_STATUS
+}
+
+/// Runs the tool that the command line asks for, on this input and these two outputs, and answers the exit status: 0 where it was
+/// done, 100 where the command line or the input is not as it should be, 111 where the system refused something. At 100 and 111
+/// one line on `errors` says why; where it can't be written, the status is answered all the same. No word needs memory.
+pub fn run_tool<A: Allocator + Copy, R: Read + Drop, W: Write + Drop, E: Write>(
+    env: &impl Env,
+    alloc: A,
+    patterns: Global,
+    input: R,
+    output: W,
+    errors: &mut E,
+) -> u8 {
+    match asked_tool(env) {
+        Asked::Help => print(output, errors, HELP),
+        Asked::Version => print(output, errors, VERSION),
+        Asked::ReplayHelp => print(output, errors, REPLAY_HELP),
+        Asked::Replay => match replay(alloc, patterns, input, output) {
+            Ok(()) => 0,
+            Err(fault) => replay_fault(&fault, errors),
+        },
+        Asked::ReplayUsage => refuse(errors, REPLAY_USAGE),
+        Asked::Unknown => refuse(errors, NO_TOOL),
+    }
+}

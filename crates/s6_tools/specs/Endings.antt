@@ -1,0 +1,27 @@
+-- The status with which a tool ends.
+use Rattle.std.specs.Prelude.{ℕ}
+use Rattle.s6_tools.specs.declared.answer.Outcome.{Outcome}
+use Rattle.s6_tools.specs.declared.answer.Outcome.TheVariants as outcome
+use Rattle.s6_tools.specs.declared.tool.Tool.{Tool}
+use Rattle.s6_tools.specs.declared.tool.Tool.TheVariants as tool
+use Rattle.s6_tools.specs.declared.tool_fault.ToolFault.{ToolFault}
+use Rattle.s6_tools.specs.declared.tool_fault.ToolFault.TheVariants as fault
+
+-- of a waiter that was released so
+abbrev pub status_of_outcome : Outcome → ℕ
+status_of_outcome outcome.Held = 0
+status_of_outcome outcome.Failed = 1
+status_of_outcome outcome.Gone = 2
+status_of_outcome outcome.TimedOut = 99
+
+-- of a request that was refused
+abbrev pub status_of_refusal : Tool → ℕ
+status_of_refusal tool.Svwait = 111
+status_of_refusal tool.Svlisten = 111
+status_of_refusal t = 1
+
+-- of a tool that didn't do what it was asked for
+abbrev pub status_of_fault : Tool → ToolFault → ℕ
+status_of_fault t fault.Usage = 100
+status_of_fault t (fault.Refused reason) = status_of_refusal t
+status_of_fault t f = 111
