@@ -1,11 +1,11 @@
 //! The tool `replay`: buffers round what it reads and writes.
-ghost use Rattle.std.specs.Prelude.{◌≡◌, ◌⊎◌, List, IfOk, IfErr};
-ghost use Rattle.tree_core.specs.declared.input.Input.{Input};
-ghost use Rattle.s6_replay.specs.Replay.{IsWhole};
-ghost use Rattle.replay_tool.specs.Flushed.{StopsFlushed};
+ghost use Rattle.std.specs.Prelude.{◌≡◌, ◌⊎◌, IfOk, IfErr};
+ghost use Rattle.s6_replay.specs.Replay.{IsWhole, Stops};
+ghost use Rattle.s6_replay.specs.Migration.{Migrates, MigrateStops};
+ghost use Rattle.replay_tool.specs.Flushed.{IsFlushed};
 ghost use Rattle.s6_replay.specs.declared.fault.ReplayFault.TheVariants.{Write};
 
-use s6_replay::{Counts, ReplayFault, run};
+use s6_replay::{Checked, Counts, ReplayFault, check, migrate, run};
 use std::alloc::{Allocator, Global};
 use std::io::{BufRead, BufReader, BufWriter, Read, Write};
 
@@ -16,10 +16,11 @@ fn replay_whole<A: Allocator + Copy, R: BufRead, W: Write>(
     reader: &mut R,
     writer: &mut W,
 ) -> Result<Counts, ReplayFault>
-    ensures ok { IfOk result (λ counts. (inputs : List (Input A)) × IsWhole inputs counts
+    ensures ok { IfOk result (λ counts. IsWhole A counts
         (R.remaining reader.old) (R.remaining reader.new) (W.contents writer.old) (W.contents writer.new)) }
-    ensures fault { IfErr result (λ fault. (fault ≡ Write) ⊎ StopsFlushed A fault
-        (R.remaining reader.old) (R.remaining reader.new) (W.contents writer.old) (W.contents writer.new)) }
+    ensures fault { IfErr result (λ fault. (fault ≡ Write) ⊎ IsFlushed
+        (Stops A fault (R.remaining reader.old) (R.remaining reader.new) (W.contents writer.old))
+        (W.contents writer.new)) }
 {
     let replayed = run(alloc, patterns, reader, writer);
     if writer.flush().is_err() {
@@ -45,4 +46,55 @@ pub fn replay<A: Allocator + Copy, R: Read + Drop, W: Write + Drop>(
     };
     let _counts = replay_whole(alloc, patterns, &mut reader, &mut writer)?;
     Ok(())
+}
+
+// Migrates a script, and hands on what a buffer still holds. A writer that fails then is told as `Write`, whatever else was wrong.
+fn migrate_whole<A: Allocator + Copy, R: BufRead, W: Write>(
+    alloc: A,
+    patterns: Global,
+    reader: &mut R,
+    writer: &mut W,
+) -> Result<Counts, ReplayFault>
+    ensures ok { IfOk result (λ counts. Migrates A counts
+        (R.remaining reader.old) (R.remaining reader.new) (W.contents writer.old) (W.contents writer.new)) }
+    ensures fault { IfErr result (λ fault. (fault ≡ Write) ⊎ IsFlushed
+        (MigrateStops A fault (R.remaining reader.old) (R.remaining reader.new) (W.contents writer.old))
+        (W.contents writer.new)) }
+{
+    let migrated = migrate(alloc, patterns, reader, writer);
+    if writer.flush().is_err() {
+        return Err(ReplayFault::Write);
+    }
+    migrated
+}
+
+/// Reads the script of version 1 that the input gives, and writes the script of version 2 of the same inputs with the replies of a new
+/// tree, each through a buffer of 8,192 bytes. Memory and faults are as those of `replay`.
+pub fn record_replies<A: Allocator + Copy, R: Read + Drop, W: Write + Drop>(
+    alloc: A,
+    patterns: Global,
+    input: R,
+    output: W,
+) -> Result<(), ReplayFault> {
+    let Ok(mut reader) = BufReader::new(alloc, input) else {
+        return Err(ReplayFault::NoMemory);
+    };
+    let Ok(mut writer) = BufWriter::new(alloc, output) else {
+        return Err(ReplayFault::NoMemory);
+    };
+    let _counts = migrate_whole(alloc, patterns, &mut reader, &mut writer)?;
+    Ok(())
+}
+
+/// Reads the script of version 2 that the input gives through a buffer of 8,192 bytes, and checks its replies. Memory and faults are as
+/// those of `replay`.
+pub fn check_replies<A: Allocator + Copy, R: Read + Drop>(
+    alloc: A,
+    patterns: Global,
+    input: R,
+) -> Result<Checked, ReplayFault> {
+    let Ok(mut reader) = BufReader::new(alloc, input) else {
+        return Err(ReplayFault::NoMemory);
+    };
+    check(alloc, patterns, &mut reader)
 }

@@ -36,17 +36,29 @@ pub const VERSION: &[u8] = b"s6_tree (Reskjavin) 0.1.0\n";
 
 /// What `s6_tree replay --help` prints.
 pub const REPLAY_HELP: &[u8] = b"usage: s6_tree replay < SCRIPT
+       s6_tree replay --check < RECORDED
+       s6_tree replay --migrate < SCRIPT
 
 Reads a script on standard input and writes its transcript to standard
 output: for each input line a reply, and then its events, orders,
-matches and releases.
+matches and releases. A script of version 2 has a reply line behind
+each input line.
+
+options:
+  --check     compare each reply of a script of version 2 with what the
+              tree answers: print legal N for N inputs, or differs at
+              line N, the first reply that is another
+  --migrate   read a script of version 1, and write that of version 2
+  --help      print this text
 
 limits:
   65,536 bytes an input line, with its newline
+  262,144 bytes a reply line, with its newline
   1,000,000 input lines
 
 exit status, and the line on standard error:
-  0           the whole script was replayed
+  0           the whole script was replayed, checked or migrated
+  1           a reply differs
   100         replay: no head line
               replay: line N
               replay: pattern in line N

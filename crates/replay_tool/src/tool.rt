@@ -1,10 +1,14 @@
 //! What the command line asks for, and doing it: `replay`, or the texts of the program. Its other tools are looked for before.
-use crate::buffered::replay;
+use crate::buffered::{check_replies, record_replies, replay};
 use crate::fault_lines::{NO_TOOL, REPLAY_USAGE, SYSTEM_STATUS, USAGE_STATUS, replay_fault};
 use crate::help_texts::{HELP, REPLAY_HELP, VERSION};
+use s6_replay::{Checked, ReplayFault};
 use std::alloc::{Allocator, Global};
 use std::env::{Env, FillError};
 use std::io::{Read, Write};
+
+/// The status of a check that found another reply than the machine's.
+const DIFFERS_STATUS: u8 = 1;
 
 // No word that is known is longer.
 const LONGEST_WORD: usize = 16;
@@ -15,6 +19,8 @@ enum Asked {
     Help,
     Version,
     Replay,
+    Check,
+    Migrate,
     ReplayHelp,
     ReplayUsage,
     Unknown,
@@ -39,7 +45,13 @@ fn is_word(env: &impl Env, place: usize, text: &[u8]) -> bool {
 fn asked_of_replay(env: &impl Env) -> Asked {
     if !has_word(env, 2) {
         Asked::Replay
-    } else if is_word(env, 2, b"--help") && !has_word(env, 3) {
+    } else if has_word(env, 3) {
+        Asked::ReplayUsage
+    } else if is_word(env, 2, b"--check") {
+        Asked::Check
+    } else if is_word(env, 2, b"--migrate") {
+        Asked::Migrate
+    } else if is_word(env, 2, b"--help") {
         Asked::ReplayHelp
     } else {
         Asked::ReplayUsage
@@ -73,6 +85,29 @@ where
     SYSTEM_STATUS
 }
 
+// Prints what a check found, and answers the exit status: 1 where a reply differs.
+fn print_checked<W: Write, E: Write>(mut output: W, errors: &mut E, checked: Checked) -> u8
+where
+    W: Drop,
+{
+    let (written, status) = match checked {
+        Checked::Legal(inputs) => (write!(output, "legal {inputs}\n"), 0),
+        Checked::Differs(line) => (write!(output, "differs at line {line}\n"), DIFFERS_STATUS),
+    };
+    if written.is_ok() && output.flush().is_ok() {
+        return status;
+    }
+    replay_fault(&ReplayFault::Write, errors)
+}
+
+// Tells how a tool ended that only reads and writes.
+fn ended<E: Write>(done: Result<(), ReplayFault>, errors: &mut E) -> u8 {
+    match done {
+        Ok(()) => 0,
+        Err(fault) => replay_fault(&fault, errors),
+    }
+}
+
 // Tells that the program was not used as it says.
 fn refuse<E: Write>(errors: &mut E, line: &[u8]) -> u8 {
     let _ = errors.write_all(line);
@@ -80,7 +115,7 @@ fn refuse<E: Write>(errors: &mut E, line: &[u8]) -> u8 {
 }
 
 /// Runs the tool that the command line asks for, on this input and these two outputs, and answers the exit status: 0 where it was
-/// done, 100 where the command line or the input is not as it should be, 111 where the system refused something. At 100 and 111
+/// done, 1 where a recorded reply is not the machine's, 100 where the command line or the input is not as it should be, 111 where the system refused something. At 100 and 111
 /// one line on `errors` says why; where it can't be written, the status is answered all the same. No word needs memory.
 pub fn run_tool<A: Allocator + Copy, R: Read + Drop, W: Write + Drop, E: Write>(
     env: &impl Env,
@@ -94,8 +129,10 @@ pub fn run_tool<A: Allocator + Copy, R: Read + Drop, W: Write + Drop, E: Write>(
         Asked::Help => print(output, errors, HELP),
         Asked::Version => print(output, errors, VERSION),
         Asked::ReplayHelp => print(output, errors, REPLAY_HELP),
-        Asked::Replay => match replay(alloc, patterns, input, output) {
-            Ok(()) => 0,
+        Asked::Replay => ended(replay(alloc, patterns, input, output), errors),
+        Asked::Migrate => ended(record_replies(alloc, patterns, input, output), errors),
+        Asked::Check => match check_replies(alloc, patterns, input) {
+            Ok(checked) => print_checked(output, errors, checked),
             Err(fault) => replay_fault(&fault, errors),
         },
         Asked::ReplayUsage => refuse(errors, REPLAY_USAGE),

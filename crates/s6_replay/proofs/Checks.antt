@@ -1,20 +1,19 @@
 -- A check that goes on by one step, stops or ends.
-use Rattle.std.proofs.Common.{◌≡◌, ◌≢◌, ℕ, ◌+◌, ◌*◌, ◌<◌, ◌≤◌, List, [], ◌∷◌, ◌++◌, map, codes, get_or, length, refl, sym, ap, ◌∙◌, subst, append_assoc, append-nil}
-use Rattle.std.proofs.Common.{arith, inl, inr, true, false}
-use Rattle.std.specs.Prelude.{Option, Some, None}
+use Rattle.std.proofs.Common.{◌≡◌, ℕ, ◌+◌, ◌*◌, ◌<◌, ◌≤◌, List, [], ◌∷◌, ◌++◌, map, refl, sym, ap, ◌∙◌, subst}
+use Rattle.std.proofs.Common.{arith, inl, inr}
+use Rattle.std.specs.Prelude.{Option}
 use Rattle.std.specs.Io.KnownBytes.{IsAtEnd, Consumes}
 use Rattle.std.proofs.KnownBytes.{Consumes-trans}
-use Rattle.std.proofs.lemmas.List.{map-append, append_cancel_left, length-append}
-use Rattle.tree_core.specs.Machine.{Machine, Outcome, new_machine}
-use Rattle.tree_core.specs.Run.{after, outcome, outcomes, after_all}
+use Rattle.std.proofs.lemmas.List.{map-append, length-append}
+use Rattle.tree_core.specs.Machine.{Outcome, new_machine}
+use Rattle.tree_core.specs.Run.{outcome, outcomes, after_all}
 use Rattle.tree_core.specs.StandsFor.{StoredTree, StandsFor}
-use Rattle.s6_replay.specs.Script.{Recorded, HasLines, StopsBehind, BeginsOtherwise, head_line, step_lines, script, inputs_of, input_limit}
-use Rattle.s6_replay.specs.Replay.{MakeScript}
+use Rattle.s6_replay.specs.Script.{Recorded, StopsBehind, head_line, inputs_of, input_limit}
 use Rattle.s6_replay.specs.Transcript.{reply_text}
 use Rattle.s6_replay.specs.Turn.{HeadStops, EndStops}
-use Rattle.s6_replay.specs.Checking.{AreLegal, Checks, CheckStops, StopsLegal, Compares, ComparesStep, reply_of}
-use Rattle.s6_replay.specs.declared.version.Version.TheVariants.{One, Two}
-use Rattle.s6_replay.specs.declared.checking.Compared.TheVariants.{Same, Other, End}
+use Rattle.s6_replay.specs.Checking.{AreLegal, Checks, CheckStops, StopsLegal, ComparesStep, reply_of}
+use Rattle.s6_replay.specs.declared.version.Version.TheVariants.{Two}
+use Rattle.s6_replay.specs.declared.checking.Compared.TheVariants.{Same, Other}
 use Rattle.s6_replay.specs.declared.checked.Checked.TheVariants.{Legal, Differs}
 use Rattle.s6_replay.specs.declared.fault.ReplayFault.{ReplayFault}
 use Rattle.s6_replay.specs.declared.fault.ReplayFault.TheVariants.{Head, Line, Pattern, Truncated, Read, Write, NoMemory}

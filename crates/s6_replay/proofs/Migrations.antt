@@ -1,19 +1,18 @@
 -- A migration that goes on by one step, stops or ends.
-use Rattle.std.proofs.Common.{◌≡◌, ℕ, ◌+◌, ◌<◌, ◌≤◌, List, [], ◌∷◌, ◌++◌, codes, get_or, length, take, refl, sym, ap, ◌∙◌, subst, append_assoc, append-nil}
+use Rattle.std.proofs.Common.{◌≡◌, ℕ, ◌+◌, ◌<◌, ◌≤◌, List, [], ◌∷◌, ◌++◌, length, take, refl, sym, ap, ◌∙◌, subst, append-nil}
 use Rattle.std.proofs.Common.{arith, inl, inr}
-use Rattle.std.specs.Prelude.{Option, Some, None}
-use Rattle.std.specs.List.{flat_map}
-use Rattle.std.specs.Io.KnownBytes.{IsAtEnd, Consumes, Appends}
+use Rattle.std.specs.Prelude.{Option}
+use Rattle.std.specs.Io.KnownBytes.{Consumes, Appends}
 use Rattle.std.proofs.KnownBytes.{Consumes-trans, Appends-trans}
 use Rattle.std.proofs.Math.Seq.{take-append-add}
-use Rattle.std.proofs.lemmas.List.{append_cancel_left, length-append}
+use Rattle.std.proofs.lemmas.List.{length-append}
 use Rattle.tree_core.specs.declared.input.Input.{Input}
 use Rattle.tree_core.specs.Machine.{Machine, new_machine}
-use Rattle.tree_core.specs.Run.{after, outcome, after_all}
+use Rattle.tree_core.specs.Run.{after, after_all}
 use Rattle.tree_core.specs.StandsFor.{StoredTree, StandsFor}
 use Rattle.s6_script.specs.Spelling.{spelling}
 use Rattle.s6_replay.specs.Lines.{HasNoNewline, AppendsFront}
-use Rattle.s6_replay.specs.Script.{Recorded, HasLines, StopsBehind, BeginsOtherwise, head_line, step_lines, script, inputs_of, input_limit}
+use Rattle.s6_replay.specs.Script.{Recorded, HasLines, StopsBehind, head_line, step_lines, script, inputs_of, input_limit}
 use Rattle.s6_replay.specs.Turn.{HeadStops, EndStops}
 use Rattle.s6_replay.specs.Migration.{recorded, recorded_step, recorded_script, RecordingStops, Records, RecordStops, Migrates, MigrateStops, StopsMigrating}
 use Rattle.s6_replay.specs.declared.counts.Counts.{Counts}

@@ -1,19 +1,18 @@
 -- Where reading a step stopped.
-use Rattle.std.proofs.Common.{◌≡◌, ◌≢◌, ℕ, ◌+◌, ◌*◌, ◌<◌, ◌≤◌, List, [], ◌∷◌, ◌++◌, All, length, take, refl, sym, ap, ◌∙◌, subst, append_assoc, arith, inl, inr, rules}
-use Rattle.std.proofs.Common.{append-nil}
-use Rattle.std.specs.Prelude.{Option, Some, None, codes}
-use Rattle.std.specs.Io.KnownBytes.{Consumes, IsAtEnd}
+use Rattle.std.proofs.Common.{◌≡◌, ◌≢◌, ℕ, ◌+◌, ◌<◌, List, [], ◌∷◌, ◌++◌, All, length, take, refl, sym, subst, arith, inr, rules}
+use Rattle.std.specs.Prelude.{Option, codes}
+use Rattle.std.specs.Io.KnownBytes.{Consumes}
 use Rattle.std.proofs.KnownBytes.{Consumes-trans}
 use Rattle.std.proofs.Math.Seq.{take-append_seam}
 use Rattle.std.proofs.lemmas.List.{length-append}
 use Rattle.tree_core.specs.declared.input.Input.{Input}
 use Rattle.s6_script.specs.Spelling.{Spells, spelling}
-use Rattle.s6_replay.specs.Lines.{HasNoNewline, IsPart, IsWithinLine}
-use Rattle.s6_replay.specs.Script.{Recorded, Place, HasLine, HasLines, IsReplyText, IsPrintable, IsNoLine, IsOther, StopsBehind, ReadsOn, lead}
-use Rattle.s6_replay.specs.Script.{line_limit, input_limit, input_line, input_line_number, reply_record, script, step_lines}
+use Rattle.s6_replay.specs.Lines.{HasNoNewline}
+use Rattle.s6_replay.specs.Script.{Recorded, Place, HasLine, HasLines, IsPrintable, IsNoLine, StopsBehind, ReadsOn, lead}
+use Rattle.s6_replay.specs.Script.{line_limit, input_limit, input_line, reply_record, step_lines}
 use Rattle.s6_replay.specs.Script.IsNoLine.{holds_other, too_long}
 use Rattle.s6_replay.specs.Script.Place.{at_input, at_reply}
-use Rattle.s6_replay.specs.Turn.{ReplyStops, HoldsReply}
+use Rattle.s6_replay.specs.Turn.{ReplyStops}
 use Rattle.s6_replay.specs.declared.version.Version.{Version}
 use Rattle.s6_replay.specs.declared.version.Version.TheVariants.{One, Two}
 use Rattle.s6_replay.specs.declared.fault.ReplayFault.{ReplayFault}

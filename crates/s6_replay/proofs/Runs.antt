@@ -2,7 +2,7 @@
 use Rattle.std.proofs.Common.{◌≡◌, ℕ, ◌+◌, ◌<◌, ◌≤◌, List, [], ◌∷◌, ◌++◌, length, refl, sym, ap, ◌∙◌, subst, append_assoc, append-nil}
 use Rattle.std.proofs.Common.{arith, inl, inr}
 use Rattle.std.specs.Prelude.{Option}
-use Rattle.std.specs.Io.KnownBytes.{IsAtEnd, Consumes, Appends}
+use Rattle.std.specs.Io.KnownBytes.{Consumes, Appends}
 use Rattle.std.proofs.KnownBytes.{Consumes-trans, Appends-trans, Appends-nil}
 use Rattle.tree_core.specs.declared.input.Input.{Input}
 use Rattle.tree_core.specs.Machine.{Machine, new_machine}
@@ -10,7 +10,7 @@ use Rattle.tree_core.specs.Run.{after, outcome, outcomes, after_all}
 use Rattle.tree_core.specs.StandsFor.{StoredTree, StandsFor}
 use Rattle.s6_script.specs.Spelling.{spelling}
 use Rattle.s6_replay.specs.Lines.{HasNoNewline, AppendsFront}
-use Rattle.s6_replay.specs.Script.{Recorded, HasLines, StopsBehind, head_line, step_lines, script, inputs_of, input_limit}
+use Rattle.s6_replay.specs.Script.{Recorded, HasLines, StopsBehind, head_line, step_lines, inputs_of, input_limit}
 use Rattle.s6_replay.specs.Replay.{IsWhole, Stops, StopsReading, Written, transcript}
 use Rattle.s6_replay.specs.Transcript.{block, blocks}
 use Rattle.s6_replay.specs.Turn.{Answers, AnswerStops, HeadStops, Turns, TurnStops, EndStops}
@@ -21,7 +21,7 @@ use Rattle.s6_replay.specs.declared.fault.ReplayFault.TheVariants.{Head, Line, P
 use Rattle.s6_replay.specs.declared.turn.Turn.TheVariants.{Done, End}
 use Rattle.s6_replay.proofs.Places.{whole_step}
 use Rattle.s6_replay.proofs.Steps.{ReadsTo, Counted, reads_more, reads_none, counts_more, counts_none, make_script, are_read, stops_after}
-use Rattle.s6_replay.proofs.Steps.{inputs_many, inputs_more, outcomes_more, script_more, stops_at_end}
+use Rattle.s6_replay.proofs.Steps.{inputs_many, inputs_more, script_more, stops_at_end}
 
 -- the replay has come so far: these steps were read, done, printed and counted
 pub record RunsTo {A : Type 0} (version : Version) (left left' held held' : Option (List ℕ)) (tree : StoredTree) (done : ℕ)

@@ -1,5 +1,5 @@
 -- What reading a line takes from a reader, and writing gives to a writer.
-use Rattle.std.specs.Prelude.{◌≡◌, ◌≢◌, ℕ, ◌+◌, ◌<◌, ◌≤◌, List, [], ◌∷◌, ◌++◌, All, length, take, Option, None, Some, ◌⊎◌}
+use Rattle.std.specs.Prelude.{◌≡◌, ◌≢◌, ℕ, ◌<◌, ◌≤◌, List, [], ◌∷◌, ◌++◌, All, length, take, Option, None, Some, ◌⊎◌}
 use Rattle.std.specs.Io.KnownBytes.{Consumes, Appends, IsAtEnd}
 use Rattle.s6_replay.specs.declared.line.Ended.{Ended}
 use Rattle.s6_replay.specs.declared.line.Ended.TheVariants.{Newline, End, TooLong}

@@ -1,5 +1,5 @@
 -- Migration: a script without replies becomes one with the machine's.
-use Rattle.std.specs.Prelude.{◌≡◌, ℕ, ◌<◌, ◌^◌, List, [], ◌∷◌, ◌++◌, length, Option, ◌⊎◌}
+use Rattle.std.specs.Prelude.{◌≡◌, ℕ, ◌<◌, ◌^◌, List, [], ◌∷◌, length, Option, ◌⊎◌}
 use Rattle.std.specs.Io.KnownBytes.{Consumes, Appends, IsAtEnd}
 use Rattle.tree_core.specs.declared.input.Input.{Input}
 use Rattle.tree_core.specs.Machine.{Machine, new_machine}

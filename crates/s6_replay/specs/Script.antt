@@ -1,6 +1,6 @@
 -- Scripts of both versions, and where reading one stops.
 use Rattle.std.specs.Prelude.{◌≡◌, ◌≢◌, ℕ, ◌+◌, ◌*◌, ◌<◌, ◌≤◌, List, [], ◌∷◌, ◌++◌, All, length, take, map, codes, Option, Some, ⊤}
-use Rattle.std.specs.List.{flat_map, AllByRecursion}
+use Rattle.std.specs.List.{flat_map}
 use Rattle.std.specs.Io.KnownBytes.{Consumes, IsAtEnd}
 use Rattle.tree_core.specs.declared.input.Input.{Input}
 use Rattle.s6_replay.specs.Lines.{HasNoNewline, IsPart, IsWithinLine}

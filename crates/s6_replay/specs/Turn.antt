@@ -18,7 +18,7 @@ use Rattle.s6_replay.specs.declared.line.ReadFault.TheVariants as reads
 use Rattle.s6_replay.specs.declared.turn.Turn.{Turn}
 use Rattle.s6_replay.specs.declared.turn.Turn.TheVariants.{Done, End}
 use Rattle.s6_replay.specs.declared.fault.ReplayFault.{ReplayFault}
-use Rattle.s6_replay.specs.declared.fault.ReplayFault.TheVariants.{Head, Line, Pattern, Truncated, Read, Write}
+use Rattle.s6_replay.specs.declared.fault.ReplayFault.TheVariants.{Head, Line, Truncated, Read, Write}
 use Rattle.s6_replay.specs.declared.fault.ReplayFault.TheVariants.{NoMemory}
 
 -- what an input gave was written under the number and counted, and the tree goes on as the machine does

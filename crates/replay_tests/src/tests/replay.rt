@@ -9,6 +9,7 @@ mod images;
 mod limits;
 mod lines;
 mod printing;
+mod recorded;
 mod refused;
 mod rows;
 

@@ -1,5 +1,5 @@
 use Rattle.std.proofs.Common.{arith, refl}
-use Rattle.s6_replay.proofs.Runs.{starts, goes_on, ends_whole, turn_stops, end_stops, head_stops}
+use Rattle.s6_replay.proofs.Runs.{starts, goes_on, turn_stops, end_stops}
 use Rattle.s6_replay.proofs.replay.replay_all.Goals as goal
 
 pub loop-done-init : goal.loop-done-init
