@@ -167,17 +167,29 @@ exit status:
 ";
 
 const REPLAY_HELP: &str = "usage: s6_tree replay < SCRIPT
+       s6_tree replay --check < RECORDED
+       s6_tree replay --migrate < SCRIPT
 
 Reads a script on standard input and writes its transcript to standard
 output: for each input line a reply, and then its events, orders,
-matches and releases.
+matches and releases. A script of version 2 has a reply line behind
+each input line.
+
+options:
+  --check     compare each reply of a script of version 2 with what the
+              tree answers: print legal N for N inputs, or differs at
+              line N, the first reply that is another
+  --migrate   read a script of version 1, and write that of version 2
+  --help      print this text
 
 limits:
   65,536 bytes an input line, with its newline
+  262,144 bytes a reply line, with its newline
   1,000,000 input lines
 
 exit status, and the line on standard error:
-  0           the whole script was replayed
+  0           the whole script was replayed, checked or migrated
+  1           a reply differs
   100         replay: no head line
               replay: line N
               replay: pattern in line N
@@ -213,6 +225,26 @@ fn prints_help_and_version(rt: HostRuntime) {
         SCRIPT,
         (100, b"", b"replay: usage\n"),
     );
+}
+
+#[test]
+fn checks_and_migrates(rt: HostRuntime) {
+    let migration: [&[u8]; 2] = [b"replay", b"--migrate"];
+    let recorded = b"s6-script 2\n0 1 tick\n= done\n".as_slice();
+    check_run(&rt, rt.alloc(), &migration, SCRIPT, (0, recorded, b""));
+    let check: [&[u8]; 2] = [b"replay", b"--check"];
+    let other = b"s6-script 2\n0 1 tick\n= refused Stale\n".as_slice();
+    check_run(&rt, rt.alloc(), &check, recorded, (0, b"legal 1\n", b""));
+    check_run(
+        &rt,
+        rt.alloc(),
+        &check,
+        other,
+        (1, b"differs at line 3\n", b""),
+    );
+    let no_head = b"replay: no head line\n";
+    check_run(&rt, rt.alloc(), &check, SCRIPT, (100, b"", no_head));
+    check_run(&rt, rt.alloc(), &migration, recorded, (100, b"", no_head));
 }
 
 // The text that can't be written is told, with the status.
