@@ -5,4 +5,5 @@ pub mod Replay
 pub mod Turn
 pub mod Checking
 pub mod Migration
+pub mod Recording
 pub mod FaultNumber

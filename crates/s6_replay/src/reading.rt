@@ -17,7 +17,7 @@ use tree_core::{Effect, Input};
 pub const INPUT_LIMIT: u64 = 1_000_000;
 
 /// The most bytes of an input line, with its newline.
-const INPUT_LINE_LIMIT: usize = 65_536;
+pub const INPUT_LINE_LIMIT: usize = 65_536;
 
 /// The most bytes of a reply line, with its newline.
 const REPLY_LINE_LIMIT: usize = 262_144;

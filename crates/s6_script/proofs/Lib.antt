@@ -9,3 +9,4 @@ pub mod Reading
 pub mod Building
 pub mod WordsTaken
 pub mod Letters
+pub mod Items

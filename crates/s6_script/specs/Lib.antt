@@ -3,4 +3,5 @@ pub mod DeathList
 pub mod Verb
 pub mod Words
 pub mod Spelling
+pub mod Telling
 pub mod Unbuilt

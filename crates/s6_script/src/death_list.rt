@@ -95,11 +95,25 @@ pub fn push_permafailon<A: Allocator>(
     ensures { OnOk result (text.new.items ≡ text.old.items ++ join_with_byte 32
         (codes "permafailon" ∷ name.now ∷ decimal seconds ∷ decimal count ∷ list_text list.now ∷ [])) }
 {
+    push_permafailon_of(text, name, seconds, count, list.items())
+}
+
+// Adds the words of a permafailon of these items.
+pub fn push_permafailon_of<A: Allocator>(
+    text: &mut Vec<u8, A>,
+    name: &Name,
+    seconds: u32,
+    count: u32,
+    items: &[DeathItem],
+) -> Result<(), AllocError>
+    ensures { OnOk result (text.new.items ≡ text.old.items ++ join_with_byte 32
+        (codes "permafailon" ∷ name.now ∷ decimal seconds ∷ decimal count ∷ list_text items.now ∷ [])) }
+{
     text.extend_from_slice(b"permafailon ")?;
     text.extend_from_slice(name.as_bytes())?;
     push_spaced(text, u64::from(seconds))?;
     push_spaced(text, u64::from(count))?;
     text.push(b' ')?;
-    push_items(text, list.items())?;
+    push_items(text, items)?;
     Ok(())
 }

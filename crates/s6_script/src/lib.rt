@@ -4,7 +4,9 @@
 mod death_list;
 mod digits;
 mod entry_options;
+mod limits;
 mod parse;
+mod plain_spelling;
 mod spelling;
 mod subscribing;
 mod unbuilt;
@@ -14,6 +16,7 @@ mod words;
 pub use death_list::push_permafailon;
 pub use digits::{push_number, push_spaced};
 pub use parse::{LineFault, parse_line, parse_with};
+pub use plain_spelling::spell_plain;
 pub use spelling::{push_named, push_svc};
 pub use subscribing::{push_send, push_subscribe};
 pub use waiting::push_wait;

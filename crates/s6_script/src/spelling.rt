@@ -49,7 +49,10 @@ fn push_exit<A: Allocator>(text: &mut Vec<u8, A>, exit: Exit) -> Result<(), Allo
 }
 
 // Adds the words of a scan.
-fn push_scan<A: Allocator>(text: &mut Vec<u8, A>, entries: &[Entry]) -> Result<(), AllocError>
+pub(crate) fn push_scan<A: Allocator>(
+    text: &mut Vec<u8, A>,
+    entries: &[Entry],
+) -> Result<(), AllocError>
     ensures { OnOk result (text.new.items
         ≡ text.old.items ++ join_with_byte 32 (codes "scan" ∷ map entry_text entries.now)) }
 {
@@ -74,7 +77,7 @@ pub fn push_svc<A: Allocator>(
 }
 
 // Adds the words of a notification.
-fn push_notify<A: Allocator + Copy>(
+pub(crate) fn push_notify<A: Allocator + Copy>(
     alloc: A,
     text: &mut Vec<u8, A>,
     sid: Sid,
@@ -103,7 +106,7 @@ pub fn push_named<A: Allocator>(
 }
 
 // Adds the words of a verb and a serial.
-fn push_serial<A: Allocator>(
+pub(crate) fn push_serial<A: Allocator>(
     text: &mut Vec<u8, A>,
     verb: &str,
     serial: u64,
@@ -116,7 +119,7 @@ fn push_serial<A: Allocator>(
 }
 
 // Adds the words of a report of a run.
-fn push_report<A: Allocator>(
+pub(crate) fn push_report<A: Allocator>(
     text: &mut Vec<u8, A>,
     verb: &str,
     sid: Sid,
@@ -130,7 +133,7 @@ fn push_report<A: Allocator>(
 }
 
 // Adds the words of a run that was spawned.
-fn push_started<A: Allocator>(
+pub(crate) fn push_started<A: Allocator>(
     text: &mut Vec<u8, A>,
     sid: Sid,
     generation: u64,
@@ -144,7 +147,7 @@ fn push_started<A: Allocator>(
 }
 
 // Adds the words of a run that ended so.
-fn push_ended<A: Allocator>(
+pub(crate) fn push_ended<A: Allocator>(
     text: &mut Vec<u8, A>,
     verb: &str,
     sid: Sid,

@@ -147,7 +147,19 @@ pub fn push_send<A: Allocator>(
     ensures { OnOk result (text.new.items ≡ text.old.items ++ join_with_byte 32
         (codes "send" ∷ target_word target.now ∷ target_name target.now ∷ message.now ∷ [])) }
 {
+    push_send_of(text, target, message.as_bytes())
+}
+
+// Adds the words of a message of these letters.
+pub fn push_send_of<A: Allocator>(
+    text: &mut Vec<u8, A>,
+    target: &Target,
+    letters: &[u8],
+) -> Result<(), AllocError>
+    ensures { OnOk result (text.new.items ≡ text.old.items ++ join_with_byte 32
+        (codes "send" ∷ target_word target.now ∷ target_name target.now ∷ letters.now ∷ [])) }
+{
     text.extend_from_slice(b"send")?;
     push_target(text, target)?;
-    push_word(text, message.as_bytes())
+    push_word(text, letters)
 }

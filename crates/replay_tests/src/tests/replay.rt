@@ -12,6 +12,7 @@ mod printing;
 mod recorded;
 mod refused;
 mod rows;
+mod spelling;
 
 // The script of the row `restart-after-pause`, and the blocks of its transcript.
 const SCRIPT: &str =

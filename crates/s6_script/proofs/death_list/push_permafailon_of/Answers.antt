@@ -1,8 +1,7 @@
 use Rattle.std.proofs.Common.{◌∙◌, ◌++◌, ◌∷◌, [], ap}
 use Rattle.std.specs.Prelude.{codes, decimal}
-use Rattle.s6_script.specs.DeathList.{list_text}
 use Rattle.s6_script.proofs.Joined.{grew}
-use Rattle.s6_script.proofs.death_list.push_permafailon.Goals as goal
+use Rattle.s6_script.proofs.death_list.push_permafailon_of.Goals as goal
 
 pub returns : goal.returns
 returns g c =
@@ -14,4 +13,4 @@ returns g c =
     (grew _ (32 ∷ decimal c.args.count) _ _ _ (c.in_ok-push_spaced-2.ensures
     ∙ ap (λ n. c.push_spaced.new.text.items ++ (32 ∷ decimal n)) c.from-2.ensures)
     (grew _ (32 ∷ []) _ _ _ c.in_ok-push.ensures.items
-    (c.in_ok-push_items.ensures ∙ ap (λ items. c.push.new.self.items ++ list_text items) c.items.ensures)))))
+    c.in_ok-push_items.ensures))))

@@ -1,0 +1,250 @@
+//! The limits within which an act has a spelling.
+ghost use Rattle.std.specs.Prelude.{◌≡◌, ◌<◌, ◌≤◌, ◌^◌, All, IsTrue, IfSome, length, nat_le, ◌&&◌};
+ghost use Rattle.std.specs.List.{list_all};
+ghost use Rattle.hex.specs.Hex.{IsBytes};
+ghost use Rattle.event_directory.specs.Pattern.{is_pattern_text};
+ghost use Rattle.s6_events.specs.At.{last_moment};
+ghost use Rattle.s6_events.specs.Name.{is_name};
+ghost use Rattle.servicedir.specs.Config.{is_served};
+ghost use Rattle.tree_core.specs.Plain.{act_of};
+ghost use Rattle.s6_script.specs.DeathList.{IsItem, IsDeathList};
+ghost use Rattle.s6_script.specs.Options.{IsConfig, IsEntry};
+ghost use Rattle.s6_script.specs.Spelling.{IsAct, IsExit, IsSpelt};
+ghost use Rattle.s6_script.specs.Telling.{Tells};
+ghost use Rattle.s6_script.specs.Verb.{target_name};
+
+use death_tally::DeathItem;
+use event_directory::Message;
+use s6_events::{Actor, At, Exit, Name};
+use servicedir::Config;
+use std::alloc::Allocator;
+use tree_core::{Entry, PlainAct, PlainInput, Target};
+
+/// The greatest process number.
+const PID_LIMIT: u32 = 2_147_483_647;
+
+fn is_exit(exit: Exit) -> bool
+    ensures { Tells result (IsExit exit) }
+{
+    match exit {
+        Exit::Code(_) => true,
+        Exit::Killed(signal) => signal <= 64,
+    }
+}
+
+fn is_item(item: &DeathItem) -> bool
+    ensures { Tells result (IsItem item.now) }
+{
+    match *item {
+        DeathItem::Code(code) => code <= u8::MAX,
+        DeathItem::Range(low, high) => low <= high,
+        DeathItem::Signal(number) => 1 <= number && number <= 31,
+    }
+}
+
+fn are_items(items: &[DeathItem]) -> bool
+    ensures { Tells result (All IsItem items.now) }
+{
+    for item in items {
+        if !is_item(item) {
+            return false;
+        }
+    }
+    true
+}
+
+fn is_death_list(items: &[DeathItem]) -> bool
+    ensures { Tells result (IsDeathList items.now) }
+{
+    if items.is_empty() || items.len() > 32 {
+        return false;
+    }
+    are_items(items)
+}
+
+// Whether a descriptor is served, if there is one.
+fn is_descriptor(descriptor: Option<u8>) -> bool
+    ensures { Tells result (IfSome descriptor (λ fd. IsTrue (is_served fd))) }
+{
+    match descriptor {
+        Some(number) => number == 1 || (3 <= number && number <= 9),
+        None => true,
+    }
+}
+
+// Whether milliseconds fit, which those of 32 bits always do.
+fn is_time(millis: u32) -> bool
+    ensures { Tells result (millis ≤ 4294967295) }
+{
+    millis <= u32::MAX
+}
+
+fn is_config(config: &Config) -> bool
+    ensures { Tells result (IsConfig config.now) }
+{
+    if !is_descriptor(config.notification_fd)
+        || !is_time(config.timeout_kill)
+        || !is_time(config.timeout_finish)
+    {
+        return false;
+    }
+    if config.max_death_tally > 4096 || config.down_signal < 1 || config.down_signal > 64 {
+        return false;
+    }
+    true
+}
+
+// Whether a name is one, which each is.
+fn is_named(name: &Name) -> bool
+    ensures { Tells result (IsTrue (is_name name.now)) }
+{
+    let _bytes = name.as_bytes();
+    true
+}
+
+fn are_named(names: &[Name]) -> bool
+    ensures { Tells result (All (λ name. IsTrue (is_name name)) names.now) }
+{
+    for name in names {
+        if !is_named(name) {
+            return false;
+        }
+    }
+    true
+}
+
+// Whether a serial or a generation fits, which each does.
+fn is_number(number: u64) -> bool
+    ensures { Tells result (number < 2 ^ 64) }
+{
+    number <= u64::MAX
+}
+
+fn is_entry(entry: &Entry) -> bool
+    ensures { Tells result (IsEntry entry.now) }
+{
+    if !is_named(&entry.name) {
+        return false;
+    }
+    match &entry.config {
+        Some(config) => is_config(config),
+        None => true,
+    }
+}
+
+fn are_entries(entries: &[Entry]) -> bool
+    ensures { Tells result (All IsEntry entries.now) }
+{
+    for entry in entries {
+        if !is_entry(entry) {
+            return false;
+        }
+    }
+    true
+}
+
+#[tactic(auto, unfolding(event_directory::specs::Pattern::is_pattern_text))]
+fn is_pattern(text: &str) -> bool
+    ensures { result ≡ is_pattern_text text.now }
+{
+    if text.is_empty() || text.len() > 256 {
+        return false;
+    }
+    are_printable(text.as_bytes())
+}
+
+fn are_printable(text: &[u8]) -> bool
+    ensures { result ≡ list_all (λ b. nat_le 0x20 b && nat_le b 0x7E) text.now }
+{
+    text.iter().all(|b| 0x20 <= *b && *b <= 0x7e)
+}
+
+fn is_run(sid: u64, generation: u64) -> bool
+    ensures { Tells result ((sid < 2 ^ 64) × (generation < 2 ^ 64)) }
+{
+    is_number(sid) && is_number(generation)
+}
+
+// Whether so many bytes may be told at once.
+fn is_notice(bytes: &[u8]) -> bool
+    ensures { Tells result ((1 ≤ length bytes.now) × (length bytes.now ≤ 64) × IsBytes bytes.now) }
+{
+    1 <= bytes.len() && bytes.len() <= 64
+}
+
+fn is_target(target: &Target) -> bool
+    ensures { Tells result (IsTrue (is_name (target_name target.now))) }
+{
+    match target {
+        Target::Service(name) => is_named(name),
+        Target::Directory(name) => is_named(name),
+    }
+}
+
+// Whether an act is within the limits of a script.
+fn is_within<A: Allocator>(act: &PlainAct<A>) -> bool
+    ensures { Tells result (IsAct (act_of act.now)) }
+{
+    match act {
+        PlainAct::Scan(entries) => are_entries(entries.as_slice()),
+        PlainAct::Svc(name, letters) => {
+            is_named(name) && 1 <= letters.len() && letters.len() <= 63
+        }
+        PlainAct::Started(sid, generation, pid) => {
+            is_run(sid.0, *generation) && 1 <= *pid && *pid <= PID_LIMIT
+        }
+        PlainAct::StartFailed(sid, generation) => is_run(sid.0, *generation),
+        PlainAct::Notify(sid, generation, bytes) => {
+            is_run(sid.0, *generation) && is_notice(bytes.as_slice())
+        }
+        PlainAct::Death(sid, generation, exit) => is_run(sid.0, *generation) && is_exit(*exit),
+        PlainAct::FinishEnded(sid, generation, exit) => {
+            is_run(sid.0, *generation) && is_exit(*exit)
+        }
+        PlainAct::Permafailon(name, seconds, count, items) => {
+            is_named(name)
+                && is_time(*seconds)
+                && is_time(*count)
+                && is_death_list(items.as_slice())
+        }
+        PlainAct::Wait(_, _, timeout, names) => is_time(*timeout) && are_named(names.as_slice()),
+        PlainAct::Cancel(waiter) => is_number(waiter.0),
+        PlainAct::Subscribe(target, pattern, _) => {
+            is_target(target) && is_pattern(pattern.as_str())
+        }
+        PlainAct::Unsubscribe(subscription) => is_number(subscription.0),
+        PlainAct::Send(target, letters) => {
+            is_target(target) && Message::new(letters.as_slice()).is_some()
+        }
+        PlainAct::Status(name) => is_named(name),
+        PlainAct::Tally(name) => is_named(name),
+        PlainAct::MakeDir(name) => is_named(name),
+        PlainAct::Scanctl(_) | PlainAct::Tick => true,
+    }
+}
+
+// Whether a moment is one, which each is.
+fn is_moment(at: At) -> bool
+    ensures { Tells result (at ≤ last_moment) }
+{
+    let _millis = at.millis();
+    true
+}
+
+// Whether an actor is one, which each is.
+fn is_actor(actor: Actor) -> bool
+    ensures { Tells result (actor ≤ 15) }
+{
+    let _number = actor.number();
+    true
+}
+
+/// Whether an input is within the limits of a script, and so has a spelling.
+pub fn is_spelt<A: Allocator>(input: &PlainInput<A>) -> bool
+    ensures { Tells result (IsSpelt input.now) }
+{
+    if !is_moment(input.at) || !is_actor(input.actor) {
+        return false;
+    }
+    is_within(&input.act)
+}
