@@ -82,22 +82,47 @@ fn storm<
     let done = AtomicU64::new(0);
     let done_by = &done;
     let (wanted, is_started) = thread::scope(thread::scope_env(), rt, |scope| {
-        let mut wanted = 0u64;
-        for seat in seats {
-            if start_seat(scope, rt, alloc, seat, faults) {
-                wanted = wanted.saturating_add(u64::from(ACTS));
-            }
-        }
-        let mut is_started = start_driver(scope, rt, office, wanted, done_by, faults);
-        for reader in readers.into_iter().take(READERS) {
-            is_started = start_reader(scope, rt, reader, done_by, faults) && is_started;
-        }
-        (wanted, is_started)
+        let wanted = start_seats(scope, rt, alloc, seats, faults);
+        let is_driven = start_driver(scope, rt, office, wanted, done_by, faults);
+        let is_read = start_readers(scope, rt, readers, done_by, faults);
+        (wanted, is_driven && is_read)
     });
     if !is_started {
         faults.fetch_add(1, Ordering::SeqCst);
     }
     wanted
+}
+
+// A thread for each seat: how many acts they are to submit.
+fn start_seats<'s, E, C: Channels + Send + Sync + 's, R: Threads + Wait + Clock + Sync>(
+    scope: &Scope<'s, E>,
+    rt: &'s R,
+    alloc: Global,
+    seats: Vec<Seat<C>>,
+    faults: &'s AtomicU64,
+) -> u64 {
+    let mut wanted = 0u64;
+    for seat in seats {
+        if start_seat(scope, rt, alloc, seat, faults) {
+            wanted = wanted.saturating_add(u64::from(ACTS));
+        }
+    }
+    wanted
+}
+
+// Some threads that read: whether all could be started.
+fn start_readers<'s, E, C: Channels + Send + Sync + 's, R: Threads + Wait + Clock + Sync>(
+    scope: &Scope<'s, E>,
+    rt: &'s R,
+    readers: Vec<BoardReader<C>>,
+    done: &'s AtomicU64,
+    faults: &'s AtomicU64,
+) -> bool {
+    let mut is_started = true;
+    for reader in readers.into_iter().take(READERS) {
+        is_started = start_reader(scope, rt, reader, done, faults) && is_started;
+    }
+    is_started
 }
 
 fn start_seat<'s, E, C: Channels + Send + Sync + 's, R: Threads + Wait + Clock + Sync>(
