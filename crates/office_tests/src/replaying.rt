@@ -1,12 +1,13 @@
 //! The same inputs once more, in the order of the records, by one thread.
 use crate::acts::input_of;
 use channel_names::Channels;
+use inbox::Ticket;
 use office::Office;
 use order_lanes::{Backend, Lanes};
 use status_board::Board;
 use std::alloc::Global;
 use std::sync::Wait;
-use tree_core::{Reply, Tree};
+use tree_core::{Effect, Reply, Tree};
 
 fn is_same(one: &Reply<Global>, other: &Reply<Global>) -> bool {
     match (one, other) {
@@ -32,14 +33,20 @@ pub fn is_replayed<C: Channels + Lanes, D: Board<C>, B: Backend, R: Wait>(
     steps: u64,
 ) -> Option<bool> {
     let mut tree = Tree::new(alloc);
+    let mut effect = Effect::new(alloc);
     let mut numbers = [0u32; 16];
     for step in 1..steps.saturating_add(1) {
         let actor = office.actor(rt, step)?;
         let number = numbers.get_mut(usize::from(actor.number()))?;
-        let effect = tree.apply(input_of(alloc, actor, *number)?).ok()?;
+        let input = input_of(alloc, actor, *number)?;
+        tree.apply_into(input, &mut effect).ok()?;
         *number = number.saturating_add(1);
-        let recorded = office.effect(rt, step).ok()??;
-        if !is_same(&effect.reply, &recorded.reply) {
+        let ticket = Ticket {
+            actor,
+            number: u64::from(*number),
+        };
+        let recorded = office.reply(rt, ticket).ok()??;
+        if !is_same(&effect.reply, &recorded) {
             return Some(false);
         }
     }

@@ -19,7 +19,8 @@ use std::sync::Wait;
 use std::sync::atomic::{AtomicU64, Ordering};
 use std::test::Fail;
 use std::thread;
-use std::thread::Threads;
+use std::thread::{Builder, Scope, Threads};
+use std::time::{Clock, Duration};
 
 /// How many seats there are.
 const SEATS: usize = 15;
@@ -42,7 +43,7 @@ fn fifteen_seats_make_one_run(rt: HostRuntime) -> Result<(), Fail> {
 fn run_storm<
     B: Backend + Send,
     C: Channels + Lanes + Send + Sync,
-    R: Threads + Wait + Abort + Sync,
+    R: Threads + Wait + Clock + Abort + Sync,
 >(rt: &R, alloc: Global, office: NewOffice<B>) -> Result<(), Fail>
     requires seats { (k : ℕ) → C.seat_ring k ≡ ring_of (slice_get office.rings k) }
     requires board { C.board ≡ office.board }
@@ -64,12 +65,12 @@ fn run_storm<
     Ok(())
 }
 
-// All threads together: how many acts were submitted and done.
+// All threads together: how many acts were to be submitted.
 fn storm<
     C: Channels + Lanes + Send + Sync,
     D: Board<C> + Send,
     B: Backend + Send,
-    R: Threads + Wait + Sync,
+    R: Threads + Wait + Clock + Sync,
 >(
     rt: &R,
     alloc: Global,
@@ -80,52 +81,127 @@ fn storm<
 ) -> u64 {
     let done = AtomicU64::new(0);
     let done_by = &done;
-    thread::scope(thread::scope_env(), rt, |scope| {
-        let mut wanted = 0u64;
-        for seat in seats {
-            if scope
-                .spawn(move || submit_all(rt, alloc, seat, faults))
-                .is_ok()
-            {
-                wanted = wanted.saturating_add(u64::from(ACTS));
-            }
+    let (wanted, is_started) = thread::scope(thread::scope_env(), rt, |scope| {
+        let wanted = start_seats(scope, rt, alloc, seats, faults);
+        let is_driven = start_driver(scope, rt, office, wanted, done_by, faults);
+        let is_read = start_readers(scope, rt, readers, done_by, faults);
+        (wanted, is_driven && is_read)
+    });
+    if !is_started {
+        faults.fetch_add(1, Ordering::SeqCst);
+    }
+    wanted
+}
+
+// A thread for each seat: how many acts they are to submit.
+fn start_seats<'s, E, C: Channels + Send + Sync + 's, R: Threads + Wait + Clock + Sync>(
+    scope: &Scope<'s, E>,
+    rt: &'s R,
+    alloc: Global,
+    seats: Vec<Seat<C>>,
+    faults: &'s AtomicU64,
+) -> u64 {
+    let mut wanted = 0u64;
+    for seat in seats {
+        if start_seat(scope, rt, alloc, seat, faults) {
+            wanted = wanted.saturating_add(u64::from(ACTS));
         }
-        for reader in readers.into_iter().take(READERS) {
-            if scope
-                .spawn(move || watch(rt, reader, done_by, faults))
-                .is_err()
-            {
-                faults.fetch_add(1, Ordering::SeqCst);
-            }
-        }
-        drive_all(rt, office, wanted, faults);
-        done_by.store(1, Ordering::SeqCst);
-        wanted
-    })
+    }
+    wanted
+}
+
+// Some threads that read: whether all could be started.
+fn start_readers<'s, E, C: Channels + Send + Sync + 's, R: Threads + Wait + Clock + Sync>(
+    scope: &Scope<'s, E>,
+    rt: &'s R,
+    readers: Vec<BoardReader<C>>,
+    done: &'s AtomicU64,
+    faults: &'s AtomicU64,
+) -> bool {
+    let mut is_started = true;
+    for reader in readers.into_iter().take(READERS) {
+        is_started = start_reader(scope, rt, reader, done, faults) && is_started;
+    }
+    is_started
+}
+
+fn start_seat<'s, E, C: Channels + Send + Sync + 's, R: Threads + Wait + Clock + Sync>(
+    scope: &Scope<'s, E>,
+    rt: &'s R,
+    alloc: Global,
+    seat: Seat<C>,
+    faults: &'s AtomicU64,
+) -> bool {
+    Builder::new()
+        .spawn_scoped(scope, move || submit_all(rt, alloc, seat, faults))
+        .is_ok()
+}
+
+fn start_reader<'s, E, C: Channels + Send + Sync + 's, R: Threads + Wait + Clock + Sync>(
+    scope: &Scope<'s, E>,
+    rt: &'s R,
+    reader: BoardReader<C>,
+    done: &'s AtomicU64,
+    faults: &'s AtomicU64,
+) -> bool {
+    Builder::new()
+        .spawn_scoped(scope, move || watch(rt, reader, done, faults))
+        .is_ok()
+}
+
+fn start_driver<
+    's,
+    E,
+    C: Channels + Lanes + Send + Sync,
+    D: Board<C> + Send,
+    B: Backend + Send,
+    R: Threads + Wait + Clock + Sync,
+>(
+    scope: &Scope<'s, E>,
+    rt: &'s R,
+    office: &'s Office<C, D, B>,
+    wanted: u64,
+    done: &'s AtomicU64,
+    faults: &'s AtomicU64,
+) -> bool {
+    Builder::new()
+        .spawn_scoped(scope, move || drive_all(rt, office, wanted, done, faults))
+        .is_ok()
 }
 
 // Submits all acts, each until the ring takes it, or until something failed.
-fn submit_all<C: Channels>(rt: &impl Wait, alloc: Global, seat: Seat<C>, faults: &AtomicU64) {
+fn submit_all<C: Channels, R: Wait + Clock>(
+    rt: &R,
+    alloc: Global,
+    seat: Seat<C>,
+    faults: &AtomicU64,
+) {
     let mut seat = seat;
+    let mut kept = None;
     for _ in rt.forever() {
         let sent = seat.sent();
         if sent >= u64::from(ACTS) || faults.load(Ordering::SeqCst) > 0 {
             break;
         }
         let number = sent as u32;
-        let Some(act) = act_of(alloc, number) else {
+        let act = match kept.take() {
+            Some(act) => Some(act),
+            None => act_of(alloc, number),
+        };
+        let Some(act) = act else {
             faults.fetch_add(1, Ordering::SeqCst);
             break;
         };
-        if seat.submit(moment_of(number), act).is_err() {
-            thread::yield_now();
+        if let Err((back, _)) = seat.submit(moment_of(number), act) {
+            kept = Some(back);
+            thread::sleep(rt, Duration::from_millis(1));
         }
     }
 }
 
 // Reads until all is done: no shot is older than one before it.
-fn watch<C: Channels>(
-    rt: &impl Wait,
+fn watch<C: Channels, R: Wait + Clock>(
+    rt: &R,
     reader: BoardReader<C>,
     done: &AtomicU64,
     faults: &AtomicU64,
@@ -143,15 +219,16 @@ fn watch<C: Channels>(
         if is_last {
             break;
         }
-        thread::yield_now();
+        thread::sleep(rt, Duration::from_millis(1));
     }
 }
 
 // Drives until so many steps were made or something failed, and carries the orders of a lane that is full.
-fn drive_all<C: Channels + Lanes, D: Board<C>, B: Backend, R: Wait>(
+fn drive_all<C: Channels + Lanes, D: Board<C>, B: Backend, R: Wait + Clock>(
     rt: &R,
     office: &Office<C, D, B>,
     wanted: u64,
+    done: &AtomicU64,
     faults: &AtomicU64,
 ) {
     let mut made = 0u64;
@@ -165,10 +242,11 @@ fn drive_all<C: Channels + Lanes, D: Board<C>, B: Backend, R: Wait>(
             DriveStop::Blocked(lane) if lane < office.lanes() => {
                 office.carry(rt, lane, 4_096);
             }
-            DriveStop::Idle => thread::yield_now(),
+            DriveStop::Idle => thread::sleep(rt, Duration::from_millis(1)),
             _ => {}
         }
     }
+    done.store(1, Ordering::SeqCst);
 }
 
 // Whether each ticket has its reply, and no more have one.
