@@ -158,12 +158,12 @@ fn tell_match<C: Channels + Lanes, D: Board<C>, B: Backend, T: Clock + Drop, R: 
     found: &Match,
 ) {
     let world = server.answers();
-    let mut seat = 0;
+    let mut seat = 0usize;
     for client in &world.clients {
         if client.has_subscription(rt, found.subscription) {
             post(rt, server, seat, &match_lines(world.alloc, found));
         }
-        seat += 1;
+        seat = seat.saturating_add(1);
     }
 }
 
@@ -173,12 +173,12 @@ fn tell_release<C: Channels + Lanes, D: Board<C>, B: Backend, T: Clock + Drop, R
     release: &Release,
 ) {
     let world = server.answers();
-    let mut seat = 0;
+    let mut seat = 0usize;
     for client in &world.clients {
         if client.has_waiter(rt, release.waiter) {
             post(rt, server, seat, &release_lines(world.alloc, release));
         }
-        seat += 1;
+        seat = seat.saturating_add(1);
     }
 }
 

@@ -72,12 +72,12 @@ where
         return false;
     }
     let world = server.answers();
-    let mut lane = 0;
+    let mut lane = 0usize;
     for seat in lanes {
         if !start_lane(scope, rt, world, lane, seat) {
             return false;
         }
-        lane += 1;
+        lane = lane.saturating_add(1);
     }
     true
 }
