@@ -91,7 +91,7 @@ impl<W: Answers> Server<W> {
 }
 
 /// Accepts and serves connections until `Server::end` is called. All of its threads have ended when it comes back.
-pub fn serve<W: Answers + Send + Sync, R: Threads + Wait + Sync>(rt: &R, server: &Server<W>) {
+pub fn serve<W: Answers + Sync, R: Threads + Wait + Sync>(rt: &R, server: &Server<W>) {
     thread::scope(
         thread::scope_env(),
         rt,
@@ -100,7 +100,7 @@ pub fn serve<W: Answers + Send + Sync, R: Threads + Wait + Sync>(rt: &R, server:
 }
 
 // Accepts connections until the server ends. Each gets a seat and a thread that reads it.
-fn accept_all<'s, E, W: Answers + Send + Sync, R: Threads + Wait + Sync>(
+fn accept_all<'s, E, W: Answers + Sync, R: Threads + Wait + Sync>(
     scope: &Scope<'s, E>,
     rt: &'s R,
     server: &'s Server<W>,
@@ -122,7 +122,7 @@ fn accept_all<'s, E, W: Answers + Send + Sync, R: Threads + Wait + Sync>(
 }
 
 // The thread that reads a connection. Whether it runs.
-fn start_reader<'s, E, W: Answers + Send + Sync, R: Threads + Wait + Sync>(
+fn start_reader<'s, E, W: Answers + Sync, R: Threads + Wait + Sync>(
     scope: &Scope<'s, E>,
     rt: &'s R,
     server: &'s Server<W>,
