@@ -5,4 +5,3 @@ use Rattle.std.proofs.Crossing.{crosses}
 use Rattle.tree_core.proofs.Crosses.{closure_send}
 use Rattle.tree_server.proofs.Crosses.{world_sync}
 use Rattle.tree_server.proofs.threads.start_driver.Goals as goal
-
