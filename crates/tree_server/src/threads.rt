@@ -140,8 +140,20 @@ where
 {
     Builder::new()
         .stack_size(STACK_SIZE)
-        .spawn_scoped(scope, move || serve_lines(rt, server))
+        .spawn_scoped(scope, move || serve_all(rt, server))
         .is_ok()
+}
+
+// Serves connections until the server ends.
+fn serve_all<C, D, B, T, R>(rt: &R, server: &Server<World<C, D, B, T>>)
+where
+    C: Channels + Lanes + Send + Sync,
+    D: Board<C> + Send,
+    B: Backend + Send,
+    T: Clock + Sync + Send + Drop,
+    R: Threads + Wait + Sync,
+{
+    serve_lines(rt, server);
 }
 
 fn start_lane<'s, E, C, D, B, T, R>(
