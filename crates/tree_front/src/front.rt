@@ -52,8 +52,12 @@ pub fn run_words<R: Env + Net + Processes, I: Read + Drop, W: Write + Drop, E: W
             let Ok(all) = borrowed(alloc, words.as_slice()) else {
                 return Asked::Done(SYSTEM_STATUS);
             };
-            let (_, further) = all.as_slice().split_at(2);
-            Asked::Done(run_client(rt, alloc, tool, further, &mut output, errors))
+            match all.as_slice() {
+                [_, _, further @ ..] => {
+                    Asked::Done(run_client(rt, alloc, tool, further, &mut output, errors))
+                }
+                _ => Asked::Done(SYSTEM_STATUS),
+            }
         }
     }
 }

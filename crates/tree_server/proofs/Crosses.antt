@@ -8,6 +8,8 @@ use Rattle.std.proofs.sync.Mutex.TheSendSync as mutex
 use Rattle.channel_names.specs.declared.channels.Channels.{Ghosts}
 use Rattle.child_runner.proofs.bell.Bell.TheSendSync as bell
 use Rattle.child_runner.specs.contracts.bell.Bell as Bell
+use Rattle.line_server.proofs.server.Server.TheSendSync as server
+use Rattle.line_server.specs.contracts.server.Server as Server
 use Rattle.order_lanes.specs.declared.lanes.Lanes as lanes
 use Rattle.order_lanes.specs.declared.backend.Backend as backend
 use Rattle.status_board.proofs.reader.BoardReader.TheSendSync as reader
@@ -19,6 +21,7 @@ use Rattle.tree_server.specs.contracts.agenda.Agenda as Agenda
 use Rattle.tree_server.specs.contracts.client.Client as Client
 use Rattle.tree_server.specs.contracts.client.Ends as Ends
 use Rattle.tree_server.specs.contracts.client.Turn as Turn
+use Rattle.tree_server.specs.contracts.outcome.Outcome as Outcome
 use Rattle.tree_server.specs.contracts.world.World as World
 
 pub number_send : IsSend u64-field.row
@@ -26,6 +29,9 @@ number_send = search sendable
 
 pub bell_sync : IsSync Bell.the_row
 bell_sync = search (bell.the_sync, crosses, sendable) depth 60 fits 20000
+
+pub outcome_sync : IsSync Outcome.the_row
+outcome_sync = search (crosses, sendable) depth 60 fits 20000
 
 agenda_sync : IsSync Agenda.the_row
 agenda_sync = search (crosses, sendable) depth 60 fits 20000
@@ -71,3 +77,9 @@ world_sync C D B T g h d b c s k t =
         ),
       ),
     ))
+
+pub server_sync : (C D B T : RattleType) (g : Ghosts C.Denot) (h : lanes.Ghosts C.Denot) (d : board.Ghosts D.Denot C.Denot) (b : backend.Ghosts B.Denot)
+    → IsSend C → IsSend D → IsSend B → IsSync T → IsSync (Server.the_row (World.the_row C D B T g h d b))
+server_sync C D B T g h d b c s k t =
+    let w = world_sync C D B T g h d b c s k t in
+    search (w, server.the_sync, crosses, sendable) depth 60 fits 20000

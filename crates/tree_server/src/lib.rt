@@ -9,6 +9,7 @@ mod driving;
 mod fault;
 mod lane_service;
 mod listing;
+mod outcome;
 mod own_answer;
 mod places;
 mod plans;

@@ -2,6 +2,7 @@
 use crate::driving::drive_all;
 use crate::fault::ServeFault;
 use crate::lane_service::serve_lane;
+use crate::outcome::Outcome;
 use crate::scanning::attend;
 use crate::world::World;
 use channel_names::Channels;
@@ -13,7 +14,7 @@ use status_board::Board;
 use std::alloc::Global;
 use std::io::Write;
 use std::rt::Files;
-use std::sync::{Mutex, Wait};
+use std::sync::Wait;
 use std::thread::{self, Builder, Scope, Threads};
 use std::time::Clock;
 use tree_core::Listing;
@@ -41,16 +42,16 @@ pub fn run_threads<
     directory: &str,
     errors: &mut E,
 ) -> Result<(), ServeFault> {
-    let outcome = Mutex::new(Ok(()));
+    let outcome = Outcome::new();
     thread::scope(thread::scope_env(), rt, |scope| {
         if start_all(scope, rt, server, &outcome, lanes) {
             attend(rt, server, scanner, first, directory, errors);
         } else {
-            *outcome.lock(rt) = Err(ServeFault::Thread);
+            outcome.note(rt, ServeFault::Thread);
             end_all(rt, server);
         }
     });
-    *outcome.lock(rt)
+    outcome.get(rt)
 }
 
 // Starts all threads but this one. Whether they run.
@@ -58,7 +59,7 @@ fn start_all<'s, E, C, D, B, T, R>(
     scope: &Scope<'s, E>,
     rt: &'s R,
     server: &'s Server<World<C, D, B, T>>,
-    outcome: &'s Mutex<Result<(), ServeFault>>,
+    outcome: &'s Outcome,
     lanes: Vec<Seat<C>>,
 ) -> bool
 where
@@ -86,7 +87,7 @@ fn start_driver<'s, E, C, D, B, T, R>(
     scope: &Scope<'s, E>,
     rt: &'s R,
     server: &'s Server<World<C, D, B, T>>,
-    outcome: &'s Mutex<Result<(), ServeFault>>,
+    outcome: &'s Outcome,
 ) -> bool
 where
     C: Channels + Lanes + Send + Sync,
@@ -104,11 +105,10 @@ where
 fn drive_and_tell<C: Channels + Lanes, D: Board<C>, B: Backend, T: Clock + Drop, R: Wait + Clock>(
     rt: &R,
     server: &Server<World<C, D, B, T>>,
-    outcome: &Mutex<Result<(), ServeFault>>,
+    outcome: &Outcome,
 ) {
-    let done = drive_all(rt, server);
-    if done.is_err() {
-        *outcome.lock(rt) = done;
+    if let Err(fault) = drive_all(rt, server) {
+        outcome.note(rt, fault);
     }
 }
 
@@ -140,8 +140,20 @@ where
 {
     Builder::new()
         .stack_size(STACK_SIZE)
-        .spawn_scoped(scope, move || serve_lines(rt, server))
+        .spawn_scoped(scope, move || serve_all(rt, server))
         .is_ok()
+}
+
+// Serves connections until the server ends.
+fn serve_all<C, D, B, T, R>(rt: &R, server: &Server<World<C, D, B, T>>)
+where
+    C: Channels + Lanes + Send + Sync,
+    D: Board<C> + Send,
+    B: Backend + Send,
+    T: Clock + Sync + Send + Drop,
+    R: Threads + Wait + Sync,
+{
+    serve_lines(rt, server);
 }
 
 fn start_lane<'s, E, C, D, B, T, R>(

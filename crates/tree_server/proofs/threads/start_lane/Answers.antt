@@ -15,5 +15,5 @@ spawn_scoped-requires-send-F g c κs within =
     sent (param_send 2 _ c.type_bounds.send-D) (param_send 3 _ c.type_bounds.send-B) (param_sync 4 _ c.type_bounds.sync-T) in
     param_send 1 _ (arg_send _ no _ (closure_send _ (_ ∷ _ ∷ _ ∷ _ ∷ _ ∷ []) (
       shr_send _ _ _ (param_sync 0 _ c.type_bounds.sync-R),
-      (shr_send _ _ _ world, (number_send, (shr_send _ _ _ ?bell, (?seat, tt)))),
+      (shr_send _ _ _ world, (number_send, (shr_send _ _ _ bell_sync, (seat_send (param 1 g.row.C) g.C.Channels sent, tt)))),
     )))
