@@ -41,34 +41,91 @@ fn run_effects<B: Backend, C: Channels + Lanes, R: Wait + Abort>(
     requires before { (k : ℕ) → C.asked_before k ≡ asked_of B.asked (slice_get office.backends k) }
 {
     let opened = office.open::<C, &R>(alloc, rt).map_err(|_| "not opened")?;
+    make_effects(rt, alloc, opened, name)
+}
+
+// Submits all, makes the steps, and looks at what they gave.
+fn make_effects<C: Channels + Lanes, D: Board<C>, B: Backend, R: Wait + Abort>(
+    rt: &R,
+    alloc: Global,
+    opened: Opened<C, D, B>,
+    name: Name,
+) -> Result<(), Fail> {
     let Opened {
         office,
         mut seats,
         readers: _,
     } = opened;
+    let mut seat = seats.pop().ok_or("no seat")?;
+    submit_all(rt, alloc, &mut seat, name)?;
+    assert_eq!(rt; office.drive(rt, 10).steps, 3);
+    look_at_all(rt, &office)?;
+    if office.lanes() > 0 {
+        office.carry(rt, 0, 10);
+    }
+    Ok(())
+}
+
+// Submits the scan, the start and the question.
+fn submit_all<C: Channels, R: Abort>(
+    rt: &R,
+    alloc: Global,
+    seat: &mut Seat<C>,
+    name: Name,
+) -> Result<(), Fail> {
     let mut entries = Vec::new(alloc);
     entries.push(Entry {
         name,
         config: Some(Config::plain()),
     })?;
-    let mut seat = seats.pop().ok_or("no seat")?;
-    submit(rt, &mut seat, Act::Scan(Listing::new(entries)));
-    submit(rt, &mut seat, Act::Started(Sid(1), 1, 500));
-    submit(rt, &mut seat, Act::Status(name));
-    assert_eq!(rt; office.drive(rt, 10).steps, 3);
-    assert!(rt; is_nothing(rt, &office, 0));
-    assert!(rt; is_nothing(rt, &office, 4));
-    let scan = effect_of(rt, &office, 1)?;
+    submit(rt, seat, Act::Scan(Listing::new(entries)));
+    submit(rt, seat, Act::Started(Sid(1), 1, 500));
+    submit(rt, seat, Act::Status(name));
+    Ok(())
+}
+
+// There are three effects.
+fn look_at_all<C: Channels + Lanes, D: Board<C>, B: Backend, R: Wait + Abort>(
+    rt: &R,
+    office: &Office<C, D, B>,
+) -> Result<(), Fail> {
+    assert!(rt; is_nothing(rt, office, 0));
+    look_at_scan(rt, office)?;
+    look_at_start(rt, office)?;
+    look_at_status(rt, office)?;
+    assert!(rt; is_nothing(rt, office, 4));
+    Ok(())
+}
+
+// The first step found a service, and gave the order to start it.
+fn look_at_scan<C: Channels + Lanes, D: Board<C>, B: Backend, R: Wait + Abort>(
+    rt: &R,
+    office: &Office<C, D, B>,
+) -> Result<(), Fail> {
+    let scan = effect_of(rt, office, 1)?;
     assert!(rt; matches!(&scan.reply, Reply::Scanned(report) if report.listed().len() == 1));
     assert!(rt; is_of_marks(&scan, Mark::SupervisorStarted, 1));
-    let started = effect_of(rt, &office, 2)?;
+    Ok(())
+}
+
+// The second step told of the start.
+fn look_at_start<C: Channels + Lanes, D: Board<C>, B: Backend, R: Wait + Abort>(
+    rt: &R,
+    office: &Office<C, D, B>,
+) -> Result<(), Fail> {
+    let started = effect_of(rt, office, 2)?;
     assert!(rt; matches!(&started.reply, Reply::Done));
     assert!(rt; is_of_marks(&started, Mark::Spawned, 0));
-    let status = effect_of(rt, &office, 3)?;
+    Ok(())
+}
+
+// The third step answered with the row.
+fn look_at_status<C: Channels + Lanes, D: Board<C>, B: Backend, R: Wait + Abort>(
+    rt: &R,
+    office: &Office<C, D, B>,
+) -> Result<(), Fail> {
+    let status = effect_of(rt, office, 3)?;
     assert!(rt; matches!(&status.reply, Reply::Row(row) if row.pid == Some(500)));
-    if office.lanes() > 0 {
-        office.carry(rt, 0, 10);
-    }
     Ok(())
 }
 
