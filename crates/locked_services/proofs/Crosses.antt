@@ -42,10 +42,13 @@ inside_send C g h c =
           (
             run_send,
             (
-              search (d, crosses, sendable) depth 60 fits 20000,
+              search (crosses, sendable) depth 60 fits 20000,
               (
-                search (input_send, option.the_field_send, crosses, sendable) depth 60 fits 20000,
-                (search (l, crosses, sendable) depth 60 fits 20000, tt),
+                search (d, crosses, sendable) depth 60 fits 20000,
+                (
+                  search (input_send, option.the_field_send, crosses, sendable) depth 60 fits 20000,
+                  (search (l, crosses, sendable) depth 60 fits 20000, tt),
+                ),
               ),
             ),
           ),

@@ -3,4 +3,7 @@ pub mod Lasting
 pub mod Shown
 pub mod Opened
 pub mod Finished
+pub mod EndOfRun
+pub mod Served
+pub mod Chained
 pub mod Crosses

@@ -1,18 +1,122 @@
--- What is true of seats that have finished.
-use Rattle.std.specs.Prelude.{◌≡◌, ℕ, ◌<◌, List, slice_get, Some}
+-- How a run ends.
+use Rattle.std.specs.Prelude.{◌≡◌, ◌⊎◌, ⊤, ℕ, ◌==◌, ◌<◌, List, [], ◌++◌, count_by, length, map, slice_get, IsSome, Option, Some, None}
+use Rattle.s6_events.specs.declared.order.Order.{Order}
 use Rattle.inbox.specs.Ends.{DrainView, FinishedView}
+use Rattle.order_lanes.specs.Desk.{DeskView}
+use Rattle.order_lanes.specs.Lane.{LaneView}
+use Rattle.order_lanes.specs.LaneOrders.{orders_of_lane}
 use Rattle.run_records.specs.Runs.{RunStep}
+use Rattle.locked_services.specs.Chain.{IsLegalRun}
+use Rattle.locked_services.specs.Running.{RunningView, orders_of}
+use Rattle.locked_services.specs.Shots.{RoomView}
 use Rattle.locked_services.specs.Submissions.{submissions_of, taken_from}
+use Rattle.locked_services.specs.declared.closing.CloseFault.{CloseFault}
+use Rattle.locked_services.specs.declared.closing.CloseFault.TheVariants.{Missing, Left}
+use Rattle.locked_services.specs.declared.closing.Closed.{Closed}
+
+-- how many finishes this actor has
+abbrev pub finishes_of : ℕ → List FinishedView → ℕ
+finishes_of actor finishes = count_by (λ f. f.actor == actor) finishes
+
+-- each is of one of so many seats
+abbrev pub AreKnown : ℕ → List FinishedView → Type 0
+AreKnown seats finishes = (k : ℕ) (f : FinishedView) → slice_get finishes k ≡ Some f → f.actor < seats
+
+-- of each the ring told all that its seat had submitted
+abbrev pub AreTold : List FinishedView → Type 0
+AreTold finishes = (k : ℕ) (f : FinishedView) → slice_get finishes k ≡ Some f → IsSome f.submitted
+
+-- there is just one for each of so many seats, and the ring of each told all that was submitted
+pub record AreComplete (seats : ℕ) (finishes : List FinishedView) : Type 0 where
+  pub known : AreKnown seats finishes
+  pub one : (actor : ℕ) → actor < seats → finishes_of actor finishes ≡ 1
+  pub told : AreTold finishes
 
 -- all that these seats submitted was taken
 abbrev pub AreTaken : List DrainView → List FinishedView → Type 0
 AreTaken drains finishes = (k : ℕ) (f : FinishedView) → slice_get finishes k ≡ Some f → f.submitted ≡ Some (taken_from f.actor drains)
 
--- all that the seats at places below n submitted was taken
-abbrev pub AreTakenBelow : ℕ → List DrainView → List FinishedView → Type 0
-AreTakenBelow n drains finishes = (k : ℕ) (f : FinishedView) → k < n → slice_get finishes k ≡ Some f
-    → f.submitted ≡ Some (taken_from f.actor drains)
+-- an input of one of these seats is still in its ring
+abbrev pub IsInputLeft : List DrainView → List FinishedView → Type 0
+IsInputLeft drains finishes =
+    (k : ℕ) × (f : FinishedView) × (slice_get finishes k ≡ Some f) × (f.submitted ≡ Some (taken_from f.actor drains) → ⊥)
+
+-- the lane and the desk at a place belong together, and the desk's backend was asked all that was ever sent into the lane
+abbrev pub IsServed : (ℕ → List Order) → ℕ → Option LaneView → Option DeskView → Type 0
+IsServed before k None None = ⊤
+IsServed before k None (Some desk) = ⊥
+IsServed before k (Some lane) None = ⊥
+IsServed before k (Some lane) (Some desk) = (lane.number ≡ k) × (desk.lane ≡ k) × (desk.asked ≡ before k ++ lane.sent)
+
+-- at each place they do
+abbrev pub AreServed : (ℕ → List Order) → List LaneView → List DeskView → Type 0
+AreServed before lanes desks = (k : ℕ) → IsServed before k (slice_get lanes k) (slice_get desks k)
+
+-- an order is still in a lane's ring or held at its desk, or at some place there is no such desk
+abbrev pub IsOrderLeft : (ℕ → List Order) → List LaneView → List DeskView → Type 0
+IsOrderLeft before lanes desks = (k : ℕ) × (IsServed before k (slice_get lanes k) (slice_get desks k) → ⊥)
+
+-- what is still to be done: an input that is held, one in a ring, or an order
+abbrev pub IsLeft : (ℕ → List Order) → RunningView → List DeskView → List FinishedView → Type 0
+IsLeft before v desks finishes = IsSome v.held ⊎ IsInputLeft v.drains finishes ⊎ IsOrderLeft before v.lanes desks
 
 -- each of these seats submitted just what its actor's steps took
 abbrev pub AreDone : List RunStep → List FinishedView → Type 0
 AreDone steps finishes = (k : ℕ) (f : FinishedView) → slice_get finishes k ≡ Some f → f.submitted ≡ Some (submissions_of f.actor steps)
+
+-- the backend of each of so many lanes was asked just the lane's orders, after what it was asked before the run
+abbrev pub AreCarriedOut : {B : Type 0} → (B → List Order) → (ℕ → List Order) → ℕ → List RunStep → List B → Type 0
+AreCarriedOut {B} asked before lanes steps backends =
+    (k : ℕ) (b : B) → slice_get backends k ≡ Some b → asked b ≡ before k ++ orders_of_lane lanes k (orders_of steps)
+
+-- a run was closed with these finishes: there is just one for each seat, all that was submitted was done, all orders of the steps were
+-- asked, the steps are a legal history, and for its end stands the tree
+pub record IsClosed {B : Type 0} (asked : B → List Order) (before : ℕ → List Order) (v : RunningView) (finishes : List FinishedView)
+    (closed : Closed B) : Type 0 where
+  pub complete : AreComplete (length v.drains) finishes
+  pub done : AreDone v.steps finishes
+  pub lanes : length closed.backends.items ≡ length v.lanes
+  pub carried_out : AreCarriedOut asked before (length v.lanes) v.steps closed.backends.items
+  pub tree : closed.tree ≡ v.tree
+  pub steps : closed.steps ≡ length v.steps
+  pub legal : IsLegalRun (record { opening = v.opening; steps = v.steps; tree = closed.tree })
+
+-- why a run isn't closed: the finishes aren't complete, or they are, and something is left
+pub record IsFault (before : ℕ → List Order) (v : RunningView) (desks : List DeskView) (finishes : List FinishedView)
+    (fault : CloseFault) : Type 0 where
+  pub missing : fault ≡ Missing → AreComplete (length v.drains) finishes → ⊥
+  pub left : fault ≡ Left → AreComplete (length v.drains) finishes × IsLeft before v desks finishes
+
+-- the ends of rings, without what is seen of these
+abbrev pub drain_unseen : DrainView → DrainView
+drain_unseen d = record d { seen = [] }
+
+abbrev pub lane_unseen : LaneView → LaneView
+lane_unseen l = record l { free = 0 }
+
+abbrev pub desk_unseen : DeskView → DeskView
+desk_unseen d = record d { seen = [] }
+
+-- the same ends, of whose rings more or less may be seen
+abbrev pub AreSameDrains : List DrainView → List DrainView → Type 0
+AreSameDrains old new = map drain_unseen new ≡ map drain_unseen old
+
+abbrev pub AreSameLanes : List LaneView → List LaneView → Type 0
+AreSameLanes old new = map lane_unseen new ≡ map lane_unseen old
+
+abbrev pub AreSameDesks : List DeskView → List DeskView → Type 0
+AreSameDesks old new = map desk_unseen new ≡ map desk_unseen old
+
+-- the same run, but for what is seen of its rings
+pub record IsSameRunning (old new : RunningView) : Type 0 where
+  pub opening : new.opening ≡ old.opening
+  pub tree : new.tree ≡ old.tree
+  pub steps : new.steps ≡ old.steps
+  pub drains : AreSameDrains old.drains new.drains
+  pub held : new.held ≡ old.held
+  pub lanes : AreSameLanes old.lanes new.lanes
+
+pub record IsSameRoom (old new : RoomView) : Type 0 where
+  pub running : IsSameRunning old.running new.running
+  pub shots : new.shots ≡ old.shots
+  pub is_shown : new.is_shown ≡ old.is_shown

@@ -2,4 +2,5 @@ pub mod Submissions
 pub mod Running
 pub mod Shots
 pub mod Opening
+pub mod Chain
 pub mod Closing

@@ -4,13 +4,14 @@ ghost use Rattle.std.specs.Prelude.{◌≡◌, [], IfOk};
 use run_records::Run;
 use s6_events::NoMemory;
 use std::alloc::Global;
-use tree_core::{Image, Tree};
+use tree_core::{Effect, Image, Tree};
 
-/// All that a run keeps of its beginning: the image of its tree, and no step yet.
+/// All that a run keeps of its beginning: the image of its tree, no step yet, and an effect that each step fills anew.
 #[derive(Drop)]
 pub struct Beginning {
     pub opening: Image<Global>,
     pub run: Run,
+    pub effect: Box<Effect<Global>>,
 }
 
 impl Beginning {
@@ -22,6 +23,7 @@ impl Beginning {
         Ok(Beginning {
             opening: tree.image()?,
             run: Run::new(alloc)?,
+            effect: Box::new(alloc, Effect::new(alloc))?,
         })
     }
 }

@@ -1,7 +1,8 @@
 //! The end of a run.
-ghost use Rattle.std.specs.Prelude.{◌≡◌, ◌≢◌, ◌≤◌, ◌⊎◌, ℕ, length, Some, None, true, false, IfNone};
+ghost use Rattle.std.specs.Prelude.{◌≡◌, ◌<◌, ◌⊎◌, ℕ, length, Some, true, false, IfNone, IfSome, IsSome};
 ghost use Rattle.locked_services.specs.Submissions.{AreNumbered, taken_from};
-ghost use Rattle.locked_services.specs.Closing.{AreTaken};
+ghost use Rattle.locked_services.specs.Closing.{AreComplete, AreKnown, AreSameDrains, AreTaken, AreTold, IsInputLeft, finishes_of};
+ghost use Rattle.locked_services.specs.declared.closing.CloseFault.TheVariants.{Missing, Left};
 
 use channel_names::Channels;
 use inbox::{Drain, Finished};
@@ -11,58 +12,102 @@ use tree_core::Tree;
 /// Why a run was not closed.
 #[derive(Clone, Copy, PartialEq, Eq, Debug)]
 pub enum CloseFault {
-    /// There isn't just one finish for each seat, or the ring of one told nothing of its end.
+    /// There isn't just one finish for each seat, or the ring of one told nothing of its end. This is looked for first.
     Missing = 1,
-    /// An input is still to be done.
+    /// An input or an order is still to be done.
     Left = 2,
 }
 
-/// What a run leaves.
+/// What a run leaves: its tree, how many steps it made, and the backends of its lanes, in the order of their numbers.
 #[derive(Drop)]
-pub struct Closed {
+pub struct Closed<B: Drop> {
     pub tree: Tree<Global>,
     pub steps: u64,
+    pub backends: Vec<B>,
 }
 
-// Whether all that the seat submitted was taken; None where there is no drain of its actor, or its ring told nothing of its end.
+// How many finishes this actor has.
+fn count_finishes<C: Channels>(finishes: &Vec<Finished<C>>, actor: usize) -> usize
+    ensures { result ≡ finishes_of actor finishes.now.items }
+{
+    let mut count = 0;
+    for k in 0..finishes.len() {
+        if usize::from(finishes[k].actor().number()) == actor {
+            count += 1;
+        }
+    }
+    count
+}
+
+// Whether each finish is of one of so many seats.
+fn are_known<C: Channels>(finishes: &Vec<Finished<C>>, seats: usize) -> bool
+    ensures yes { result ≡ true → AreKnown seats finishes.now.items }
+    ensures no { result ≡ false → AreKnown seats finishes.now.items → ⊥ }
+{
+    for k in 0..finishes.len() {
+        if usize::from(finishes[k].actor().number()) >= seats {
+            return false;
+        }
+    }
+    true
+}
+
+// Whether there is just one finish for each of so many seats, and no other.
+fn has_one_each<C: Channels>(finishes: &Vec<Finished<C>>, seats: usize) -> bool
+    ensures known { result ≡ true → AreKnown seats finishes.now.items }
+    ensures one { result ≡ true → (actor : ℕ) → actor < seats
+        → finishes_of actor finishes.now.items ≡ 1 }
+    ensures no { result ≡ false → AreKnown seats finishes.now.items
+        → ((actor : ℕ) → actor < seats → finishes_of actor finishes.now.items ≡ 1) → ⊥ }
+{
+    if !are_known(finishes, seats) {
+        return false;
+    }
+    for actor in 0..seats {
+        if count_finishes(finishes, actor) != 1 {
+            return false;
+        }
+    }
+    true
+}
+
+// Whether all that the seat submitted was taken; None where its ring told nothing of its end.
 fn is_drained<C: Channels>(drains: &mut Vec<Drain<C>>, finished: &mut Finished<C>) -> Option<bool>
-    requires { AreNumbered drains.old.items }
-    ensures numbered { AreNumbered drains.new.items }
-    ensures taken { (a : ℕ) → taken_from a drains.new.items ≡ taken_from a drains.old.items }
-    ensures len { length drains.new.items ≡ length drains.old.items }
+    requires numbered { AreNumbered drains.old.items }
+    requires known { finished.old.actor < length drains.old.items }
+    ensures same { AreSameDrains drains.old.items drains.new.items }
     ensures finished { finished.new ≡ finished.old }
     ensures yes { result ≡ Some true → finished.old.submitted
-        ≡ Some (taken_from finished.old.actor drains.new.items) }
+        ≡ Some (taken_from finished.old.actor drains.old.items) }
     ensures left { result ≡ Some false → finished.old.submitted
-        ≢ Some (taken_from finished.old.actor drains.new.items) }
-    ensures none { IfNone result ((finished.old.submitted ≡ None)
-        ⊎ (length drains.old.items ≤ finished.old.actor)) }
+        ≡ Some (taken_from finished.old.actor drains.old.items) → ⊥ }
+    ensures none { IfNone result (finished.old.submitted ≡ None) }
+    ensures told { IfSome result (λ _. IsSome finished.old.submitted) }
 {
-    let place = usize::from(finished.actor().number());
-    if place >= drains.len() {
-        return None;
-    }
-    let drain = &mut drains[place];
+    let drain = &mut drains[usize::from(finished.actor().number())];
     drain.is_drained(finished)
 }
 
 fn both(one: bool, other: bool) -> bool
-    ensures { result ≡ true → (one ≡ true) × (other ≡ true) }
+    ensures yes { result ≡ true → (one ≡ true) × (other ≡ true) }
+    ensures no { result ≡ false → (one ≡ false) ⊎ (other ≡ false) }
 {
     one && other
 }
 
-/// Whether all that these seats submitted was taken; None where one has no drain, or its ring told nothing of its end.
-pub fn are_drained<C: Channels>(
+// Whether all that these seats submitted was taken; None where the ring of one told nothing of its end.
+fn are_drained<C: Channels>(
     drains: &mut Vec<Drain<C>>,
     finishes: &mut Vec<Finished<C>>,
 ) -> Option<bool>
-    requires { AreNumbered drains.old.items }
-    ensures numbered { AreNumbered drains.new.items }
-    ensures taken { (a : ℕ) → taken_from a drains.new.items ≡ taken_from a drains.old.items }
-    ensures len { length drains.new.items ≡ length drains.old.items }
+    requires numbered { AreNumbered drains.old.items }
+    requires known { AreKnown (length drains.old.items) finishes.old.items }
+    ensures same { AreSameDrains drains.old.items drains.new.items }
     ensures finishes { finishes.new.items ≡ finishes.old.items }
-    ensures yes { result ≡ Some true → AreTaken drains.new.items finishes.old.items }
+    ensures yes { result ≡ Some true → AreTaken drains.old.items finishes.old.items }
+    ensures left { result ≡ Some false → IsInputLeft drains.old.items finishes.old.items }
+    ensures told { IfSome result (λ _. AreTold finishes.old.items) }
+    ensures none { IfNone result (AreTold finishes.old.items → ⊥) }
 {
     let mut all = true;
     for k in 0..finishes.len() {
@@ -73,4 +118,37 @@ pub fn are_drained<C: Channels>(
         }
     }
     Some(all)
+}
+
+/// Why a run with these rings can't be closed with these finishes, by its inputs alone: they aren't just one for each ring; or one of
+/// their inputs is still in its ring, or is held.
+pub fn input_fault<C: Channels>(
+    drains: &mut Vec<Drain<C>>,
+    finishes: &mut Vec<Finished<C>>,
+    is_held: bool,
+) -> Option<CloseFault>
+    requires { AreNumbered drains.old.items }
+    ensures same { AreSameDrains drains.old.items drains.new.items }
+    ensures finishes { finishes.new.items ≡ finishes.old.items }
+    ensures missing { result ≡ Some Missing
+        → AreComplete (length drains.old.items) finishes.old.items → ⊥ }
+    ensures left { result ≡ Some Left → AreComplete (length drains.old.items) finishes.old.items
+        × ((is_held ≡ true) ⊎ IsInputLeft drains.old.items finishes.old.items) }
+    ensures complete { IfNone result
+        (AreComplete (length drains.old.items) finishes.old.items) }
+    ensures taken { IfNone result (AreTaken drains.old.items finishes.old.items) }
+    ensures free { IfNone result (is_held ≡ false) }
+{
+    if !has_one_each(finishes, drains.len()) {
+        return Some(CloseFault::Missing);
+    }
+    match are_drained(drains, finishes) {
+        None => return Some(CloseFault::Missing),
+        Some(false) => return Some(CloseFault::Left),
+        Some(true) => {}
+    }
+    if is_held {
+        return Some(CloseFault::Left);
+    }
+    None
 }

@@ -3,15 +3,17 @@
 
 mod beginning;
 mod closing;
+pub mod laws;
 mod opening;
 mod room;
 mod running;
+mod serving;
 mod stop;
 mod taking;
 
 pub use beginning::Beginning;
 pub use closing::{CloseFault, Closed};
 pub use opening::{SeatEnds, seat_ends};
-pub use room::Room;
+pub use room::{NotClosed, Room};
 pub use running::{RUN_LIMIT, RunningTree};
 pub use stop::{DriveStop, Driven, Stop};

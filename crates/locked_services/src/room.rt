@@ -1,5 +1,5 @@
 //! What the lock guards: the running tree and its board.
-ghost use Rattle.std.specs.Prelude.{◌≡◌, ◌≢◌, ◌≤◌, ◌∷◌, ◌++◌, [], None, IsSome, IsTrue, OnOk, OnErr, IfOk, length, ℕ, true, Some, option_map};
+ghost use Rattle.std.specs.Prelude.{◌≡◌, ◌≢◌, ◌≤◌, ◌∷◌, ◌++◌, [], None, IsSome, IsTrue, OnOk, OnErr, IfOk, IfErr, IfSome, IfNone, length, ℕ, true, Some, option_map, vec_capacity};
 ghost use Rattle.tree_core.specs.Effect.{outcome_of};
 ghost use Rattle.tree_core.specs.Ended.{has_ended};
 ghost use Rattle.tree_core.specs.Limits.{order_limit};
@@ -7,6 +7,7 @@ ghost use Rattle.tree_core.specs.Machine.{Machine};
 ghost use Rattle.tree_core.specs.NextDue.{next_due};
 ghost use Rattle.tree_core.specs.StandsFor.{StandsFor};
 ghost use Rattle.run_records.specs.Runs.{RunStep, end_of, actor_at, outcome_at, reply_at};
+ghost use Rattle.locked_services.specs.Closing.{AreComplete, AreDone, AreSameDesks, AreServed, IsClosed, IsFault, IsSameRoom};
 ghost use Rattle.locked_services.specs.Submissions.{NoneSeen};
 ghost use Rattle.locked_services.specs.Running.{run_limit};
 ghost use Rattle.locked_services.specs.Shots.{shot_of, Grows, IsSoundHistory};
@@ -15,42 +16,54 @@ ghost use Rattle.locked_services.specs.declared.stop.Stop.TheVariants.{Done, Idl
 ghost use Rattle.order_lanes.specs.Lane.{IsBlocked};
 ghost use Rattle.locked_services.specs.declared.stop.DriveStop.TheVariants as ended;
 
+use crate::closing::{CloseFault, Closed};
 use crate::running::RunningTree;
+use crate::serving::backends_of;
 use crate::stop::{DriveStop, Driven, Stop};
 use channel_names::Channels;
-use inbox::Ticket;
-use order_lanes::Lanes;
+use inbox::{Finished, Ticket};
+use order_lanes::{Backend, Desk, Lanes};
 use s6_events::{Actor, NoMemory};
 use status_board::{Board, Told};
 use std::alloc::Global;
 use std::marker::Model;
-use tree_core::{Effect, Reply};
+use tree_core::{Effect, Reply, Tree};
 
 /// What one lock guards: the running tree, the board on which it is published, and whether its present state was published.
 #[derive(Drop)]
-pub struct Room<C: Channels + Lanes, B: Board<C>> {
+pub struct Room<C: Channels + Lanes, D: Board<C>> {
     running: RunningTree<C>,
-    board: B,
+    board: D,
     is_shown: bool,
 }
 
-impl<C: Channels + Lanes, B: Board<C>> Model for Room<C, B> {
+/// A room that was not closed, and why, with all that it was to be closed with.
+#[derive(Drop)]
+pub struct NotClosed<C: Channels + Lanes, D: Board<C>, B: Backend> {
+    pub room: Room<C, D>,
+    pub desks: Vec<Desk<B, C>>,
+    pub backends: Vec<B>,
+    pub finishes: Vec<Finished<C>>,
+    pub fault: CloseFault,
+}
+
+impl<C: Channels + Lanes, D: Board<C>> Model for Room<C, D> {
     ghost use Rattle.locked_services.specs.Shots.{RoomView, IsSoundRoom};
 
     ghost Value = { RoomView };
 
-    ghost view = { λ r. record { running = r.running; shots = B.shots r.board; is_shown = r.is_shown } };
+    ghost view = { λ r. record { running = r.running; shots = D.shots r.board; is_shown = r.is_shown } };
 
-    ghost invariant = { λ r. IsSoundRoom (record { running = r.running; shots = B.shots r.board; is_shown = r.is_shown }) };
+    ghost invariant = { λ r. IsSoundRoom (record { running = r.running; shots = D.shots r.board; is_shown = r.is_shown }) };
 }
 
-impl<C: Channels + Lanes, B: Board<C>> Room<C, B> {
+impl<C: Channels + Lanes, D: Board<C>> Room<C, D> {
     /// A room of this running tree, in which no step was made, and whose state alone was published on the board.
-    pub fn begin(running: RunningTree<C>, board: B) -> Room<C, B>
+    pub fn begin(running: RunningTree<C>, board: D) -> Room<C, D>
         requires steps { running.steps ≡ [] }
         requires first { (m : Machine) → StandsFor running.opening m →
-            B.shots board ≡ shot_of (end_of m running.steps) ∷ [] }
-        ensures { result ≡ record { running = running; shots = B.shots board; is_shown = true } }
+            D.shots board ≡ shot_of (end_of m running.steps) ∷ [] }
+        ensures { result ≡ record { running = running; shots = D.shots board; is_shown = true } }
     {
         Room {
             running,
@@ -217,5 +230,76 @@ impl<C: Channels + Lanes, B: Board<C>> Room<C, B> {
             → result ≡ next_due (end_of m self.now.running.steps) }
     {
         self.running.next_due()
+    }
+
+    // Why the run can't be closed with these desks and finishes.
+    fn close_fault<B: Backend>(
+        &mut self,
+        desks: &mut Vec<Desk<B, C>>,
+        finishes: &mut Vec<Finished<C>>,
+    ) -> Option<CloseFault>
+        ensures same { IsSameRoom self.old self.new }
+        ensures desks { AreSameDesks desks.old.items desks.new.items }
+        ensures room { vec_capacity desks.new ≡ vec_capacity desks.old }
+        ensures finishes { finishes.new.items ≡ finishes.old.items }
+        ensures fault { IfSome result (λ fault.
+            IsFault C.asked_before self.old.running desks.old.items finishes.old.items fault) }
+        ensures complete { IfNone result
+            (AreComplete (length self.old.running.drains) finishes.old.items) }
+        ensures done { IfNone result (AreDone self.old.running.steps finishes.old.items) }
+        ensures served { IfNone result
+            (AreServed C.asked_before self.old.running.lanes desks.old.items) }
+        ensures each { IfNone result (length desks.old.items ≡ length self.old.running.lanes) }
+    {
+        self.running.close_fault(desks, finishes)
+    }
+
+    // The tree alone.
+    fn into_tree(self) -> Tree<Global>
+        ensures { result ≡ self.running.tree }
+    {
+        let Room { running, .. } = self;
+        running.into_tree()
+    }
+
+    /// Closes the run, where there is just one finish for each seat, and all that was submitted was done, and all orders were asked.
+    /// The desks are those of the lanes, in the order of their numbers; `backends` is an empty list with room for theirs. Else all
+    /// comes back as it was, but that more may have been seen of the rings. It takes no memory.
+    pub fn close<B: Backend>(
+        self,
+        desks: Vec<Desk<B, C>>,
+        backends: Vec<B>,
+        finishes: Vec<Finished<C>>,
+    ) -> Result<Closed<B>, NotClosed<C, D, B>>
+        requires empty { backends.items ≡ [] }
+        requires fits { length desks.items ≤ vec_capacity backends }
+        ensures closed { IfOk result
+            (λ closed. IsClosed B.asked C.asked_before self.running finishes.items closed) }
+        ensures fault { IfErr result
+            (λ e. IsFault C.asked_before self.running desks.items finishes.items e.fault) }
+        ensures room { IfErr result (λ e. IsSameRoom self e.room) }
+        ensures desks { IfErr result (λ e. AreSameDesks desks.items e.desks.items
+            × (vec_capacity e.desks ≡ vec_capacity desks)) }
+        ensures backends { IfErr result (λ e. e.backends ≡ backends) }
+        ensures finishes { IfErr result (λ e. e.finishes.items ≡ finishes.items) }
+    {
+        let mut room = self;
+        let mut desks = desks;
+        let mut finishes = finishes;
+        let steps = room.steps() as u64;
+        match room.close_fault(&mut desks, &mut finishes) {
+            Some(fault) => Err(NotClosed {
+                room,
+                desks,
+                backends,
+                finishes,
+                fault,
+            }),
+            None => Ok(Closed {
+                tree: room.into_tree(),
+                steps,
+                backends: backends_of(desks, backends),
+            }),
+        }
     }
 }

@@ -1,26 +1,28 @@
 //! A tree with its run, the ends of the rings that it takes from, and the lanes that it sends into.
-ghost use Rattle.std.specs.Prelude.{◌≡◌, ◌≢◌, ◌∷◌, ◌++◌, [], ◌≤◌, ◌<◌, ℕ, length, None, IfSome, IfNone, IsSome, IsTrue, IsFalse, OnOk, OnErr, IfOk, IfErr, Some, option_map};
+ghost use Rattle.std.specs.Prelude.{◌≡◌, ◌≢◌, ◌⊎◌, ◌∷◌, ◌++◌, [], ◌≤◌, ◌<◌, ℕ, length, None, IfSome, IfNone, IsSome, IsTrue, IsFalse, OnOk, OnErr, IfOk, Some, true, false, option_map, vec_capacity};
 ghost use Rattle.tree_core.specs.Effect.{outcome_of};
 ghost use Rattle.tree_core.specs.Ended.{has_ended};
 ghost use Rattle.tree_core.specs.Limits.{order_limit};
 ghost use Rattle.tree_core.specs.Machine.{Machine};
 ghost use Rattle.tree_core.specs.NextDue.{next_due};
 ghost use Rattle.tree_core.specs.StandsFor.{StandsFor};
-ghost use Rattle.run_records.specs.Runs.{RunStep, IsLegal, end_of, actor_at, outcome_at, reply_at};
+ghost use Rattle.run_records.specs.Runs.{RunStep, end_of, actor_at, outcome_at, reply_at};
 ghost use Rattle.locked_services.specs.Submissions.{AreNumbered, NoneSeen, taken_from};
 ghost use Rattle.locked_services.specs.Running.{run_limit, IsSoundRunning};
-ghost use Rattle.locked_services.specs.Closing.{AreDone};
+ghost use Rattle.locked_services.specs.Closing.{AreComplete, AreDone, AreSameDesks, AreServed, IsFault, IsInputLeft, IsOrderLeft, IsSameRunning};
+ghost use Rattle.locked_services.specs.declared.closing.CloseFault.TheVariants.{Missing, Left};
 ghost use Rattle.locked_services.specs.Shots.{shot_of};
 ghost use Rattle.locked_services.specs.declared.stop.Stop.TheVariants.{Done, Idle, RunFull, Blocked};
 ghost use Rattle.order_lanes.specs.Lane.{HaveRoom, IsBlocked, sent_in};
 
 use crate::beginning::Beginning;
-use crate::closing::{CloseFault, Closed, are_drained};
+use crate::closing::{CloseFault, input_fault};
+use crate::serving::are_served;
 use crate::stop::Stop;
 use crate::taking::take_next;
 use channel_names::Channels;
 use inbox::{Drain, Finished, Ticket};
-use order_lanes::{Lane, Lanes, blocked_lane, send_all};
+use order_lanes::{Backend, Desk, Lane, Lanes, blocked_lane, send_all};
 use run_records::Run;
 use s6_events::{Actor, NoMemory};
 use status_board::Shot;
@@ -39,6 +41,8 @@ pub struct RunningTree<C: Channels + Lanes> {
     opening: Image<Global>,
     tree: Tree<Global>,
     run: Run,
+    // Filled anew by each step: its list of orders is large, and making one costs more than most steps.
+    effect: Box<Effect<Global>>,
     drains: Vec<Drain<C>>,
     held: Option<Input<Global>>,
     lanes: Vec<Lane<C>>,
@@ -78,7 +82,11 @@ impl<C: Channels + Lanes> RunningTree<C> {
           lanes = lanes.items;
         } }
     {
-        let Beginning { opening, run } = beginning;
+        let Beginning {
+            opening,
+            run,
+            effect,
+        } = beginning;
         // There is a machine for which the tree stands.
         let _clock = tree.now();
         RunningTree {
@@ -86,6 +94,7 @@ impl<C: Channels + Lanes> RunningTree<C> {
             opening,
             tree,
             run,
+            effect,
             drains,
             held: None,
             lanes,
@@ -140,8 +149,8 @@ impl<C: Channels + Lanes> RunningTree<C> {
         let Some(input) = self.held.take() else {
             unreachable!()
         };
-        let mut effect = Effect::new(self.alloc);
-        match self.tree.apply_into(input, &mut effect) {
+        let effect = &mut *self.effect;
+        match self.tree.apply_into(input, effect) {
             Ok(()) => {
                 let _count = effect.orders.len();
                 send_all(&mut self.lanes, effect.orders.as_slice());
@@ -222,44 +231,70 @@ impl<C: Channels + Lanes> RunningTree<C> {
         self.run.actor(number)
     }
 
-    // The tree alone.
-    fn into_tree(self) -> Tree<Global>
+    // Why the run can't be closed with these finishes, by its inputs alone.
+    fn input_fault(&mut self, finishes: &mut Vec<Finished<C>>) -> Option<CloseFault>
+        ensures same { IsSameRunning self.old self.new }
+        ensures lanes { self.new.lanes ≡ self.old.lanes }
+        ensures finishes { finishes.new.items ≡ finishes.old.items }
+        ensures missing { result ≡ Some Missing
+            → AreComplete (length self.old.drains) finishes.old.items → ⊥ }
+        ensures left { result ≡ Some Left
+            → AreComplete (length self.old.drains) finishes.old.items
+            × (IsSome self.old.held ⊎ IsInputLeft self.old.drains finishes.old.items) }
+        ensures complete { IfNone result
+            (AreComplete (length self.old.drains) finishes.old.items) }
+        ensures done { IfNone result (AreDone self.old.steps finishes.old.items) }
+    {
+        let is_held = self.held.is_some();
+        input_fault(&mut self.drains, finishes, is_held)
+    }
+
+    // Whether there is just the desk of each lane, and its backend was asked all orders of the lane.
+    fn is_served<B: Backend>(&mut self, desks: &mut Vec<Desk<B, C>>) -> bool
+        ensures same { IsSameRunning self.old self.new }
+        ensures desks { AreSameDesks desks.old.items desks.new.items }
+        ensures room { vec_capacity desks.new ≡ vec_capacity desks.old }
+        ensures yes { result ≡ true → AreServed C.asked_before self.old.lanes desks.old.items }
+        ensures each { result ≡ true → length desks.old.items ≡ length self.old.lanes }
+        ensures no { result ≡ false → IsOrderLeft C.asked_before self.old.lanes desks.old.items }
+    {
+        are_served(&mut self.lanes, desks)
+    }
+
+    /// Why the run can't be closed with these desks and finishes; None where it can be. Missing finishes are looked for first.
+    pub fn close_fault<B: Backend>(
+        &mut self,
+        desks: &mut Vec<Desk<B, C>>,
+        finishes: &mut Vec<Finished<C>>,
+    ) -> Option<CloseFault>
+        ensures same { IsSameRunning self.old self.new }
+        ensures desks { AreSameDesks desks.old.items desks.new.items }
+        ensures room { vec_capacity desks.new ≡ vec_capacity desks.old }
+        ensures finishes { finishes.new.items ≡ finishes.old.items }
+        ensures fault { IfSome result
+            (λ fault. IsFault C.asked_before self.old desks.old.items finishes.old.items fault) }
+        ensures complete { IfNone result
+            (AreComplete (length self.old.drains) finishes.old.items) }
+        ensures done { IfNone result (AreDone self.old.steps finishes.old.items) }
+        ensures served { IfNone result
+            (AreServed C.asked_before self.old.lanes desks.old.items) }
+        ensures each { IfNone result (length desks.old.items ≡ length self.old.lanes) }
+    {
+        if let Some(fault) = self.input_fault(finishes) {
+            return Some(fault);
+        }
+        if !self.is_served(desks) {
+            return Some(CloseFault::Left);
+        }
+        None
+    }
+
+    /// The tree alone.
+    pub fn into_tree(self) -> Tree<Global>
         ensures { result ≡ self.tree }
     {
         let RunningTree { tree, .. } = self;
         tree
-    }
-
-    /// Ends the run, where there are as many finishes as seats, and all that they submitted was taken and done. Else all comes back.
-    pub fn close(
-        self,
-        finishes: Vec<Finished<C>>,
-    ) -> Result<Closed, (RunningTree<C>, Vec<Finished<C>>, CloseFault)>
-        ensures tree { IfOk result (λ closed. (closed.tree ≡ self.tree)
-            × (closed.steps ≡ length self.steps)) }
-        ensures legal { IfOk result (λ closed. (m : Machine) → StandsFor self.opening m
-            → IsLegal m self.steps × StandsFor closed.tree (end_of m self.steps)) }
-        ensures whole { IfOk result (λ closed. AreDone self.steps finishes.items) }
-        ensures each { IfOk result (λ closed. length finishes.items ≡ length self.drains) }
-        ensures back { IfErr result (λ e. (e.0.opening ≡ self.opening) × (e.0.tree ≡ self.tree)
-            × (e.0.steps ≡ self.steps) × (e.0.held ≡ self.held) × (e.1.items ≡ finishes.items)) }
-    {
-        let mut running = self;
-        let mut finishes = finishes;
-        if finishes.len() != running.drains.len() {
-            return Err((running, finishes, CloseFault::Missing));
-        }
-        match are_drained(&mut running.drains, &mut finishes) {
-            None => return Err((running, finishes, CloseFault::Missing)),
-            Some(false) => return Err((running, finishes, CloseFault::Left)),
-            Some(true) => {}
-        }
-        if running.held.is_some() {
-            return Err((running, finishes, CloseFault::Left));
-        }
-        let steps = running.run.len() as u64;
-        let tree = running.into_tree();
-        Ok(Closed { tree, steps })
     }
 
     /// Whether the tree has ended: it is closing, and the supervisor of each service that stands has ended.

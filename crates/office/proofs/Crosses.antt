@@ -17,6 +17,7 @@ use Rattle.status_board.specs.declared.board.Board as board
 use Rattle.locked_services.proofs.Crosses.{room_send}
 use Rattle.office.specs.contracts.office.Office as Office
 use Rattle.office.specs.contracts.office.Office.TheInside as Inside
+use Rattle.office.proofs.spare.Spare.TheSendSync as spare
 
 desks_sync : (C B : RattleType) (h : lanes.Ghosts C.Denot) (b : backend.Ghosts B.Denot) → IsSend B
     → IsSync (Vec.the_field (Mutex.the_row (Desk.the_row B C b h)) Global.the_row heap.ghosts).row
@@ -25,11 +26,11 @@ desks_sync C B h b t =
     search (d, crosses, sendable) depth 60 fits 20000
 
 inside_sync : (C D B : RattleType) (g : Ghosts C.Denot) (h : lanes.Ghosts C.Denot) (d : board.Ghosts D.Denot C.Denot) (b : backend.Ghosts B.Denot)
-    → IsSend C → IsSend D → IsSend B → IsSync (Inside.the_row C D B g h d b)
+    → IsSend C → IsSend D → IsSend B → IsSync (Inside.the_row C D B h b g d)
 inside_sync C D B g h d b c s t =
-    recorded_sync _ _ _ (Inside.the_type C D B g h d b).to_one (struct_sync (shape (Inside.the_type C D B g h d b))
-    (mutex.the_sync _ (room_send C D g h d c s), (desks_sync C B h b t, tt)))
+    recorded_sync _ _ _ (Inside.the_type C D B h b g d).to_one (struct_sync (shape (Inside.the_type C D B h b g d))
+    (mutex.the_sync _ (room_send C D g h d c s), (desks_sync C B h b t, (mutex.the_sync _ (spare.the_send B C b h t), tt))))
 
 pub office_sync : (C D B : RattleType) (g : Ghosts C.Denot) (h : lanes.Ghosts C.Denot) (d : board.Ghosts D.Denot C.Denot) (b : backend.Ghosts B.Denot)
-    → IsSend C → IsSend D → IsSend B → IsSync (Office.the_row C D B g h d b)
+    → IsSend C → IsSend D → IsSend B → IsSync (Office.the_row C D B h b g d)
 office_sync C D B g h d b c s t = let i = inside_sync C D B g h d b c s t in search (i, sendable) depth 60 fits 20000

@@ -1,18 +1,22 @@
 //! The office: a room behind its lock, and desks behind theirs.
-ghost use Rattle.std.specs.Prelude.{◌≡◌, ◌≤◌, ◌<◌, IfOk, length, option_map};
+ghost use Rattle.std.specs.Prelude.{◌≡◌, ◌≤◌, ◌<◌, IfOk, IfErr, List, length, option_map};
 ghost use Rattle.tree_core.specs.Effect.{outcome_of};
 ghost use Rattle.tree_core.specs.Ended.{has_ended};
 ghost use Rattle.tree_core.specs.Machine.{Machine};
 ghost use Rattle.tree_core.specs.NextDue.{next_due};
 ghost use Rattle.tree_core.specs.StandsFor.{StandsFor};
 ghost use Rattle.run_records.specs.Runs.{end_of, actor_at, outcome_at, reply_at};
+ghost use Rattle.locked_services.specs.Closing.{IsClosed, IsFault};
 ghost use Rattle.locked_services.specs.Shots.{RoomView, IsSoundHistory};
+ghost use Rattle.order_lanes.specs.Desk.{DeskView};
 ghost use Rattle.locked_services.specs.declared.stop.DriveStop.TheVariants as ended;
 
 use crate::carrying::{carry_in_turns, carry_many};
+use crate::closing::{lock_all, unlock_all};
+use crate::spare::Spare;
 use channel_names::Channels;
-use inbox::Ticket;
-use locked_services::{Driven, Room};
+use inbox::{Finished, Ticket};
+use locked_services::{CloseFault, Closed, Driven, NotClosed, Room};
 use order_lanes::{Backend, Carried, Desk, Lanes, Report};
 use s6_events::{Actor, NoMemory};
 use status_board::{Board, Told};
@@ -39,24 +43,33 @@ pub struct NotStarted {
 pub struct Office<C: Channels + Lanes, D: Board<C>, B: Backend> {
     room: Mutex<Room<C, D>>,
     pub(crate) desks: Vec<Mutex<Desk<B, C>>>,
+    spare: Mutex<Spare<B, C>>,
 }
 
 impl<C: Channels + Lanes, D: Board<C>, B: Backend> Model for Office<C, D, B> {
-    ghost use Rattle.std.specs.Prelude.{ℕ, length};
+    ghost use Rattle.std.specs.Prelude.{ℕ, ◌≤◌, length};
 
     ghost Value = { ℕ };
 
     ghost view = { λ o. length o.desks.items };
+
+    ghost invariant = { λ o. length o.desks.items ≤ 4 };
 }
 
 impl<C: Channels + Lanes, D: Board<C>, B: Backend> Office<C, D, B> {
-    /// An office of this room and these desks.
-    pub fn over(room: Room<C, D>, desks: Vec<Mutex<Desk<B, C>>>) -> Office<C, D, B>
+    /// An office of this room and these desks, with spare lists for its close.
+    pub fn over(
+        room: Room<C, D>,
+        desks: Vec<Mutex<Desk<B, C>>>,
+        spare: Spare<B, C>,
+    ) -> Office<C, D, B>
+        requires { length desks.items ≤ 4 }
         ensures { result ≡ length desks.items }
     {
         Office {
             room: Mutex::new(room),
             desks,
+            spare: Mutex::new(spare),
         }
     }
 
@@ -155,6 +168,52 @@ impl<C: Channels + Lanes, D: Board<C>, B: Backend> Office<C, D, B> {
         requires { lane < self.now }
     {
         self.desks[lane].lock(rt).report_one()
+    }
+}
+
+impl<C: Channels + Lanes, D: Board<C>, B: Backend> Office<C, D, B> {
+    /// Closes the run, once each seat has finished and all threads that used the office have returned: the tree, how many steps it made,
+    /// and the backends, in the order of their lanes. What is closed is the room and the desks of this office; what holds of them then,
+    /// and why they were not closed, `Room::close` says. At a fault the office and the finishes come back as they were. It takes no lock
+    /// and no memory.
+    pub fn close(
+        self,
+        finishes: Vec<Finished<C>>,
+    ) -> Result<Closed<B>, (Office<C, D, B>, Vec<Finished<C>>, CloseFault)>
+        ensures closed { IfOk result (λ closed. (v : RoomView) × IsSoundHistory v
+            × IsClosed B.asked C.asked_before v.running finishes.items closed) }
+        ensures fault { IfErr result (λ e. (v : RoomView) × (desks : List DeskView)
+            × IsSoundHistory v × IsFault C.asked_before v.running desks finishes.items e.2) }
+        ensures lanes { IfErr result (λ e. e.0 ≡ self) }
+        ensures finishes { IfErr result (λ e. e.1.items ≡ finishes.items) }
+    {
+        let Office { room, desks, spare } = self;
+        let Spare {
+            desks: room_of_desks,
+            backends,
+        } = spare.into_inner();
+        let (locks, desks) = unlock_all(desks, room_of_desks);
+        let room = room.into_inner();
+        let _steps = room.steps();
+        match room.close(desks, backends, finishes) {
+            Ok(closed) => Ok(closed),
+            Err(
+                NotClosed {
+                    room,
+                    desks,
+                    backends,
+                    finishes,
+                    fault,
+                },
+            ) => {
+                let (desks, emptied) = lock_all(desks, locks);
+                let spare = Spare {
+                    desks: emptied,
+                    backends,
+                };
+                Err((Office::over(room, desks, spare), finishes, fault))
+            }
+        }
     }
 }
 

@@ -14,6 +14,7 @@ use crate::board_ends::board_ends;
 use crate::lane_ends::LaneEnds;
 use crate::new_office::{NewOffice, OpenFault};
 use crate::office::Office;
+use crate::spare::Spare;
 use channel_names::Channels;
 use inbox::{Drain, Ring, Seat};
 use locked_services::{Beginning, Room, RunningTree, SeatEnds, seat_ends};
@@ -39,6 +40,7 @@ struct Parts<C: Channels + Lanes, D: Board<C>, B: Backend> {
     board: D,
     readers: Vec<BoardReader<C>>,
     lanes: LaneEnds<B, C>,
+    spare: Spare<B, C>,
 }
 
 // Makes all for which memory is needed, in a run that names the rings and the board so.
@@ -79,6 +81,9 @@ fn make_parts<C: Channels + Lanes, R: Wait + Drop, B: Backend>(
     let Ok(lanes) = LaneEnds::with_room(alloc, lanes) else {
         return Err(OpenFault::NoMemory);
     };
+    let Ok(spare) = Spare::new(alloc) else {
+        return Err(OpenFault::NoMemory);
+    };
     let (board, readers) = board_ends::<C, R>(alloc, rt, board, tree, count)?;
     Ok(Parts {
         beginning,
@@ -86,6 +91,7 @@ fn make_parts<C: Channels + Lanes, R: Wait + Drop, B: Backend>(
         board,
         readers,
         lanes,
+        spare,
     })
 }
 
@@ -133,7 +139,7 @@ impl<C: Channels + Lanes, D: Board<C>, B: Backend> Parts<C, D, B> {
             × (length rings.items ≤ vec_capacity self.lanes.lanes) }
         requires desks { (self.lanes.desks.items ≡ [])
             × (length rings.items ≤ vec_capacity self.lanes.desks) }
-        requires some { 0 < length rings.items }
+        requires some { (0 < length rings.items) × (length rings.items ≤ 4) }
         requires rings { AreLaneRings C.lane_ring 0 rings.items }
         requires backends { length backends.items ≡ length rings.items }
         requires before { AreAsked B.asked C.asked_before 0 backends.items }
@@ -147,12 +153,13 @@ impl<C: Channels + Lanes, D: Board<C>, B: Backend> Parts<C, D, B> {
             board,
             readers,
             lanes,
+            spare,
         } = self;
         let SeatEnds { seats, drains } = ends;
         let LaneEnds { lanes, desks } = lanes.fill(rings, backends);
         let room = new_room(alloc, beginning, tree, drains, lanes, board);
         Opened {
-            office: Office::over(room, desks),
+            office: Office::over(room, desks, spare),
             seats,
             readers,
         }

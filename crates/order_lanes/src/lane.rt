@@ -49,6 +49,13 @@ impl<L: Lanes> Lane<L> {
         }
     }
 
+    /// Its number.
+    pub fn number(&self) -> usize
+        ensures { result ≡ self.now.number }
+    {
+        self.number
+    }
+
     /// How many more orders it holds for certain. The desk may make more room at any time.
     pub fn free_places(&mut self) -> usize
         ensures number { self.new.number ≡ self.old.number }

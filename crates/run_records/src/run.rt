@@ -9,6 +9,7 @@ use crate::step_places::StepPlaces;
 use s6_events::{Actor, NoMemory, Order};
 use std::alloc::Global;
 use std::marker::Model;
+use std::mem;
 use tree_core::{Effect, ORDER_LIMIT, PlainInput, Reply};
 
 /// How many actors there may be.
@@ -63,31 +64,29 @@ impl Run {
         Ok(())
     }
 
-    /// Adds a step, for which there is room.
-    pub fn add(&mut self, input: PlainInput<Global>, effect: Effect<Global>)
+    /// Adds a step, for which there is room. What the effect holds goes into it: the effect keeps its orders, and is to be filled anew.
+    pub fn add(&mut self, input: PlainInput<Global>, effect: &mut Effect<Global>)
         requires room { HasRoom input.actor self.old }
-        requires orders { length effect.orders.items ≤ order_limit }
-        ensures { self.new.steps ≡ self.old.steps ++ record { input = input; outcome = outcome_of effect } ∷ [] }
+        requires orders { length effect.old.orders.items ≤ order_limit }
+        ensures { self.new.steps ≡ self.old.steps ++ record { input = input; outcome = outcome_of effect.old } ∷ [] }
     {
-        let Effect {
-            reply,
-            events,
-            orders,
-            matched,
-            released,
-        } = effect;
+        let alloc = *self.records.allocator();
         let first = self.orders.len();
-        let count = orders.len();
-        if self.orders.extend_from_slice(orders.as_slice()).is_err() {
+        let count = effect.orders.len();
+        if self
+            .orders
+            .extend_from_slice(effect.orders.as_slice())
+            .is_err()
+        {
             unreachable!()
         }
         self.places[usize::from(input.actor.number())].push(self.records.len());
         self.records.push_reserved(Record {
             input,
-            reply,
-            events,
-            matched,
-            released,
+            reply: mem::replace(&mut effect.reply, Reply::Done),
+            events: mem::replace(&mut effect.events, Vec::new(alloc)),
+            matched: mem::replace(&mut effect.matched, Vec::new(alloc)),
+            released: mem::replace(&mut effect.released, Vec::new(alloc)),
             first,
             count,
         });

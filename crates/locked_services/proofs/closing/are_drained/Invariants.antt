@@ -1,8 +1,13 @@
-use Rattle.std.proofs.Common.{◌≡◌, ℕ, length, true}
+use Rattle.std.proofs.Common.{◌≡◌, ◌<◌, ℕ, Some, true, false, IsSome, slice_get}
+use Rattle.inbox.specs.Ends.{FinishedView}
+use Rattle.locked_services.specs.Closing.{AreSameDrains, IsInputLeft}
 use Rattle.locked_services.specs.Submissions.{AreNumbered, taken_from}
-use Rattle.locked_services.specs.Closing.{AreTakenBelow}
 use Rattle.locked_services.proofs.closing.are_drained.Given as goal
 
 abbrev pub invariant-loop-k : goal.invariant-loop-k
-invariant-loop-k g l = (length l.drains.items ≡ length l.initial.drains.items) × AreNumbered l.drains.items × ((a : ℕ) → taken_from a l.drains.items ≡ taken_from a l.initial.drains.items)
-    × (l.finishes.items ≡ l.initial.finishes.items) × (l.all ≡ true → AreTakenBelow l.k l.drains.items l.finishes.items)
+invariant-loop-k g l =
+    AreSameDrains l.initial.drains.items l.drains.items × AreNumbered l.drains.items × (l.finishes.items ≡ l.initial.finishes.items)
+    × ((j : ℕ) (f : FinishedView) → j < l.k → slice_get l.initial.finishes.items j ≡ Some f → IsSome f.submitted)
+    × (l.all ≡ true → (j : ℕ) (f : FinishedView) → j < l.k → slice_get l.initial.finishes.items j ≡ Some f
+    → f.submitted ≡ Some (taken_from f.actor l.initial.drains.items))
+    × (l.all ≡ false → IsInputLeft l.initial.drains.items l.initial.finishes.items)

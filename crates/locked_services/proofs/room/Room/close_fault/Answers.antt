@@ -1,0 +1,8 @@
+use Rattle.std.proofs.Common.{refl}
+use Rattle.locked_services.proofs.Shown.{shows_same}
+use Rattle.locked_services.proofs.room.Room.close_fault.Goals as goal
+
+pub invariant_of-self : goal.invariant_of-self
+invariant_of-self g c =
+    let same = c.close_fault.ensures.same in
+    shows_same _ _ c.self.invariant same.opening refl same.steps refl

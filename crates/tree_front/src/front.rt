@@ -1,0 +1,110 @@
+//! Running the tool that the words ask for.
+use crate::asked::{Program, program_named};
+use crate::help_text::SVSCAN_HELP;
+use replay_tool::run_tool;
+use s6_tools::run_client;
+use std::alloc::Global;
+use std::env::Env;
+use std::io::{Read, Write};
+use std::net::Net;
+use std::process::Processes;
+use std::{env, io};
+use tree_server::refuse_usage;
+
+/// The status of a program to which the system refused something.
+const SYSTEM_STATUS: u8 = 111;
+
+/// Where a tree is to run.
+#[derive(Drop)]
+pub struct TreePlace {
+    /// The scan directory.
+    pub directory: String,
+    /// The path of the socket.
+    pub socket: String,
+}
+
+/// What the words ask for.
+#[derive(Drop)]
+pub enum Asked {
+    /// It was done, and ends with this status.
+    Done(u8),
+    /// A tree is to run here.
+    Tree(TreePlace),
+}
+
+/// Runs the tool that the command line asks for, on this input and these outputs, but for a tree, which its caller runs. Where a tool
+/// was not done one line on `errors` says why.
+pub fn run_words<R: Env + Net + Processes, I: Read + Drop, W: Write + Drop, E: Write>(
+    rt: &R,
+    alloc: Global,
+    input: I,
+    output: W,
+    errors: &mut E,
+) -> Asked {
+    let mut output = output;
+    let Ok(words) = words_of(rt, alloc) else {
+        return Asked::Done(run_tool(rt, alloc, alloc, input, output, errors));
+    };
+    match program_of(words.as_slice()) {
+        Program::Other => Asked::Done(run_tool(rt, alloc, alloc, input, output, errors)),
+        Program::Svscan => read_place(words, &mut output, errors),
+        Program::Client(tool) => {
+            let Ok(all) = borrowed(alloc, words.as_slice()) else {
+                return Asked::Done(SYSTEM_STATUS);
+            };
+            match all.as_slice() {
+                [_, _, further @ ..] => {
+                    Asked::Done(run_client(rt, alloc, tool, further, &mut output, errors))
+                }
+                _ => Asked::Done(SYSTEM_STATUS),
+            }
+        }
+    }
+}
+
+// The words of the command line, the program's name first.
+fn words_of<R: Env>(rt: &R, alloc: Global) -> io::Result<Vec<String>> {
+    let mut words = Vec::new(alloc);
+    for word in env::args(&(rt, alloc))? {
+        words.push(word)?;
+    }
+    Ok(words)
+}
+
+fn program_of(words: &[String]) -> Program {
+    match words.get(1) {
+        Some(word) => program_named(word.as_str()),
+        None => Program::Other,
+    }
+}
+
+fn borrowed(alloc: Global, words: &[String]) -> io::Result<Vec<&str>> {
+    let mut all = Vec::new(alloc);
+    for word in words {
+        all.push(word.as_str())?;
+    }
+    Ok(all)
+}
+
+// The words behind `svscan`.
+fn read_place<W: Write, E: Write>(words: Vec<String>, output: &mut W, errors: &mut E) -> Asked {
+    let mut words = words;
+    if words.len() == 3 && words.as_slice()[2].as_str() == "--help" {
+        return print_help(output, errors);
+    }
+    if words.len() != 4 {
+        return Asked::Done(refuse_usage(errors));
+    }
+    match (words.pop(), words.pop()) {
+        (Some(socket), Some(directory)) => Asked::Tree(TreePlace { directory, socket }),
+        _ => Asked::Done(refuse_usage(errors)),
+    }
+}
+
+fn print_help<W: Write, E: Write>(output: &mut W, errors: &mut E) -> Asked {
+    if output.write_all(SVSCAN_HELP.as_bytes()).is_ok() && output.flush().is_ok() {
+        return Asked::Done(0);
+    }
+    let _ = errors.write_all(b"svscan: write\n");
+    Asked::Done(SYSTEM_STATUS)
+}

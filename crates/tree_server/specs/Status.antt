@@ -1,0 +1,15 @@
+-- What a client is told of the status of a service.
+use Rattle.std.specs.Prelude.{ℕ, List, [], ◌∷◌, ◌++◌, Option, Some, None, codes}
+use Rattle.std.specs.List.{find}
+use Rattle.std.specs.Str.{bytes_eq}
+use Rattle.s6_replay.specs.Transcript.{row_text}
+use Rattle.supervise_core.specs.declared.row.Row.{Row}
+
+-- a row is told, and where there is none that
+abbrev pub status_line : Option Row → List ℕ
+status_line (Some row) = row_text row
+status_line None = codes "refused NoService"
+
+-- the row of this name, and an empty line behind it
+abbrev pub status_text : List Row → List ℕ → List ℕ
+status_text rows name = status_line (find (λ row. bytes_eq row.name name) rows) ++ (10 ∷ 10 ∷ [])

@@ -1,0 +1,141 @@
+//! What connections ask of the thread that drives.
+use line_server::SEAT_COUNT;
+use s6_events::{Name, NoMemory};
+use std::alloc::Global;
+use std::sync::{Condvar, Mutex, Wait};
+use std::time::{Clock, Duration};
+use tree_core::Act;
+
+/// What a connection asks of the thread that drives.
+#[derive(Drop)]
+pub enum Call {
+    /// The status of a service.
+    Status(Name),
+    /// A step with this act.
+    Step(Act<Global>),
+    /// The end of all that stands of the connection.
+    EndAll,
+}
+
+#[derive(Drop)]
+struct Turn {
+    /// What is asked, and not begun.
+    asked: Option<Call>,
+    /// Whether what was asked is begun, and not answered.
+    is_begun: bool,
+    /// How many scans were answered.
+    scans: u64,
+    /// Whether a connection is there, and has asked for something.
+    is_here: bool,
+    is_over: bool,
+}
+
+impl Turn {
+    fn is_answered(&self) -> bool {
+        self.asked.is_none() && !self.is_begun
+    }
+}
+
+/// A connection that asks: its thread asks and waits, and the thread that drives answers.
+#[derive(Drop)]
+pub struct Caller {
+    turn: Mutex<Turn>,
+    changed: Condvar,
+}
+
+impl Caller {
+    /// Nobody asks.
+    pub fn new() -> Caller {
+        Caller {
+            turn: Mutex::new(Turn {
+                asked: None,
+                is_begun: false,
+                scans: 0,
+                is_here: false,
+                is_over: false,
+            }),
+            changed: Condvar::new(),
+        }
+    }
+
+    /// Asks. Once the tree has ended nothing is asked any more.
+    pub fn ask<R: Wait>(&self, rt: &R, call: Call) {
+        let mut turn = self.turn.lock(rt);
+        if !turn.is_over {
+            turn.asked = Some(call);
+            turn.is_here = true;
+        }
+    }
+
+    /// Waits until the call is answered, or the tree has ended.
+    pub fn await_answer<R: Wait>(&self, rt: &R) {
+        let turn = self.turn.lock(rt);
+        let _turn = self
+            .changed
+            .wait_while(rt, turn, |turn| !turn.is_answered() && !turn.is_over);
+    }
+
+    /// What is asked and not begun. It is begun now.
+    pub fn begin<R: Wait>(&self, rt: &R) -> Option<Call> {
+        let mut turn = self.turn.lock(rt);
+        let call = turn.asked.take()?;
+        turn.is_begun = true;
+        Some(call)
+    }
+
+    /// The call is answered.
+    pub fn finish<R: Wait>(&self, rt: &R) {
+        self.turn.lock(rt).is_begun = false;
+        self.changed.notify_all();
+    }
+
+    /// How many scans were answered.
+    pub fn scans<R: Wait>(&self, rt: &R) -> u64 {
+        self.turn.lock(rt).scans
+    }
+
+    /// Waits until more scans than so many were answered, or the tree has ended.
+    pub fn await_scan<R: Wait>(&self, rt: &R, before: u64) {
+        let mut turn = self.turn.lock(rt);
+        turn.is_here = true;
+        let _turn = self
+            .changed
+            .wait_while(rt, turn, |turn| turn.scans <= before && !turn.is_over);
+    }
+
+    /// A scan that it asked for was answered.
+    pub fn finish_scan<R: Wait>(&self, rt: &R) {
+        let mut turn = self.turn.lock(rt);
+        turn.scans = turn.scans.saturating_add(1);
+        self.changed.notify_all();
+    }
+
+    /// The tree has ended: nothing more is answered.
+    pub fn end<R: Wait>(&self, rt: &R) {
+        self.turn.lock(rt).is_over = true;
+        self.changed.notify_all();
+    }
+
+    /// Notes that the connection has ended, and all that was posted to it is written.
+    pub fn note_left<R: Wait>(&self, rt: &R) {
+        self.turn.lock(rt).is_here = false;
+        self.changed.notify_all();
+    }
+
+    /// Waits until nobody is connected, but at most so long.
+    pub fn await_left<R: Wait + Clock>(&self, rt: &R, time: Duration) {
+        let turn = self.turn.lock(rt);
+        let _turn = self
+            .changed
+            .wait_timeout_while(rt, turn, time, |turn| turn.is_here);
+    }
+}
+
+/// A caller for each connection. `NoMemory` where a growth was refused.
+pub fn new_callers(alloc: Global) -> Result<Vec<Caller>, NoMemory> {
+    let mut callers = Vec::with_capacity(alloc, SEAT_COUNT)?;
+    for _ in 0..SEAT_COUNT {
+        callers.push(Caller::new())?;
+    }
+    Ok(callers)
+}

@@ -1,0 +1,64 @@
+//! Why a tree did not run to its end, and what is told of it.
+ghost use Rattle.std.specs.Prelude.{◌≡◌};
+ghost use Rattle.tree_server.specs.Faults.{fault_text};
+
+use std::io::Write;
+
+/// The status of a program to which the system refused something.
+const SYSTEM_STATUS: u8 = 111;
+
+/// The status of a program that was not used as it says.
+const USAGE_STATUS: u8 = 100;
+
+/// Why a tree did not run to its end.
+#[derive(Clone, Copy, Debug, PartialEq, Eq)]
+pub enum ServeFault {
+    /// The socket could not be made, or a server answers there.
+    Socket,
+    /// The scan directory could not be read.
+    Directory,
+    /// A growth was refused.
+    NoMemory,
+    /// A thread could not be started.
+    Thread,
+    /// The system has no clock.
+    Clock,
+    /// The run has taken as many steps as a run may have.
+    Full,
+    /// There are not 1 to 4 lanes.
+    Lanes,
+    /// The run could not be closed.
+    Close,
+}
+
+// The line of a fault.
+fn text_of(fault: ServeFault) -> &'static [u8]
+    ensures { result.now ≡ fault_text fault }
+{
+    match fault {
+        ServeFault::Socket => b"svscan: socket\n",
+        ServeFault::Directory => b"svscan: directory\n",
+        ServeFault::NoMemory => b"svscan: no memory\n",
+        ServeFault::Thread => b"svscan: thread\n",
+        ServeFault::Clock => b"svscan: clock\n",
+        ServeFault::Full => b"svscan: full\n",
+        ServeFault::Lanes => b"svscan: lanes\n",
+        ServeFault::Close => b"svscan: close\n",
+    }
+}
+
+/// Writes the line of a fault, and answers the exit status, 111. Where the line can't be written the status is the same.
+pub fn tell_serve_fault<E: Write>(fault: ServeFault, errors: &mut E) -> u8
+    ensures { result ≡ 111 }
+{
+    let _ = errors.write_all(text_of(fault));
+    SYSTEM_STATUS
+}
+
+/// Writes the line for words that are not those of `svscan`, and answers the exit status, 100.
+pub fn refuse_usage<E: Write>(errors: &mut E) -> u8
+    ensures { result ≡ 100 }
+{
+    let _ = errors.write_all(b"svscan: usage\n");
+    USAGE_STATUS
+}

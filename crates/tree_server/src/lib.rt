@@ -1,0 +1,39 @@
+//! A tree that runs: one thread drives a run of it, one gives it scans and ticks, and each lane has one; each connection of its socket
+//! has one from the first run to the last.
+#![tactic(auto)]
+
+mod agenda;
+mod calls;
+mod connecting;
+mod delivery;
+mod driver_state;
+mod driving;
+mod fault;
+mod lane_service;
+mod listing;
+mod options;
+mod outcome;
+mod own_answer;
+mod places;
+mod plans;
+mod posting;
+mod requests;
+mod run;
+mod scanning;
+mod seat_room;
+mod serve;
+mod service_files;
+mod service_lanes;
+mod serving;
+mod shared;
+mod slot;
+mod socket;
+mod standing;
+mod status;
+mod threads;
+mod time;
+
+pub use fault::{ServeFault, refuse_usage, tell_serve_fault};
+pub use options::{HANDOVER, ServeOptions};
+pub use serve::run_tree;
+pub use service_lanes::{LANE_COUNT, ServiceLanes};

@@ -1,0 +1,33 @@
+//! The answers that are the server's own.
+ghost use Rattle.std.specs.Prelude.{◌≡◌};
+ghost use Rattle.tree_server.specs.Answers.{own_text};
+
+/// Why the server answers a line itself, and hands nothing in.
+#[derive(Clone, Copy, Debug, PartialEq, Eq)]
+pub enum OwnAnswer {
+    /// The line is no request.
+    Line,
+    /// The pattern of a subscription is none.
+    Pattern,
+    /// The ring of the connection is full.
+    Full,
+    /// A growth was refused.
+    NoMemory,
+    /// The scan directory could not be read.
+    Directory,
+}
+
+impl OwnAnswer {
+    /// What is posted: its line, and the empty line behind it.
+    pub fn text(self) -> &'static [u8]
+        ensures { result.now ≡ own_text self }
+    {
+        match self {
+            OwnAnswer::Line => b"refused Line\n\n",
+            OwnAnswer::Pattern => b"refused Pattern\n\n",
+            OwnAnswer::Full => b"refused Full\n\n",
+            OwnAnswer::NoMemory => b"refused NoMemory\n\n",
+            OwnAnswer::Directory => b"refused Directory\n\n",
+        }
+    }
+}

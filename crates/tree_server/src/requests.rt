@@ -1,0 +1,80 @@
+//! What a line of a client asks for.
+ghost use Rattle.std.specs.Prelude.{◌≡◌, IfOk, true};
+ghost use Rattle.std.specs.Str.{bytes_eq};
+ghost use Rattle.s6_script.specs.Spelling.{Spells, SpellsButForPattern};
+ghost use Rattle.tree_core.specs.declared.input.Act.{Act};
+ghost use Rattle.tree_core.specs.declared.input.Input.{Input};
+ghost use Rattle.tree_server.specs.Requests.{request_of, script_line, scan_word, IsOwnAct, AsksFor};
+ghost use Rattle.tree_server.specs.declared.requests.Request.TheVariants as request;
+ghost use Rattle.tree_server.specs.declared.own_answer.OwnAnswer.TheVariants as own;
+
+use crate::own_answer::OwnAnswer;
+use s6_events::{Actor, At, Name};
+use s6_script::{LineFault, parse_line, push_number, push_spaced};
+use std::alloc::{AllocError, Global};
+use tree_core::Act;
+
+/// What a line of a client asks for.
+#[derive(Drop)]
+pub enum Request {
+    /// The status of a service, from the board.
+    Status(Name),
+    /// A scan of the directory.
+    Scan,
+    /// A step with this act.
+    Step(Act<Global>),
+    /// Nothing that clients may ask for, or that can be done.
+    Refused(OwnAnswer),
+}
+
+/// Reads a line of a client: a line of a script without its moment and its actor.
+pub fn read_request(alloc: Global, at: At, actor: Actor, line: &[u8]) -> Request
+    ensures scan { bytes_eq line.now scan_word ≡ true → result ≡ request.Scan }
+    ensures step { AsksFor result (script_line at actor line.now) }
+    ensures refused { result ≡ request.Refused own.Line → (i : Input Global)
+        → Spells (script_line at actor line.now) i → IsOwnAct i.act }
+    ensures pattern { result ≡ request.Refused own.Pattern
+        → SpellsButForPattern Global (script_line at actor line.now) }
+{
+    if line == b"scanctl a".as_slice() {
+        return Request::Scan;
+    }
+    let Ok(text) = script_line(alloc, at, actor, line) else {
+        return Request::Refused(OwnAnswer::NoMemory);
+    };
+    match parse_line(alloc, alloc, text.as_slice()) {
+        Ok(input) => request_of(input.act),
+        Err(LineFault::Line) => Request::Refused(OwnAnswer::Line),
+        Err(LineFault::Pattern) => Request::Refused(OwnAnswer::Pattern),
+        Err(LineFault::NoMemory) => Request::Refused(OwnAnswer::NoMemory),
+    }
+}
+
+// What an act asks for that a client sent. Reports, listings and ticks are for the server's own actors.
+fn request_of(act: Act<Global>) -> Request
+    ensures { result ≡ request_of act }
+{
+    match act {
+        Act::Status(name) => Request::Status(name),
+        Act::Scan(_)
+        | Act::Started(..)
+        | Act::StartFailed(..)
+        | Act::Notify(..)
+        | Act::Death(..)
+        | Act::FinishEnded(..)
+        | Act::Tick => Request::Refused(OwnAnswer::Line),
+        act => Request::Step(act),
+    }
+}
+
+// The line of a script.
+fn script_line(alloc: Global, at: At, actor: Actor, line: &[u8]) -> Result<Vec<u8>, AllocError>
+    ensures { IfOk result (λ text. text.items ≡ script_line at actor line.now) }
+{
+    let mut text = Vec::new(alloc);
+    push_number(&mut text, at.millis())?;
+    push_spaced(&mut text, u64::from(actor.number()))?;
+    text.extend_from_slice(b" ")?;
+    text.extend_from_slice(line)?;
+    Ok(text)
+}

@@ -1,0 +1,176 @@
+//! The files of a service directory, as they were found at one moment.
+ghost use Rattle.std.specs.Prelude.{◌≡◌, ◌≤◌, Err, IfOk, IfSome, option_map, length};
+ghost use Rattle.servicedir.specs.Files.{Counts, CountsRefusal, reading_limit};
+ghost use Rattle.tree_server.specs.Files.{found_of, content_of};
+
+use s6_events::Name;
+use servicedir::{ReadFault, ServiceFile};
+use std::alloc::{Allocator, Global};
+use std::io::{ErrorKind, Read};
+use std::rt::Files;
+use std::{fs, io};
+
+/// How much of a file is read: one byte more than a valid text may have.
+const READING_LIMIT: usize = 4097;
+
+/// What was found of a file.
+#[derive(Drop)]
+pub enum Found {
+    /// It is absent.
+    Absent,
+    /// Its bytes, of a longer one the first 4097.
+    Text(Vec<u8>),
+    /// It is there, and could not be read.
+    Unread,
+    /// Nothing is known of it.
+    Unknown,
+    /// A growth was refused.
+    NoMemory,
+}
+
+/// The files of one service directory.
+#[derive(Drop)]
+pub struct ServiceFiles {
+    run: Found,
+    kind: Found,
+    finish: Found,
+    down: Found,
+    notification_fd: Found,
+    timeout_kill: Found,
+    timeout_finish: Found,
+    max_death_tally: Found,
+    down_signal: Found,
+    failures: u64,
+    refused: u64,
+    failed: Option<ServiceFile>,
+}
+
+impl ServiceFiles {
+    /// Looks at the files of the directory of this path.
+    pub fn of<R: Files>(rt: &R, alloc: Global, directory: &str) -> ServiceFiles {
+        ServiceFiles {
+            run: look(rt, alloc, directory, ServiceFile::Run),
+            kind: look(rt, alloc, directory, ServiceFile::Kind),
+            finish: look(rt, alloc, directory, ServiceFile::Finish),
+            down: look(rt, alloc, directory, ServiceFile::Down),
+            notification_fd: look(rt, alloc, directory, ServiceFile::NotificationFd),
+            timeout_kill: look(rt, alloc, directory, ServiceFile::TimeoutKill),
+            timeout_finish: look(rt, alloc, directory, ServiceFile::TimeoutFinish),
+            max_death_tally: look(rt, alloc, directory, ServiceFile::MaxDeathTally),
+            down_signal: look(rt, alloc, directory, ServiceFile::DownSignal),
+            failures: 0,
+            refused: 0,
+            failed: None,
+        }
+    }
+
+    fn found(&self, file: ServiceFile) -> &Found
+        ensures { result.now ≡ found_of self.now file }
+    {
+        match file {
+            ServiceFile::Run => &self.run,
+            ServiceFile::Kind => &self.kind,
+            ServiceFile::Finish => &self.finish,
+            ServiceFile::Down => &self.down,
+            ServiceFile::NotificationFd => &self.notification_fd,
+            ServiceFile::TimeoutKill => &self.timeout_kill,
+            ServiceFile::TimeoutFinish => &self.timeout_finish,
+            ServiceFile::MaxDeathTally => &self.max_death_tally,
+            ServiceFile::DownSignal => &self.down_signal,
+        }
+    }
+
+    // Counts a reading that gave nothing. A counter that is full tells of want of memory in place of the failure.
+    fn fail(&mut self, file: ServiceFile, fault: ReadFault) -> ReadFault
+        ensures same { (f : _) → found_of self.new f ≡ found_of self.old f }
+        ensures count { Counts {V = Unit {0}} (Err result) file self.old.failures self.new.failures self.new.failed }
+        ensures memory { CountsRefusal {V = Unit {0}} (Err result) self.old.refused self.new.refused }
+    {
+        self.failed = Some(file);
+        if fault == ReadFault::Io && self.failures < u64::MAX {
+            self.failures += 1;
+            return ReadFault::Io;
+        }
+        self.refused = self.refused.wrapping_add(1);
+        ReadFault::NoMemory
+    }
+}
+
+// What is found of a file of the directory of this path.
+fn look<R: Files>(rt: &R, alloc: Global, directory: &str, file: ServiceFile) -> Found {
+    let name = file.name();
+    let Ok(path) = format!(in alloc; "{directory}/{name}") else {
+        return Found::NoMemory;
+    };
+    match read_file(rt, alloc, path.as_str()) {
+        Ok(text) => Found::Text(text),
+        Err(error) => match error.kind() {
+            ErrorKind::NotFound => Found::Absent,
+            ErrorKind::OutOfMemory => Found::NoMemory,
+            _ => match fs::metadata(rt, path.as_str()) {
+                Ok(_) => Found::Unread,
+                Err(_) => Found::Unknown,
+            },
+        },
+    }
+}
+
+// The bytes of a file, of a longer one the first 4097.
+fn read_file<R: Files>(rt: &R, alloc: Global, path: &str) -> io::Result<Vec<u8>> {
+    let file = fs::File::open(rt, path)?;
+    let mut text = Vec::new(alloc);
+    let mut reader = file.take(READING_LIMIT as u64);
+    reader.read_to_end(&mut text)?;
+    Ok(text)
+}
+
+impl servicedir::Files for ServiceFiles {
+    ghost use Rattle.tree_server.specs.Files.{content_of, found_of};
+
+    ghost gives = { λ f name file. content_of (found_of f file) };
+
+    ghost failures = { λ f. f.failures };
+
+    ghost failed = { λ f. f.failed };
+
+    ghost refused = { λ f. f.refused };
+
+    fn has(&mut self, _name: Name, file: ServiceFile) -> Result<bool, ReadFault> {
+        match self.found(file) {
+            Found::Absent => Ok(false),
+            Found::Text(_) | Found::Unread => Ok(true),
+            Found::Unknown => Err(self.fail(file, ReadFault::Io)),
+            Found::NoMemory => Err(self.fail(file, ReadFault::NoMemory)),
+        }
+    }
+
+    fn text<A: Allocator + Copy>(
+        &mut self,
+        alloc: A,
+        _name: Name,
+        file: ServiceFile,
+    ) -> Result<Option<Vec<u8, A>>, ReadFault> {
+        match copy_of(alloc, self.found(file)) {
+            Ok(text) => Ok(text),
+            Err(fault) => Err(self.fail(file, fault)),
+        }
+    }
+}
+
+// A copy of what was read of a file.
+fn copy_of<A: Allocator + Copy>(alloc: A, found: &Found) -> Result<Option<Vec<u8, A>>, ReadFault>
+    ensures text { IfOk result (λ text. option_map (λ t. t.items) text ≡ content_of found.now) }
+    ensures bound { IfOk result (λ text. IfSome text (λ t. length t.items ≤ reading_limit)) }
+{
+    match found {
+        Found::Absent => Ok(None),
+        Found::Text(text) if text.len() <= READING_LIMIT => {
+            match Vec::from_slice(alloc, text.as_slice()) {
+                Ok(copy) => Ok(Some(copy)),
+                Err(_) => Err(ReadFault::NoMemory),
+            }
+        }
+        Found::NoMemory => Err(ReadFault::NoMemory),
+        _ => Err(ReadFault::Io),
+    }
+}

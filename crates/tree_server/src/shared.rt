@@ -1,0 +1,71 @@
+//! What the threads of a running tree share, from its first run to its last.
+use crate::agenda::Agenda;
+use crate::calls::{Call, Caller};
+use crate::own_answer::OwnAnswer;
+use crate::places::client_actor;
+use crate::requests::{Request, read_request};
+use crate::time::RunClock;
+use child_runner::Bell;
+use line_server::{Answers, Mailbox, Next};
+use s6_events::At;
+use std::alloc::Global;
+use std::sync::{Arc, Wait};
+
+/// What the threads of a running tree share, from its first run to its last.
+#[derive(Drop)]
+pub struct Shared {
+    pub alloc: Global,
+    pub clock: RunClock,
+    /// What each connection asks, by its seat.
+    pub callers: Vec<Caller>,
+    pub agenda: Agenda,
+    /// Rings where something was asked or handed in, and where a lane carried orders.
+    pub driver: Bell,
+    /// Ring where a lane has orders, or its backend a report.
+    pub lanes: Vec<Arc<Bell, Global>>,
+}
+
+impl Answers for Shared {
+    fn answer<R: Wait>(&self, rt: &R, seat: usize, line: &[u8], mailbox: &Mailbox) -> Next {
+        let (Some(caller), Some(actor)) = (self.callers.get(seat), client_actor(seat)) else {
+            return Next::Close;
+        };
+        // The moment of a step is that at which it is handed in.
+        match read_request(self.alloc, At::zero(), actor, line) {
+            Request::Status(name) => self.call(rt, caller, Call::Status(name)),
+            Request::Step(act) => self.call(rt, caller, Call::Step(act)),
+            Request::Scan => self.call_scan(rt, caller, seat),
+            Request::Refused(answer) => {
+                let _ = mailbox.post(rt, answer.text());
+            }
+        }
+        Next::GoOn
+    }
+
+    fn refuse_long_line<R: Wait>(&self, rt: &R, _seat: usize, mailbox: &Mailbox) {
+        let _ = mailbox.post(rt, OwnAnswer::Line.text());
+    }
+
+    fn leave<R: Wait>(&self, rt: &R, seat: usize) {
+        if let Some(caller) = self.callers.get(seat) {
+            self.call(rt, caller, Call::EndAll);
+            caller.note_left(rt);
+        }
+    }
+}
+
+impl Shared {
+    // Asks, and waits for the answer.
+    fn call<R: Wait>(&self, rt: &R, caller: &Caller, call: Call) {
+        caller.ask(rt, call);
+        self.driver.ring(rt);
+        caller.await_answer(rt);
+    }
+
+    // The scan is made by another thread, and its reply is posted by the one that drives.
+    fn call_scan<R: Wait>(&self, rt: &R, caller: &Caller, seat: usize) {
+        let before = caller.scans(rt);
+        self.agenda.ask_scan(rt, seat);
+        caller.await_scan(rt, before);
+    }
+}
