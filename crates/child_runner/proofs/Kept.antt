@@ -1,7 +1,7 @@
 -- What a longer list of orders keeps, and what a report that answers one of them is.
-use Rattle.std.proofs.Common.{◌≡◌, ℕ, zero, suc, List, [], ◌∷◌, ◌++◌, length, ◌<◌, slice_get, get_or, Option, Some, None, IfSome, IsTrue, refl, ap}
-use Rattle.std.proofs.Common.{subst, sym, ◌∙◌, rules, arith}
-use Rattle.std.specs.List.{All, Contains, list_any}
+use Rattle.std.proofs.Common.{◌≡◌, ℕ, zero, suc, List, [], ◌∷◌, ◌++◌, slice_get, Option, Some, None, IfSome, IsTrue, ap}
+use Rattle.std.proofs.Common.{◌∙◌, rules}
+use Rattle.std.specs.List.{All, Contains}
 use Rattle.std.proofs.lemmas.List.Elements.{All-weaker, All-push, All-contains, Contains-append_left, Contains-push}
 use Rattle.std.proofs.lemmas.List.Folds.{list_any_at}
 use Rattle.s6_events.specs.declared.order.Order.{Order}

@@ -1,2 +1,3 @@
+pub mod Crosses
 pub mod Kept
 pub mod Names

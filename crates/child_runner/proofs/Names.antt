@@ -1,7 +1,7 @@
 -- A name is a text.
-use Rattle.std.proofs.Common.{◌≡◌, ◌≤◌, ◌<◌, ℕ, List, length, Bool, true, false, ◌&&◌, ◌||◌, ◌==◌, nat_le, not, slice_index, IsTrue, rules, arith}
+use Rattle.std.proofs.Common.{◌≡◌, ◌<◌, ℕ, List, length, Bool, true, ◌&&◌, ◌==◌, nat_le, not, slice_index, IsTrue, rules, arith}
 use Rattle.std.specs.List.{All, AllPass, list_all}
-use Rattle.std.specs.Str.{IsAscii, IsUtf8}
+use Rattle.std.specs.Str.{IsUtf8}
 use Rattle.std.proofs.lemmas.Bool.Decides.{nat_tests}
 use Rattle.std.proofs.lemmas.List.Sums.{AllPass-from_list_all}
 use Rattle.std.proofs.lemmas.Str.{IsUtf8-from_ascii}

@@ -1,5 +1,5 @@
 -- Which program an order starts, with which arguments, and where.
-use Rattle.std.specs.Prelude.{◌≡◌, ℕ, List, [], ◌∷◌, ◌++◌, codes, decimal, Bool, true, false, ◌&&◌, nat_le}
+use Rattle.std.specs.Prelude.{ℕ, List, [], ◌∷◌, ◌++◌, codes, decimal, ◌&&◌, nat_le}
 use Rattle.std.specs.Prelude.{if◌then◌else◌, Option, Some, None}
 use Rattle.std.specs.Process.{command_program, command_args, command_dir}
 use Rattle.std.specs.declared.process.command.Command.{Command}

@@ -1,4 +1,5 @@
 //! Why a measurement stopped.
+use office::OpenFault;
 use s6_events::NoMemory;
 use status_board::NoReader;
 use thiserror::Error;
@@ -14,6 +15,10 @@ pub enum Fault {
     NoReader(#[from] NoReader),
     #[error("a read gave no whole shot")]
     NoShot,
+    #[error("the office was not opened: {0}")]
+    NotOpened(OpenFault),
+    #[error("a step was not made")]
+    NotMade,
     #[error("no clock")]
     NoClock,
     #[error("write")]

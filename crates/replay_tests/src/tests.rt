@@ -136,25 +136,34 @@ fn refuses_a_word_after_replay(rt: HostRuntime) {
     }
 }
 
-const HELP: &str = "usage: s6_tree replay < SCRIPT
+const HELP: &str = "usage: s6_tree TOOL ..
        s6_tree --help | --version
-       s6_tree replay --help
+       s6_tree TOOL --help
 
 The programs of a proved s6 supervision tree.
 
 tools:
-  replay      read a script of inputs, write what the tree answers, or
-              check the replies that it records
+  svscan        run a supervision tree, and serve its clients
+  svc           send letters to a service
+  svstat        print the status of a service
+  svwait        wait for services
+  svlisten      wait for services, with a program started meanwhile
+  svscanctl     tell the tree to scan or to end
+  mkfifodir     make an event directory
+  ftrig-notify  send letters to an event directory
+  ftrig-wait    wait for letters of an event directory
+  permafailon   tell whether a service fails for good
+  replay        read a script of inputs, write what the tree answers
 
 options:
-  --help      print this text
-  --version   print the version
+  --help        print this text
+  --version     print the version
 
 exit status:
-  0           done
-  1           a recorded reply is another than the tree's
-  100         wrong usage, or the input is no script
-  111         the system refused a read, a write or memory
+  0             done
+  1             a client was refused, or what it asked for isn't so
+  100           wrong usage, or the input is no script
+  111           the system refused something, or no server answers
 ";
 
 const REPLAY_HELP: &str = "usage: s6_tree replay < SCRIPT

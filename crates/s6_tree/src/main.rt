@@ -1,12 +1,45 @@
-//! The program of the supervision tree.
+//! The programs of the supervision tree.
 #![tactic(auto)]
 
-use replay_tool::run_tool;
+use child_runner::Keeper;
+use log::sink::Console;
 use std::process::ExitCode;
+use tree_front::{Asked, run_words};
+use tree_server::{HANDOVER, ServeFault, ServeOptions, ServiceLanes, run_tree, tell_serve_fault};
 
 fn main(rt: HostRuntime) -> ExitCode {
     let alloc = rt.alloc();
     let mut errors = rt.stderr();
-    let (input, output) = (rt.stdin(), rt.stdout());
-    ExitCode::from(run_tool(&rt, alloc, alloc, input, output, &mut errors))
+    let place = match run_words(&rt, alloc, rt.stdin(), rt.stdout(), &mut errors) {
+        Asked::Done(status) => return ExitCode::from(status),
+        Asked::Tree(place) => place,
+    };
+    let options = ServeOptions {
+        directory: place.directory.as_str(),
+        socket: place.socket.as_str(),
+        handover: HANDOVER,
+    };
+    let Ok(keeper) = Keeper::start(rt, alloc) else {
+        return ExitCode::from(tell_serve_fault(ServeFault::Thread, &mut errors));
+    };
+    let done = match ServiceLanes::new(rt, alloc, &keeper, options.directory) {
+        Ok(lanes) => {
+            let (backends, bells) = lanes.into_parts();
+            run_tree(
+                &rt,
+                alloc,
+                backends,
+                bells,
+                options,
+                &mut errors,
+                &Console(rt),
+            )
+        }
+        Err(_) => Err(ServeFault::NoMemory),
+    };
+    keeper.end();
+    match done {
+        Ok(()) => ExitCode::SUCCESS,
+        Err(fault) => ExitCode::from(tell_serve_fault(fault, &mut errors)),
+    }
 }

@@ -1,5 +1,7 @@
 //! Which program a first word names.
-ghost use Rattle.std.specs.Prelude.{◌≡◌};
+ghost use Rattle.std.specs.Prelude.{◌≡◌, codes, true};
+ghost use Rattle.std.specs.Str.{bytes_eq};
+ghost use Rattle.tree_front.specs.declared.asked.Program.TheVariants as program;
 
 use s6_tools::{Tool, tool_named};
 
@@ -15,7 +17,10 @@ pub enum Program {
 }
 
 /// Which program this word names.
-pub fn program_named(word: &str) -> Program {
+pub fn program_named(word: &str) -> Program
+    ensures server { bytes_eq word.now (codes "svscan") ≡ true → result ≡ program.Svscan }
+    ensures only { result ≡ program.Svscan → bytes_eq word.now (codes "svscan") ≡ true }
+{
     if word == "svscan" {
         return Program::Svscan;
     }

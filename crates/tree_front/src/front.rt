@@ -2,7 +2,7 @@
 use crate::asked::{Program, program_named};
 use crate::help_text::SVSCAN_HELP;
 use replay_tool::run_tool;
-use s6_tools::run_client;
+use s6_tools::{Tool, run_client};
 use std::alloc::Global;
 use std::env::Env;
 use std::io::{Read, Write};
@@ -49,14 +49,11 @@ pub fn run_words<R: Env + Net + Processes, I: Read + Drop, W: Write + Drop, E: W
         Program::Other => Asked::Done(run_tool(rt, alloc, alloc, input, output, errors)),
         Program::Svscan => read_place(words, &mut output, errors),
         Program::Client(tool) => {
-            let Ok(all) = borrowed(alloc, words.as_slice()) else {
-                return Asked::Done(SYSTEM_STATUS);
-            };
-            match all.as_slice() {
-                [_, _, further @ ..] => {
-                    Asked::Done(run_client(rt, alloc, tool, further, &mut output, errors))
+            match borrowed(alloc, words.as_slice()) {
+                Ok(all) => {
+                    Asked::Done(run_client(rt, alloc, tool, all.as_slice(), &mut output, errors))
                 }
-                _ => Asked::Done(SYSTEM_STATUS),
+                Err(_) => Asked::Done(tell_no_memory(tool, errors)),
             }
         }
     }
@@ -78,12 +75,19 @@ fn program_of(words: &[String]) -> Program {
     }
 }
 
+// The words behind the name of the program and that of the tool.
 fn borrowed(alloc: Global, words: &[String]) -> io::Result<Vec<&str>> {
     let mut all = Vec::new(alloc);
-    for word in words {
+    for word in words.iter().skip(2) {
         all.push(word.as_str())?;
     }
     Ok(all)
+}
+
+fn tell_no_memory<E: Write>(tool: Tool, errors: &mut E) -> u8 {
+    let _ = errors.write_all(tool.name().as_bytes());
+    let _ = errors.write_all(b": no memory\n");
+    SYSTEM_STATUS
 }
 
 // The words behind `svscan`.

@@ -30,6 +30,7 @@ pub enum Request {
 /// Reads a line of a client: a line of a script without its moment and its actor.
 pub fn read_request(alloc: Global, at: At, actor: Actor, line: &[u8]) -> Request
     ensures scan { bytes_eq line.now scan_word ≡ true → result ≡ request.Scan }
+    ensures only { result ≡ request.Scan → bytes_eq line.now scan_word ≡ true }
     ensures step { AsksFor result (script_line at actor line.now) }
     ensures refused { result ≡ request.Refused own.Line → (i : Input Global)
         → Spells (script_line at actor line.now) i → IsOwnAct i.act }

@@ -6,6 +6,7 @@ use crate::agenda::Agenda;
 use crate::calls::new_callers;
 use crate::connecting::{end_connections, start_listener};
 use crate::driver_state::no_connections;
+use crate::driving::MEMORY_WAIT;
 use crate::fault::ServeFault;
 use crate::listing::read_listing;
 use crate::options::ServeOptions;
@@ -31,9 +32,6 @@ use std::thread::Threads;
 use std::time::{Clock, Duration};
 use std::{fs, thread};
 use tree_core::{Listing, Tree};
-
-/// How long it waits for memory between two runs, in milliseconds.
-const MEMORY_WAIT: u64 = 100;
 
 /// Runs a tree of the services of a directory, and serves clients on a socket, until it has ended. There is a backend for each lane,
 /// one to four, each with its bell. What the services' directories have for faults is told on `errors`, and each new run by `log`.

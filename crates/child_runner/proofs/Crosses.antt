@@ -1,0 +1,45 @@
+-- A backend may go to another thread.
+use denote.RattleType.{RattleType}
+use denote.Struct.Declared.{shape}
+use denote.Param.Send.{IsSend, recorded_send, struct_send, sendable}
+use Rattle.std.proofs.Crossing.{crosses}
+use Rattle.std.proofs.string.String.TheSendSync as string
+use Rattle.child_runner.proofs.bell.Bell.TheSendSync as bell
+use Rattle.child_runner.proofs.process.ServiceProcess.TheSendSync as process
+use Rattle.child_runner.proofs.roster.Roster.TheSendSync as roster
+use Rattle.child_runner.specs.contracts.backend.ProcessBackend as ProcessBackend
+use Rattle.child_runner.specs.contracts.backend.ProcessBackend.TheInside as Inside
+use Rattle.child_runner.specs.contracts.roll.Roll as Roll
+use Rattle.child_runner.specs.contracts.roll.Roll.TheInside as RollInside
+
+roll_inside_send : IsSend RollInside.the_row
+roll_inside_send = search (crosses, sendable) depth 60 fits 20000
+
+roll_send : IsSend Roll.the_row
+roll_send = search (roll_inside_send, sendable) depth 60 fits 20000
+
+inside_send : (R : RattleType) → IsSend R → IsSend (Inside.the_row R)
+inside_send R r =
+    let T = Inside.the_type R in
+    recorded_send _ _ _ T.to_one (struct_send (shape T) (
+      r,
+      (
+        search (crosses, sendable) depth 60 fits 20000,
+        (
+          search (string.the_field_send, crosses, sendable) depth 60 fits 20000,
+          (
+            search (roster.the_send, roster.the_sync, crosses, sendable) depth 60 fits 20000,
+            (
+              search (bell.the_send, bell.the_sync, crosses, sendable) depth 60 fits 20000,
+              (
+                search (process.the_send, process.the_sync, crosses, sendable) depth 60 fits 20000,
+                (search sendable, (roll_send, tt)),
+              ),
+            ),
+          ),
+        ),
+      ),
+    ))
+
+pub backend_send : (R : RattleType) → IsSend R → IsSend (ProcessBackend.the_row R)
+backend_send R r = let i = inside_send R r in search (i, sendable) depth 60 fits 20000

@@ -1,0 +1,22 @@
+//! How the tree ends.
+use crate::stage::Stage;
+use std::fs;
+use std::io::{self, Write};
+use std::process::{Child, Processes, SystemProcess};
+use std::rt::Files;
+use std::time::Clock;
+
+/// Ends the tree, and looks what is left.
+pub fn try_end<R: Files + Processes + Clock, W: Write>(
+    rt: &R,
+    stage: &Stage,
+    server: &mut Child<SystemProcess>,
+    output: &mut W,
+) -> io::Result<()> {
+    stage.tell(rt, "svscanctl -t", output)?;
+    let status = stage.await_end(rt, server).unwrap_or(-1);
+    write!(output, "svscan: {status}\n")?;
+    let is_gone = fs::metadata(rt, stage.socket()).is_err();
+    write!(output, "the socket is gone: {is_gone}\n")?;
+    stage.tell(rt, "svc -u web", output)
+}

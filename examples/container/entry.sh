@@ -1,0 +1,21 @@
+#!/bin/sh
+# The first process of a container: starts the tree, and ends it in order when the container is to stop.
+#
+#   entry.sh DIRECTORY SOCKET
+#
+# svscan itself takes no signals. On TERM or INT this script tells it to end, and waits until every service is gone; its status is
+# that of svscan. S6_TREE is the path of the program; services find it and SOCKET in their environment.
+S6_TREE=${S6_TREE:-s6_tree}
+SOCKET=$2
+export S6_TREE SOCKET
+
+"$S6_TREE" svscan "$1" "$SOCKET" &
+server=$!
+trap '"$S6_TREE" svscanctl "$SOCKET" -t' TERM INT
+
+# A signal ends a wait early: while the server runs, it is waited for again.
+while :; do
+    wait "$server"
+    status=$?
+    kill -0 "$server" 2>/dev/null || exit "$status"
+done
