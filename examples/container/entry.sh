@@ -9,7 +9,13 @@ S6_TREE=${S6_TREE:-s6_tree}
 SOCKET=$2
 export S6_TREE SOCKET
 
-"$S6_TREE" svscan "$1" "$SOCKET" &
+# A shell has what runs in its background ignore INT and QUIT, and services would inherit that. GNU's env sets them back; then the
+# tree is in a session of its own, where a terminal's Ctrl-C doesn't reach it.
+if env --default-signal=INT,QUIT setsid true 2>/dev/null; then
+    setsid env --default-signal=INT,QUIT "$S6_TREE" svscan "$1" "$SOCKET" &
+else
+    "$S6_TREE" svscan "$1" "$SOCKET" &
+fi
 server=$!
 trap '"$S6_TREE" svscanctl "$SOCKET" -t' TERM INT
 
