@@ -34,6 +34,7 @@ def main():
     server = subprocess.Popen(words, stderr=errors, env=dict(os.environ, S6_TREE_HANDOVER=str(STEPS)))
     while not os.path.exists(path):
         time.sleep(0.01)
+    assert subprocess.run([program, "svwait", path, "web"]).returncode == 0
     client = socket.socket(socket.AF_UNIX)
     client.connect(path)
     stream = client.makefile("rwb")
