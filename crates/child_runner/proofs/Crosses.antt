@@ -4,6 +4,7 @@ use denote.Struct.Declared.{shape}
 use denote.Param.Send.{IsSend, recorded_send, struct_send, sendable}
 use Rattle.std.proofs.Crossing.{crosses}
 use Rattle.std.proofs.string.String.TheSendSync as string
+use Rattle.std.specs.contracts.rt.LibcRuntime as LibcRuntime
 use Rattle.child_runner.proofs.bell.Bell.TheSendSync as bell
 use Rattle.child_runner.proofs.process.ServiceProcess.TheSendSync as process
 use Rattle.child_runner.proofs.roster.Roster.TheSendSync as roster
@@ -43,3 +44,10 @@ inside_send R r =
 
 pub backend_send : (R : RattleType) → IsSend R → IsSend (ProcessBackend.the_row R)
 backend_send R r = let i = inside_send R r in search (i, sendable) depth 60 fits 20000
+
+runtime_send : IsSend LibcRuntime.the_row
+runtime_send = search (crosses, sendable) depth 60 fits 20000
+
+-- that of a program
+pub program_backend_send : IsSend (ProcessBackend.the_row LibcRuntime.the_row)
+program_backend_send = backend_send LibcRuntime.the_row runtime_send

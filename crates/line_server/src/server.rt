@@ -9,10 +9,14 @@ use std::os::fd::OwnedFd;
 use std::os::unix::net::{UnixListener, UnixStream};
 use std::sync::{Arc, Mutex, Wait};
 use std::thread::{Builder, Scope, Threads};
+use std::time::{Clock, Duration};
 use std::{io, thread};
 
 /// The stack of a thread that reads or writes one connection, in bytes.
 const STACK_SIZE: usize = 256 * 1024;
+
+/// How long no connection is accepted after one that could not be, in milliseconds: there may be too many open files.
+const ACCEPT_WAIT: u64 = 100;
 
 /// What becomes of a connection once a line was answered.
 #[derive(Clone, Copy, Debug, PartialEq, Eq)]
@@ -26,7 +30,7 @@ pub enum Next {
 /// Who answers the lines of connections. Its calls for one seat come one after the other, those for two seats at the same time.
 pub trait Answers {
     /// A line has come on this seat, without its newline. What is posted to the mailbox now or later is written in that order.
-    fn answer<R: Wait>(&self, rt: &R, seat: usize, line: &[u8], mailbox: &Mailbox) -> Next;
+    fn answer<R: Wait + Clock>(&self, rt: &R, seat: usize, line: &[u8], mailbox: &Mailbox) -> Next;
 
     /// A line of more than 8,192 bytes is coming on this seat. What is posted is written, and the connection ends.
     fn refuse_long_line<R: Wait>(&self, rt: &R, seat: usize, mailbox: &Mailbox);
@@ -91,7 +95,7 @@ impl<W: Answers> Server<W> {
 }
 
 /// Accepts and serves connections until `Server::end` is called. All of its threads have ended when it comes back.
-pub fn serve<W: Answers + Sync, R: Threads + Wait + Sync>(rt: &R, server: &Server<W>) {
+pub fn serve<W: Answers + Sync, R: Threads + Wait + Clock + Sync>(rt: &R, server: &Server<W>) {
     thread::scope(
         thread::scope_env(),
         rt,
@@ -100,7 +104,7 @@ pub fn serve<W: Answers + Sync, R: Threads + Wait + Sync>(rt: &R, server: &Serve
 }
 
 // Accepts connections until the server ends. Each gets a seat and a thread that reads it.
-fn accept_all<'s, E, W: Answers + Sync, R: Threads + Wait + Sync>(
+fn accept_all<'s, E, W: Answers + Sync, R: Threads + Wait + Clock + Sync>(
     scope: &Scope<'s, E>,
     rt: &'s R,
     server: &'s Server<W>,
@@ -110,6 +114,7 @@ fn accept_all<'s, E, W: Answers + Sync, R: Threads + Wait + Sync>(
             if server.is_ending(rt) {
                 break;
             }
+            thread::sleep(rt, Duration::from_millis(ACCEPT_WAIT));
             continue;
         };
         let Some(seat) = server.take_seat(rt, stream) else {
@@ -122,7 +127,7 @@ fn accept_all<'s, E, W: Answers + Sync, R: Threads + Wait + Sync>(
 }
 
 // The thread that reads a connection. Whether it runs.
-fn start_reader<'s, E, W: Answers + Sync, R: Threads + Wait + Sync>(
+fn start_reader<'s, E, W: Answers + Sync, R: Threads + Wait + Clock + Sync>(
     scope: &Scope<'s, E>,
     rt: &'s R,
     server: &'s Server<W>,
@@ -135,7 +140,7 @@ fn start_reader<'s, E, W: Answers + Sync, R: Threads + Wait + Sync>(
 }
 
 // The connection of a seat to its end.
-fn converse_at<W: Answers + Sync, R: Threads + Wait + Sync>(
+fn converse_at<W: Answers + Sync, R: Threads + Wait + Clock + Sync>(
     rt: &R,
     server: &Server<W>,
     seat: usize,
@@ -148,7 +153,7 @@ fn converse_at<W: Answers + Sync, R: Threads + Wait + Sync>(
 }
 
 // One connection to its end: its lines are read and answered here, and what is posted is written by a thread beside this one.
-fn converse<W: Answers + Sync, R: Threads + Wait + Sync>(
+fn converse<W: Answers + Sync, R: Threads + Wait + Clock + Sync>(
     rt: &R,
     server: &Server<W>,
     seat: usize,
@@ -191,7 +196,12 @@ fn write_all<R: Wait>(rt: &R, alloc: Global, mailbox: &Mailbox) {
 }
 
 // Reads the connection to its end, and answers each whole line.
-fn read_all<W: Answers, R: Wait>(rt: &R, server: &Server<W>, seat: usize, mailbox: &Mailbox) {
+fn read_all<W: Answers, R: Wait + Clock>(
+    rt: &R,
+    server: &Server<W>,
+    seat: usize,
+    mailbox: &Mailbox,
+) {
     let mut buffer = LineBuffer::new(server.alloc);
     let mut line = Vec::new(server.alloc);
     for _ in rt.forever() {
@@ -215,7 +225,7 @@ fn read_some(mut stream: &UnixStream, buffer: &mut LineBuffer<Global>) -> bool {
 }
 
 // Answers each whole line that has come.
-fn answer_lines<W: Answers, R: Wait>(
+fn answer_lines<W: Answers, R: Wait + Clock>(
     rt: &R,
     server: &Server<W>,
     seat: usize,

@@ -58,7 +58,7 @@ fn serve_while<R: Net + Threads + Wait + Clock + Sync>(
     })
 }
 
-fn start_server<'s, E, R: Threads + Wait + Sync>(
+fn start_server<'s, E, R: Threads + Wait + Clock + Sync>(
     scope: &Scope<'s, E>,
     rt: &'s R,
     server: &'s Server<Echo>,

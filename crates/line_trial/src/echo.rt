@@ -72,7 +72,13 @@ fn flood<R: Wait>(rt: &R, mailbox: &Mailbox) -> bool {
 }
 
 impl Answers for Echo {
-    fn answer<R: Wait>(&self, rt: &R, _seat: usize, line: &[u8], mailbox: &Mailbox) -> Next {
+    fn answer<R: Wait + Clock>(
+        &self,
+        rt: &R,
+        _seat: usize,
+        line: &[u8],
+        mailbox: &Mailbox,
+    ) -> Next {
         self.note(rt, 1, 0, 0, 0);
         if line == b"flood".as_slice() {
             let is_full = flood(rt, mailbox);

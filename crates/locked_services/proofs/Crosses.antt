@@ -38,7 +38,7 @@ inside_send C g h c =
       (
         image_send,
         (
-          tree_send,
+          search (tree_send, crosses, sendable) depth 60 fits 20000,
           (
             run_send,
             (

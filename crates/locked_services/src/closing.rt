@@ -21,7 +21,7 @@ pub enum CloseFault {
 /// What a run leaves: its tree, how many steps it made, and the backends of its lanes, in the order of their numbers.
 #[derive(Drop)]
 pub struct Closed<B: Drop> {
-    pub tree: Tree<Global>,
+    pub tree: Box<Tree<Global>>,
     pub steps: u64,
     pub backends: Vec<B>,
 }

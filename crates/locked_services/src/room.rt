@@ -255,7 +255,7 @@ impl<C: Channels + Lanes, D: Board<C>> Room<C, D> {
     }
 
     // The tree alone.
-    fn into_tree(self) -> Tree<Global>
+    fn into_tree(self) -> Box<Tree<Global>>
         ensures { result ≡ self.running.tree }
     {
         let Room { running, .. } = self;

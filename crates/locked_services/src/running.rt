@@ -39,7 +39,7 @@ pub const RUN_LIMIT: usize = 262_144;
 pub struct RunningTree<C: Channels + Lanes> {
     alloc: Global,
     opening: Image<Global>,
-    tree: Tree<Global>,
+    tree: Box<Tree<Global>>,
     run: Run,
     // Filled anew by each step: its list of orders is large, and making one costs more than most steps.
     effect: Box<Effect<Global>>,
@@ -63,7 +63,7 @@ impl<C: Channels + Lanes> RunningTree<C> {
     pub fn begin(
         alloc: Global,
         beginning: Beginning,
-        tree: Tree<Global>,
+        tree: Box<Tree<Global>>,
         drains: Vec<Drain<C>>,
         lanes: Vec<Lane<C>>,
     ) -> RunningTree<C>
@@ -290,7 +290,7 @@ impl<C: Channels + Lanes> RunningTree<C> {
     }
 
     /// The tree alone.
-    pub fn into_tree(self) -> Tree<Global>
+    pub fn into_tree(self) -> Box<Tree<Global>>
         ensures { result ≡ self.tree }
     {
         let RunningTree { tree, .. } = self;

@@ -114,7 +114,10 @@ pub fn new_office<R: Copy + Drop>(
     {
         return Err(Fault::NoMemory(NoMemory));
     }
-    match NewOffice::new(alloc, Tree::new(alloc), usize::from(load.threads), backends) {
+    let Ok(tree) = Box::new(alloc, Tree::new(alloc)) else {
+        return Err(Fault::NoMemory(NoMemory));
+    };
+    match NewOffice::new(alloc, tree, usize::from(load.threads), backends) {
         Ok(office) => Ok(office),
         Err((fault, _, _)) => Err(Fault::NotOpened(fault)),
     }

@@ -39,7 +39,7 @@ pub enum OpenFault {
 /// and opens the office then.
 #[derive(Drop)]
 pub struct NewOffice<B: Drop> {
-    pub(crate) tree: Tree<Global>,
+    pub(crate) tree: Box<Tree<Global>>,
     pub(crate) rings: Vec<Ring>,
     pub(crate) lane_rings: Vec<LaneRing>,
     pub(crate) board: NewBoard,
@@ -96,10 +96,10 @@ impl<B: Drop> NewOffice<B> {
     /// back.
     pub fn new(
         alloc: Global,
-        tree: Tree<Global>,
+        tree: Box<Tree<Global>>,
         actors: usize,
         backends: Vec<B>,
-    ) -> Result<NewOffice<B>, (OpenFault, Tree<Global>, Vec<B>)>
+    ) -> Result<NewOffice<B>, (OpenFault, Box<Tree<Global>>, Vec<B>)>
         ensures within { IfOk result (λ o. refusal actors (length backends.items) ≡ None) }
         ensures tree { IfOk result (λ o. o.tree ≡ tree) }
         ensures backends { IfOk result (λ o. o.backends ≡ backends.items) }

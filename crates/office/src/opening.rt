@@ -99,7 +99,7 @@ fn make_parts<C: Channels + Lanes, R: Wait + Drop, B: Backend>(
 fn new_room<C: Channels + Lanes, D: Board<C>>(
     alloc: Global,
     beginning: Beginning,
-    tree: Tree<Global>,
+    tree: Box<Tree<Global>>,
     drains: Vec<Drain<C>>,
     lanes: Vec<Lane<C>>,
     board: D,
@@ -126,7 +126,7 @@ impl<C: Channels + Lanes, D: Board<C>, B: Backend> Parts<C, D, B> {
     fn into_open(
         self,
         alloc: Global,
-        tree: Tree<Global>,
+        tree: Box<Tree<Global>>,
         rings: Vec<LaneRing>,
         backends: Vec<B>,
     ) -> Opened<C, D, B>
@@ -173,7 +173,7 @@ impl<B: Backend> NewOffice<B> {
         self,
         alloc: Global,
         rt: R,
-    ) -> Result<Opened<C, BoardWriter<C, R>, B>, (OpenFault, Tree<Global>, Vec<B>)>
+    ) -> Result<Opened<C, BoardWriter<C, R>, B>, (OpenFault, Box<Tree<Global>>, Vec<B>)>
         requires seats { (k : ℕ) → C.seat_ring k ≡ ring_of (slice_get self.rings k) }
         requires board { C.board ≡ self.board }
         requires lanes { (k : ℕ) → C.lane_ring k ≡ lane_ring_of (slice_get self.lane_rings k) }

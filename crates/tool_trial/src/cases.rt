@@ -11,6 +11,7 @@ use std::process::Processes;
 use std::rt::Files;
 use std::sync::Wait;
 use std::thread::{self, Scope, Threads};
+use std::time::Clock;
 
 /// The words of each case; the socket's path stands behind the first.
 const CASES: [&str; 29] = [
@@ -46,7 +47,7 @@ const CASES: [&str; 29] = [
 ];
 
 /// Runs a server on this path and each client beside it. The outcomes are written line by line.
-pub fn try_all<R: Net + Files + Processes + Threads + Wait + Sync, W: Write + Drop>(
+pub fn try_all<R: Net + Files + Processes + Threads + Wait + Clock + Sync, W: Write + Drop>(
     rt: &R,
     alloc: Global,
     path: &str,
@@ -62,7 +63,7 @@ pub fn try_all<R: Net + Files + Processes + Threads + Wait + Sync, W: Write + Dr
 }
 
 // The cases, while the server runs.
-fn serve_while<R: Net + Processes + Threads + Wait + Sync>(
+fn serve_while<R: Net + Processes + Threads + Wait + Clock + Sync>(
     rt: &R,
     alloc: Global,
     path: &str,
@@ -78,7 +79,7 @@ fn serve_while<R: Net + Processes + Threads + Wait + Sync>(
     })
 }
 
-fn start_server<'s, E, R: Threads + Wait + Sync>(
+fn start_server<'s, E, R: Threads + Wait + Clock + Sync>(
     scope: &Scope<'s, E>,
     rt: &'s R,
     server: &'s Server<TableServer>,

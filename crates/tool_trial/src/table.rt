@@ -1,6 +1,7 @@
 //! Who answers the requests of the trial: each request of the table has its lines, and another one is refused.
 use line_server::{Answers, Mailbox, Next};
 use std::sync::Wait;
+use std::time::Clock;
 
 /// The requests, each with the lines that answer it.
 const TABLE: [(&[u8], &[u8]); 18] = [
@@ -38,7 +39,13 @@ impl TableServer {
 }
 
 impl Answers for TableServer {
-    fn answer<R: Wait>(&self, rt: &R, _seat: usize, line: &[u8], mailbox: &Mailbox) -> Next {
+    fn answer<R: Wait + Clock>(
+        &self,
+        rt: &R,
+        _seat: usize,
+        line: &[u8],
+        mailbox: &Mailbox,
+    ) -> Next {
         for (request, lines) in TABLE.iter() {
             if line == *request {
                 let _ = mailbox.post(rt, lines);

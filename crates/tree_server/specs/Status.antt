@@ -1,5 +1,5 @@
 -- What a client is told of the status of a service.
-use Rattle.std.specs.Prelude.{ℕ, List, [], ◌∷◌, ◌++◌, Option, Some, None, codes}
+use Rattle.std.specs.Prelude.{ℕ, Bool, false, List, [], ◌∷◌, ◌++◌, ◌-◌, nat_lt, Option, Some, None, codes}
 use Rattle.std.specs.List.{find}
 use Rattle.std.specs.Str.{bytes_eq}
 use Rattle.s6_replay.specs.Transcript.{row_text}
@@ -13,3 +13,8 @@ status_line None = codes "refused NoService"
 -- the row of this name, and an empty line behind it
 abbrev pub status_text : List Row → List ℕ → List ℕ
 status_text rows name = status_line (find (λ row. bytes_eq row.name name) rows) ++ (10 ∷ 10 ∷ [])
+
+-- rows that were read after the last step are told from while that step is less than a second old
+abbrev pub is_fresh : Option ℕ → ℕ → Bool
+is_fresh (Some step) now = nat_lt (now - step) 1000
+is_fresh None now = false

@@ -67,6 +67,11 @@ impl Caller {
         }
     }
 
+    /// Notes that a connection is there which was answered without a call.
+    pub fn note_here<R: Wait>(&self, rt: &R) {
+        self.turn.lock(rt).is_here = true;
+    }
+
     /// Waits until the call is answered, or the tree has ended.
     pub fn await_answer<R: Wait>(&self, rt: &R) {
         let turn = self.turn.lock(rt);

@@ -13,7 +13,7 @@ const LISTENER_STACK: usize = 1024 * 1024;
 const END_WAIT: u64 = 1000;
 
 /// Starts the thread that accepts connections. Whether it runs.
-pub fn start_listener<'s, S, R: Threads + Wait + Sync>(
+pub fn start_listener<'s, S, R: Threads + Wait + Clock + Sync>(
     scope: &Scope<'s, S>,
     rt: &'s R,
     server: &'s Server<Shared>,
@@ -25,7 +25,7 @@ pub fn start_listener<'s, S, R: Threads + Wait + Sync>(
 }
 
 // Serves connections until the server ends.
-fn serve_all<R: Threads + Wait + Sync>(rt: &R, server: &Server<Shared>) {
+fn serve_all<R: Threads + Wait + Clock + Sync>(rt: &R, server: &Server<Shared>) {
     serve_lines(rt, server);
 }
 

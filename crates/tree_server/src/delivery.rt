@@ -4,6 +4,7 @@ use crate::places::{Place, lane_of, place_of};
 use crate::posting::{finish_call, match_lines, post, release_lines, reply_lines};
 use crate::serving::{answer_status, end_next};
 use crate::shared::Shared;
+use crate::standing::Ending;
 use channel_names::Channels;
 use line_server::Server;
 use office::Office;
@@ -88,18 +89,28 @@ fn answer_client<C: Channels, R: Wait + Clock>(
         return;
     };
     let purpose = mem::replace(&mut connection.purpose, Purpose::None);
-    if matches!(purpose, Purpose::Request) {
+    if let Purpose::Request(ending) = purpose {
         // There is room: it was made before the request was handed in.
         let _ = connection.standing.note(&effect.reply);
         let text = reply_lines(server.answers().alloc, &effect.reply);
         post(rt, server, seat, &text);
+        if matches!(effect.reply, Reply::Done) {
+            forget(&mut state.connections, ending);
+        }
     }
     tell_others(rt, server, state.connections.as_slice(), effect);
     match purpose {
-        Purpose::Request => finish_call(rt, server, seat),
+        Purpose::Request(_) => finish_call(rt, server, seat),
         Purpose::Status(name) => answer_status(rt, server, state, seat, &name),
         Purpose::End => end_next(rt, server, state, seat),
         Purpose::None => {}
+    }
+}
+
+// What has ended stands no more, whoever made it: a client may end what another one made.
+fn forget(connections: &mut Vec<Connection>, ending: Ending) {
+    for connection in connections.iter_mut() {
+        connection.standing.forget(ending);
     }
 }
 

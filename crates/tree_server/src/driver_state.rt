@@ -1,10 +1,10 @@
 //! What the thread that drives has of a run.
-use crate::standing::Standing;
+use crate::standing::{Ending, Standing};
 use channel_names::Channels;
 use inbox::{Seat, Ticket};
 use line_server::SEAT_COUNT;
 use s6_events::{At, Name, NoMemory};
-use status_board::{BoardReader, Shot};
+use status_board::BoardReader;
 use std::alloc::Global;
 use tree_core::Act;
 
@@ -13,8 +13,8 @@ use tree_core::Act;
 pub enum Purpose {
     /// There is none.
     None,
-    /// A request: its reply goes to the connection.
-    Request,
+    /// A request, which ends this once it is done: its reply goes to the connection.
+    Request(Ending),
     /// The ages in the status of this service, which goes to the connection.
     Status(Name),
     /// The end of what stands of the connection.
@@ -46,7 +46,6 @@ pub struct DriverState<C: Channels> {
     /// Where the steps of connections are handed in, by their seats.
     pub seats: Vec<Seat<C>>,
     pub reader: BoardReader<C>,
-    pub shot: Shot,
     pub connections: Vec<Connection>,
     /// How many steps of the run were handed out.
     pub steps: u64,
@@ -85,7 +84,6 @@ impl<C: Channels> DriverState<C> {
         DriverState {
             seats,
             reader,
-            shot: Shot::empty(),
             connections,
             steps: 0,
             scans_and_ticks: 0,

@@ -94,6 +94,7 @@ pub fn drive_some<C: Channels + Lanes, D: Board<C>, B: Backend, R: Wait + Clock>
         let driven = office.drive(rt, STEPS);
         if driven.steps > 0 {
             state.last_step = server.answers().clock.millis(rt);
+            server.answers().rows.invalidate(rt);
             state.reader.learn(office.tell(rt));
         }
         if !deliver_all(rt, server, office, state) {

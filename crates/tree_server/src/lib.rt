@@ -18,6 +18,7 @@ mod places;
 mod plans;
 mod posting;
 mod requests;
+mod row_cache;
 mod run;
 mod scanning;
 mod seat_room;

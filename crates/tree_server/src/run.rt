@@ -41,7 +41,7 @@ pub enum AfterRun<B: Drop> {
     /// The tree has ended, or can't go on.
     Over(Result<(), ServeFault>),
     /// The next run.
-    Next(Tree<Global>, Vec<B>, Carryover),
+    Next(Box<Tree<Global>>, Vec<B>, Carryover),
 }
 
 /// Runs the tree of an open office until it has ended, or has made so many steps; then the office is closed.

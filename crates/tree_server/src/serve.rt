@@ -10,6 +10,7 @@ use crate::driving::MEMORY_WAIT;
 use crate::fault::ServeFault;
 use crate::listing::read_listing;
 use crate::options::ServeOptions;
+use crate::row_cache::RowCache;
 use crate::run::{AfterRun, Carryover, run};
 use crate::seat_room::{ACTOR_COUNT, SeatRoom};
 use crate::shared::Shared;
@@ -77,7 +78,10 @@ fn prepare<R: Files + Clock + Copy + Drop, E: Write>(
         Ok(listing) => listing,
         Err(error) => return Err(fault_of(&error)),
     };
-    let (Ok(callers), Ok(seats)) = (new_callers(alloc), Seats::new(alloc)) else {
+    let (Ok(callers), Ok(rows)) = (new_callers(alloc), RowCache::new(alloc)) else {
+        return Err(ServeFault::NoMemory);
+    };
+    let Ok(seats) = Seats::new(alloc) else {
         return Err(ServeFault::NoMemory);
     };
     let shared = Shared {
@@ -85,6 +89,7 @@ fn prepare<R: Files + Clock + Copy + Drop, E: Write>(
         clock,
         callers,
         agenda: Agenda::new(),
+        rows,
         driver: Bell::new(),
         lanes: bells,
     };
@@ -141,7 +146,8 @@ fn run_all<
     errors: &mut E,
     log: &L,
 ) -> Result<(), ServeFault> {
-    let Ok(connections) = no_connections(alloc) else {
+    let (Ok(connections), Ok(tree)) = (no_connections(alloc), Box::new(alloc, Tree::new(alloc)))
+    else {
         return Err(ServeFault::NoMemory);
     };
     let carryover = Carryover {
@@ -150,7 +156,7 @@ fn run_all<
         connections,
         last_step: 0,
     };
-    let mut next = AfterRun::Next(Tree::new(alloc), backends, carryover);
+    let mut next = AfterRun::Next(tree, backends, carryover);
     let mut is_first = true;
     for _ in rt.forever() {
         match next {
@@ -178,7 +184,7 @@ fn run_once<
     rt: &R,
     alloc: Global,
     server: &Server<Shared>,
-    tree: Tree<Global>,
+    tree: Box<Tree<Global>>,
     backends: Vec<B>,
     carryover: Carryover,
     options: ServeOptions<'_>,
@@ -196,7 +202,7 @@ fn run_once<
 fn wait_or_end<B: Drop, R: Clock>(
     rt: &R,
     fault: OpenFault,
-    tree: Tree<Global>,
+    tree: Box<Tree<Global>>,
     backends: Vec<B>,
     carryover: Carryover,
 ) -> AfterRun<B> {

@@ -3,18 +3,16 @@ use crate::calls::Call;
 use crate::driver_state::{DriverState, Purpose};
 use crate::own_answer::OwnAnswer;
 use crate::posting::{finish_call, post, post_own};
+use crate::row_cache::STATUS_AGE;
 use crate::shared::Shared;
-use crate::status::push_status;
+use crate::standing::Ending;
 use channel_names::Channels;
 use line_server::{SEAT_COUNT, Server};
 use s6_events::Name;
-use std::alloc::{AllocError, Global};
+use std::alloc::Global;
 use std::sync::Wait;
 use std::time::Clock;
 use tree_core::Act;
-
-/// How old the last step may be for a status to be answered from it, in milliseconds.
-const STATUS_AGE: u64 = 1000;
 
 /// Begins what connections ask for.
 pub fn begin_all<C: Channels, R: Wait + Clock>(
@@ -63,7 +61,8 @@ fn begin_step<C: Channels, R: Wait + Clock>(
         return;
     }
     let now = server.answers().clock.now(rt);
-    if !state.submit(seat, now, act, Purpose::Request) {
+    let purpose = Purpose::Request(Ending::of(&act));
+    if !state.submit(seat, now, act, purpose) {
         refuse(rt, server, seat, OwnAnswer::Full);
     }
 }
@@ -73,7 +72,8 @@ fn refuse<R: Wait>(rt: &R, server: &Server<Shared>, seat: usize, answer: OwnAnsw
     finish_call(rt, server, seat);
 }
 
-// A row of the board, after a tick where the last step is too old to tell how long a service has been up.
+// A status for which the rows that were last read are no good: they are read anew, after a tick where the last step is too old to tell
+// how long a service has been up.
 fn begin_status<C: Channels, R: Wait + Clock>(
     rt: &R,
     server: &Server<Shared>,
@@ -83,8 +83,7 @@ fn begin_status<C: Channels, R: Wait + Clock>(
 ) {
     let clock = &server.answers().clock;
     let age = clock.millis(rt).saturating_sub(state.last_step);
-    let is_old = age >= STATUS_AGE;
-    if is_old && state.submit(seat, clock.now(rt), Act::Tick, Purpose::Status(name)) {
+    if age >= STATUS_AGE && state.submit(seat, clock.now(rt), Act::Tick, Purpose::Status(name)) {
         return;
     }
     answer_status(rt, server, state, seat, &name);
@@ -98,27 +97,16 @@ pub fn answer_status<C: Channels, R: Wait>(
     seat: usize,
     name: &Name,
 ) {
-    let text = status_text(server.answers().alloc, state, name);
+    let shared = server.answers();
+    let text = shared
+        .rows
+        .read(rt, shared.alloc, &mut state.reader, state.last_step, name);
     if text.is_ok() {
         post(rt, server, seat, &text);
     } else {
         post_own(rt, server, seat, OwnAnswer::NoMemory);
     }
     finish_call(rt, server, seat);
-}
-
-fn status_text<C: Channels>(
-    alloc: Global,
-    state: &mut DriverState<C>,
-    name: &Name,
-) -> Result<Vec<u8>, AllocError> {
-    let mut text = Vec::new(alloc);
-    if state.reader.read_into(&mut state.shot) {
-        push_status(&mut text, state.shot.rows.as_slice(), name)?;
-    } else {
-        push_status(&mut text, &[], name)?;
-    }
-    Ok(text)
 }
 
 /// Ends what was made last of what stands of a connection that has ended; where nothing stands, all is ended.

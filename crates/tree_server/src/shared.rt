@@ -4,12 +4,14 @@ use crate::calls::{Call, Caller};
 use crate::own_answer::OwnAnswer;
 use crate::places::client_actor;
 use crate::requests::{Request, read_request};
+use crate::row_cache::RowCache;
 use crate::time::RunClock;
 use child_runner::Bell;
 use line_server::{Answers, Mailbox, Next};
-use s6_events::At;
+use s6_events::{At, Name};
 use std::alloc::Global;
 use std::sync::{Arc, Wait};
+use std::time::Clock;
 
 /// What the threads of a running tree share, from its first run to its last.
 #[derive(Drop)]
@@ -19,6 +21,7 @@ pub struct Shared {
     /// What each connection asks, by its seat.
     pub callers: Vec<Caller>,
     pub agenda: Agenda,
+    pub rows: RowCache,
     /// Rings where something was asked or handed in, and where a lane carried orders.
     pub driver: Bell,
     /// Ring where a lane has orders, or its backend a report.
@@ -26,13 +29,13 @@ pub struct Shared {
 }
 
 impl Answers for Shared {
-    fn answer<R: Wait>(&self, rt: &R, seat: usize, line: &[u8], mailbox: &Mailbox) -> Next {
+    fn answer<R: Wait + Clock>(&self, rt: &R, seat: usize, line: &[u8], mailbox: &Mailbox) -> Next {
         let (Some(caller), Some(actor)) = (self.callers.get(seat), client_actor(seat)) else {
             return Next::Close;
         };
         // The moment of a step is that at which it is handed in.
         match read_request(self.alloc, At::zero(), actor, line) {
-            Request::Status(name) => self.call(rt, caller, Call::Status(name)),
+            Request::Status(name) => self.answer_status(rt, caller, name, mailbox),
             Request::Step(act) => self.call(rt, caller, Call::Step(act)),
             Request::Scan => self.call_scan(rt, caller, seat),
             Request::Refused(answer) => {
@@ -55,6 +58,26 @@ impl Answers for Shared {
 }
 
 impl Shared {
+    // From the rows that were last read, or by the thread that drives.
+    fn answer_status<R: Wait + Clock>(
+        &self,
+        rt: &R,
+        caller: &Caller,
+        name: Name,
+        mailbox: &Mailbox,
+    ) {
+        let now = self.clock.millis(rt);
+        let Some(text) = self.rows.status(rt, self.alloc, now, &name) else {
+            self.call(rt, caller, Call::Status(name));
+            return;
+        };
+        caller.note_here(rt);
+        let _ = match text {
+            Ok(text) => mailbox.post(rt, text.as_slice()),
+            Err(_) => mailbox.post(rt, OwnAnswer::NoMemory.text()),
+        };
+    }
+
     // Asks, and waits for the answer.
     fn call<R: Wait>(&self, rt: &R, caller: &Caller, call: Call) {
         caller.ask(rt, call);

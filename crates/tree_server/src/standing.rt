@@ -1,11 +1,32 @@
 //! What stands of a connection: the waiters and the subscriptions that it made.
 ghost use Rattle.std.specs.Prelude.{◌≡◌, ◌++◌, [], OnOk, OnErr, IsTrue, IsFalse};
 ghost use Rattle.std.specs.List.{Contains};
-ghost use Rattle.tree_server.specs.Standing.{waiters_of, subscriptions_of, Ends};
+ghost use Rattle.tree_server.specs.Standing.{waiters_of, subscriptions_of, Ends, ending_of, waiters_left, subscriptions_left};
 
 use s6_events::{SubId, WaitId};
 use std::alloc::{AllocError, Global};
 use tree_core::{Act, Reply};
+
+/// What an act ends, once it is done.
+#[derive(Clone, Copy, PartialEq, Eq, Debug)]
+pub enum Ending {
+    Nothing,
+    Waiter(WaitId),
+    Subscription(SubId),
+}
+
+impl Ending {
+    /// What this act ends, once it is done.
+    pub fn of(act: &Act<Global>) -> Ending
+        ensures { result ≡ ending_of act.now }
+    {
+        match act {
+            Act::Cancel(id) => Ending::Waiter(*id),
+            Act::Unsubscribe(id) => Ending::Subscription(*id),
+            _ => Ending::Nothing,
+        }
+    }
+}
 
 /// The waiters and the subscriptions that a connection made. One that is over stands too: it counts for the limits of the tree until it
 /// is cancelled.
@@ -51,6 +72,19 @@ impl Standing {
             _ => {}
         }
         Ok(())
+    }
+
+    /// What has ended stands no more.
+    pub fn forget(&mut self, ending: Ending)
+        ensures waiters { self.new.waiters.items ≡ waiters_left ending self.old.waiters.items }
+        ensures subscriptions { self.new.subscriptions.items
+            ≡ subscriptions_left ending self.old.subscriptions.items }
+    {
+        match ending {
+            Ending::Nothing => {}
+            Ending::Waiter(id) => self.waiters.retain(|waiter| *waiter != id),
+            Ending::Subscription(id) => self.subscriptions.retain(|made| *made != id),
+        }
     }
 
     /// Whether it is a subscription of this connection.

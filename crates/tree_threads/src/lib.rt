@@ -2,8 +2,6 @@
 #![tactic(auto)]
 
 #[cfg(test)]
-mod inputs;
-#[cfg(test)]
 mod replaying;
 #[cfg(test)]
 mod stepping;

@@ -1,13 +1,14 @@
 //! The same inputs once more, in the order that was noted, by one thread.
-use crate::inputs::input_of;
 use crate::stepping::Note;
+use s6_events::Actor;
 use std::alloc::Global;
-use tree_core::{Reply, Tree};
+use tree_cases::{input_of, is_same_reply};
+use tree_core::Tree;
 
 // An actor's notes, and how many of them were replayed.
 #[derive(Drop)]
 struct Noted<'a> {
-    actor: u8,
+    actor: Actor,
     notes: &'a [Note],
     replayed: u32,
 }
@@ -18,21 +19,6 @@ fn next_at<'a>(noted: &Noted<'a>, step: u64) -> Option<&'a Note> {
         .notes
         .get(noted.replayed as usize)
         .filter(|note| note.step == step)
-}
-
-fn is_same(one: &Reply<Global>, other: &Reply<Global>) -> bool {
-    match (one, other) {
-        (Reply::Done, Reply::Done) => true,
-        (Reply::Refused(one), Reply::Refused(other)) => one == other,
-        (Reply::Scanned(one), Reply::Scanned(other)) => {
-            one.dropped() == other.dropped() && one.listed() == other.listed()
-        }
-        (Reply::Row(one), Reply::Row(other)) => one == other,
-        (Reply::Tally(one), Reply::Tally(other)) => one.deaths() == other.deaths(),
-        (Reply::Waiter(one), Reply::Waiter(other)) => one == other,
-        (Reply::Subscription(one), Reply::Subscription(other)) => one == other,
-        _ => false,
-    }
 }
 
 // Whether the step is that of the actor's next input, and is answered as was noted.
@@ -48,19 +34,19 @@ fn replay_one(
     let input = input_of(alloc, noted.actor, noted.replayed)?;
     noted.replayed = noted.replayed.saturating_add(1);
     let effect = tree.apply(input).ok()?;
-    Some(is_same(&effect.reply, &note.reply))
+    Some(is_same_reply(&effect.reply, &note.reply))
 }
 
 /// Whether each step of a tree that takes the inputs in the order of the notes is answered as was noted.
 pub fn is_replayed(alloc: Global, first: &[Note], second: &[Note]) -> Option<bool> {
     let mut tree = Tree::new(alloc);
     let mut first = Noted {
-        actor: 0,
+        actor: Actor::new(0)?,
         notes: first,
         replayed: 0,
     };
     let mut second = Noted {
-        actor: 1,
+        actor: Actor::new(1)?,
         notes: second,
         replayed: 0,
     };

@@ -1,11 +1,12 @@
 //! Two threads lock one tree, and each hands in all inputs of its actor.
-use crate::inputs::input_of;
 use crate::replaying::is_replayed;
+use s6_events::Actor;
 use std::alloc::Global;
 use std::sync::{Mutex, Wait};
 use std::test::Fail;
 use std::thread;
 use std::thread::Threads;
+use tree_cases::input_of;
 use tree_core::{Input, Reply, Tree};
 
 /// How many inputs each of the two actors hands in.
@@ -36,6 +37,7 @@ fn step_all<R: Wait>(
     alloc: Global,
     actor: u8,
 ) -> Option<Vec<Note>> {
+    let actor = Actor::new(actor)?;
     let mut notes = Vec::new(alloc);
     for number in 0..INPUTS {
         let input = input_of(alloc, actor, number)?;

@@ -1,0 +1,5 @@
+//! Tests of the close of an office, and of the next one on the tree that is left.
+#![tactic(auto)]
+
+#[cfg(test)]
+mod closing;

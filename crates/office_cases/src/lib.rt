@@ -1,0 +1,8 @@
+//! What tests of the office share: new offices, and the same inputs once more by one thread.
+#![tactic(auto)]
+
+mod offices;
+mod replaying;
+
+pub use offices::{Log, new_log, new_office, new_tree, probes, stepped_tree};
+pub use replaying::is_replayed;

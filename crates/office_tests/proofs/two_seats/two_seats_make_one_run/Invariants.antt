@@ -1,0 +1,15 @@
+use Rattle.std.proofs.Common.{slice_get}
+use Rattle.order_lanes.specs.Probe.{ProbeView}
+use Rattle.office.specs.Names.{ring_of, lane_ring_of, asked_of}
+use Rattle.office_tests.proofs.two_seats.two_seats_make_one_run.Given as goal
+
+-- the names of the new office's rings and of its board
+abbrev pub ghosts-run_two_seats-C-Channels : goal.ghosts-run_two_seats-C-Channels
+ghosts-run_two_seats-C-Channels g a = record { seat_ring = λ k. ring_of (slice_get a.office.rings k); board = a.office.board }
+
+-- the names of its lanes' rings, and what their backends were asked
+abbrev pub ghosts-run_two_seats-C-Lanes : goal.ghosts-run_two_seats-C-Lanes
+ghosts-run_two_seats-C-Lanes g a = record {
+  lane_ring = λ k. lane_ring_of (slice_get a.office.lane_rings k);
+  asked_before = λ k. asked_of (λ (p : ProbeView). p.asked) (slice_get a.office.backends k);
+}

@@ -1,0 +1,270 @@
+//! Fifteen seats submit, each in a thread of its own, while one thread drives and three read.
+ghost use Rattle.std.specs.Prelude.{◌≡◌, ℕ, slice_get};
+ghost use Rattle.office.specs.Names.{ring_of, lane_ring_of, asked_of};
+
+use channel_names::Channels;
+use inbox::{Seat, Ticket};
+use locked_services::DriveStop;
+use office::{NewOffice, Office, Opened};
+use office_cases::{is_replayed, new_log, new_office};
+use order_lanes::{Backend, Lanes};
+use s6_events::Actor;
+use status_board::{Board, BoardReader, Shot};
+use std::alloc::Global;
+use std::marker::Brand;
+use std::process::Abort;
+use std::sync::Wait;
+use std::sync::atomic::{AtomicU64, Ordering};
+use std::test::Fail;
+use std::thread;
+use std::thread::{Builder, Scope, Threads};
+use std::time::{Clock, Duration};
+use tree_cases::{act_of, moment_of};
+
+/// How many seats there are.
+const SEATS: usize = 15;
+
+/// How many acts each of them submits.
+const ACTS: u32 = 2_000;
+
+/// How many threads read.
+const READERS: usize = 3;
+
+#[test]
+fn fifteen_seats_make_one_run(rt: HostRuntime) -> Result<(), Fail> {
+    let alloc = rt.alloc();
+    let log = new_log(alloc)?;
+    let office = new_office(rt, alloc, SEATS, 2, &log)?;
+    run_storm::<_, Brand, _>(&rt, alloc, office)
+}
+
+// Opens the office, and lets the storm into it.
+fn run_storm<
+    B: Backend + Send,
+    C: Channels + Lanes + Send + Sync,
+    R: Threads + Wait + Clock + Abort + Copy + Send + Sync + Drop,
+>(rt: &R, alloc: Global, office: NewOffice<B>) -> Result<(), Fail>
+    requires seats { (k : ℕ) → C.seat_ring k ≡ ring_of (slice_get office.rings k) }
+    requires board { C.board ≡ office.board }
+    requires lanes { (k : ℕ) → C.lane_ring k ≡ lane_ring_of (slice_get office.lane_rings k) }
+    requires before { (k : ℕ) → C.asked_before k ≡ asked_of B.asked (slice_get office.backends k) }
+{
+    let Ok(opened) = office.open::<C, R>(alloc, *rt) else {
+        return Err("not opened".into());
+    };
+    let Opened {
+        office,
+        seats,
+        readers,
+    } = opened;
+    let faults = AtomicU64::new(0);
+    let wanted = storm(rt, alloc, &office, seats, readers, &faults);
+    assert_eq!(rt; faults.load(Ordering::SeqCst), 0);
+    assert_eq!(rt; wanted, 30_000);
+    assert!(rt; are_answered(rt, &office) == Some(true));
+    assert!(rt; is_replayed(rt, alloc, &office, wanted) == Some(true));
+    Ok(())
+}
+
+// All threads together: how many acts were to be submitted.
+fn storm<
+    C: Channels + Lanes + Send + Sync,
+    D: Board<C> + Send,
+    B: Backend + Send,
+    R: Threads + Wait + Clock + Sync,
+>(
+    rt: &R,
+    alloc: Global,
+    office: &Office<C, D, B>,
+    seats: Vec<Seat<C>>,
+    readers: Vec<BoardReader<C>>,
+    faults: &AtomicU64,
+) -> u64 {
+    let done = AtomicU64::new(0);
+    let done_by = &done;
+    let (wanted, is_started) = thread::scope(thread::scope_env(), rt, |scope| {
+        let wanted = start_seats(scope, rt, alloc, seats, faults);
+        let is_driven = start_driver(scope, rt, office, wanted, done_by, faults);
+        let is_read = start_readers(scope, rt, readers, done_by, faults);
+        (wanted, is_driven && is_read)
+    });
+    if !is_started {
+        faults.fetch_add(1, Ordering::SeqCst);
+    }
+    wanted
+}
+
+// A thread for each seat: how many acts they are to submit.
+fn start_seats<'s, E, C: Channels + Send + Sync + 's, R: Threads + Wait + Clock + Sync>(
+    scope: &Scope<'s, E>,
+    rt: &'s R,
+    alloc: Global,
+    seats: Vec<Seat<C>>,
+    faults: &'s AtomicU64,
+) -> u64 {
+    let mut wanted = 0u64;
+    for seat in seats {
+        if start_seat(scope, rt, alloc, seat, faults) {
+            wanted = wanted.saturating_add(u64::from(ACTS));
+        }
+    }
+    wanted
+}
+
+// Some threads that read: whether all could be started.
+fn start_readers<'s, E, C: Channels + Send + Sync + 's, R: Threads + Wait + Clock + Sync>(
+    scope: &Scope<'s, E>,
+    rt: &'s R,
+    readers: Vec<BoardReader<C>>,
+    done: &'s AtomicU64,
+    faults: &'s AtomicU64,
+) -> bool {
+    let mut is_started = true;
+    for reader in readers.into_iter().take(READERS) {
+        is_started = start_reader(scope, rt, reader, done, faults) && is_started;
+    }
+    is_started
+}
+
+fn start_seat<'s, E, C: Channels + Send + Sync + 's, R: Threads + Wait + Clock + Sync>(
+    scope: &Scope<'s, E>,
+    rt: &'s R,
+    alloc: Global,
+    seat: Seat<C>,
+    faults: &'s AtomicU64,
+) -> bool {
+    Builder::new()
+        .spawn_scoped(scope, move || submit_all(rt, alloc, seat, faults))
+        .is_ok()
+}
+
+fn start_reader<'s, E, C: Channels + Send + Sync + 's, R: Threads + Wait + Clock + Sync>(
+    scope: &Scope<'s, E>,
+    rt: &'s R,
+    reader: BoardReader<C>,
+    done: &'s AtomicU64,
+    faults: &'s AtomicU64,
+) -> bool {
+    Builder::new()
+        .spawn_scoped(scope, move || watch(rt, reader, done, faults))
+        .is_ok()
+}
+
+fn start_driver<
+    's,
+    E,
+    C: Channels + Lanes + Send + Sync,
+    D: Board<C> + Send,
+    B: Backend + Send,
+    R: Threads + Wait + Clock + Sync,
+>(
+    scope: &Scope<'s, E>,
+    rt: &'s R,
+    office: &'s Office<C, D, B>,
+    wanted: u64,
+    done: &'s AtomicU64,
+    faults: &'s AtomicU64,
+) -> bool {
+    Builder::new()
+        .spawn_scoped(scope, move || drive_all(rt, office, wanted, done, faults))
+        .is_ok()
+}
+
+// Submits all acts, each until the ring takes it, or until something failed.
+fn submit_all<C: Channels, R: Wait + Clock>(
+    rt: &R,
+    alloc: Global,
+    seat: Seat<C>,
+    faults: &AtomicU64,
+) {
+    let mut seat = seat;
+    let mut kept = None;
+    for _ in rt.forever() {
+        let sent = seat.sent();
+        if sent >= u64::from(ACTS) || faults.load(Ordering::SeqCst) > 0 {
+            break;
+        }
+        let number = sent as u32;
+        let act = match kept.take() {
+            Some(act) => Some(act),
+            None => act_of(alloc, number),
+        };
+        let Some(act) = act else {
+            faults.fetch_add(1, Ordering::SeqCst);
+            break;
+        };
+        if let Err((back, _)) = seat.submit(moment_of(number), act) {
+            kept = Some(back);
+            thread::sleep(rt, Duration::from_millis(1));
+        }
+    }
+}
+
+// Reads until all is done: no shot is older than one before it.
+fn watch<C: Channels, R: Wait + Clock>(
+    rt: &R,
+    reader: BoardReader<C>,
+    done: &AtomicU64,
+    faults: &AtomicU64,
+) {
+    let mut reader = reader;
+    let mut shot = Shot::empty();
+    let mut seen = 0u64;
+    for _ in rt.forever() {
+        let is_last = done.load(Ordering::SeqCst) == 1;
+        if !reader.read_into(&mut shot) || shot.at < seen {
+            faults.fetch_add(1, Ordering::SeqCst);
+            break;
+        }
+        seen = shot.at;
+        if is_last {
+            break;
+        }
+        thread::sleep(rt, Duration::from_millis(1));
+    }
+}
+
+// Drives until so many steps were made or something failed, and carries the orders of a lane that is full.
+fn drive_all<C: Channels + Lanes, D: Board<C>, B: Backend, R: Wait + Clock>(
+    rt: &R,
+    office: &Office<C, D, B>,
+    wanted: u64,
+    done: &AtomicU64,
+    faults: &AtomicU64,
+) {
+    let mut made = 0u64;
+    for _ in rt.forever() {
+        if made >= wanted || faults.load(Ordering::SeqCst) > 0 {
+            break;
+        }
+        let driven = office.drive(rt, 512);
+        made = made.saturating_add(driven.steps);
+        match driven.stop {
+            DriveStop::Blocked(lane) if lane < office.lanes() => {
+                office.carry(rt, lane, 4_096);
+            }
+            DriveStop::Idle => thread::sleep(rt, Duration::from_millis(1)),
+            _ => {}
+        }
+    }
+    done.store(1, Ordering::SeqCst);
+}
+
+// Whether each ticket has its reply, and no more have one.
+fn are_answered<C: Channels + Lanes, D: Board<C>, B: Backend, R: Wait>(
+    rt: &R,
+    office: &Office<C, D, B>,
+) -> Option<bool> {
+    let mut answered = true;
+    for actor in 0..SEATS as u8 {
+        let actor = Actor::new(actor)?;
+        for number in 1..u64::from(ACTS) + 1 {
+            let reply = office.reply(rt, Ticket { actor, number });
+            answered = answered && matches!(reply, Ok(Some(_)));
+        }
+        let number = u64::from(ACTS) + 1;
+        let next = office.reply(rt, Ticket { actor, number });
+        answered = answered && matches!(next, Ok(None));
+    }
+    Some(answered)
+}

@@ -1,0 +1,99 @@
+//! The rows of the board as they were last read, for the threads of connections.
+ghost use Rattle.std.specs.Prelude.{◌≡◌, IfOk};
+ghost use Rattle.tree_server.specs.Status.{status_text, is_fresh};
+
+use crate::status::push_status;
+use channel_names::Channels;
+use s6_events::{Name, NoMemory};
+use status_board::{BoardReader, Shot};
+use std::alloc::{AllocError, Global};
+use std::sync::{Mutex, Wait};
+
+/// How old the last step may be for a status to be told from it, in milliseconds.
+pub const STATUS_AGE: u64 = 1000;
+
+/// Rows, and the moment of the last step before they were read, in milliseconds; None where a step was made since.
+#[derive(Drop)]
+struct CachedRows {
+    shot: Box<Shot>,
+    step: Option<u64>,
+}
+
+impl CachedRows {
+    // Whether a status may be told from them at this moment.
+    fn is_fresh(&self, now: u64) -> bool
+        ensures { result ≡ is_fresh self.now.step now }
+    {
+        match self.step {
+            Some(step) => now.saturating_sub(step) < STATUS_AGE,
+            None => false,
+        }
+    }
+
+    // The status of this service.
+    fn status(&self, alloc: Global, name: &Name) -> Result<Vec<u8>, AllocError>
+        ensures { IfOk result
+            (λ text. text.items ≡ status_text self.now.shot.rows.items name.now) }
+    {
+        let mut text = Vec::new(alloc);
+        push_status(&mut text, self.shot.rows.as_slice(), name)?;
+        Ok(text)
+    }
+}
+
+/// The rows of the board as they were last read. The thread that drives reads them, and forgets them with each step; threads of
+/// connections tell from them, so that a status of a tree at rest wakes nobody.
+#[derive(Drop)]
+pub struct RowCache {
+    rows: Mutex<CachedRows>,
+}
+
+impl RowCache {
+    /// Nothing is read yet. `NoMemory` where a growth was refused.
+    pub fn new(alloc: Global) -> Result<RowCache, NoMemory> {
+        let rows = CachedRows {
+            shot: Box::new(alloc, Shot::empty())?,
+            step: None,
+        };
+        Ok(RowCache {
+            rows: Mutex::new(rows),
+        })
+    }
+
+    /// A step was made: the rows may not be those of the board any more.
+    pub fn invalidate<R: Wait>(&self, rt: &R) {
+        self.rows.lock(rt).step = None;
+    }
+
+    /// The status of this service at this moment, in milliseconds; None where a step was made since the rows were read, or the last one
+    /// is so old that no age can be told from it.
+    pub fn status<R: Wait>(
+        &self,
+        rt: &R,
+        alloc: Global,
+        now: u64,
+        name: &Name,
+    ) -> Option<Result<Vec<u8>, AllocError>> {
+        let rows = self.rows.lock(rt);
+        if !rows.is_fresh(now) {
+            return None;
+        }
+        Some(rows.status(alloc, name))
+    }
+
+    /// Reads the board anew, after a last step at this moment, in milliseconds. The status of this service then.
+    pub fn read<C: Channels, R: Wait>(
+        &self,
+        rt: &R,
+        alloc: Global,
+        reader: &mut BoardReader<C>,
+        step: u64,
+        name: &Name,
+    ) -> Result<Vec<u8>, AllocError> {
+        let mut rows = self.rows.lock(rt);
+        let rows = &mut *rows;
+        let is_read = reader.read_into(&mut rows.shot);
+        rows.step = if is_read { Some(step) } else { None };
+        rows.status(alloc, name)
+    }
+}
