@@ -77,9 +77,9 @@ pub record IsClosed {B : Type 0} (asked : B → List Order) (before : ℕ → Li
   pub done : AreDone v.steps finishes
   pub lanes : length closed.backends.items ≡ length v.lanes
   pub carried_out : AreCarriedOut asked before (length v.lanes) v.steps closed.backends.items
-  pub tree : closed.tree ≡ v.tree
+  pub tree : closed.tree.value ≡ v.tree
   pub steps : closed.steps ≡ length v.steps
-  pub legal : IsLegalRun (record { opening = v.opening; steps = v.steps; tree = closed.tree })
+  pub legal : IsLegalRun (record { opening = v.opening; steps = v.steps; tree = closed.tree.value })
 
 -- why a run isn't closed: the finishes aren't complete, or they are, and something is left
 pub record IsFault (before : ℕ → List Order) (v : RunningView) (desks : List DeskView) (finishes : List FinishedView)

@@ -256,7 +256,7 @@ impl<C: Channels + Lanes, D: Board<C>> Room<C, D> {
 
     // The tree alone.
     fn into_tree(self) -> Box<Tree<Global>>
-        ensures { result ≡ self.running.tree }
+        ensures { result.value ≡ self.running.tree }
     {
         let Room { running, .. } = self;
         running.into_tree()

@@ -53,9 +53,9 @@ impl<C: Channels + Lanes> Model for RunningTree<C> {
 
     ghost Value = { RunningView };
 
-    ghost view = { λ r. record { opening = r.opening; tree = r.tree; steps = r.run.steps; drains = r.drains.items; held = r.held; lanes = r.lanes.items } };
+    ghost view = { λ r. record { opening = r.opening; tree = r.tree.value; steps = r.run.steps; drains = r.drains.items; held = r.held; lanes = r.lanes.items } };
 
-    ghost invariant = { λ r. IsSoundRunning (record { opening = r.opening; tree = r.tree; steps = r.run.steps; drains = r.drains.items; held = r.held; lanes = r.lanes.items }) };
+    ghost invariant = { λ r. IsSoundRunning (record { opening = r.opening; tree = r.tree.value; steps = r.run.steps; drains = r.drains.items; held = r.held; lanes = r.lanes.items }) };
 }
 
 impl<C: Channels + Lanes> RunningTree<C> {
@@ -67,15 +67,15 @@ impl<C: Channels + Lanes> RunningTree<C> {
         drains: Vec<Drain<C>>,
         lanes: Vec<Lane<C>>,
     ) -> RunningTree<C>
-        requires opening { beginning.opening ≡ tree }
+        requires opening { beginning.opening ≡ tree.value }
         requires steps { beginning.run.steps ≡ [] }
         requires numbered { AreNumbered drains.items }
         requires untaken { (actor : ℕ) → taken_from actor drains.items ≡ [] }
         requires lanes { 0 < length lanes.items }
         requires unsent { (k : ℕ) → sent_in k lanes.items ≡ [] }
         ensures { result ≡ record {
-          opening = tree;
-          tree = tree;
+          opening = tree.value;
+          tree = tree.value;
           steps = [];
           drains = drains.items;
           held = None;
@@ -203,9 +203,10 @@ impl<C: Channels + Lanes> RunningTree<C> {
     pub fn shot(&self) -> Shot
         ensures { (m : Machine) → StandsFor self.now.opening m → result ≡ shot_of (end_of m self.now.steps) }
     {
+        let tree = &*self.tree;
         Shot {
-            at: self.tree.steps(),
-            rows: self.tree.rows(),
+            at: tree.steps(),
+            rows: tree.rows(),
         }
     }
 
@@ -291,7 +292,7 @@ impl<C: Channels + Lanes> RunningTree<C> {
 
     /// The tree alone.
     pub fn into_tree(self) -> Box<Tree<Global>>
-        ensures { result ≡ self.tree }
+        ensures { result.value ≡ self.tree }
     {
         let RunningTree { tree, .. } = self;
         tree

@@ -52,7 +52,7 @@ impl<B: Drop> Model for NewOffice<B> {
 
     ghost Value = { NewOfficeView B };
 
-    ghost view = { λ o. record { tree = o.tree; rings = o.rings.items; lane_rings = o.lane_rings.items; board = o.board; backends = o.backends.items } };
+    ghost view = { λ o. record { tree = o.tree.value; rings = o.rings.items; lane_rings = o.lane_rings.items; board = o.board; backends = o.backends.items } };
 
     ghost invariant = { λ o. IsSoundNew o.rings.items o.lane_rings.items (length o.backends.items) };
 }
@@ -101,7 +101,7 @@ impl<B: Drop> NewOffice<B> {
         backends: Vec<B>,
     ) -> Result<NewOffice<B>, (OpenFault, Box<Tree<Global>>, Vec<B>)>
         ensures within { IfOk result (λ o. refusal actors (length backends.items) ≡ None) }
-        ensures tree { IfOk result (λ o. o.tree ≡ tree) }
+        ensures tree { IfOk result (λ o. o.tree ≡ tree.value) }
         ensures backends { IfOk result (λ o. o.backends ≡ backends.items) }
         ensures actors { IfOk result (λ o. length o.rings ≡ actors) }
         ensures lanes { IfOk result (λ o. length o.lane_rings ≡ length backends.items) }

@@ -104,15 +104,15 @@ fn new_room<C: Channels + Lanes, D: Board<C>>(
     lanes: Vec<Lane<C>>,
     board: D,
 ) -> Room<C, D>
-    requires opening { beginning.opening ≡ tree }
+    requires opening { beginning.opening ≡ tree.value }
     requires steps { beginning.run.steps ≡ [] }
     requires numbered { AreNumbered drains.items }
     requires untaken { (actor : ℕ) → taken_from actor drains.items ≡ [] }
     requires lanes { 0 < length lanes.items }
     requires unsent { (k : ℕ) → sent_in k lanes.items ≡ [] }
-    requires first { (m : Machine) → StandsFor tree m → D.shots board ≡ shot_of m ∷ [] }
-    ensures opening { result.running.opening ≡ tree }
-    ensures tree { result.running.tree ≡ tree }
+    requires first { (m : Machine) → StandsFor tree.value m → D.shots board ≡ shot_of m ∷ [] }
+    ensures opening { result.running.opening ≡ tree.value }
+    ensures tree { result.running.tree ≡ tree.value }
     ensures steps { result.running.steps ≡ [] }
     ensures shots { result.shots ≡ D.shots board }
     ensures shown { result.is_shown ≡ true }
@@ -130,11 +130,11 @@ impl<C: Channels + Lanes, D: Board<C>, B: Backend> Parts<C, D, B> {
         rings: Vec<LaneRing>,
         backends: Vec<B>,
     ) -> Opened<C, D, B>
-        requires opening { self.beginning.opening ≡ tree }
+        requires opening { self.beginning.opening ≡ tree.value }
         requires steps { self.beginning.run.steps ≡ [] }
         requires numbered { AreNumbered self.ends.drains.items }
         requires untaken { (actor : ℕ) → taken_from actor self.ends.drains.items ≡ [] }
-        requires first { (m : Machine) → StandsFor tree m → D.shots self.board ≡ shot_of m ∷ [] }
+        requires first { (m : Machine) → StandsFor tree.value m → D.shots self.board ≡ shot_of m ∷ [] }
         requires lanes { (self.lanes.lanes.items ≡ [])
             × (length rings.items ≤ vec_capacity self.lanes.lanes) }
         requires desks { (self.lanes.desks.items ≡ [])
@@ -186,7 +186,7 @@ impl<B: Backend> NewOffice<B> {
         ensures first { IfOk result (λ o. (m : Machine) → StandsFor self.tree m
             → AreReaders (shot_of m ∷ []) o.readers.items) }
         ensures fault { IfErr result (λ e. (e.0 ≡ fault.NoMemory) ⊎ (e.0 ≡ fault.Board)) }
-        ensures tree { IfErr result (λ e. e.1 ≡ self.tree) }
+        ensures tree { IfErr result (λ e. e.1.value ≡ self.tree) }
         ensures backends { IfErr result (λ e. e.2.items ≡ self.backends) }
     {
         let NewOffice {

@@ -33,7 +33,7 @@ impl CachedRows {
     // The status of this service.
     fn status(&self, alloc: Global, name: &Name) -> Result<Vec<u8>, AllocError>
         ensures { IfOk result
-            (λ text. text.items ≡ status_text self.now.shot.rows.items name.now) }
+            (λ text. text.items ≡ status_text self.now.shot.value.rows.items name.now) }
     {
         let mut text = Vec::new(alloc);
         push_status(&mut text, self.shot.rows.as_slice(), name)?;

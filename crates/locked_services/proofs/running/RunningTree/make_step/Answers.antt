@@ -5,16 +5,17 @@ use Rattle.order_lanes.specs.LaneOrders.{orders_of_lane}
 use Rattle.s6_events.specs.declared.order.Order.{Order}
 use Rattle.tree_core.specs.Effect.{outcome_of}
 use Rattle.tree_core.specs.Limits.{order_limit}
+use Rattle.tree_core.specs.StandsFor.{StandsFor, StoredTree}
 use Rattle.tree_core.specs.declared.input.Input.{Input}
 use Rattle.run_records.specs.Runs.{RunStep}
 use Rattle.locked_services.specs.Running.{RunningView}
-use Rattle.locked_services.proofs.Lasting.{sound_step}
+use Rattle.locked_services.proofs.Lasting.{GoesTo, sound_step}
 use Rattle.locked_services.proofs.running.RunningTree.make_step.Goals as goal
 
 pub invariant_of-self-in-Ok : goal.invariant_of-self-in-Ok
 invariant_of-self-in-Ok g c =
     let old = c.self.inside in
-    let v : RunningView = record { opening = old.opening; tree = old.tree; steps = old.run.steps; drains = old.drains.items; held = old.held; lanes = old.lanes.items } in
+    let v : RunningView = record { opening = old.opening; tree = old.tree.value; steps = old.run.steps; drains = old.drains.items; held = old.held; lanes = old.lanes.items } in
     let w : RunningView = record { opening = old.opening; tree = c.apply_into.new.self; steps = c.add.new.self.steps; drains = old.drains.items; held = c.take.new.self; lanes = c.send_all.new.lanes.items } in
     let i = c.in-Some-take.input in
     let s : RunStep = record { input = i; outcome = outcome_of c.apply_into.new.effect } in
@@ -24,7 +25,10 @@ invariant_of-self-in-Ok g c =
     c.add.ensures
     ∙ (ap (λ (xs : List RunStep). xs ++ record { input = c.in_ok-plain-in-Some.plain; outcome = s.outcome } ∷ []) c.reserve.ensures.steps
     ∙ ap (λ (j : Input Global). old.run.steps ++ record { input = j; outcome = s.outcome } ∷ []) (c.in_ok-plain-in-Some.ensures ∙ same)) in
-    sound_step v w s c.self.invariant held (record { goes = c.in-Ok.ensures.step }) refl steps refl c.take.ensures.after c.send_all.ensures.len
+    let goes : GoesTo v.tree w.tree s = record {
+      goes = λ m stands. c.in-Ok.ensures.step m (subst (λ (t : StoredTree). StandsFor t m) (sym c.deref_mut.ensures.value) stands);
+    } in
+    sound_step v w s c.self.invariant held goes refl steps refl c.take.ensures.after c.send_all.ensures.len
     (λ k below. c.send_all.ensures.sent k below
     ∙ ap (λ (os : List Order). sent_in k old.lanes.items ++ orders_of_lane (length old.lanes.items) k os) c.as_slice.ensures.value)
 

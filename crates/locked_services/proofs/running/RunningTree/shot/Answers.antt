@@ -11,6 +11,6 @@ pub returns : goal.returns
 returns g c m s =
     let steps = c.self.inside.run.steps in
     let here : StandsFor c.self.inside.opening m = subst (λ (v : RunningView). StandsFor v.opening m) (sym c.self.view_is) s in
-    let stands = c.self.invariant.stands m here in
+    let stands = subst (λ (t : StoredTree). StandsFor t (end_of m steps)) (sym c.deref-tree.ensures) (c.self.invariant.stands m here) in
     shot_is (end_of m steps) (record { at = c.steps.result; rows = c.rows.result }) (c.steps.ensures (end_of m steps) stands) (c.rows.ensures (end_of m steps) stands)
     ∙ ap (λ (v : RunningView). shot_of (end_of m v.steps)) c.self.view_is
