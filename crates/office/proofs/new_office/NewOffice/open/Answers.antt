@@ -1,7 +1,7 @@
 use Rattle.std.proofs.Common.{◌≡◌, ℕ, List, [], ◌∷◌, Vec, Global, slice_get, sym, ap, subst, ◌∙◌}
 use Rattle.inbox.specs.Ends.{SeatView}
 use Rattle.status_board.specs.declared.shot.Shot.{Shot}
-use Rattle.tree_core.specs.StandsFor.{StandsFor}
+use Rattle.tree_core.specs.StandsFor.{StandsFor, StoredTree}
 use Rattle.locked_services.specs.Opening.{AreUnused}
 use Rattle.locked_services.specs.Shots.{shot_of}
 use Rattle.office.proofs.Named.{named_rings, named_lanes, named_before}
@@ -21,13 +21,17 @@ into_open-requires-clause-before g c =
     (λ k. c.requires.before k
     ∙ ap (λ (v : NewOfficeView g.row.B.Denot). asked_of g.B.Backend.asked (slice_get v.backends k)) (sym c.self.view_is))
 
+pub into_open-requires-clause-first : goal.into_open-requires-clause-first
+into_open-requires-clause-first g c m stands = c.in-Ok.ensures.first m (subst (λ (t : StoredTree). StandsFor t m) (sym c.deref.ensures) stands)
+
 pub returns-in-Ok-clause-unused : goal.returns-in-Ok-clause-unused
 returns-in-Ok-clause-unused g c =
     subst (λ (seats : Vec SeatView Global). AreUnused seats.items) (sym c.into_open.ensures.seats) c.in-Ok.ensures.unused
 
 pub returns-in-Ok-clause-first : goal.returns-in-Ok-clause-first
 returns-in-Ok-clause-first g c m stands =
-    let here = subst (λ (v : NewOfficeView g.row.B.Denot). StandsFor v.tree m) (sym c.self.view_is) stands in
+    let own = subst (λ (v : NewOfficeView g.row.B.Denot). StandsFor v.tree m) (sym c.self.view_is) stands in
+    let here = subst (λ (t : StoredTree). StandsFor t m) (sym c.deref.ensures) own in
     subst (λ (readers : Vec (List Shot) Global). AreReaders (shot_of m ∷ []) readers.items) (sym c.into_open.ensures.readers)
     (subst (λ (published : List Shot). AreReaders published c.in-Ok.parts.readers.items) (c.in-Ok.ensures.first m here) c.in-Ok.ensures.known)
 
