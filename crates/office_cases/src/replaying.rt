@@ -3,11 +3,52 @@ use channel_names::Channels;
 use inbox::Ticket;
 use office::Office;
 use order_lanes::{Backend, Lanes};
+use s6_events::Actor;
 use status_board::Board;
 use std::alloc::Global;
 use std::sync::Wait;
 use tree_cases::{input_of, is_same_reply};
-use tree_core::{Effect, Tree};
+use tree_core::{Effect, Input, Tree};
+
+// A new tree, and how many inputs of each actor it took.
+#[derive(Drop)]
+struct Replay {
+    tree: Tree<Global>,
+    effect: Effect<Global>,
+    numbers: [u32; 16],
+}
+
+impl Replay {
+    // The next input of this actor, and its ticket.
+    fn next_input(&mut self, alloc: Global, actor: Actor) -> Option<(Input<Global>, Ticket)> {
+        let number = self.numbers.get_mut(usize::from(actor.number()))?;
+        let input = input_of(alloc, actor, *number)?;
+        *number = number.saturating_add(1);
+        let number = u64::from(*number);
+        Some((input, Ticket { actor, number }))
+    }
+
+    // Makes the next step of this actor. Its ticket.
+    fn make_step(&mut self, alloc: Global, actor: Actor) -> Option<Ticket> {
+        let (input, ticket) = self.next_input(alloc, actor)?;
+        self.tree.apply_into(input, &mut self.effect).ok()?;
+        Some(ticket)
+    }
+}
+
+// Whether the reply that is recorded for the next step is the one that is given now.
+fn gives_same<C: Channels + Lanes, D: Board<C>, B: Backend, R: Wait>(
+    rt: &R,
+    alloc: Global,
+    office: &Office<C, D, B>,
+    replay: &mut Replay,
+    step: u64,
+) -> Option<bool> {
+    let actor = office.actor(rt, step)?;
+    let ticket = replay.make_step(alloc, actor)?;
+    let recorded = office.reply(rt, ticket).ok()??;
+    Some(is_same_reply(&replay.effect.reply, &recorded))
+}
 
 /// Whether a new tree that takes the inputs of so many steps, one after the other, gives the replies of the records.
 pub fn is_replayed<C: Channels + Lanes, D: Board<C>, B: Backend, R: Wait>(
@@ -16,21 +57,13 @@ pub fn is_replayed<C: Channels + Lanes, D: Board<C>, B: Backend, R: Wait>(
     office: &Office<C, D, B>,
     steps: u64,
 ) -> Option<bool> {
-    let mut tree = Tree::new(alloc);
-    let mut effect = Effect::new(alloc);
-    let mut numbers = [0u32; 16];
+    let mut replay = Replay {
+        tree: Tree::new(alloc),
+        effect: Effect::new(alloc),
+        numbers: [0; 16],
+    };
     for step in 1..steps.saturating_add(1) {
-        let actor = office.actor(rt, step)?;
-        let number = numbers.get_mut(usize::from(actor.number()))?;
-        let input = input_of(alloc, actor, *number)?;
-        tree.apply_into(input, &mut effect).ok()?;
-        *number = number.saturating_add(1);
-        let ticket = Ticket {
-            actor,
-            number: u64::from(*number),
-        };
-        let recorded = office.reply(rt, ticket).ok()??;
-        if !is_same_reply(&effect.reply, &recorded) {
+        if !gives_same(rt, alloc, office, &mut replay, step)? {
             return Some(false);
         }
     }

@@ -21,8 +21,6 @@ use Rattle.tree_server.specs.contracts.driver_state.Connection as Connection
 use Rattle.tree_server.specs.contracts.driver_state.DriverState as DriverState
 use Rattle.tree_server.specs.contracts.lane_service.LaneSeat as LaneSeat
 use Rattle.tree_server.specs.contracts.outcome.Outcome as Outcome
-use Rattle.tree_server.specs.contracts.row_cache.CachedRows as CachedRows
-use Rattle.tree_server.specs.contracts.row_cache.RowCache as RowCache
 use Rattle.tree_server.specs.contracts.shared.Shared as Shared
 use Rattle.tree_server.specs.contracts.slot.Slot as Slot
 
@@ -52,14 +50,8 @@ turn_send =
 caller_sync : IsSync Caller.the_row
 caller_sync = search (turn_send, crosses, sendable) depth 60 fits 20000
 
-cached_rows_send : IsSend CachedRows.the_row
-cached_rows_send = search (option.the_field_send, crosses, sendable) depth 60 fits 20000
-
-row_cache_sync : IsSync RowCache.the_row
-row_cache_sync = search (cached_rows_send, crosses, sendable) depth 60 fits 20000
-
 pub shared_sync : IsSync Shared.the_row
-shared_sync = search (caller_sync, row_cache_sync, bell_sync, crosses, sendable) depth 60 fits 20000
+shared_sync = search (caller_sync, bell_sync, crosses, sendable) depth 60 fits 20000
 
 pub server_sync : IsSync (Server.the_row Shared.the_row)
 server_sync = search (shared_sync, server.the_sync, crosses, sendable) depth 60 fits 20000

@@ -89,7 +89,7 @@ fn answer_client<C: Channels, R: Wait + Clock>(
         return;
     };
     let purpose = mem::replace(&mut connection.purpose, Purpose::None);
-    if let Purpose::Request(ending) = purpose {
+    if let Purpose::Request(ending) = &purpose {
         // There is room: it was made before the request was handed in.
         let _ = connection.standing.note(&effect.reply);
         let text = reply_lines(server.answers().alloc, &effect.reply);
@@ -108,7 +108,7 @@ fn answer_client<C: Channels, R: Wait + Clock>(
 }
 
 // What has ended stands no more, whoever made it: a client may end what another one made.
-fn forget(connections: &mut Vec<Connection>, ending: Ending) {
+fn forget(connections: &mut Vec<Connection>, ending: &Ending) {
     for connection in connections.iter_mut() {
         connection.standing.forget(ending);
     }

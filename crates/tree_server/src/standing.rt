@@ -1,5 +1,5 @@
 //! What stands of a connection: the waiters and the subscriptions that it made.
-ghost use Rattle.std.specs.Prelude.{◌≡◌, ◌++◌, [], OnOk, OnErr, IsTrue, IsFalse};
+ghost use Rattle.std.specs.Prelude.{◌≡◌, ◌++◌, ◌==◌, [], filter, not, OnOk, OnErr, IsTrue, IsFalse};
 ghost use Rattle.std.specs.List.{Contains};
 ghost use Rattle.tree_server.specs.Standing.{waiters_of, subscriptions_of, Ends, ending_of, waiters_left, subscriptions_left};
 
@@ -26,6 +26,20 @@ impl Ending {
             _ => Ending::Nothing,
         }
     }
+}
+
+// Takes this waiter out.
+fn drop_waiter(waiters: &mut Vec<WaitId>, ended: WaitId)
+    ensures { waiters.new.items ≡ filter (λ w. not (w == ended)) waiters.old.items }
+{
+    waiters.retain(|waiter| *waiter != ended);
+}
+
+// Takes this subscription out.
+fn drop_subscription(subscriptions: &mut Vec<SubId>, ended: SubId)
+    ensures { subscriptions.new.items ≡ filter (λ s. not (s == ended)) subscriptions.old.items }
+{
+    subscriptions.retain(|made| *made != ended);
 }
 
 /// The waiters and the subscriptions that a connection made. One that is over stands too: it counts for the limits of the tree until it
@@ -75,15 +89,15 @@ impl Standing {
     }
 
     /// What has ended stands no more.
-    pub fn forget(&mut self, ending: Ending)
-        ensures waiters { self.new.waiters.items ≡ waiters_left ending self.old.waiters.items }
+    pub fn forget(&mut self, ending: &Ending)
+        ensures waiters { self.new.waiters.items ≡ waiters_left ending.now self.old.waiters.items }
         ensures subscriptions { self.new.subscriptions.items
-            ≡ subscriptions_left ending self.old.subscriptions.items }
+            ≡ subscriptions_left ending.now self.old.subscriptions.items }
     {
         match ending {
             Ending::Nothing => {}
-            Ending::Waiter(id) => self.waiters.retain(|waiter| *waiter != id),
-            Ending::Subscription(id) => self.subscriptions.retain(|made| *made != id),
+            Ending::Waiter(id) => drop_waiter(&mut self.waiters, *id),
+            Ending::Subscription(id) => drop_subscription(&mut self.subscriptions, *id),
         }
     }
 
