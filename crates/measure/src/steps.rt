@@ -98,23 +98,29 @@ fn apply(
     }
 }
 
+// One probe, without reports.
+fn one_probe<R: Copy + Drop>(rt: R, alloc: Global) -> Result<Vec<Probe<R>>, NoMemory> {
+    let log = Arc::new(alloc, Mutex::new(Vec::new(alloc)))?;
+    let mut backends = Vec::new(alloc);
+    backends.push(Probe::new(rt, alloc, Vec::new(alloc), 0, log))?;
+    Ok(backends)
+}
+
+// A tree that has made no step.
+fn new_tree(alloc: Global) -> Result<Box<Tree<Global>>, NoMemory> {
+    Ok(Box::new(alloc, Tree::new(alloc))?)
+}
+
 /// A new office with so many seats, and one lane whose backend is a probe.
 pub fn new_office<R: Copy + Drop>(
     rt: R,
     alloc: Global,
     load: Load,
 ) -> Result<NewOffice<Probe<R>>, Fault> {
-    let Ok(log) = Arc::new(alloc, Mutex::new(Vec::new(alloc))) else {
+    let Ok(backends) = one_probe(rt, alloc) else {
         return Err(Fault::NoMemory(NoMemory));
     };
-    let mut backends = Vec::new(alloc);
-    if backends
-        .push(Probe::new(rt, alloc, Vec::new(alloc), 0, log))
-        .is_err()
-    {
-        return Err(Fault::NoMemory(NoMemory));
-    }
-    let Ok(tree) = Box::new(alloc, Tree::new(alloc)) else {
+    let Ok(tree) = new_tree(alloc) else {
         return Err(Fault::NoMemory(NoMemory));
     };
     match NewOffice::new(alloc, tree, usize::from(load.threads), backends) {
