@@ -7,7 +7,9 @@
 # that of svscan. S6_TREE is the path of the program; services find it and SOCKET in their environment.
 S6_TREE=${S6_TREE:-s6_tree}
 SOCKET=$2
-export S6_TREE SOCKET
+# With it glibc gives back what a run of the tree took. Services inherit it, unless their `run` unsets it.
+MALLOC_TRIM_THRESHOLD_=${MALLOC_TRIM_THRESHOLD_:-131072}
+export S6_TREE SOCKET MALLOC_TRIM_THRESHOLD_
 
 # A shell has what runs in its background ignore INT and QUIT, and services would inherit that. GNU's env sets them back; then the
 # tree is in a session of its own, where a terminal's Ctrl-C doesn't reach it.
