@@ -98,12 +98,20 @@ impl<F: Finds, A: Allocator + Copy> Directories<F, A> {
         change: &DirectoryChange<'_>,
     ) -> Result<DirectoriesPlan<A>, NoMemory>
         requires { self.old.shown.next < 2 ^ 63 }
-        ensures matches { IfOk result (λ plan. (d : WrittenDirectories) → AreHeard F.test self.old.shown d →
-            plan.matches.items ≡ matches_by F.test d moments.now ++ matches_of F.test (directory_request_of change.now) (directories_after_moments d moments.now)) }
-        ensures answer { IfOk result (λ plan. (d : WrittenDirectories) → AreHeard F.test self.old.shown d →
-            plan.answer ≡ directory_answer (directory_request_of change.now) (directories_after_moments d moments.now)) }
-        ensures prepared { OnOk result ((offer : Offer) → (d : WrittenDirectories) → AreHeard F.test self.old.shown d →
-            AreHeard F.test (directories_after_commit self.new.prepared offer) (directories_after_change (directory_request_of change.now) offer (directories_after_moments d moments.now))) }
+        ensures matches { IfOk result
+            (λ plan. (d : WrittenDirectories) → AreHeard F.test self.old.shown d →
+            plan.matches.items ≡ matches_by F.test d moments.now
+            ++ matches_of F.test (directory_request_of change.now)
+            (directories_after_moments d moments.now)) }
+        ensures answer { IfOk result
+            (λ plan. (d : WrittenDirectories) → AreHeard F.test self.old.shown d →
+            plan.answer ≡ directory_answer (directory_request_of change.now)
+            (directories_after_moments d moments.now)) }
+        ensures prepared { OnOk result ((offer : Offer) → (d : WrittenDirectories) →
+            AreHeard F.test self.old.shown d →
+            AreHeard F.test (directories_after_commit self.new.prepared offer)
+            (directories_after_change (directory_request_of change.now) offer
+            (directories_after_moments d moments.now))) }
         ensures number { IfOk result (λ plan. plan_number plan ≡ self.new.number) }
         ensures serials { OnOk result
             ((offer : Offer) → (directories_after_commit self.new.prepared offer).next
@@ -124,8 +132,10 @@ impl<F: Finds, A: Allocator + Copy> Directories<F, A> {
         change: &DirectoryChange<'_>,
     ) -> Result<DirectoriesPlan<A>, NoMemory>
         requires { self.old.shown.next < 2 ^ 63 }
-        ensures matches { IfOk result (λ plan. plan.matches.items ≡ hits_of_moments F.test moments.now self.old.shown.followed
-            ++ given_change F.test (directory_request_of change.now) (after_step F.test moments.now self.old.shown)) }
+        ensures matches { IfOk result
+            (λ plan. plan.matches.items ≡ hits_of_moments F.test moments.now self.old.shown.followed
+            ++ given_change F.test (directory_request_of change.now)
+            (after_step F.test moments.now self.old.shown)) }
         ensures answer { IfOk result
             (λ plan. plan.answer ≡ told_change (directory_request_of change.now)
             (after_step F.test moments.now self.old.shown)) }

@@ -78,10 +78,12 @@ impl<F: Finds, A: Allocator + Copy> Directory<F, A> {
         requires { All (λ s. s.id < id) self.old.standing }
         ensures ok { OnOk result (self.new.standing
             ≡ self.old.standing ++ new_kept_subscription id (F.source pattern) repeats ∷ []) }
-        ensures hears { OnOk result ((subscribed : List TextSubscription) → HaveHeard F.test self.old.standing subscribed →
-            HaveHeard F.test self.new.standing (subscribed ++ new_text_subscription id (F.source pattern) repeats ∷ [])) }
-        ensures planned { OnOk result
-            (self.new.planned ≡ self.old.planned ++ new_kept_subscription id (F.source pattern) repeats ∷ []) }
+        ensures hears { OnOk result ((subscribed : List TextSubscription) →
+            HaveHeard F.test self.old.standing subscribed →
+            HaveHeard F.test self.new.standing
+            (subscribed ++ new_text_subscription id (F.source pattern) repeats ∷ [])) }
+        ensures planned { OnOk result (self.new.planned
+            ≡ self.old.planned ++ new_kept_subscription id (F.source pattern) repeats ∷ []) }
         ensures err { IfErr result (λ back. (back ≡ pattern)
             × (self.new.standing ≡ self.old.standing)) }
         ensures still { OnErr result (self.new.planned ≡ self.old.planned) }
@@ -99,8 +101,10 @@ impl<F: Finds, A: Allocator + Copy> Directory<F, A> {
         requires greater { All (λ s. s.id < id) self.old.standing }
         ensures after { self.new.standing
             ≡ self.old.standing ++ new_kept_subscription id (F.source pattern) repeats ∷ [] }
-        ensures hears { (subscribed : List TextSubscription) → HaveHeard F.test self.old.standing subscribed →
-            HaveHeard F.test self.new.standing (subscribed ++ new_text_subscription id (F.source pattern) repeats ∷ []) }
+        ensures hears { (subscribed : List TextSubscription) →
+            HaveHeard F.test self.old.standing subscribed →
+            HaveHeard F.test self.new.standing
+            (subscribed ++ new_text_subscription id (F.source pattern) repeats ∷ []) }
         ensures planned { self.new.planned ≡
             self.old.planned ++ new_kept_subscription id (F.source pattern) repeats ∷ [] }
     {
@@ -158,7 +162,8 @@ impl<F: Finds, A: Allocator + Copy> Directory<F, A> {
     pub fn unsubscribe(&mut self, id: SubId)
         ensures after { self.new.standing ≡ kept_without id self.old.standing }
         ensures planned { self.new.planned ≡ kept_without id self.old.planned }
-        ensures hears { (subscribed : List TextSubscription) → HaveHeard F.test self.old.standing subscribed →
+        ensures hears { (subscribed : List TextSubscription) →
+            HaveHeard F.test self.old.standing subscribed →
             HaveHeard F.test self.new.standing (left_without id subscribed) }
     {
         self.leave(id);
@@ -181,8 +186,10 @@ impl<F: Finds, A: Allocator + Copy> Directory<F, A> {
     pub fn list(&self, id: SubId) -> Option<SubView<'_>>
         ensures stored { option_map (λ v. (v.letters.now, v.state)) result
             ≡ view_of id self.now.standing }
-        ensures defined { (subscribed : List TextSubscription) → HaveHeard F.test self.now.standing subscribed →
-            option_map (λ v. (v.letters.now, v.state)) result ≡ list_of_subscription F.test id subscribed }
+        ensures defined { (subscribed : List TextSubscription) →
+            HaveHeard F.test self.now.standing subscribed →
+            option_map (λ v. (v.letters.now, v.state)) result
+            ≡ list_of_subscription F.test id subscribed }
     {
         self.stored_view(id)
     }
@@ -205,7 +212,9 @@ impl<F: Finds, A: Allocator + Copy> Directory<F, A> {
             ≡ hits_from F.test letter self.old.standing) }
         ensures after { OnOk result
             (self.new.standing ≡ after_letter F.test letter self.old.standing) }
-        ensures defined { IfOk result (λ hits. (subscribed : List TextSubscription) → HaveHeard F.test self.old.standing subscribed →
+        ensures defined { IfOk result
+            (λ hits. (subscribed : List TextSubscription) →
+            HaveHeard F.test self.old.standing subscribed →
             Sends F.test self.new.standing letter subscribed hits.items) }
         ensures idle { OnOk result (self.new.planned ≡ self.new.standing) }
         ensures err { OnErr result
@@ -268,7 +277,9 @@ impl<F: Finds, A: Allocator + Copy> Directory<F, A> {
             ≡ hits_from_letters F.test letters.now self.old.standing) }
         ensures planned { OnOk result
             (self.new.planned ≡ after_letters F.test letters.now self.old.standing) }
-        ensures defined { IfOk result (λ plan. (subscribed : List TextSubscription) → HaveHeard F.test self.old.standing subscribed →
+        ensures defined { IfOk result
+            (λ plan. (subscribed : List TextSubscription) →
+            HaveHeard F.test self.old.standing subscribed →
             Prepares F.test self.new.planned letters.now subscribed plan) }
         ensures room { OnOk result (0 < self.new.room) }
         ensures same { self.new.standing ≡ self.old.standing }

@@ -85,8 +85,10 @@ pub fn work_out<F: Finds, A: Allocator + Copy>(
     ensures answer { IfOk result
         (λ r. r.1 ≡ told_change (directory_request_of change.now)
         (after_step F.test moments.now (shown_in register.old))) }
-    ensures matches { OnOk result (matches.new.items ≡ matches.old.items ++ hits_of_moments F.test moments.now register.old.followed
-        ++ given_change F.test (directory_request_of change.now) (after_step F.test moments.now (shown_in register.old))) }
+    ensures matches { OnOk result (matches.new.items
+        ≡ matches.old.items ++ hits_of_moments F.test moments.now register.old.followed
+        ++ given_change F.test (directory_request_of change.now)
+        (after_step F.test moments.now (shown_in register.old))) }
     ensures room { IfOk result (λ r. HasRoom r.0 register.new) }
 {
     hear_step(register, moments, matches)?;

@@ -185,10 +185,13 @@ impl<F: Finds, A: Allocator + Copy> Subscription<F, A> {
         ensures same { self.new.standing ≡ self.old.standing }
         ensures planned { self.new.planned ≡ self.old.planned }
         ensures within { live_offset self.new.prepared ≤ live_offset self.old.prepared + 1 }
-        ensures hit { IfOk result (λ hit. hit ≡ hit_between letter (heard_in [] self.old.prepared) (heard_in []
-            (next_reading (F.test self.old.standing.pattern) self.old.standing.repeats letter text.now self.old.prepared))) }
-        ensures next { OnOk result (self.new.prepared ≡
-            next_reading (F.test self.old.standing.pattern) self.old.standing.repeats letter text.now self.old.prepared) }
+        ensures hit { IfOk result
+            (λ hit. hit ≡ hit_between letter (heard_in [] self.old.prepared)
+            (heard_in [] (next_reading (F.test self.old.standing.pattern)
+            self.old.standing.repeats letter text.now self.old.prepared))) }
+        ensures next { OnOk result (self.new.prepared
+            ≡ next_reading (F.test self.old.standing.pattern)
+            self.old.standing.repeats letter text.now self.old.prepared) }
     {
         if self.prepared.state != State::Live {
             return Ok(None);
@@ -223,7 +226,8 @@ impl<F: Finds, A: Allocator + Copy> Subscription<F, A> {
 
     /// Hears what was prepared; what was planned is forgotten.
     pub fn commit(&mut self)
-        ensures standing { self.new.standing ≡ record self.old.standing { reading = self.old.prepared } }
+        ensures standing { self.new.standing
+            ≡ record self.old.standing { reading = self.old.prepared } }
         ensures prepared { self.new.prepared ≡ self.old.prepared }
     {
         self.planned.letters.clear();

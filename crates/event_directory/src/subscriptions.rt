@@ -60,7 +60,8 @@ pub fn prepare_all<F: Finds, A: Allocator + Copy>(
     ensures next { OnOk result (map prepared_standing subscriptions.new
         ≡ map (next_reader F.test letter text.now) (map prepared_standing subscriptions.old)) }
     ensures hits { IfOk result (λ hits. hits.items
-        ≡ filter_map (hit_of_reader F.test letter text.now) (map prepared_standing subscriptions.old)) }
+        ≡ filter_map (hit_of_reader F.test letter text.now)
+        (map prepared_standing subscriptions.old)) }
 {
     let mut hits = Vec::new(alloc);
     for subscription in subscriptions.iter_mut() {

@@ -201,7 +201,8 @@ impl<C: Channels + Lanes> RunningTree<C> {
 
     /// The present state, to be published.
     pub fn shot(&self) -> Shot
-        ensures { (m : Machine) → StandsFor self.now.opening m → result ≡ shot_of (end_of m self.now.steps) }
+        ensures { (m : Machine) → StandsFor self.now.opening m →
+            result ≡ shot_of (end_of m self.now.steps) }
     {
         let tree = &*self.tree;
         Shot {
@@ -212,7 +213,8 @@ impl<C: Channels + Lanes> RunningTree<C> {
 
     /// The reply to the input of a ticket; None where its step isn't made yet. `NoMemory` where a growth was refused.
     pub fn reply(&self, ticket: Ticket) -> Result<Option<Reply<Global>>, NoMemory>
-        ensures { IfOk result (λ reply. reply ≡ reply_at ticket.actor ticket.number self.now.steps) }
+        ensures { IfOk result
+            (λ reply. reply ≡ reply_at ticket.actor ticket.number self.now.steps) }
     {
         self.run.reply(self.alloc, ticket.actor, ticket.number)
     }

@@ -134,7 +134,8 @@ impl<C: Channels + Lanes, D: Board<C>, B: Backend> Parts<C, D, B> {
         requires steps { self.beginning.run.steps ≡ [] }
         requires numbered { AreNumbered self.ends.drains.items }
         requires untaken { (actor : ℕ) → taken_from actor self.ends.drains.items ≡ [] }
-        requires first { (m : Machine) → StandsFor tree.value m → D.shots self.board ≡ shot_of m ∷ [] }
+        requires first { (m : Machine) → StandsFor tree.value m →
+            D.shots self.board ≡ shot_of m ∷ [] }
         requires lanes { (self.lanes.lanes.items ≡ [])
             × (length rings.items ≤ vec_capacity self.lanes.lanes) }
         requires desks { (self.lanes.desks.items ≡ [])

@@ -68,7 +68,8 @@ impl Run {
     pub fn add(&mut self, input: PlainInput<Global>, effect: &mut Effect<Global>)
         requires room { HasRoom input.actor self.old }
         requires orders { length effect.old.orders.items ≤ order_limit }
-        ensures { self.new.steps ≡ self.old.steps ++ record { input = input; outcome = outcome_of effect.old } ∷ [] }
+        ensures { self.new.steps
+            ≡ self.old.steps ++ record { input = input; outcome = outcome_of effect.old } ∷ [] }
     {
         let alloc = *self.records.allocator();
         let first = self.orders.len();

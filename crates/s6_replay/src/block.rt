@@ -82,7 +82,8 @@ pub fn write_effect<A: Allocator + Copy, W: Write>(
 ) -> Result<(), WriteFault>
     ensures ok { OnOk result (Appends (W.contents writer.old) (W.contents writer.new)
         (block number (outcome_of effect.now))) }
-    ensures write { result ≡ Err WriteFault.Write → AppendsFront (W.contents writer.old) (W.contents writer.new)
+    ensures write { result ≡ Err WriteFault.Write →
+        AppendsFront (W.contents writer.old) (W.contents writer.new)
         (block number (outcome_of effect.now)) }
     ensures no_memory { result ≡ Err WriteFault.NoMemory
         → W.contents writer.new ≡ W.contents writer.old }
@@ -100,7 +101,8 @@ pub fn write_block<A: Allocator, W: Write>(
 ) -> Result<(), WriteFault>
     ensures ok { OnOk result (Appends (W.contents writer.old) (W.contents writer.new)
         (block number (outcome_of effect.now))) }
-    ensures write { result ≡ Err WriteFault.Write → AppendsFront (W.contents writer.old) (W.contents writer.new)
+    ensures write { result ≡ Err WriteFault.Write →
+        AppendsFront (W.contents writer.old) (W.contents writer.new)
         (block number (outcome_of effect.now)) }
     ensures no_memory { result ≡ Err WriteFault.NoMemory
         → W.contents writer.new ≡ W.contents writer.old }

@@ -96,8 +96,10 @@ fn check_all<A: Allocator + Copy, R: BufRead>(
     scratch: &mut Scratch<A>,
 ) -> Result<Checked, ReplayFault>
     requires { StandsFor tree.old new_machine }
-    ensures ok { IfOk result (λ checked. Checks A checked (R.remaining reader.old) (R.remaining reader.new)) }
-    ensures fault { IfErr result (λ fault. CheckStops A fault (R.remaining reader.old) (R.remaining reader.new)) }
+    ensures ok { IfOk result
+        (λ checked. Checks A checked (R.remaining reader.old) (R.remaining reader.new)) }
+    ensures fault { IfErr result
+        (λ fault. CheckStops A fault (R.remaining reader.old) (R.remaining reader.new)) }
 {
     match read_head(reader) {
         Ok(Version::Two) => {}
@@ -129,8 +131,10 @@ pub fn check<A: Allocator + Copy, R: BufRead>(
     patterns: Global,
     reader: &mut R,
 ) -> Result<Checked, ReplayFault>
-    ensures ok { IfOk result (λ checked. Checks A checked (R.remaining reader.old) (R.remaining reader.new)) }
-    ensures fault { IfErr result (λ fault. CheckStops A fault (R.remaining reader.old) (R.remaining reader.new)) }
+    ensures ok { IfOk result
+        (λ checked. Checks A checked (R.remaining reader.old) (R.remaining reader.new)) }
+    ensures fault { IfErr result
+        (λ fault. CheckStops A fault (R.remaining reader.old) (R.remaining reader.new)) }
 {
     let mut tree = Tree::new(alloc);
     let mut scratch = Scratch::new(alloc);

@@ -25,7 +25,8 @@ fn make_step<A: Allocator>(
     reply: &Reply<A>,
     text: &mut Vec<u8, A>,
 ) -> Result<(), AllocError>
-    ensures { OnOk result (text.new.items ≡ (line.now ++ 10 ∷ []) ++ reply_record (reply_text reply.now)) }
+    ensures { OnOk result (text.new.items
+        ≡ (line.now ++ 10 ∷ []) ++ reply_record (reply_text reply.now)) }
 {
     text.clear();
     text.extend_from_slice(line)?;

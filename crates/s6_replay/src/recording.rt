@@ -63,7 +63,8 @@ pub fn write_input<A: Allocator + Copy, W: Write>(
     ensures ok { OnOk result (Appends (W.contents writer.old) (W.contents writer.new) (spelling input.now)) }
     ensures write { result ≡ Err SpellFault.Write
         → AppendsFront (W.contents writer.old) (W.contents writer.new) (spelling input.now) }
-    ensures no_memory { result ≡ Err SpellFault.NoMemory → W.contents writer.new ≡ W.contents writer.old }
+    ensures no_memory { result ≡ Err SpellFault.NoMemory →
+        W.contents writer.new ≡ W.contents writer.old }
     ensures unspelt { result ≡ Err SpellFault.Unspelt
         → (W.contents writer.new ≡ W.contents writer.old) × (FitsLine input.now → ⊥) }
 {
@@ -88,7 +89,8 @@ pub fn write_reply<A: Allocator + Copy, W: Write>(
     ensures ok { OnOk result (Appends (W.contents writer.old) (W.contents writer.new) (reply_text reply.now)) }
     ensures write { result ≡ Err SpellFault.Write
         → AppendsFront (W.contents writer.old) (W.contents writer.new) (reply_text reply.now) }
-    ensures no_memory { result ≡ Err SpellFault.NoMemory → W.contents writer.new ≡ W.contents writer.old }
+    ensures no_memory { result ≡ Err SpellFault.NoMemory →
+        W.contents writer.new ≡ W.contents writer.old }
     ensures spelt { result ≡ Err SpellFault.Unspelt → ⊥ }
 {
     let mut text = Vec::new(alloc);

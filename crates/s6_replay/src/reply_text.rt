@@ -125,7 +125,9 @@ fn pid_of(pid: Option<u32>) -> Option<u64>
 // Adds the fields of a row that are true or false.
 fn push_truths<A: Allocator>(text: &mut Vec<u8, A>, row: &Row) -> Result<(), AllocError>
     ensures { OnOk result (text.new.items ≡ text.old.items
-        ++ (truth_field row.now.up ++ truth_field row.now.wanted_up ++ truth_field row.now.normally_up ++ truth_field row.now.ready ++ truth_field row.now.paused)) }
+        ++ (truth_field row.now.up ++ truth_field row.now.wanted_up
+        ++ truth_field row.now.normally_up ++ truth_field row.now.ready
+        ++ truth_field row.now.paused)) }
 {
     push_truth(text, row.up)?;
     push_truth(text, row.wanted_up)?;
@@ -137,7 +139,9 @@ fn push_truths<A: Allocator>(text: &mut Vec<u8, A>, row: &Row) -> Result<(), All
 // Adds the fields of a row that are numbers.
 fn push_numbers<A: Allocator>(text: &mut Vec<u8, A>, row: &Row) -> Result<(), AllocError>
     ensures { OnOk result (text.new.items ≡ text.old.items
-        ++ (number_field row.now.pid ++ number_field (exit_code row.now.exit) ++ number_field (signal_number row.now.exit) ++ number_field row.now.up_down_for ++ number_field row.now.ready_for)) }
+        ++ (number_field row.now.pid ++ number_field (exit_code row.now.exit)
+        ++ number_field (signal_number row.now.exit) ++ number_field row.now.up_down_for
+        ++ number_field row.now.ready_for)) }
 {
     push_field(text, pid_of(row.pid))?;
     push_field(text, code_of(row.exit))?;

@@ -32,7 +32,8 @@ fn answer_input<A: Allocator + Copy, W: Write>(
     ensures fault { IfErr result
         (λ fault. AnswerStops fault input_number tree.old input (W.contents writer.old)
         (W.contents writer.new)) }
-    ensures ok { IfOk result (λ given. IsAnswered given.0 given.1 input_number tree.old tree.new input
+    ensures ok { IfOk result
+        (λ given. IsAnswered given.0 given.1 input_number tree.old tree.new input
         (W.contents writer.old) (W.contents writer.new)) }
 {
     let Ok(()) = tree.apply_into(input, effect) else {

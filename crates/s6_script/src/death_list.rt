@@ -20,7 +20,8 @@ pub fn permafailon_of<A: Allocator + Copy>(
     alloc: A,
     words: &mut Words<'_>,
 ) -> Result<Act<A>, NoMemory>
-    ensures spelled { IfOk result (λ found. (act : Act A) → IsAct act → Permafailon ≡ verb_of_act act
+    ensures spelled { IfOk result
+        (λ found. (act : Act A) → IsAct act → Permafailon ≡ verb_of_act act
         → words.old ≡ details act → found ≡ act) }
     ensures fits { IfOk result (λ found. IsAct found × HasExpression found) }
 {
@@ -93,7 +94,8 @@ pub fn push_permafailon<A: Allocator>(
     list: &DeathList,
 ) -> Result<(), AllocError>
     ensures { OnOk result (text.new.items ≡ text.old.items ++ join_with_byte 32
-        (codes "permafailon" ∷ name.now ∷ decimal seconds ∷ decimal count ∷ list_text list.now ∷ [])) }
+        (codes "permafailon" ∷ name.now ∷ decimal seconds ∷ decimal count ∷ list_text list.now
+        ∷ [])) }
 {
     push_permafailon_of(text, name, seconds, count, list.items())
 }
@@ -107,7 +109,8 @@ pub fn push_permafailon_of<A: Allocator>(
     items: &[DeathItem],
 ) -> Result<(), AllocError>
     ensures { OnOk result (text.new.items ≡ text.old.items ++ join_with_byte 32
-        (codes "permafailon" ∷ name.now ∷ decimal seconds ∷ decimal count ∷ list_text items.now ∷ [])) }
+        (codes "permafailon" ∷ name.now ∷ decimal seconds ∷ decimal count ∷ list_text items.now
+        ∷ [])) }
 {
     text.extend_from_slice(b"permafailon ")?;
     text.extend_from_slice(name.as_bytes())?;

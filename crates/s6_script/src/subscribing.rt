@@ -20,7 +20,8 @@ use tree_core::{Act, Target};
 
 // Reads whose event directory is meant.
 fn target_of(words: &mut Words<'_>) -> Target
-    ensures spelled { (target : Target) → IsTrue (is_name (target_name target)) → slice_index_or words.old 0 [] ≡ target_word target
+    ensures spelled { (target : Target) → IsTrue (is_name (target_name target)) →
+        slice_index_or words.old 0 [] ≡ target_word target
         → slice_index_or words.old 1 [] ≡ target_name target → result ≡ target }
     ensures fits { is_name (target_name result) ≡ true }
     ensures rest { words.new ≡ drop 2 words.old }
@@ -129,7 +130,8 @@ pub fn push_subscribe<A: Allocator>(
     repeats: bool,
 ) -> Result<(), AllocError>
     ensures { OnOk result (text.new.items ≡ text.old.items ++ join_with_byte 32
-        (codes "subscribe" ∷ target_word target.now ∷ target_name target.now ∷ how_word repeats ∷ text_words pattern.now)) }
+        (codes "subscribe" ∷ target_word target.now ∷ target_name target.now ∷ how_word repeats
+        ∷ text_words pattern.now)) }
 {
     text.extend_from_slice(b"subscribe")?;
     push_target(text, target)?;

@@ -49,7 +49,8 @@ fn names_of<A: Allocator + Copy>(
     alloc: A,
     words: &mut Words<'_>,
 ) -> Result<Vec<Name, A>, AllocError>
-    ensures spelled { IfOk result (λ found. (names : List (List ℕ)) → All (λ name. IsTrue (is_name name)) names
+    ensures spelled { IfOk result
+        (λ found. (names : List (List ℕ)) → All (λ name. IsTrue (is_name name)) names
         → words.old ≡ names → found.items ≡ names) }
     ensures fits { IfOk result (λ found. All (λ name. IsTrue (is_name name)) found.items) }
 {

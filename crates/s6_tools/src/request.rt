@@ -105,7 +105,8 @@ pub fn subscribe_request(
     target: &Target,
     pattern: &str,
 ) -> Result<Vec<u8>, AllocError>
-    ensures { IfOk result (λ text. text.items ≡ request_of (Subscribe target.now pattern.now false)) }
+    ensures { IfOk result
+        (λ text. text.items ≡ request_of (Subscribe target.now pattern.now false)) }
 {
     let mut text = Vec::new(alloc);
     push_subscribe(&mut text, target, pattern, false)?;

@@ -141,7 +141,8 @@ fn letters<'a, A: Allocator + Copy>(
 fn show<'a, A: Allocator + Copy>(registry: &Registry<A>, name: Name, now: At) -> Choice<'a>
     requires { All (λ c. c.generation + 1 < 2 ^ 64) (charts_of registry.now.shown.services) }
     ensures idle { AsksNothing now (chosen_of result) }
-    ensures row { (history : List Moment) → clock_of history ≡ now → AllAgree registry.now.shown.services history
+    ensures row { (history : List Moment) → clock_of history ≡ now →
+        AllAgree registry.now.shown.services history
         → chosen_of result ≡ row_choice
         (option_map (status_row (history
         ++ map moment_of (events_after (fire_move now) (charts_of registry.now.shown.services)))

@@ -82,7 +82,8 @@ impl<A: Allocator + Copy> Tree<A> {
     // One step, as the definitions have it. The pattern that an act offers is taken out of it where the step is made.
     fn take_step(&mut self, input: &mut Input<A>, effect: &mut Effect<A>) -> Result<(), NoMemory>
         ensures ok { OnOk result ((m : Machine) → StandsFor self.old m →
-            (outcome_of effect.new ≡ outcome m input.old) × StandsFor self.new (after m input.old)) }
+            (outcome_of effect.new ≡ outcome m input.old)
+            × StandsFor self.new (after m input.old)) }
         ensures err { OnErr result ((self.new ≡ self.old) × (input.new ≡ input.old)) }
         ensures spent { self.old.steps ≡ step_limit → IsOk result }
         ensures quiet { IsQuiet input.old self.old.clock (charts_of self.old.services)

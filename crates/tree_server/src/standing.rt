@@ -76,7 +76,8 @@ impl Standing {
         ensures waiters { OnOk result
             (self.new.waiters.items ≡ self.old.waiters.items ++ waiters_of reply.now) }
         ensures subscriptions { OnOk result
-            (self.new.subscriptions.items ≡ self.old.subscriptions.items ++ subscriptions_of reply.now) }
+            (self.new.subscriptions.items
+            ≡ self.old.subscriptions.items ++ subscriptions_of reply.now) }
         ensures refused { OnErr result ((self.new.waiters.items ≡ self.old.waiters.items)
             × (self.new.subscriptions.items ≡ self.old.subscriptions.items)) }
     {

@@ -70,7 +70,8 @@ impl Counts {
         requires failing { self.failing ≤ 16 }
         requires permanent { self.permanent ≤ 16 }
         ensures holding { result.holding ≡ recounted self.holding false joining.now.holds }
-        ensures failing { result.failing ≡ recounted self.failing false (is_some joining.now.failure) }
+        ensures failing { result.failing
+            ≡ recounted self.failing false (is_some joining.now.failure) }
         ensures permanent { result.permanent
             ≡ recounted self.permanent false (is_failure_for_good joining.now.failure) }
     {

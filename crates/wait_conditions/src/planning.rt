@@ -22,7 +22,8 @@ fn copy_if_touched<A: Allocator>(
     requires waiter { IsCounted waiter.now }
     requires counted { All IsCounted copies.old.items }
     ensures copies { OnOk result (waiters_view copies.new.items ≡ waiters_view copies.old.items
-        ++ (if touched_by moments.now (waiter_view waiter.now) then waiter_view waiter.now ∷ [] else [])) }
+        ++ (if touched_by moments.now (waiter_view waiter.now) then waiter_view waiter.now ∷ []
+        else [])) }
     ensures counted { All IsCounted copies.new.items }
 {
     if is_touched_by_any(waiter, moments) {
@@ -100,7 +101,8 @@ pub fn copy_touched<A: Allocator>(
 
 /// The serials of these waiters.
 pub fn list_serials<A: Allocator>(alloc: A, waiters: &[Waiter]) -> Result<Vec<WaitId, A>, NoMemory>
-    ensures serials { IfOk result (λ serials. serials.items ≡ map (λ k. k.id) (waiters_view waiters.now)) }
+    ensures serials { IfOk result
+        (λ serials. serials.items ≡ map (λ k. k.id) (waiters_view waiters.now)) }
     ensures quiet { waiters_view waiters.now ≡ [] → IsOk result }
 {
     let mut serials = Vec::new(alloc);

@@ -79,7 +79,8 @@ fn says_the_same(run: StateRun, after: StateRun) -> bool
 // Whether the run at this place reaches no further than the one before it.
 fn is_covered(runs: &[StateRun], place: usize) -> bool
     requires { place < length runs.now }
-    ensures { result ≡ true → (sid : ℕ) → state_in (remove runs.now place) sid ≡ state_in runs.now sid }
+    ensures { result ≡ true → (sid : ℕ) →
+        state_in (remove runs.now place) sid ≡ state_in runs.now sid }
 {
     if place == 0 {
         return false;
@@ -90,7 +91,8 @@ fn is_covered(runs: &[StateRun], place: usize) -> bool
 // Whether the run at this place says the same as the one after it, which reaches as far.
 fn is_repeated(runs: &[StateRun], place: usize) -> bool
     requires { place < length runs.now }
-    ensures { result ≡ true → (sid : ℕ) → state_in (remove runs.now place) sid ≡ state_in runs.now sid }
+    ensures { result ≡ true → (sid : ℕ) →
+        state_in (remove runs.now place) sid ≡ state_in runs.now sid }
 {
     if place + 1 >= runs.len() {
         return false;
@@ -101,7 +103,8 @@ fn is_repeated(runs: &[StateRun], place: usize) -> bool
 // Whether there is a run at this place that says nothing of its own.
 fn is_redundant(runs: &[StateRun], place: usize) -> bool
     ensures within { result ≡ true → place < length runs.now }
-    ensures same { result ≡ true → (sid : ℕ) → state_in (remove runs.now place) sid ≡ state_in runs.now sid }
+    ensures same { result ≡ true → (sid : ℕ) →
+        state_in (remove runs.now place) sid ≡ state_in runs.now sid }
 {
     place < runs.len() && (is_covered(runs, place) || is_repeated(runs, place))
 }
@@ -134,7 +137,8 @@ fn insert_below<A: Allocator>(
     requires room { vec_len runs.old < vec_capacity runs.old }
     ensures runs { runs.new.items ≡ (if nat_lt 0 sid
         then take place runs.old.items
-        ++ record { last = sid - 1; state = state } ∷ drop place runs.old.items else runs.old.items) }
+        ++ record { last = sid - 1; state = state } ∷ drop place runs.old.items
+        else runs.old.items) }
     ensures len { vec_len runs.new ≤ vec_len runs.old + 1 }
     ensures capacity { vec_capacity runs.new ≡ vec_capacity runs.old }
 {

@@ -126,7 +126,8 @@ impl<A: Allocator + Copy> Waits<A> {
         ensures least { (place : ℕ) → NoneBegan place self.now.waiters → place ≤ self.now.count
             → place ≤ result }
         ensures needed { NoneBegan result self.now.waiters }
-        ensures within { (end : ℕ) → All (λ k. k.place ≤ end) self.now.waiters → self.now.count ≤ end
+        ensures within { (end : ℕ) → All (λ k. k.place ≤ end) self.now.waiters →
+            self.now.count ≤ end
             → result ≤ end }
     {
         place_or_end(self.list.oldest(), self.count)
@@ -146,7 +147,9 @@ impl<A: Allocator + Copy> Waits<A> {
         requires { self.old.next < 2 ^ 63 }
         ensures ok { IfOk result (λ made. (w : Watch) → WaitsFor self.old w →
             let asked = wait_terms condition mode sids.now (deadline_of timeout start) in
-            (made.0 ≡ w.next) × (made.1 ≡ new_release Waiting (waiter_state w.history (new_waiter w asked))) × WaitsFor self.new (after_add w asked)) }
+            (made.0 ≡ w.next)
+            × (made.1 ≡ new_release Waiting (waiter_state w.history (new_waiter w asked)))
+            × WaitsFor self.new (after_add w asked)) }
         ensures possible { IfOk result
             (λ made. (w : Watch) → WaitsFor self.old w
             → add_refusal (length w.waiters) sids.now ≡ None) }
@@ -204,7 +207,8 @@ impl<A: Allocator + Copy> Waits<A> {
     /// has changed; it is also answered at the moment 2^63.
     pub fn moment(&mut self, moment: &Moment) -> Result<Vec<(WaitId, Verdict), A>, NoMemory>
         ensures ok { IfOk result (λ released. (w : Watch) → WaitsFor self.old w →
-            (released.items ≡ releases w moment.now) × WaitsFor self.new (waits_after_moment w moment.now)) }
+            (released.items ≡ releases w moment.now)
+            × WaitsFor self.new (waits_after_moment w moment.now)) }
         ensures serials { self.new.next ≡ self.old.next }
         ensures err { OnErr result (self.new ≡ self.old) }
     {
@@ -269,9 +273,13 @@ impl<A: Allocator + Copy> Waits<A> {
             (λ plan. (w : Watch) → WaitsFor self.old w
             → plan.released ≡ releases_by w moments.now) }
         ensures answer { IfOk result (λ plan. (w : Watch) → WaitsFor self.old w →
-            plan.answer ≡ wait_answer (waits_after_moments w moments.now) (wait_request_of change.now)) }
-        ensures prepared { IfOk result (λ plan. (w : Watch) → WaitsFor self.old w → (new : WaitsShown) → MakesPlan plan (waits_shown self.old) new
-            → WaitsStandFor new (waits_after_change (waits_after_moments w moments.now) (wait_request_of change.now))) }
+            plan.answer ≡ wait_answer (waits_after_moments w moments.now)
+            (wait_request_of change.now)) }
+        ensures prepared { IfOk result
+            (λ plan. (w : Watch) → WaitsFor self.old w → (new : WaitsShown) →
+            MakesPlan plan (waits_shown self.old) new
+            → WaitsStandFor new (waits_after_change (waits_after_moments w moments.now)
+            (wait_request_of change.now))) }
         ensures fits { IfOk result (λ plan. FitsWaits plan self.new) }
         ensures serials { IfOk result (λ plan. plan.next ≤ self.old.next + 1) }
         ensures shown { waits_shown self.new ≡ waits_shown self.old }
@@ -324,7 +332,8 @@ impl<A: Allocator + Copy> Waits<A> {
         ensures shown { waits_shown self.new ≡ waits_shown self.old }
         ensures count { OnOk result (self.new.count + moments < 2 ^ 63) }
         ensures runs { OnOk result (2 * moments ≤ self.new.spare_runs) }
-        ensures waiters { OnOk result (adding (wait_request_of change.now) ≤ self.new.spare_waiters) }
+        ensures waiters { OnOk result
+            (adding (wait_request_of change.now) ≤ self.new.spare_waiters) }
         ensures quiet { moments ≡ 0 → wait_request_of change.now ≡ no_wait_request → IsOk result }
     {
         if moments as u64 >= COUNT_LIMIT - self.count {
@@ -346,10 +355,12 @@ impl<A: Allocator + Copy> Waits<A> {
     ) -> Result<ChangePlan<A>, NoMemory>
         requires serials { self.now.next < 2 ^ 63 }
         requires count { self.now.count + length moments.now < 2 ^ 63 }
-        ensures plans { IfOk result (λ planned. PlansChange (waits_shown self.now) moments.now (wait_request_of change.now)
+        ensures plans { IfOk result
+            (λ planned. PlansChange (waits_shown self.now) moments.now (wait_request_of change.now)
             planned.answer (list_change_of planned.change) planned.next) }
         ensures room { IfOk result
-            (λ planned. joining (list_change_of planned.change) ≤ adding (wait_request_of change.now)) }
+            (λ planned. joining (list_change_of planned.change)
+            ≤ adding (wait_request_of change.now)) }
         ensures counted { IfOk result (λ planned. JoinsCounted planned.change) }
         ensures place { IfOk result (λ planned. JoinsAt (self.now.count + length moments.now)
             (list_change_of planned.change)) }

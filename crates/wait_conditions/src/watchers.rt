@@ -83,7 +83,8 @@ impl<A: Allocator> Watchers<A> {
         requires room { length waiter.now.watched.items ≤ self.old.spare_capacity }
         requires apart { repeats_serial (map (λ w. w.sid) waiter.now.watched.items) ≡ false }
         ensures { (sid : ℕ) → serials_of sid self.new.watchers
-            ≡ serials_of sid self.old.watchers ++ serials_where (watches sid) (waiter_view waiter.now ∷ []) }
+            ≡ serials_of sid self.old.watchers
+            ++ serials_where (watches sid) (waiter_view waiter.now ∷ []) }
     {
         if waits_still(waiter) {
             for service in waiter.watched.as_slice() {
