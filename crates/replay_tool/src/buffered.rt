@@ -17,7 +17,8 @@ fn replay_whole<A: Allocator + Copy, R: BufRead, W: Write>(
     writer: &mut W,
 ) -> Result<Counts, ReplayFault>
     ensures ok { IfOk result (λ counts. IsWhole A counts
-        (R.remaining reader.old) (R.remaining reader.new) (W.contents writer.old) (W.contents writer.new)) }
+        (R.remaining reader.old) (R.remaining reader.new)
+        (W.contents writer.old) (W.contents writer.new)) }
     ensures fault { IfErr result (λ fault. (fault ≡ Write) ⊎ IsFlushed
         (Stops A fault (R.remaining reader.old) (R.remaining reader.new) (W.contents writer.old))
         (W.contents writer.new)) }
@@ -56,9 +57,11 @@ fn migrate_whole<A: Allocator + Copy, R: BufRead, W: Write>(
     writer: &mut W,
 ) -> Result<Counts, ReplayFault>
     ensures ok { IfOk result (λ counts. Migrates A counts
-        (R.remaining reader.old) (R.remaining reader.new) (W.contents writer.old) (W.contents writer.new)) }
+        (R.remaining reader.old) (R.remaining reader.new)
+        (W.contents writer.old) (W.contents writer.new)) }
     ensures fault { IfErr result (λ fault. (fault ≡ Write) ⊎ IsFlushed
-        (MigrateStops A fault (R.remaining reader.old) (R.remaining reader.new) (W.contents writer.old))
+        (MigrateStops A fault (R.remaining reader.old) (R.remaining reader.new)
+        (W.contents writer.old))
         (W.contents writer.new)) }
 {
     let migrated = migrate(alloc, patterns, reader, writer);

@@ -46,7 +46,8 @@ fn record_input<A: Allocator + Copy, W: Write>(
 ) -> Result<(usize, usize), ReplayFault>
     requires { line.now ≡ spelling input }
     ensures fault { IfErr result
-        (λ fault. RecordingStops fault tree.old input (W.contents writer.old) (W.contents writer.new)) }
+        (λ fault. RecordingStops fault tree.old input
+        (W.contents writer.old) (W.contents writer.new)) }
     ensures ok { IfOk result (λ given. IsRecorded given.0 given.1 tree.old tree.new input
         (W.contents writer.old) (W.contents writer.new)) }
 {
@@ -79,9 +80,11 @@ fn record_step<A: Allocator + Copy, R: BufRead, W: Write>(
 ) -> Result<Turn, ReplayFault>
     requires { done < input_limit }
     ensures fault { IfErr result (λ fault. RecordStops A fault done tree.old
-        (R.remaining reader.old) (R.remaining reader.new) (W.contents writer.old) (W.contents writer.new)) }
+        (R.remaining reader.old) (R.remaining reader.new)
+        (W.contents writer.old) (W.contents writer.new)) }
     ensures ok { IfOk result (λ turn. Records A turn tree.old tree.new
-        (R.remaining reader.old) (R.remaining reader.new) (W.contents writer.old) (W.contents writer.new)) }
+        (R.remaining reader.old) (R.remaining reader.new)
+        (W.contents writer.old) (W.contents writer.new)) }
 {
     let Some(input) = read_step(alloc, patterns, reader, scratch, Version::One, done)? else {
         return Ok(Turn::End);
@@ -121,9 +124,11 @@ fn migrate_all<A: Allocator + Copy, R: BufRead, W: Write>(
 ) -> Result<Counts, ReplayFault>
     requires { StandsFor tree.old new_machine }
     ensures ok { IfOk result (λ counts. Migrates A counts
-        (R.remaining reader.old) (R.remaining reader.new) (W.contents writer.old) (W.contents writer.new)) }
+        (R.remaining reader.old) (R.remaining reader.new)
+        (W.contents writer.old) (W.contents writer.new)) }
     ensures fault { IfErr result (λ fault. MigrateStops A fault
-        (R.remaining reader.old) (R.remaining reader.new) (W.contents writer.old) (W.contents writer.new)) }
+        (R.remaining reader.old) (R.remaining reader.new)
+        (W.contents writer.old) (W.contents writer.new)) }
 {
     match read_head(reader) {
         Ok(Version::One) => {}
@@ -160,9 +165,11 @@ pub fn migrate<A: Allocator + Copy, R: BufRead, W: Write>(
     writer: &mut W,
 ) -> Result<Counts, ReplayFault>
     ensures ok { IfOk result (λ counts. Migrates A counts
-        (R.remaining reader.old) (R.remaining reader.new) (W.contents writer.old) (W.contents writer.new)) }
+        (R.remaining reader.old) (R.remaining reader.new)
+        (W.contents writer.old) (W.contents writer.new)) }
     ensures fault { IfErr result (λ fault. MigrateStops A fault
-        (R.remaining reader.old) (R.remaining reader.new) (W.contents writer.old) (W.contents writer.new)) }
+        (R.remaining reader.old) (R.remaining reader.new)
+        (W.contents writer.old) (W.contents writer.new)) }
 {
     let mut tree = Tree::new(alloc);
     let mut scratch = Scratch::new(alloc);

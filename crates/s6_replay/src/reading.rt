@@ -79,7 +79,8 @@ fn read_input<A: Allocator + Copy, R: BufRead>(
 ) -> Result<Option<Input<A>>, ReplayFault>
     requires { done < input_limit }
     ensures fault { IfErr result
-        (λ fault. StopsBehind A version done fault [] (R.remaining reader.old) (R.remaining reader.new)) }
+        (λ fault. StopsBehind A version done fault []
+        (R.remaining reader.old) (R.remaining reader.new)) }
     ensures ok { IfOk result (λ found.
         InputWasRead found line.new.items (R.remaining reader.old) (R.remaining reader.new)) }
 {
@@ -143,7 +144,8 @@ pub fn read_step<A: Allocator + Copy, R: BufRead>(
 ) -> Result<Option<Input<A>>, ReplayFault>
     requires { done < input_limit }
     ensures fault { IfErr result
-        (λ fault. StopsBehind A version done fault [] (R.remaining reader.old) (R.remaining reader.new)) }
+        (λ fault. StopsBehind A version done fault []
+        (R.remaining reader.old) (R.remaining reader.new)) }
     ensures ok { IfOk result (λ found. WasRead version (text_in scratch.new.reply.items) found
         (R.remaining reader.old) (R.remaining reader.new)) }
     ensures line { IfOk result (λ found. IfSome found (λ i. scratch.new.line.items ≡ spelling i)) }

@@ -60,7 +60,8 @@ pub fn write_input<A: Allocator + Copy, W: Write>(
     writer: &mut W,
 ) -> Result<(), SpellFault>
     ensures fits { OnOk result (FitsLine input.now) }
-    ensures ok { OnOk result (Appends (W.contents writer.old) (W.contents writer.new) (spelling input.now)) }
+    ensures ok { OnOk result (Appends (W.contents writer.old) (W.contents writer.new)
+        (spelling input.now)) }
     ensures write { result ≡ Err SpellFault.Write
         → AppendsFront (W.contents writer.old) (W.contents writer.new) (spelling input.now) }
     ensures no_memory { result ≡ Err SpellFault.NoMemory →
@@ -86,7 +87,8 @@ pub fn write_reply<A: Allocator + Copy, W: Write>(
     reply: &Reply<A>,
     writer: &mut W,
 ) -> Result<(), SpellFault>
-    ensures ok { OnOk result (Appends (W.contents writer.old) (W.contents writer.new) (reply_text reply.now)) }
+    ensures ok { OnOk result (Appends (W.contents writer.old) (W.contents writer.new)
+        (reply_text reply.now)) }
     ensures write { result ≡ Err SpellFault.Write
         → AppendsFront (W.contents writer.old) (W.contents writer.new) (reply_text reply.now) }
     ensures no_memory { result ≡ Err SpellFault.NoMemory →

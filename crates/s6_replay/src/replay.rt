@@ -24,9 +24,11 @@ fn replay_all<A: Allocator + Copy, R: BufRead, W: Write>(
 ) -> Result<Counts, ReplayFault>
     requires { StandsFor tree.old new_machine }
     ensures ok { IfOk result (λ counts. IsWhole A counts
-        (R.remaining reader.old) (R.remaining reader.new) (W.contents writer.old) (W.contents writer.new)) }
+        (R.remaining reader.old) (R.remaining reader.new)
+        (W.contents writer.old) (W.contents writer.new)) }
     ensures fault { IfErr result (λ fault. Stops A fault
-        (R.remaining reader.old) (R.remaining reader.new) (W.contents writer.old) (W.contents writer.new)) }
+        (R.remaining reader.old) (R.remaining reader.new)
+        (W.contents writer.old) (W.contents writer.new)) }
 {
     let version = match read_head(reader) {
         Ok(version) => version,
@@ -68,9 +70,11 @@ pub fn run<A: Allocator + Copy, R: BufRead, W: Write>(
     writer: &mut W,
 ) -> Result<Counts, ReplayFault>
     ensures ok { IfOk result (λ counts. IsWhole A counts
-        (R.remaining reader.old) (R.remaining reader.new) (W.contents writer.old) (W.contents writer.new)) }
+        (R.remaining reader.old) (R.remaining reader.new)
+        (W.contents writer.old) (W.contents writer.new)) }
     ensures fault { IfErr result (λ fault. Stops A fault
-        (R.remaining reader.old) (R.remaining reader.new) (W.contents writer.old) (W.contents writer.new)) }
+        (R.remaining reader.old) (R.remaining reader.new)
+        (W.contents writer.old) (W.contents writer.new)) }
 {
     let mut tree = Tree::new(alloc);
     let mut scratch = Scratch::new(alloc);

@@ -63,9 +63,11 @@ pub fn take_turn<A: Allocator + Copy, R: BufRead, W: Write>(
 ) -> Result<Turn, ReplayFault>
     requires { done < input_limit }
     ensures fault { IfErr result (λ fault. TurnStops A fault version done tree.old
-        (R.remaining reader.old) (R.remaining reader.new) (W.contents writer.old) (W.contents writer.new)) }
+        (R.remaining reader.old) (R.remaining reader.new)
+        (W.contents writer.old) (W.contents writer.new)) }
     ensures ok { IfOk result (λ turn. Turns A turn version done tree.old tree.new
-        (R.remaining reader.old) (R.remaining reader.new) (W.contents writer.old) (W.contents writer.new)) }
+        (R.remaining reader.old) (R.remaining reader.new)
+        (W.contents writer.old) (W.contents writer.new)) }
 {
     let Some(input) = read_step(alloc, patterns, reader, scratch, version, done)? else {
         return Ok(Turn::End);

@@ -147,7 +147,8 @@ fn show<'a, A: Allocator + Copy>(registry: &Registry<A>, name: Name, now: At) ->
         (option_map (status_row (history
         ++ map moment_of (events_after (fire_move now) (charts_of registry.now.shown.services)))
         now)
-        (find (λ c. bytes_eq name c.name) (services_after (fire_move now) (charts_of registry.now.shown.services)))) }
+        (find (λ c. bytes_eq name c.name)
+        (services_after (fire_move now) (charts_of registry.now.shown.services)))) }
 {
     match registry.after_timers(name, now) {
         Some(standing) => Choice::Show(standing.status().row(&standing.chart(), now)),

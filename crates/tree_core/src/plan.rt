@@ -186,7 +186,8 @@ pub fn plan_step<A: Allocator + Copy>(
     ensures waits { waits_shown waits.new ≡ waits_shown waits.old }
     ensures directories { directories.new.shown ≡ directories.old.shown }
     ensures step { IfOk result (λ plan. (steps : ℕ) → steps < step_limit → (m : Machine)
-        → IsNow (present_state clock steps closing registry.old.shown.services registry.old.shown.next_sid (waits_shown waits.old) directories.old.shown) m
+        → IsNow (present_state clock steps closing registry.old.shown.services
+        registry.old.shown.next_sid (waits_shown waits.old) directories.old.shown) m
         → (later : WaitsShown) → MakesPlan plan.waiters (waits_shown waits.old) later
         → Plans m input.now plan (registry_prepared registry.new.shown.services plan.services) later
         directories.new.prepared effect.new) }

@@ -83,8 +83,10 @@ impl ServiceFiles {
     // Counts a reading that gave nothing. A counter that is full tells of want of memory in place of the failure.
     fn fail(&mut self, file: ServiceFile, fault: ReadFault) -> ReadFault
         ensures same { (f : _) → found_of self.new f ≡ found_of self.old f }
-        ensures count { Counts {V = Unit {0}} (Err result) file self.old.failures self.new.failures self.new.failed }
-        ensures memory { CountsRefusal {V = Unit {0}} (Err result) self.old.refused self.new.refused }
+        ensures count { Counts {V = Unit {0}} (Err result) file
+            self.old.failures self.new.failures self.new.failed }
+        ensures memory { CountsRefusal {V = Unit {0}} (Err result)
+            self.old.refused self.new.refused }
     {
         self.failed = Some(file);
         if fault == ReadFault::Io && self.failures < u64::MAX {
