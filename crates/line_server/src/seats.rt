@@ -10,6 +10,7 @@ pub const SEAT_COUNT: usize = 11;
 #[derive(Drop)]
 pub struct Seats {
     mailboxes: Vec<Option<Arc<Mailbox>>>,
+    freed: u64,
     is_ending: bool,
 }
 
@@ -22,6 +23,7 @@ impl Seats {
         }
         Ok(Seats {
             mailboxes,
+            freed: 0,
             is_ending: false,
         })
     }
@@ -43,6 +45,12 @@ impl Seats {
         if let Some(place) = self.mailboxes.get_mut(seat) {
             *place = None;
         }
+        self.freed = self.freed.wrapping_add(1);
+    }
+
+    /// How often a seat became free, modulo 2^64.
+    pub fn freed(&self) -> u64 {
+        self.freed
     }
 
     /// The mailbox of the connection on this seat, if one is there.

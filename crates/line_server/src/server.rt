@@ -7,7 +7,7 @@ use std::io::{ErrorKind, Read, Write};
 use std::net::Shutdown;
 use std::os::fd::OwnedFd;
 use std::os::unix::net::{UnixListener, UnixStream};
-use std::sync::{Arc, Mutex, Wait};
+use std::sync::{Arc, Condvar, Mutex, Wait};
 use std::thread::{Builder, Scope, Threads};
 use std::time::{Clock, Duration};
 use std::{io, thread};
@@ -15,7 +15,8 @@ use std::{io, thread};
 /// The stack of a thread that reads or writes one connection, in bytes.
 const STACK_SIZE: usize = 256 * 1024;
 
-/// How long no connection is accepted after one that could not be, in milliseconds: there may be too many open files.
+/// How long no connection is accepted where the system lacks something for it, such as descriptors, and no other one ends, in
+/// milliseconds.
 const ACCEPT_WAIT: u64 = 100;
 
 /// What becomes of a connection once a line was answered.
@@ -45,6 +46,8 @@ pub struct Server<W: Answers> {
     alloc: Global,
     listener: UnixListener,
     seats: Mutex<Seats>,
+    // Where a seat became free, or all is ending.
+    changed: Condvar,
     answers: W,
 }
 
@@ -55,6 +58,7 @@ impl<W: Answers> Server<W> {
             alloc,
             listener,
             seats: Mutex::new(seats),
+            changed: Condvar::new(),
             answers,
         }
     }
@@ -80,14 +84,38 @@ impl<W: Answers> Server<W> {
         seat
     }
 
-    // Whether no connection is accepted any more.
-    fn is_ending<R: Wait>(&self, rt: &R) -> bool {
-        self.seats.lock(rt).is_ending()
+    // The seat is free again.
+    fn free_seat<R: Wait>(&self, rt: &R, seat: usize) {
+        self.seats.lock(rt).free(seat);
+        self.changed.notify_all();
+    }
+
+    // Waits after a connection could not be accepted. Where the system lacks something for it, a connection that ends may give it back:
+    // one that ended since the count of `freed` is awaited, but not for long. The count then, or None where all is ending.
+    fn wait_to_accept<R: Wait + Clock>(
+        &self,
+        rt: &R,
+        error: &io::Error,
+        freed: u64,
+    ) -> Option<u64> {
+        let seats = self.seats.lock(rt);
+        let time = match error.kind() {
+            ErrorKind::ConnectionAborted | ErrorKind::Interrupted => Duration::from_millis(0),
+            _ => Duration::from_millis(ACCEPT_WAIT),
+        };
+        let (seats, _late) = self.changed.wait_timeout_while(rt, seats, time, |seats| {
+            !seats.is_ending() && seats.freed() == freed
+        });
+        if seats.is_ending() {
+            return None;
+        }
+        Some(seats.freed())
     }
 
     /// Ends the server, from any thread: no connection is accepted any more, each one that is there ends, and `serve` comes back.
     pub fn end<R: Wait>(&self, rt: &R) {
         self.seats.lock(rt).end_all(rt);
+        self.changed.notify_all();
         if let Ok(other) = self.listener.try_clone() {
             let _ = UnixStream::from(OwnedFd::from(other)).shutdown(Shutdown::Both);
         }
@@ -109,20 +137,32 @@ fn accept_all<'s, E, W: Answers + Sync, R: Threads + Wait + Clock + Sync>(
     rt: &'s R,
     server: &'s Server<W>,
 ) {
+    let mut freed = 0;
     for stream in server.listener.incoming() {
-        let Ok(stream) = stream else {
-            if server.is_ending(rt) {
-                break;
+        match stream {
+            Ok(stream) => seat_one(scope, rt, server, stream),
+            Err(error) => {
+                let Some(now) = server.wait_to_accept(rt, &error, freed) else {
+                    break;
+                };
+                freed = now;
             }
-            thread::sleep(rt, Duration::from_millis(ACCEPT_WAIT));
-            continue;
-        };
-        let Some(seat) = server.take_seat(rt, stream) else {
-            continue;
-        };
-        if !start_reader(scope, rt, server, seat) {
-            server.seats.lock(rt).free(seat);
         }
+    }
+}
+
+// A connection gets a seat, if one is free, and a thread that reads it.
+fn seat_one<'s, E, W: Answers + Sync, R: Threads + Wait + Clock + Sync>(
+    scope: &Scope<'s, E>,
+    rt: &'s R,
+    server: &'s Server<W>,
+    stream: UnixStream,
+) {
+    let Some(seat) = server.take_seat(rt, stream) else {
+        return;
+    };
+    if !start_reader(scope, rt, server, seat) {
+        server.free_seat(rt, seat);
     }
 }
 
@@ -149,7 +189,7 @@ fn converse_at<W: Answers + Sync, R: Threads + Wait + Clock + Sync>(
         converse(rt, server, seat, &mailbox);
     }
     server.answers.leave(rt, seat);
-    server.seats.lock(rt).free(seat);
+    server.free_seat(rt, seat);
 }
 
 // One connection to its end: its lines are read and answered here, and what is posted is written by a thread beside this one.

@@ -15,5 +15,5 @@ pub use beginning::Beginning;
 pub use closing::{CloseFault, Closed};
 pub use opening::{SeatEnds, seat_ends};
 pub use room::{NotClosed, Room};
-pub use running::{RUN_LIMIT, RunningTree};
+pub use running::RunningTree;
 pub use stop::{DriveStop, Driven, Stop};

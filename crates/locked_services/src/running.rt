@@ -23,15 +23,12 @@ use crate::taking::take_next;
 use channel_names::Channels;
 use inbox::{Drain, Finished, Ticket};
 use order_lanes::{Backend, Desk, Lane, Lanes, blocked_lane, send_all};
-use run_records::Run;
+use run_records::{RUN_LIMIT, Run};
 use s6_events::{Actor, NoMemory};
 use status_board::Shot;
 use std::alloc::Global;
 use std::marker::Model;
 use tree_core::{Effect, Image, Input, ORDER_LIMIT, Reply, Tree};
-
-/// The most steps of a run.
-pub const RUN_LIMIT: usize = 262_144;
 
 /// A tree with its run so far, the ends of the rings that it takes inputs from, an input that was taken and isn't done, and the lanes
 /// that it sends orders into. Its invariant is what is promised of a run at every moment.

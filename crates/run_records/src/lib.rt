@@ -6,5 +6,5 @@ mod run;
 mod step_places;
 
 pub use record::Record;
-pub use run::Run;
+pub use run::{RUN_LIMIT, Run};
 pub use step_places::StepPlaces;

@@ -15,6 +15,12 @@ use tree_core::{Effect, ORDER_LIMIT, PlainInput, Reply};
 /// How many actors there may be.
 const ACTORS: usize = 16;
 
+/// The most steps of a run. It has room for all of them from its beginning, so that none is moved while a lock is held.
+pub const RUN_LIMIT: usize = 262_144;
+
+/// For how many orders a run has room from its beginning.
+const ORDER_ROOM: usize = 2 * RUN_LIMIT;
+
 /// The steps of a run, oldest first, and where those of each actor stand. Contracts see each step as its input and all that it gave.
 #[derive(Drop)]
 pub struct Run {
@@ -35,13 +41,15 @@ impl Model for Run {
 }
 
 impl Run {
-    /// No step yet. `NoMemory` where a growth was refused.
+    /// No step yet. The room for all steps is asked of the system in two blocks, so large that the C library takes each from the
+    /// system by itself, and gives it back when the run is dropped; a page of them takes memory once it is written. `NoMemory` where
+    /// a growth was refused.
     pub fn new(alloc: Global) -> Result<Run, NoMemory>
         ensures { IfOk result (λ run. run.steps ≡ []) }
     {
         Ok(Run {
-            records: Vec::new(alloc),
-            orders: Vec::new(alloc),
+            records: Vec::with_capacity(alloc, RUN_LIMIT)?,
+            orders: Vec::with_capacity(alloc, ORDER_ROOM)?,
             places: no_places(alloc)?,
         })
     }

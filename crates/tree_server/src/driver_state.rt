@@ -53,6 +53,8 @@ pub struct DriverState<C: Channels> {
     pub scans_and_ticks: u64,
     /// The moment of the last step, in milliseconds.
     pub last_step: u64,
+    /// Whether the board shows the last step. It doesn't while there is no memory to show it.
+    pub is_shown: bool,
     /// Whether nothing is begun for connections yet, since the first scan is still to be made.
     pub awaits_scan: bool,
 }
@@ -88,8 +90,14 @@ impl<C: Channels> DriverState<C> {
             steps: 0,
             scans_and_ticks: 0,
             last_step,
+            is_shown: true,
             awaits_scan,
         }
+    }
+
+    /// The moment of the last step, in milliseconds, if the board shows it.
+    pub fn shown_step(&self) -> Option<u64> {
+        self.is_shown.then_some(self.last_step)
     }
 
     /// Hands in an act of a connection's actor. Whether it was taken, and its step is to come.

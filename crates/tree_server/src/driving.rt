@@ -5,7 +5,7 @@ use crate::serving::begin_all;
 use crate::shared::Shared;
 use channel_names::Channels;
 use line_server::Server;
-use locked_services::DriveStop;
+use locked_services::{DriveStop, Driven};
 use office::Office;
 use order_lanes::{Backend, Lanes};
 use status_board::Board;
@@ -92,11 +92,7 @@ pub fn drive_some<C: Channels + Lanes, D: Board<C>, B: Backend, R: Wait + Clock>
 ) -> After {
     for _ in rt.forever() {
         let driven = office.drive(rt, STEPS);
-        if driven.steps > 0 {
-            state.last_step = server.answers().clock.millis(rt);
-            server.answers().rows.invalidate(rt);
-            state.reader.learn(office.tell(rt));
-        }
+        note_steps(rt, server.answers(), office, state, driven);
         if !deliver_all(rt, server, office, state) {
             return After::WaitForMemory;
         }
@@ -110,4 +106,23 @@ pub fn drive_some<C: Channels + Lanes, D: Board<C>, B: Backend, R: Wait + Clock>
         }
     }
     After::Wait
+}
+
+// What a drive changes of what statuses are told from.
+fn note_steps<C: Channels + Lanes, D: Board<C>, B: Backend, R: Wait + Clock>(
+    rt: &R,
+    shared: &Shared,
+    office: &Office<C, D, B>,
+    state: &mut DriverState<C>,
+    driven: Driven,
+) {
+    state.is_shown = driven.stop != DriveStop::NoMemory;
+    if driven.steps == 0 && state.is_shown {
+        return;
+    }
+    shared.rows.invalidate(rt);
+    if driven.steps > 0 {
+        state.last_step = shared.clock.millis(rt);
+        state.reader.learn(office.tell(rt));
+    }
 }

@@ -1,5 +1,6 @@
 //! The rows of the board as they were last read, for the threads of connections.
-ghost use Rattle.std.specs.Prelude.{◌≡◌, IfOk};
+ghost use Rattle.std.specs.Prelude.{◌≡◌, ◌×◌, IfOk, IfSome, None, Some};
+ghost use Rattle.status_board.specs.Board.{last_shot};
 ghost use Rattle.tree_server.specs.Status.{status_text, is_fresh};
 
 use crate::status::push_status;
@@ -12,7 +13,7 @@ use std::sync::{Mutex, Wait};
 /// How old the last step may be for a status to be told from it, in milliseconds.
 pub const STATUS_AGE: u64 = 1000;
 
-/// Rows, and the moment of the last step before they were read, in milliseconds; None where a step was made since.
+/// Rows, and the moment of the last step before they were read, in milliseconds; None where they may not be those of the board.
 #[derive(Drop)]
 struct CachedRows {
     shot: Box<Shot>,
@@ -39,6 +40,25 @@ impl CachedRows {
         push_status(&mut text, self.shot.rows.as_slice(), name)?;
         Ok(text)
     }
+
+    // They may not be those of the board any more.
+    fn forget(&mut self)
+        ensures step { self.new.step ≡ None }
+    {
+        self.step = None;
+    }
+
+    // Reads the board anew, after a last step at this moment; None where the board doesn't show that step. The moment is kept only
+    // with the shot that was published last.
+    fn read<C: Channels>(&mut self, reader: &mut BoardReader<C>, step: Option<u64>)
+        ensures kept { IfSome self.new.step
+            (λ at. (step ≡ Some at) × (last_shot reader.new ≡ Some self.new.shot.value)) }
+    {
+        self.step = None;
+        if reader.read_into(&mut self.shot) {
+            self.step = step;
+        }
+    }
 }
 
 /// The rows of the board as they were last read. The thread that drives reads them, and forgets them with each step; threads of
@@ -62,7 +82,7 @@ impl RowCache {
 
     /// A step was made: the rows may not be those of the board any more.
     pub fn invalidate<R: Wait>(&self, rt: &R) {
-        self.rows.lock(rt).step = None;
+        self.rows.lock(rt).forget();
     }
 
     /// The status of this service at this moment, in milliseconds; None where a step was made since the rows were read, or the last one
@@ -81,19 +101,18 @@ impl RowCache {
         Some(rows.status(alloc, name))
     }
 
-    /// Reads the board anew, after a last step at this moment, in milliseconds. The status of this service then.
+    /// Reads the board anew, after a last step at this moment, in milliseconds; None where the board doesn't show that step yet. The
+    /// status of this service then.
     pub fn read<C: Channels, R: Wait>(
         &self,
         rt: &R,
         alloc: Global,
         reader: &mut BoardReader<C>,
-        step: u64,
+        step: Option<u64>,
         name: &Name,
     ) -> Result<Vec<u8>, AllocError> {
         let mut rows = self.rows.lock(rt);
-        let rows = &mut *rows;
-        let is_read = reader.read_into(&mut rows.shot);
-        rows.step = if is_read { Some(step) } else { None };
+        rows.read(reader, step);
         rows.status(alloc, name)
     }
 }

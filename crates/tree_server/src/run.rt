@@ -9,7 +9,7 @@ use crate::seat_room::{RunSeats, SeatRoom};
 use crate::shared::Shared;
 use crate::threads::{ThreadSlots, run_threads};
 use channel_names::Channels;
-use inbox::{Finished, Seat};
+use inbox::Finished;
 use line_server::Server;
 use locked_services::Closed;
 use office::{Office, Opened};
@@ -50,7 +50,7 @@ pub fn run<
     D: Board<C> + Send,
     B: Backend + Send,
     R: Files + Threads + Wait + Clock + Copy + Sync + Drop,
-    E: Write,
+    E: Write + Send,
 >(
     rt: &R,
     server: &Server<Shared>,
@@ -69,25 +69,14 @@ pub fn run<
         return AfterRun::Over(Err(ServeFault::NoMemory));
     };
     let RunSeats {
-        mut scanner,
         slots,
-        first,
+        mut state,
         finishes,
         reports,
     } = run_seats;
-    let end = run_threads(
-        rt,
-        server,
-        &office,
-        &slots,
-        &mut scanner,
-        first,
-        options.handover,
-        options.directory,
-        errors,
-    );
+    let end = run_threads(rt, server, &office, &slots, &mut state, options, errors);
     match end {
-        RunEnd::Handover => hand_over(rt, server, office, slots, scanner, finishes, reports),
+        RunEnd::Handover => hand_over(rt, server, office, slots, state, finishes, reports),
         RunEnd::Ended => AfterRun::Over(Ok(())),
         RunEnd::Thread => AfterRun::Over(Err(ServeFault::Thread)),
         RunEnd::Full => AfterRun::Over(Err(ServeFault::Full)),
@@ -100,19 +89,20 @@ fn hand_over<C: Channels + Lanes, D: Board<C>, B: Backend, R: Wait + Clock>(
     server: &Server<Shared>,
     office: Office<C, D, B>,
     slots: ThreadSlots<C>,
-    scanner: Seat<C>,
+    state: DriverState<C>,
     finishes: Vec<Finished<C>>,
     reports: Vec<Option<Report>>,
 ) -> AfterRun<B> {
-    let ThreadSlots { driver, lanes } = slots;
-    let Some(mut state) = driver.take(rt) else {
+    let ThreadSlots { scanner, lanes } = slots;
+    let Some(scanner) = scanner.take(rt) else {
         return AfterRun::Over(Err(ServeFault::Thread));
     };
+    let mut state = state;
     if let Err(fault) = drive_rest(rt, server, &office, &mut state) {
         return AfterRun::Over(Err(fault));
     }
     let (mut finishes, mut reports) = (finishes, reports);
-    let _ = finishes.push(scanner.finish());
+    let _ = finishes.push(scanner.seat.finish());
     for slot in &lanes {
         let Some(lane) = slot.take(rt) else {
             return AfterRun::Over(Err(ServeFault::Thread));

@@ -40,7 +40,7 @@ use tree_core::{Listing, Tree};
 pub fn run_tree<
     B: Backend + Send,
     R: Net + Files + Threads + Wait + Clock + Copy + Sync + Send + Drop,
-    E: Write,
+    E: Write + Send,
     L: Log,
 >(
     rt: &R,
@@ -107,7 +107,7 @@ fn fault_of(error: &io::Error) -> ServeFault {
 fn serve<
     B: Backend + Send,
     R: Files + Threads + Wait + Clock + Copy + Sync + Send + Drop,
-    E: Write,
+    E: Write + Send,
     L: Log,
 >(
     rt: &R,
@@ -134,7 +134,7 @@ fn serve<
 fn run_all<
     B: Backend + Send,
     R: Files + Threads + Wait + Clock + Copy + Sync + Send + Drop,
-    E: Write,
+    E: Write + Send,
     L: Log,
 >(
     rt: &R,
@@ -179,7 +179,7 @@ fn run_all<
 fn run_once<
     B: Backend + Send,
     R: Files + Threads + Wait + Clock + Copy + Sync + Send + Drop,
-    E: Write,
+    E: Write + Send,
 >(
     rt: &R,
     alloc: Global,
@@ -223,7 +223,7 @@ fn run_named<
     B: Backend + Send,
     C: Channels + Lanes + Send + Sync,
     R: Files + Threads + Wait + Clock + Copy + Sync + Send + Drop,
-    E: Write,
+    E: Write + Send,
 >(
     rt: &R,
     alloc: Global,

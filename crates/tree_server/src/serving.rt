@@ -98,9 +98,10 @@ pub fn answer_status<C: Channels, R: Wait>(
     name: &Name,
 ) {
     let shared = server.answers();
+    let step = state.shown_step();
     let text = shared
         .rows
-        .read(rt, shared.alloc, &mut state.reader, state.last_step, name);
+        .read(rt, shared.alloc, &mut state.reader, step, name);
     if text.is_ok() {
         post(rt, server, seat, &text);
     } else {
