@@ -40,7 +40,7 @@ steps_snoc orders more after rs rs_after r t within e f last =
     ∙ (ap (λ (ts : List RunStep). ts ++ step_of (orders ++ more) r ∷ []) (all_grown orders more rs within)
     ∙ ap (λ (x : RunStep). map (step_of orders) rs ++ x ∷ []) last)))
 
-all_snoc : {A : Type 0} (P : A → Type 0) (xs : List A) (x : A) → All P xs → P x → All P (xs ++ x ∷ [])
+pub all_snoc : {A : Type 0} (P : A → Type 0) (xs : List A) (x : A) → All P xs → P x → All P (xs ++ x ∷ [])
 all_snoc P [] x all p zero d below = p
 all_snoc P [] x all p (suc k) d below = absurd (omega arith)
 all_snoc P (y ∷ ys) x all p zero d below = all zero y (omega arith)

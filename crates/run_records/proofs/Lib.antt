@@ -1,3 +1,4 @@
 pub mod Growing
 pub mod Reading
 pub mod Placing
+pub mod Writing

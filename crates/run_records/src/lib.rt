@@ -4,7 +4,9 @@
 mod record;
 mod run;
 mod step_places;
+mod writing;
 
 pub use record::Record;
 pub use run::{RUN_LIMIT, Run};
 pub use step_places::StepPlaces;
+pub use writing::RunFault;

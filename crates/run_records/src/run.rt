@@ -1,13 +1,16 @@
 //! The steps of a run.
-ghost use Rattle.std.specs.Prelude.{◌≡◌, ◌-◌, ◌<◌, ◌≤◌, [], ◌∷◌, ◌++◌, length, OnOk, IfOk, IfSome, slice_get, option_map};
+ghost use Rattle.std.specs.Prelude.{◌≡◌, ◌-◌, ◌<◌, ◌≤◌, [], ◌∷◌, ◌++◌, length, OnOk, IfErr, IfOk, IfSome, slice_get, option_map};
 ghost use Rattle.tree_core.specs.Effect.{outcome_of};
 ghost use Rattle.tree_core.specs.Limits.{order_limit};
 ghost use Rattle.run_records.specs.Runs.{AreEmpty, IsWithin, HasRoom, step_of, actor_at, outcome_at, reply_at};
+ghost use Rattle.run_records.specs.Writing.{IsWritten, StopsWriting};
 
 use crate::record::Record;
 use crate::step_places::StepPlaces;
+use crate::writing::{RunFault, write_head, write_step};
 use s6_events::{Actor, NoMemory, Order};
 use std::alloc::Global;
+use std::io::Write;
 use std::marker::Model;
 use std::mem;
 use tree_core::{Effect, ORDER_LIMIT, PlainInput, Reply};
@@ -149,6 +152,34 @@ impl Run {
         };
         let reply = self.records[place].reply.copied(alloc)?;
         Ok(Some(reply))
+    }
+
+    /// Writes the steps as a recorded script: the head line, if `head`, and then for each step the line of its input and that of its
+    /// reply. How many steps these are. The texts of runs that go on from one another, the first behind the head line, are one script.
+    /// The writer is not flushed. `Write`, `NoMemory` and `Unspelt` say what was written.
+    pub fn write<W: Write>(
+        &self,
+        alloc: Global,
+        head: bool,
+        writer: &mut W,
+    ) -> Result<u64, RunFault>
+        ensures ok { IfOk result (λ count. IsWritten count head self.now.steps
+            (W.contents writer.old) (W.contents writer.new)) }
+        ensures fault { IfErr result (λ fault. StopsWriting fault head self.now.steps
+            (W.contents writer.old) (W.contents writer.new)) }
+    {
+        write_head(head, writer)?;
+        let mut text = Vec::new(alloc);
+        for place in 0..self.records.len() {
+            write_step(
+                alloc,
+                &mut text,
+                &self.records[place],
+                place as u64 + 1,
+                writer,
+            )?;
+        }
+        Ok(self.records.len() as u64)
     }
 }
 

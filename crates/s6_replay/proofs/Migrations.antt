@@ -46,7 +46,7 @@ text_more steps s =
     ∙ script_more Two (recorded new_machine (inputs_of steps)) (recorded_step (after_all new_machine (inputs_of steps)) s.input)
 
 -- some of the last part was written behind all before it
-front_more : (x y z : Option (List ℕ)) (xs ys : List ℕ) → Appends x y xs → AppendsFront y z ys → AppendsFront x z (xs ++ ys)
+pub front_more : (x y z : Option (List ℕ)) (xs ys : List ℕ) → Appends x y xs → AppendsFront y z ys → AppendsFront x z (xs ++ ys)
 front_more x y z xs ys p q = (
   length xs + q.0,
   omega (arith, q.1, length-append xs ys),

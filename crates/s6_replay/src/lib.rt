@@ -24,6 +24,6 @@ pub use counts::Counts;
 pub use effect_lines::{push_match, push_release};
 pub use fault::ReplayFault;
 pub use migration::migrate;
-pub use recording::{SpellFault, write_input, write_reply};
+pub use recording::{SpellFault, spell_step, write_input, write_reply};
 pub use replay::run;
 pub use reply_text::{push_reply, push_row};

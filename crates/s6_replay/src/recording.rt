@@ -1,9 +1,10 @@
 //! Writing inputs and replies, as a recorded script has them.
-ghost use Rattle.std.specs.Prelude.{◌≡◌, Err, OnOk};
+ghost use Rattle.std.specs.Prelude.{◌≡◌, ◌++◌, Err, OnOk};
 ghost use Rattle.std.specs.Io.KnownBytes.{Appends};
 ghost use Rattle.s6_script.specs.Spelling.{spelling};
 ghost use Rattle.s6_replay.specs.Lines.{AppendsFront};
 ghost use Rattle.s6_replay.specs.Recording.{FitsLine};
+ghost use Rattle.s6_replay.specs.Script.{input_line, reply_record};
 ghost use Rattle.s6_replay.specs.Transcript.{reply_text};
 
 use super::block::{WriteFault, write_whole};
@@ -98,5 +99,31 @@ pub fn write_reply<A: Allocator + Copy, W: Write>(
     let mut text = Vec::new(alloc);
     push_reply(&mut text, reply)?;
     write_whole(writer, text.as_slice())?;
+    Ok(())
+}
+
+/// Makes the text that of a step in a recorded script: the line of its input, and that of its reply. `Unspelt` where the input has no
+/// spelling, or one that is too long for an input line. `Write` never comes.
+pub fn spell_step<A: Allocator + Copy>(
+    alloc: A,
+    text: &mut Vec<u8, A>,
+    input: &PlainInput<A>,
+    reply: &Reply<A>,
+) -> Result<(), SpellFault>
+    ensures fits { OnOk result (FitsLine input.now) }
+    ensures ok { OnOk result (text.new.items
+        ≡ input_line input.now ++ reply_record (reply_text reply.now)) }
+    ensures unspelt { result ≡ Err SpellFault.Unspelt → FitsLine input.now → ⊥ }
+    ensures in_memory { result ≡ Err SpellFault.Write → ⊥ }
+{
+    if !spell_plain(alloc, text, input)? {
+        return Err(SpellFault::Unspelt);
+    }
+    if text.len() >= INPUT_LINE_LIMIT {
+        return Err(SpellFault::Unspelt);
+    }
+    text.extend_from_slice(b"\n= ")?;
+    push_reply(text, reply)?;
+    text.extend_from_slice(b"\n")?;
     Ok(())
 }
