@@ -7,3 +7,4 @@ pub mod EndOfRun
 pub mod Served
 pub mod Chained
 pub mod Crosses
+pub mod Recording

@@ -4,3 +4,4 @@ pub mod Shots
 pub mod Opening
 pub mod Chain
 pub mod Closing
+pub mod Recording

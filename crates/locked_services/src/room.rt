@@ -7,6 +7,7 @@ ghost use Rattle.tree_core.specs.Machine.{Machine};
 ghost use Rattle.tree_core.specs.NextDue.{next_due};
 ghost use Rattle.tree_core.specs.StandsFor.{StandsFor};
 ghost use Rattle.run_records.specs.Runs.{RunStep, end_of, actor_at, outcome_at, reply_at};
+ghost use Rattle.run_records.specs.Writing.{IsWritten, StopsWriting};
 ghost use Rattle.locked_services.specs.Closing.{AreComplete, AreDone, AreSameDesks, AreServed, IsClosed, IsFault, IsSameRoom};
 ghost use Rattle.locked_services.specs.Submissions.{NoneSeen};
 ghost use Rattle.locked_services.specs.Running.{run_limit};
@@ -23,9 +24,11 @@ use crate::stop::{DriveStop, Driven, Stop};
 use channel_names::Channels;
 use inbox::{Finished, Ticket};
 use order_lanes::{Backend, Desk, Lanes};
+use run_records::RunFault;
 use s6_events::{Actor, NoMemory};
 use status_board::{Board, Told};
 use std::alloc::Global;
+use std::io::Write;
 use std::marker::Model;
 use tree_core::{Effect, Reply, Tree};
 
@@ -137,6 +140,18 @@ impl<C: Channels + Lanes, D: Board<C>> Room<C, D> {
         ensures { result ≡ actor_at number self.now.running.steps }
     {
         self.running.actor(number)
+    }
+
+    /// Writes the run as a recorded script, behind the head line if `head`: for each step the line of its input, and that of its reply.
+    /// How many steps these are. The writer is not flushed. The texts of runs that go on from one another, of which the first began with
+    /// a new tree and is written behind the head line, are one script (`laws::recording`).
+    pub fn write_run<W: Write>(&self, head: bool, writer: &mut W) -> Result<u64, RunFault>
+        ensures ok { IfOk result (λ count. IsWritten count head self.now.running.steps
+            (W.contents writer.old) (W.contents writer.new)) }
+        ensures fault { IfErr result (λ fault. StopsWriting fault head self.now.running.steps
+            (W.contents writer.old) (W.contents writer.new)) }
+    {
+        self.running.write_run(head, writer)
     }
 
     /// How many steps were made. What holds at every moment: the steps are a legal history from each machine for which the first tree

@@ -1,5 +1,5 @@
 //! A tree with its run, the ends of the rings that it takes from, and the lanes that it sends into.
-ghost use Rattle.std.specs.Prelude.{◌≡◌, ◌≢◌, ◌⊎◌, ◌∷◌, ◌++◌, [], ◌≤◌, ◌<◌, ℕ, length, None, IfSome, IfNone, IsSome, IsTrue, IsFalse, OnOk, OnErr, IfOk, Some, true, false, option_map, vec_capacity};
+ghost use Rattle.std.specs.Prelude.{◌≡◌, ◌≢◌, ◌⊎◌, ◌∷◌, ◌++◌, [], ◌≤◌, ◌<◌, ℕ, length, None, IfSome, IfNone, IsSome, IsTrue, IsFalse, OnOk, OnErr, IfOk, IfErr, Some, true, false, option_map, vec_capacity};
 ghost use Rattle.tree_core.specs.Effect.{outcome_of};
 ghost use Rattle.tree_core.specs.Ended.{has_ended};
 ghost use Rattle.tree_core.specs.Limits.{order_limit};
@@ -7,6 +7,7 @@ ghost use Rattle.tree_core.specs.Machine.{Machine};
 ghost use Rattle.tree_core.specs.NextDue.{next_due};
 ghost use Rattle.tree_core.specs.StandsFor.{StandsFor};
 ghost use Rattle.run_records.specs.Runs.{RunStep, end_of, actor_at, outcome_at, reply_at};
+ghost use Rattle.run_records.specs.Writing.{IsWritten, StopsWriting};
 ghost use Rattle.locked_services.specs.Submissions.{AreNumbered, NoneSeen, taken_from};
 ghost use Rattle.locked_services.specs.Running.{run_limit, IsSoundRunning};
 ghost use Rattle.locked_services.specs.Closing.{AreComplete, AreDone, AreSameDesks, AreServed, IsFault, IsInputLeft, IsOrderLeft, IsSameRunning};
@@ -23,10 +24,11 @@ use crate::taking::take_next;
 use channel_names::Channels;
 use inbox::{Drain, Finished, Ticket};
 use order_lanes::{Backend, Desk, Lane, Lanes, blocked_lane, send_all};
-use run_records::{RUN_LIMIT, Run};
+use run_records::{RUN_LIMIT, Run, RunFault};
 use s6_events::{Actor, NoMemory};
 use status_board::Shot;
 use std::alloc::Global;
+use std::io::Write;
 use std::marker::Model;
 use tree_core::{Effect, Image, Input, ORDER_LIMIT, Reply, Tree};
 
@@ -229,6 +231,16 @@ impl<C: Channels + Lanes> RunningTree<C> {
         ensures { result ≡ actor_at number self.now.steps }
     {
         self.run.actor(number)
+    }
+
+    /// Writes the steps as a recorded script, as `Run::write` does.
+    pub fn write_run<W: Write>(&self, head: bool, writer: &mut W) -> Result<u64, RunFault>
+        ensures ok { IfOk result (λ count. IsWritten count head self.now.steps
+            (W.contents writer.old) (W.contents writer.new)) }
+        ensures fault { IfErr result (λ fault. StopsWriting fault head self.now.steps
+            (W.contents writer.old) (W.contents writer.new)) }
+    {
+        self.run.write(self.alloc, head, writer)
     }
 
     // Why the run can't be closed with these finishes, by its inputs alone.

@@ -6,6 +6,7 @@ ghost use Rattle.tree_core.specs.Machine.{Machine};
 ghost use Rattle.tree_core.specs.NextDue.{next_due};
 ghost use Rattle.tree_core.specs.StandsFor.{StandsFor};
 ghost use Rattle.run_records.specs.Runs.{end_of, actor_at, outcome_at, reply_at};
+ghost use Rattle.run_records.specs.Writing.{IsWritten, StopsWriting};
 ghost use Rattle.locked_services.specs.Closing.{IsClosed, IsFault};
 ghost use Rattle.locked_services.specs.Shots.{RoomView, IsSoundHistory};
 ghost use Rattle.order_lanes.specs.Desk.{DeskView};
@@ -18,9 +19,11 @@ use channel_names::Channels;
 use inbox::{Finished, Ticket};
 use locked_services::{CloseFault, Closed, Driven, NotClosed, Room};
 use order_lanes::{Backend, Carried, Desk, Lanes, Report};
+use run_records::RunFault;
 use s6_events::{Actor, NoMemory};
 use status_board::{Board, Told};
 use std::alloc::Global;
+use std::io::Write;
 use std::marker::Model;
 use std::sync::{Mutex, Wait};
 use std::thread;
@@ -132,6 +135,24 @@ impl<C: Channels + Lanes, D: Board<C>, B: Backend> Office<C, D, B> {
     {
         let room = self.room.lock(rt);
         room.steps()
+    }
+
+    /// Writes the run as a recorded script, as `Room::write_run` does. The room's lock is held meanwhile.
+    pub fn write_run<R: Wait, W: Write>(
+        &self,
+        rt: &R,
+        head: bool,
+        writer: &mut W,
+    ) -> Result<u64, RunFault>
+        ensures { (v : RoomView) × IsSoundHistory v
+            × IfOk result (λ count. IsWritten count head v.running.steps
+            (W.contents writer.old) (W.contents writer.new))
+            × IfErr result (λ fault. StopsWriting fault head v.running.steps
+            (W.contents writer.old) (W.contents writer.new)) }
+    {
+        let room = self.room.lock(rt);
+        let _steps = room.steps();
+        room.write_run(head, writer)
     }
 
     /// Whether the tree has ended: it is closing, and the supervisor of each service that stands has ended.

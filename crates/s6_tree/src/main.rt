@@ -17,6 +17,7 @@ fn main(rt: HostRuntime) -> ExitCode {
     let options = ServeOptions {
         directory: place.directory.as_str(),
         socket: place.socket.as_str(),
+        record: place.record.as_deref(),
         handover: HANDOVER,
     };
     let Ok(keeper) = Keeper::start(rt, alloc) else {

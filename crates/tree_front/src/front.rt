@@ -21,6 +21,8 @@ pub struct TreePlace {
     pub directory: String,
     /// The path of the socket.
     pub socket: String,
+    /// The file in which its runs are recorded, if any.
+    pub record: Option<String>,
 }
 
 /// What the words ask for.
@@ -92,16 +94,29 @@ fn tell_no_memory<E: Write>(tool: Tool, errors: &mut E) -> u8 {
 
 // The words behind `svscan`.
 fn read_place<W: Write, E: Write>(words: Vec<String>, output: &mut W, errors: &mut E) -> Asked {
-    let mut words = words;
     if words.len() == 3 && words.as_slice()[2].as_str() == "--help" {
         return print_help(output, errors);
     }
-    if words.len() != 4 {
-        return Asked::Done(refuse_usage(errors));
+    match place_of(words) {
+        Some(place) => Asked::Tree(place),
+        None => Asked::Done(refuse_usage(errors)),
     }
+}
+
+// The scan directory, the socket and the record; None where the words are too few or too many.
+fn place_of(words: Vec<String>) -> Option<TreePlace> {
+    let mut words = words;
+    if words.len() < 4 || words.len() > 5 {
+        return None;
+    }
+    let record = if words.len() == 5 { words.pop() } else { None };
     match (words.pop(), words.pop()) {
-        (Some(socket), Some(directory)) => Asked::Tree(TreePlace { directory, socket }),
-        _ => Asked::Done(refuse_usage(errors)),
+        (Some(socket), Some(directory)) => Some(TreePlace {
+            directory,
+            socket,
+            record,
+        }),
+        _ => None,
     }
 }
 

@@ -29,6 +29,8 @@ pub enum ServeFault {
     Lanes,
     /// The run could not be closed.
     Close,
+    /// The record could not be made, or a run was not written into it.
+    Record,
 }
 
 // The line of a fault.
@@ -44,6 +46,7 @@ fn text_of(fault: ServeFault) -> &'static [u8]
         ServeFault::Full => b"svscan: full\n",
         ServeFault::Lanes => b"svscan: lanes\n",
         ServeFault::Close => b"svscan: close\n",
+        ServeFault::Record => b"svscan: record\n",
     }
 }
 

@@ -16,6 +16,7 @@ mod own_answer;
 mod places;
 mod plans;
 mod posting;
+mod recorder;
 mod requests;
 mod row_cache;
 mod run;

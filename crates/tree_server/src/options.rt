@@ -11,6 +11,8 @@ pub struct ServeOptions<'a> {
     pub directory: &'a str,
     /// The path of the socket.
     pub socket: &'a str,
+    /// The file in which the runs are recorded, if any.
+    pub record: Option<&'a str>,
     /// After how many steps the next run goes on, at most `HANDOVER`.
     pub handover: u64,
 }

@@ -5,6 +5,7 @@ use crate::driving::{After, MEMORY_WAIT, RunEnd, drive_some};
 use crate::fault::ServeFault;
 use crate::lane_service::carry_rest;
 use crate::options::ServeOptions;
+use crate::recorder::Recorder;
 use crate::seat_room::{RunSeats, SeatRoom};
 use crate::shared::Shared;
 use crate::threads::{ThreadSlots, run_threads};
@@ -44,13 +45,14 @@ pub enum AfterRun<B: Drop> {
     Next(Box<Tree<Global>>, Vec<B>, Carryover),
 }
 
-/// Runs the tree of an open office until it has ended, or has made so many steps; then the office is closed.
+/// Runs the tree of an open office until it has ended, or has made so many steps; then the run is recorded, and the office is closed.
 pub fn run<
     C: Channels + Lanes + Send + Sync,
     D: Board<C> + Send,
     B: Backend + Send,
     R: Files + Threads + Wait + Clock + Copy + Sync + Drop,
     E: Write + Send,
+    W: Write + Drop,
 >(
     rt: &R,
     server: &Server<Shared>,
@@ -59,6 +61,7 @@ pub fn run<
     carryover: Carryover,
     options: ServeOptions<'_>,
     errors: &mut E,
+    recorder: &mut Recorder<W>,
 ) -> AfterRun<B> {
     let Opened {
         office,
@@ -75,16 +78,21 @@ pub fn run<
         reports,
     } = run_seats;
     let end = run_threads(rt, server, &office, &slots, &mut state, options, errors);
+    if end == RunEnd::Handover {
+        return hand_over(
+            rt, server, office, slots, state, finishes, reports, recorder,
+        );
+    }
+    let recorded = recorder.append(rt, &office);
     match end {
-        RunEnd::Handover => hand_over(rt, server, office, slots, state, finishes, reports),
-        RunEnd::Ended => AfterRun::Over(Ok(())),
+        RunEnd::Handover | RunEnd::Ended => AfterRun::Over(recorded),
         RunEnd::Thread => AfterRun::Over(Err(ServeFault::Thread)),
         RunEnd::Full => AfterRun::Over(Err(ServeFault::Full)),
     }
 }
 
-// Does all that is left, finishes every seat, and closes the office. There is room for the finishes and the reports.
-fn hand_over<C: Channels + Lanes, D: Board<C>, B: Backend, R: Wait + Clock>(
+// Does all that is left, records the run, finishes every seat, and closes the office. There is room for the finishes and the reports.
+fn hand_over<C: Channels + Lanes, D: Board<C>, B: Backend, R: Wait + Clock, W: Write + Drop>(
     rt: &R,
     server: &Server<Shared>,
     office: Office<C, D, B>,
@@ -92,6 +100,7 @@ fn hand_over<C: Channels + Lanes, D: Board<C>, B: Backend, R: Wait + Clock>(
     state: DriverState<C>,
     finishes: Vec<Finished<C>>,
     reports: Vec<Option<Report>>,
+    recorder: &mut Recorder<W>,
 ) -> AfterRun<B> {
     let ThreadSlots { scanner, lanes } = slots;
     let Some(scanner) = scanner.take(rt) else {
@@ -99,6 +108,9 @@ fn hand_over<C: Channels + Lanes, D: Board<C>, B: Backend, R: Wait + Clock>(
     };
     let mut state = state;
     if let Err(fault) = drive_rest(rt, server, &office, &mut state) {
+        return AfterRun::Over(Err(fault));
+    }
+    if let Err(fault) = recorder.append(rt, &office) {
         return AfterRun::Over(Err(fault));
     }
     let (mut finishes, mut reports) = (finishes, reports);

@@ -10,6 +10,7 @@ use crate::driving::MEMORY_WAIT;
 use crate::fault::ServeFault;
 use crate::listing::read_listing;
 use crate::options::ServeOptions;
+use crate::recorder::{Recorder, create_recorder};
 use crate::row_cache::RowCache;
 use crate::run::{AfterRun, Carryover, run};
 use crate::seat_room::{ACTOR_COUNT, SeatRoom};
@@ -55,7 +56,9 @@ pub fn run_tree<
         return Err(ServeFault::Socket);
     };
     let done = match prepare(rt, alloc, bells, listener, options.directory, errors) {
-        Ok((server, first)) => serve(rt, alloc, &server, backends, first, options, errors, log),
+        Ok((server, first)) => {
+            record_and_serve(rt, alloc, &server, backends, first, options, errors, log)
+        }
         Err(fault) => Err(fault),
     };
     let _ = fs::remove_file(rt, options.socket);
@@ -103,8 +106,8 @@ fn fault_of(error: &io::Error) -> ServeFault {
     }
 }
 
-// Serves connections in threads of their own, and runs the tree in this one.
-fn serve<
+// Makes the record empty, and serves.
+fn record_and_serve<
     B: Backend + Send,
     R: Files + Threads + Wait + Clock + Copy + Sync + Send + Drop,
     E: Write + Send,
@@ -119,9 +122,43 @@ fn serve<
     errors: &mut E,
     log: &L,
 ) -> Result<(), ServeFault> {
+    let mut recorder = create_recorder(rt, alloc, options.record)?;
+    serve(
+        rt,
+        alloc,
+        server,
+        backends,
+        first,
+        options,
+        errors,
+        &mut recorder,
+        log,
+    )
+}
+
+// Serves connections in threads of their own, and runs the tree in this one.
+fn serve<
+    B: Backend + Send,
+    R: Files + Threads + Wait + Clock + Copy + Sync + Send + Drop,
+    E: Write + Send,
+    W: Write + Drop,
+    L: Log,
+>(
+    rt: &R,
+    alloc: Global,
+    server: &Server<Shared>,
+    backends: Vec<B>,
+    first: Listing<Global>,
+    options: ServeOptions<'_>,
+    errors: &mut E,
+    recorder: &mut Recorder<W>,
+    log: &L,
+) -> Result<(), ServeFault> {
     thread::scope(thread::scope_env(), rt, |scope| {
         let done = if start_listener(scope, rt, server) {
-            run_all(rt, alloc, server, backends, first, options, errors, log)
+            run_all(
+                rt, alloc, server, backends, first, options, errors, recorder, log,
+            )
         } else {
             Err(ServeFault::Thread)
         };
@@ -135,6 +172,7 @@ fn run_all<
     B: Backend + Send,
     R: Files + Threads + Wait + Clock + Copy + Sync + Send + Drop,
     E: Write + Send,
+    W: Write + Drop,
     L: Log,
 >(
     rt: &R,
@@ -144,6 +182,7 @@ fn run_all<
     first: Listing<Global>,
     options: ServeOptions<'_>,
     errors: &mut E,
+    recorder: &mut Recorder<W>,
     log: &L,
 ) -> Result<(), ServeFault> {
     let (Ok(connections), Ok(tree)) = (no_connections(alloc), Box::new(alloc, Tree::new(alloc)))
@@ -167,7 +206,7 @@ fn run_all<
                 }
                 is_first = false;
                 next = run_once(
-                    rt, alloc, server, tree, backends, carryover, options, errors,
+                    rt, alloc, server, tree, backends, carryover, options, errors, recorder,
                 );
             }
         }
@@ -180,6 +219,7 @@ fn run_once<
     B: Backend + Send,
     R: Files + Threads + Wait + Clock + Copy + Sync + Send + Drop,
     E: Write + Send,
+    W: Write + Drop,
 >(
     rt: &R,
     alloc: Global,
@@ -189,10 +229,11 @@ fn run_once<
     carryover: Carryover,
     options: ServeOptions<'_>,
     errors: &mut E,
+    recorder: &mut Recorder<W>,
 ) -> AfterRun<B> {
     match NewOffice::new(alloc, tree, ACTOR_COUNT, backends) {
-        Ok(office) => run_named::<B, Brand, R, E>(
-            rt, alloc, server, office, carryover, options, errors,
+        Ok(office) => run_named::<B, Brand, R, E, W>(
+            rt, alloc, server, office, carryover, options, errors, recorder,
         ),
         Err((fault, tree, backends)) => wait_or_end(rt, fault, tree, backends, carryover),
     }
@@ -224,6 +265,7 @@ fn run_named<
     C: Channels + Lanes + Send + Sync,
     R: Files + Threads + Wait + Clock + Copy + Sync + Send + Drop,
     E: Write + Send,
+    W: Write + Drop,
 >(
     rt: &R,
     alloc: Global,
@@ -232,6 +274,7 @@ fn run_named<
     carryover: Carryover,
     options: ServeOptions<'_>,
     errors: &mut E,
+    recorder: &mut Recorder<W>,
 ) -> AfterRun<B>
     requires seats { (k : ℕ) → C.seat_ring k ≡ ring_of (slice_get office.rings k) }
     requires board { C.board ≡ office.board }
@@ -242,7 +285,9 @@ fn run_named<
         return AfterRun::Over(Err(ServeFault::NoMemory));
     };
     match office.open::<C, R>(alloc, *rt) {
-        Ok(opened) => run(rt, server, opened, room, carryover, options, errors),
+        Ok(opened) => run(
+            rt, server, opened, room, carryover, options, errors, recorder,
+        ),
         Err((fault, tree, backends)) => wait_or_end(rt, fault, tree, backends, carryover),
     }
 }

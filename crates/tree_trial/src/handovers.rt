@@ -41,7 +41,21 @@ pub fn try_handovers<R: Net + Files + Processes<Started = SystemProcess> + Clock
     done?;
     let is_many = count_handovers(stage, &mut server)? >= 50;
     write!(output, "50 handovers and more: {is_many}\n")?;
-    write!(output, "svscan: {status}\n")
+    write!(output, "svscan: {status}\n")?;
+    let told = stage.check_record(rt)?;
+    write!(
+        output,
+        "the record of all runs is legal: {}\n",
+        is_legal(told.as_str())
+    )
+}
+
+// Whether a check found the machine's replies to 12,000 inputs and more.
+fn is_legal(told: &str) -> bool {
+    let Some(count) = told.trim_end().strip_prefix("legal ") else {
+        return false;
+    };
+    count.parse::<u64>().is_ok_and(|inputs| inputs >= 12_000)
 }
 
 // A waiter stands from the first run on, a client leaves after half a line, and eight clients ask.

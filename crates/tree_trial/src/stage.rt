@@ -21,18 +21,21 @@ pub struct Stage {
     root: String,
     services: String,
     socket: String,
+    record: String,
 }
 
 impl Stage {
     pub fn new(alloc: Global, program: String, root: String) -> io::Result<Stage> {
         let services = format!(in alloc; "{}/services", root.as_str())?;
         let socket = format!(in alloc; "{}/socket", root.as_str())?;
+        let record = format!(in alloc; "{}/record", root.as_str())?;
         Ok(Stage {
             alloc,
             program,
             root,
             services,
             socket,
+            record,
         })
     }
 
@@ -114,8 +117,8 @@ impl Stage {
         self.await_answer(rt, command.spawn(rt)?)
     }
 
-    /// Starts a server whose runs have so many steps, and waits until it answers. What it writes to its standard error can be read
-    /// from it.
+    /// Starts a server whose runs have so many steps and are recorded, and waits until it answers. What it writes to its standard error
+    /// can be read from it.
     pub fn start_server_with<R: Net + Processes<Started = SystemProcess> + Clock>(
         &self,
         rt: &R,
@@ -123,6 +126,7 @@ impl Stage {
     ) -> io::Result<Child<SystemProcess>> {
         let mut command = self.server_command()?;
         command
+            .arg(self.record.as_str())?
             .env("S6_TREE_HANDOVER", steps)?
             .stderr(Stdio::piped());
         self.await_answer(rt, command.spawn(rt)?)
@@ -136,6 +140,19 @@ impl Stage {
             .arg(self.socket.as_str())?;
         command.stdin(Stdio::null()).stdout(Stdio::null());
         Ok(command)
+    }
+
+    /// What a check of the record of a server that has ended prints.
+    pub fn check_record<R: Processes>(&self, rt: &R) -> io::Result<String> {
+        let (program, record) = (self.program.as_str(), self.record.as_str());
+        let words = format!(in self.alloc; "{program} replay --check < {record}")?;
+        let mut command = Command::new(self.alloc, "/bin/sh")?;
+        command.arg("-c")?.arg(words.as_str())?;
+        let output = command.output(rt)?;
+        match String::from_utf8(output.stdout) {
+            Ok(told) => Ok(told),
+            Err(_) => Err(io::Error::from(ErrorKind::InvalidData)),
+        }
     }
 
     // Waits until the server answers.
