@@ -17,12 +17,13 @@ use std::sync::Wait;
 use std::test::Fail;
 use tree_core::{Act, Entry, Listing, Names, Refusal, Release, Reply, Tree, Verdict};
 
-/// What a run that was closed left, the replies to its inputs, in order, and the waiters that it released.
+/// What a run that was closed left, the replies to its inputs, in order, the waiters that it released, and what was recorded of it.
 #[derive(Drop)]
 struct RunEnd<B: Backend> {
     closed: Closed<B>,
     replies: Vec<Reply<Global>>,
     released: Vec<Release>,
+    record: Vec<u8>,
 }
 
 // The only name.
@@ -81,12 +82,28 @@ fn released_by<C: Channels + Lanes, D: Board<C>, B: Backend, R: Wait>(
     Ok(released)
 }
 
-// Opens the office, does these acts in it, one after the other, and closes it.
+// What is recorded of a run of so many steps, behind the head line if `head`.
+fn record_of<C: Channels + Lanes, D: Board<C>, B: Backend, R: Wait>(
+    rt: &R,
+    alloc: Global,
+    office: &Office<C, D, B>,
+    head: bool,
+    steps: u64,
+) -> Result<Vec<u8>, Fail> {
+    let mut record = Vec::new(alloc);
+    match office.write_run(rt, head, &mut record) {
+        Ok(count) if count == steps => Ok(record),
+        _ => Err("not recorded".into()),
+    }
+}
+
+// Opens the office, does these acts in it, one after the other, records the run, behind the head line if `head`, and closes it.
 fn run_and_close<B: Backend, C: Channels + Lanes, R: Wait + Copy + Drop>(
     rt: &R,
     alloc: Global,
     office: NewOffice<B>,
     acts: Vec<Act<Global>>,
+    head: bool,
 ) -> Result<RunEnd<B>, Fail>
     requires seats { (k : ℕ) → C.seat_ring k ≡ ring_of (slice_get office.rings k) }
     requires board { C.board ≡ office.board }
@@ -111,6 +128,7 @@ fn run_and_close<B: Backend, C: Channels + Lanes, R: Wait + Copy + Drop>(
     }
     let released = released_by(rt, alloc, &office, steps)?;
     carry_all(rt, &office);
+    let record = record_of(rt, alloc, &office, head, steps)?;
     let mut finishes = Vec::new(alloc);
     finishes.push(seat.finish())?;
     let Ok(closed) = office.close(finishes) else {
@@ -120,10 +138,11 @@ fn run_and_close<B: Backend, C: Channels + Lanes, R: Wait + Copy + Drop>(
         closed,
         replies,
         released,
+        record,
     })
 }
 
-// The same in a run of its own, whose names are picked here.
+// The same in a run of its own, whose names are picked here. That of a new tree has the head line.
 fn close_run<B: Backend, R: Wait + Copy + Drop>(
     rt: &R,
     alloc: Global,
@@ -131,10 +150,11 @@ fn close_run<B: Backend, R: Wait + Copy + Drop>(
     backends: Vec<B>,
     acts: Vec<Act<Global>>,
 ) -> Result<RunEnd<B>, Fail> {
+    let head = tree.steps() == 0;
     let Ok(office) = NewOffice::new(alloc, tree, 1, backends) else {
         return Err("no office".into());
     };
-    run_and_close::<B, Brand, R>(rt, alloc, office, acts)
+    run_and_close::<B, Brand, R>(rt, alloc, office, acts, head)
 }
 
 #[test]
@@ -168,6 +188,9 @@ fn waiter_is_held_over(rt: HostRuntime) -> Result<(), Fail> {
     let end = close_run(&rt, alloc, new_tree(alloc)?, backends, acts)?;
     assert!(rt; is_waiter(end.replies.get(1), 1));
     assert_eq!(rt; end.released.len(), 0);
+    let first =
+        b"s6-script 2\n0 0 scan first second\n= scanned +1:first +2:second\n0 0 wait u o 0 first\n= wait 1\n";
+    assert!(rt; end.record.as_slice() == first.as_slice());
     let Closed {
         tree,
         steps: _,
@@ -182,6 +205,8 @@ fn waiter_is_held_over(rt: HostRuntime) -> Result<(), Fail> {
         verdict: Verdict::Held,
     };
     assert!(rt; end.released.as_slice() == [held].as_slice());
+    let second = b"0 0 started 1 1 500\n= done\n";
+    assert!(rt; end.record.as_slice() == second.as_slice());
     Ok(())
 }
 
