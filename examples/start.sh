@@ -2,11 +2,14 @@
 # Proves and builds s6_tree, where that isn't done yet, and runs the tree of examples/services on a socket, until it is told to end:
 # by Ctrl-C, or by `s6_tree svscanctl SOCKET -t`.
 #
-#   examples/start.sh [SOCKET]
+#   examples/start.sh [SOCKET [RECORD]]
+#
+# What it did is recorded: `s6_tree replay --check < RECORD` once it has ended.
 cd "$(dirname "$0")/.." || exit 111
 (cd crates/s6_tree && rt run -- --version) || exit 111
 S6_TREE=$PWD/crates/s6_tree/out/s6_tree
 SOCKET=${1:-/tmp/s6_tree.socket}
+RECORD=${2:-/tmp/s6_tree.record}
 export S6_TREE
-echo "svscan: examples/services on $SOCKET" >&2
-exec sh examples/container/entry.sh examples/services "$SOCKET"
+echo "svscan: examples/services on $SOCKET, recorded in $RECORD" >&2
+exec sh examples/container/entry.sh examples/services "$SOCKET" "$RECORD"

@@ -1,22 +1,20 @@
 #!/bin/sh
 # The first process of a container: starts the tree, and ends it in order when the container is to stop.
 #
-#   entry.sh DIRECTORY SOCKET
+#   entry.sh DIRECTORY SOCKET [RECORD]
 #
 # svscan itself takes no signals. On TERM or INT this script tells it to end, and waits until every service is gone; its status is
 # that of svscan. S6_TREE is the path of the program; services find it and SOCKET in their environment.
 S6_TREE=${S6_TREE:-s6_tree}
 SOCKET=$2
-# With it glibc gives back what a run of the tree took. Services inherit it, unless their `run` unsets it.
-MALLOC_TRIM_THRESHOLD_=${MALLOC_TRIM_THRESHOLD_:-131072}
-export S6_TREE SOCKET MALLOC_TRIM_THRESHOLD_
+export S6_TREE SOCKET
 
 # A shell has what runs in its background ignore INT and QUIT, and services would inherit that. GNU's env sets them back; then the
 # tree is in a session of its own, where a terminal's Ctrl-C doesn't reach it.
 if env --default-signal=INT,QUIT setsid true 2>/dev/null; then
-    setsid env --default-signal=INT,QUIT "$S6_TREE" svscan "$1" "$SOCKET" &
+    setsid env --default-signal=INT,QUIT "$S6_TREE" svscan "$@" &
 else
-    "$S6_TREE" svscan "$1" "$SOCKET" &
+    "$S6_TREE" svscan "$@" &
 fi
 server=$!
 trap '"$S6_TREE" svscanctl "$SOCKET" -t' TERM INT
