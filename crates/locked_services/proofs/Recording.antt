@@ -10,8 +10,8 @@ use Rattle.s6_replay.specs.Script.{Recorded, head_line, script, step_lines}
 use Rattle.s6_replay.specs.Transcript.{reply_text}
 use Rattle.s6_replay.specs.declared.version.Version.TheVariants.{Two}
 use Rattle.run_records.specs.Runs.{RunStep, IsLegal, inputs_of, outcomes_of}
-use Rattle.run_records.specs.Writing.{lines_of, recorded_of, run_text}
-use Rattle.run_records.proofs.Writing.{lines_join}
+use Rattle.run_records.specs.RunText.{lines_of, recorded_of, run_text}
+use Rattle.run_records.proofs.RunText.{lines_join}
 use Rattle.locked_services.specs.Chain.{ClosedRun, chain_steps}
 use Rattle.locked_services.specs.Recording.{chain_recorded, chain_text}
 

@@ -3,7 +3,7 @@ use Rattle.std.specs.Prelude.{ℕ, List, [], ◌∷◌, ◌++◌, map, true, fal
 use Rattle.std.specs.List.{flat_map}
 use Rattle.std.specs.declared.alloc.Global.{Global}
 use Rattle.s6_replay.specs.Script.{Recorded}
-use Rattle.run_records.specs.Writing.{recorded_of, run_text}
+use Rattle.run_records.specs.RunText.{recorded_of, run_text}
 use Rattle.locked_services.specs.Chain.{ClosedRun, chain_steps}
 
 -- the text of the first behind the head line, and then those of the others

@@ -7,7 +7,7 @@ ghost use Rattle.tree_core.specs.Machine.{Machine};
 ghost use Rattle.tree_core.specs.NextDue.{next_due};
 ghost use Rattle.tree_core.specs.StandsFor.{StandsFor};
 ghost use Rattle.run_records.specs.Runs.{RunStep, end_of, actor_at, outcome_at, reply_at};
-ghost use Rattle.run_records.specs.Writing.{IsWritten, StopsWriting};
+ghost use Rattle.run_records.specs.RunText.{IsWritten, StopsWriting};
 ghost use Rattle.locked_services.specs.Closing.{AreComplete, AreDone, AreSameDesks, AreServed, IsClosed, IsFault, IsSameRoom};
 ghost use Rattle.locked_services.specs.Submissions.{NoneSeen};
 ghost use Rattle.locked_services.specs.Running.{run_limit};

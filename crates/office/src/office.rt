@@ -6,7 +6,7 @@ ghost use Rattle.tree_core.specs.Machine.{Machine};
 ghost use Rattle.tree_core.specs.NextDue.{next_due};
 ghost use Rattle.tree_core.specs.StandsFor.{StandsFor};
 ghost use Rattle.run_records.specs.Runs.{end_of, actor_at, outcome_at, reply_at};
-ghost use Rattle.run_records.specs.Writing.{IsWritten, StopsWriting};
+ghost use Rattle.run_records.specs.RunText.{IsWritten, StopsWriting};
 ghost use Rattle.locked_services.specs.Closing.{IsClosed, IsFault};
 ghost use Rattle.locked_services.specs.Shots.{RoomView, IsSoundHistory};
 ghost use Rattle.order_lanes.specs.Desk.{DeskView};

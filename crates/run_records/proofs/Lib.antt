@@ -1,4 +1,4 @@
 pub mod Growing
 pub mod Reading
 pub mod Placing
-pub mod Writing
+pub mod RunText

@@ -1,3 +1,3 @@
 pub mod Runs
 pub mod RunFields
-pub mod Writing
+pub mod RunText

@@ -3,7 +3,7 @@ ghost use Rattle.std.specs.Prelude.{◌≡◌, ◌-◌, ◌<◌, ◌≤◌, [], 
 ghost use Rattle.tree_core.specs.Effect.{outcome_of};
 ghost use Rattle.tree_core.specs.Limits.{order_limit};
 ghost use Rattle.run_records.specs.Runs.{AreEmpty, IsWithin, HasRoom, step_of, actor_at, outcome_at, reply_at};
-ghost use Rattle.run_records.specs.Writing.{IsWritten, StopsWriting};
+ghost use Rattle.run_records.specs.RunText.{IsWritten, StopsWriting};
 
 use crate::record::Record;
 use crate::step_places::StepPlaces;
@@ -168,16 +168,15 @@ impl Run {
         ensures fault { IfErr result (λ fault. StopsWriting fault head self.now.steps
             (W.contents writer.old) (W.contents writer.new)) }
     {
-        write_head(head, writer)?;
+        if let Err(fault) = write_head(head, writer) {
+            return Err(fault);
+        }
         let mut text = Vec::new(alloc);
         for place in 0..self.records.len() {
-            write_step(
-                alloc,
-                &mut text,
-                &self.records[place],
-                place as u64 + 1,
-                writer,
-            )?;
+            let record = &self.records[place];
+            if let Err(fault) = write_step(alloc, &mut text, record, place as u64 + 1, writer) {
+                return Err(fault);
+            }
         }
         Ok(self.records.len() as u64)
     }

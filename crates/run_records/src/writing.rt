@@ -4,7 +4,7 @@ ghost use Rattle.std.specs.Io.KnownBytes.{Appends};
 ghost use Rattle.s6_replay.specs.Recording.{FitsLine};
 ghost use Rattle.s6_replay.specs.Script.{step_lines};
 ghost use Rattle.s6_replay.specs.declared.version.Version.TheVariants.{Two};
-ghost use Rattle.run_records.specs.Writing.{recorded_reply, run_fault_number, run_text, StopsHead, StopsStep};
+ghost use Rattle.run_records.specs.RunText.{recorded_reply, run_fault_number, run_text, StopsHead, StopsStep};
 
 use crate::record::Record;
 use s6_replay::{SpellFault, spell_step, write_whole};

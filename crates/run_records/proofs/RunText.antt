@@ -1,15 +1,18 @@
 -- The text of a run, step by step.
-use Rattle.std.proofs.Common.{◌≡◌, ℕ, zero, suc, ◌+◌, ◌<◌, ◌≤◌, List, [], ◌∷◌, ◌++◌, length, take, drop, slice_get, Option, Some, Bool, true, false, refl, sym, ap, subst, ◌∙◌, arith, append-nil, append_assoc}
+use Rattle.std.proofs.Common.{◌≡◌, ℕ, zero, suc, ◌+◌, ◌<◌, ◌≤◌, List, [], ◌∷◌, ◌++◌, length, map, take, drop, get_or, slice_get, option_map, Option, Some, Bool, true, false, refl, sym, ap, subst, ◌∙◌, arith, append-nil, append_assoc}
 use Rattle.std.specs.Io.KnownBytes.{Appends}
 use Rattle.std.proofs.KnownBytes.{Appends-nil, Appends-trans}
 use Rattle.std.proofs.lemmas.List.{length-append, take-append-le}
+use Rattle.std.proofs.lemmas.Option.{slice_get-map, slice_get_read}
+use Rattle.s6_events.specs.declared.order.Order.{Order}
 use Rattle.s6_replay.specs.Lines.{AppendsFront}
 use Rattle.s6_replay.specs.Recording.{FitsLine}
 use Rattle.s6_replay.specs.Script.{head_line, step_lines}
 use Rattle.s6_replay.specs.declared.version.Version.TheVariants.{Two}
 use Rattle.s6_replay.proofs.Migrations.{front_more}
-use Rattle.run_records.specs.Runs.{RunStep}
-use Rattle.run_records.specs.Writing.{recorded_of, lines_of, run_text, AllFit, StopsHead, StopsStep, StopsWriting}
+use Rattle.run_records.specs.declared.record.Record.{Record}
+use Rattle.run_records.specs.Runs.{RunStep, step_of}
+use Rattle.run_records.specs.RunText.{recorded_of, lines_of, run_text, AllFit, StopsHead, StopsStep, StopsWriting}
 use Rattle.run_records.specs.declared.writing.RunFault.{RunFault}
 use Rattle.run_records.specs.declared.writing.RunFault.TheVariants.{Write, NoMemory, Unspelt}
 use Rattle.run_records.proofs.Growing.{all_snoc}
@@ -26,15 +29,22 @@ text_join true xs ys =
     ap (λ (t : List ℕ). head_line Two ++ t) (lines_join xs ys) ∙ sym (append_assoc (head_line Two) (lines_of xs) (lines_of ys))
 text_join false xs ys = lines_join xs ys
 
-take_next : (k : ℕ) (steps : List RunStep) (s : RunStep) → slice_get steps k ≡ Some s → take (k + 1) steps ≡ take k steps ++ s ∷ []
+take_next : (k : ℕ) (steps : List RunStep) (s : RunStep) → slice_get steps k ≡ Some s → take (suc k) steps ≡ take k steps ++ s ∷ []
 take_next k [] s e = cc (e)
 take_next zero (x ∷ xs) s e = ap (λ (y : RunStep). y ∷ []) (cc (e))
 take_next (suc k) (x ∷ xs) s e = ap (λ (ts : List RunStep). x ∷ ts) (take_next k xs s e)
 
-split_at : (k : ℕ) (steps : List RunStep) (s : RunStep) → slice_get steps k ≡ Some s → steps ≡ take k steps ++ s ∷ drop (k + 1) steps
+split_at : (k : ℕ) (steps : List RunStep) (s : RunStep) → slice_get steps k ≡ Some s → steps ≡ take k steps ++ s ∷ drop (suc k) steps
 split_at k [] s e = cc (e)
 split_at zero (x ∷ xs) s e = ap (λ (y : RunStep). y ∷ xs) (cc (e))
 split_at (suc k) (x ∷ xs) s e = ap (λ (ts : List RunStep). x ∷ ts) (split_at k xs s e)
+
+-- the step of a record that is read
+pub step_here : (orders : List Order) (rs : List Record) (steps : List RunStep) (k : ℕ) (r : Record) → map (step_of orders) rs ≡ steps
+    → k < length rs → r ≡ get_or rs k r → slice_get steps k ≡ Some (step_of orders r)
+step_here orders rs steps k r e low read =
+    subst (λ (ss : List RunStep). slice_get ss k ≡ Some (step_of orders r)) e
+    (slice_get-map (step_of orders) rs k ∙ ap (option_map (step_of orders)) (slice_get_read rs (length rs) k r refl low read))
 
 -- the front of a text is one of what begins with it
 front_of_more : (a c : Option (List ℕ)) (xs ys : List ℕ) → AppendsFront a c xs → AppendsFront a c (xs ++ ys)
@@ -45,21 +55,26 @@ front_of_more a c xs ys p = (
 )
 
 module _ (head : Bool) (k : ℕ) (steps : List RunStep) (s : RunStep) (here : slice_get steps k ≡ Some s) where
+  taken_next : take (k + 1) steps ≡ take k steps ++ s ∷ []
+  taken_next =
+      let one : k + 1 ≡ suc k = omega arith in
+      ap (λ (n : ℕ). take n steps) one ∙ take_next k steps s here
+
   step_text : run_text head (take (k + 1) steps) ≡ run_text head (take k steps) ++ step_lines Two (recorded_of s)
   step_text =
-      ap (run_text head) (take_next k steps s here)
+      ap (run_text head) taken_next
       ∙ text_join head (take k steps) (s ∷ [])
       ∙ ap (λ (t : List ℕ). run_text head (take k steps) ++ t) (append-nil (step_lines Two (recorded_of s)))
 
-  whole_text : run_text head steps ≡ (run_text head (take k steps) ++ step_lines Two (recorded_of s)) ++ lines_of (drop (k + 1) steps)
+  whole_text : run_text head steps ≡ (run_text head (take k steps) ++ step_lines Two (recorded_of s)) ++ lines_of (drop (suc k) steps)
   whole_text =
       ap (run_text head) (split_at k steps s here)
-      ∙ text_join head (take k steps) (s ∷ drop (k + 1) steps)
-      ∙ sym (append_assoc (run_text head (take k steps)) (step_lines Two (recorded_of s)) (lines_of (drop (k + 1) steps)))
+      ∙ text_join head (take k steps) (s ∷ drop (suc k) steps)
+      ∙ sym (append_assoc (run_text head (take k steps)) (step_lines Two (recorded_of s)) (lines_of (drop (suc k) steps)))
 
   pub fits_more : AllFit (take k steps) → FitsLine s.input → AllFit (take (k + 1) steps)
   fits_more all fits =
-      subst AllFit (sym (take_next k steps s here)) (all_snoc (λ (t : RunStep). FitsLine t.input) (take k steps) s all fits)
+      subst AllFit (sym taken_next) (all_snoc (λ (t : RunStep). FitsLine t.input) (take k steps) s all fits)
 
   module _ (a b c : Option (List ℕ)) (before : Appends a b (run_text head (take k steps))) where
     -- one step more was written
@@ -71,10 +86,10 @@ module _ (head : Bool) (k : ℕ) (steps : List RunStep) (s : RunStep) (here : sl
         → StopsWriting fault head steps a c
     step_stops Write low t =
         subst (AppendsFront a c) (sym whole_text)
-        (front_of_more a c _ (lines_of (drop (k + 1) steps)) (front_more a b c (run_text head (take k steps)) _ before t))
-    step_stops NoMemory low t = (k, low, subst (λ (h : Option (List ℕ)). Appends a h (run_text head (take k steps))) (sym t) before)
+        (front_of_more a c _ (lines_of (drop (suc k) steps)) (front_more a b c (run_text head (take k steps)) _ before t))
+    step_stops NoMemory low t = (k, (low, subst (λ (h : Option (List ℕ)). Appends a h (run_text head (take k steps))) (sym t) before))
     step_stops (Unspelt n) low t =
-        (k, s, t.0, here, t.1, low, subst (λ (h : Option (List ℕ)). Appends a h (run_text head (take k steps))) (sym t.2) before)
+        (k, s, t.0, here, t.1, (low, subst (λ (h : Option (List ℕ)). Appends a h (run_text head (take k steps))) (sym t.2) before))
 
 -- the head line was not written
 pub head_stops : (fault : RunFault) (head : Bool) (steps : List RunStep) (a b : Option (List ℕ)) → StopsHead fault head a b
