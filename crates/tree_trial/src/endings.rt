@@ -18,5 +18,7 @@ pub fn try_end<R: Files + Processes + Clock, W: Write>(
     write!(output, "svscan: {status}\n")?;
     let is_gone = fs::metadata(rt, stage.socket()).is_err();
     write!(output, "the socket is gone: {is_gone}\n")?;
-    stage.tell(rt, "svc -u web", output)
+    stage.tell(rt, "svc -u web", output)?;
+    let told = stage.start_without_record(rt)?;
+    write!(output, "a record that can't be made: {}\n", told.as_str())
 }

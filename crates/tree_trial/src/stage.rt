@@ -196,6 +196,19 @@ impl Stage {
             }
         }
         command.stdin(Stdio::null());
+        self.outcome_of(rt, &mut command)
+    }
+
+    /// What comes of a server whose record can't be made: its status, and what it wrote.
+    pub fn start_without_record<R: Processes>(&self, rt: &R) -> io::Result<String> {
+        let path = format!(in self.alloc; "{}/none/record", self.root.as_str())?;
+        let mut command = self.server_command()?;
+        command.arg(path.as_str())?;
+        self.outcome_of(rt, &mut command)
+    }
+
+    // The status of a command that has ended, and what it wrote.
+    fn outcome_of<R: Processes>(&self, rt: &R, command: &mut Command) -> io::Result<String> {
         let output = command.output(rt)?;
         let mut told = Vec::new(self.alloc);
         write!(&mut told, "{}", output.status.code().unwrap_or(-1))?;
