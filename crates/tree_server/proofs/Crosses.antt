@@ -6,19 +6,21 @@ use denote.Param.Send.{IsSend, IsSync, recorded_send, recorded_sync, struct_send
 use Rattle.std.proofs.Crossing.{crosses}
 use Rattle.std.proofs.option.Option.TheSendSync as option
 use Rattle.std.proofs.sync.Mutex.TheSendSync as mutex
-use Rattle.std.specs.contracts.rt.Stderr as Stderr
 use Rattle.event_directory.proofs.Crosses.{pattern_send}
 use Rattle.channel_names.specs.declared.channels.Channels.{Ghosts}
 use Rattle.child_runner.proofs.bell.Bell.TheSendSync as bell
 use Rattle.child_runner.specs.contracts.bell.Bell as Bell
 use Rattle.line_server.proofs.server.Server.TheSendSync as server
 use Rattle.line_server.specs.contracts.server.Server as Server
+use Rattle.status_board.proofs.reader.BoardReader.TheSendSync as reader
 use Rattle.inbox.proofs.Crosses.{seat_send}
 use Rattle.tree_server.specs.contracts.calls.Call as Call
 use Rattle.tree_server.specs.contracts.calls.Caller as Caller
 use Rattle.tree_server.specs.contracts.calls.Turn as Turn
+use Rattle.tree_server.specs.contracts.driver_state.Connection as Connection
+use Rattle.tree_server.specs.contracts.driver_state.DriverState as DriverState
 use Rattle.tree_server.specs.contracts.lane_service.LaneSeat as LaneSeat
-use Rattle.tree_server.specs.contracts.scanning.ScannerSeat as ScannerSeat
+use Rattle.tree_server.specs.contracts.outcome.Outcome as Outcome
 use Rattle.tree_server.specs.contracts.shared.Shared as Shared
 use Rattle.tree_server.specs.contracts.slot.Slot as Slot
 
@@ -28,12 +30,11 @@ number_send = search sendable
 flag_send : IsSend bool-field.row
 flag_send = search sendable
 
--- the standard error of a program
-pub errors_send : IsSend Stderr.the_row
-errors_send = search (crosses, sendable) depth 60 fits 20000
-
 bell_sync : IsSync Bell.the_row
 bell_sync = search (bell.the_sync, crosses, sendable) depth 60 fits 20000
+
+pub outcome_sync : IsSync Outcome.the_row
+outcome_sync = search (crosses, sendable) depth 60 fits 20000
 
 call_send : IsSend Call.the_row
 call_send = search (pattern_send, option.the_field_send, crosses, sendable) depth 60 fits 20000
@@ -55,11 +56,23 @@ shared_sync = search (caller_sync, bell_sync, crosses, sendable) depth 60 fits 2
 pub server_sync : IsSync (Server.the_row Shared.the_row)
 server_sync = search (shared_sync, server.the_sync, crosses, sendable) depth 60 fits 20000
 
-scanner_seat_send : (C : RattleType) (g : Ghosts C.Denot) → IsSend C → IsSend (ScannerSeat.the_row C g)
-scanner_seat_send C g c =
-    let T = ScannerSeat.the_type C g in
-    recorded_send _ _ _ T.to_one
-    (struct_send (shape T) (seat_send C g c, (search (option.the_field_send, crosses, sendable) depth 60 fits 20000, tt)))
+connection_send : IsSend Connection.the_row
+connection_send = search (crosses, sendable) depth 60 fits 20000
+
+driver_state_send : (C : RattleType) (g : Ghosts C.Denot) → IsSend C → IsSend (DriverState.the_row C g)
+driver_state_send C g c =
+    let s = seat_send C g c in
+    let T = DriverState.the_type C g in
+    recorded_send _ _ _ T.to_one (struct_send (shape T) (
+      search (s, crosses, sendable) depth 60 fits 20000,
+      (
+        search (reader.the_send, crosses, sendable) depth 60 fits 20000,
+        (
+          search (connection_send, crosses, sendable) depth 60 fits 20000,
+          (number_send, (number_send, (number_send, (flag_send, tt)))),
+        ),
+      ),
+    ))
 
 lane_seat_send : (C : RattleType) (g : Ghosts C.Denot) → IsSend C → IsSend (LaneSeat.the_row C g)
 lane_seat_send C g c =
@@ -73,8 +86,8 @@ slot_sync T t =
     let o = option.the_send _ t in
     recorded_sync _ _ _ S.to_one (struct_sync (shape S) (mutex.the_sync _ o, tt))
 
-pub scanner_slot_sync : (C : RattleType) (g : Ghosts C.Denot) → IsSend C → IsSync (Slot.the_row (ScannerSeat.the_row C g))
-scanner_slot_sync C g c = slot_sync _ (scanner_seat_send C g c)
+pub driver_slot_sync : (C : RattleType) (g : Ghosts C.Denot) → IsSend C → IsSync (Slot.the_row (DriverState.the_row C g))
+driver_slot_sync C g c = slot_sync _ (driver_state_send C g c)
 
 pub lane_slot_sync : (C : RattleType) (g : Ghosts C.Denot) → IsSend C → IsSync (Slot.the_row (LaneSeat.the_row C g))
 lane_slot_sync C g c = slot_sync _ (lane_seat_send C g c)

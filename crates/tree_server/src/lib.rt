@@ -1,5 +1,5 @@
-//! A tree that runs: the thread that calls drives it, one thread of each run gives it scans and ticks, and each lane has one; each
-//! connection of its socket has one from the first run to the last.
+//! A tree that runs: one thread drives a run of it, one gives it scans and ticks, and each lane has one; each connection of its socket
+//! has one from the first run to the last.
 #![tactic(auto)]
 
 mod agenda;
@@ -12,6 +12,7 @@ mod fault;
 mod lane_service;
 mod listing;
 mod options;
+mod outcome;
 mod own_answer;
 mod places;
 mod plans;

@@ -1,5 +1,5 @@
 //! The rows of the board as they were last read, for the threads of connections.
-ghost use Rattle.std.specs.Prelude.{◌≡◌, ◌×◌, IfOk, IfSome, None, Some};
+ghost use Rattle.std.specs.Prelude.{◌≡◌, IfOk, IfSome, None, Some};
 ghost use Rattle.status_board.specs.Board.{last_shot};
 ghost use Rattle.tree_server.specs.Status.{status_text, is_fresh};
 

@@ -10,7 +10,7 @@ use crate::seat_room::{RunSeats, SeatRoom};
 use crate::shared::Shared;
 use crate::threads::{ThreadSlots, run_threads};
 use channel_names::Channels;
-use inbox::Finished;
+use inbox::{Finished, Seat};
 use line_server::Server;
 use locked_services::Closed;
 use office::{Office, Opened};
@@ -51,7 +51,7 @@ pub fn run<
     D: Board<C> + Send,
     B: Backend + Send,
     R: Files + Threads + Wait + Clock + Copy + Sync + Drop,
-    E: Write + Send,
+    E: Write,
     W: Write + Drop,
 >(
     rt: &R,
@@ -72,15 +72,26 @@ pub fn run<
         return AfterRun::Over(Err(ServeFault::NoMemory));
     };
     let RunSeats {
+        mut scanner,
         slots,
-        mut state,
+        first,
         finishes,
         reports,
     } = run_seats;
-    let end = run_threads(rt, server, &office, &slots, &mut state, options, errors);
+    let end = run_threads(
+        rt,
+        server,
+        &office,
+        &slots,
+        &mut scanner,
+        first,
+        options.handover,
+        options.directory,
+        errors,
+    );
     if end == RunEnd::Handover {
         return hand_over(
-            rt, server, office, slots, state, finishes, reports, recorder,
+            rt, server, office, slots, scanner, finishes, reports, recorder,
         );
     }
     let recorded = recorder.append(rt, &office);
@@ -97,16 +108,15 @@ fn hand_over<C: Channels + Lanes, D: Board<C>, B: Backend, R: Wait + Clock, W: W
     server: &Server<Shared>,
     office: Office<C, D, B>,
     slots: ThreadSlots<C>,
-    state: DriverState<C>,
+    scanner: Seat<C>,
     finishes: Vec<Finished<C>>,
     reports: Vec<Option<Report>>,
     recorder: &mut Recorder<W>,
 ) -> AfterRun<B> {
-    let ThreadSlots { scanner, lanes } = slots;
-    let Some(scanner) = scanner.take(rt) else {
+    let ThreadSlots { driver, lanes } = slots;
+    let Some(mut state) = driver.take(rt) else {
         return AfterRun::Over(Err(ServeFault::Thread));
     };
-    let mut state = state;
     if let Err(fault) = drive_rest(rt, server, &office, &mut state) {
         return AfterRun::Over(Err(fault));
     }
@@ -114,7 +124,7 @@ fn hand_over<C: Channels + Lanes, D: Board<C>, B: Backend, R: Wait + Clock, W: W
         return AfterRun::Over(Err(fault));
     }
     let (mut finishes, mut reports) = (finishes, reports);
-    let _ = finishes.push(scanner.seat.finish());
+    let _ = finishes.push(scanner.finish());
     for slot in &lanes {
         let Some(lane) = slot.take(rt) else {
             return AfterRun::Over(Err(ServeFault::Thread));

@@ -1,4 +1,4 @@
-//! The thread of actor 0: the first scan, those that clients ask for, and ticks.
+//! What actor 0 does: the first scan, those that clients ask for, and ticks.
 use crate::agenda::Errand;
 use crate::driver_state::hand_in;
 use crate::listing::read_listing;
@@ -16,38 +16,19 @@ use std::sync::Wait;
 use std::time::Clock;
 use tree_core::{Act, Listing};
 
-/// Where scans and ticks are handed in, and what is scanned before all else.
-#[derive(Drop)]
-pub struct ScannerSeat<C: Channels> {
-    pub seat: Seat<C>,
-    /// In the first run of a tree alone.
-    pub first: Option<Listing<Global>>,
-}
-
 /// Gives the first scan of a tree, in its first run, and then what is wanted, until the run ends.
 pub fn attend<C: Channels, R: Files + Wait + Clock + Copy + Drop, E: Write>(
     rt: &R,
     server: &Server<Shared>,
-    scanner: &mut ScannerSeat<C>,
-    directory: &str,
-    errors: &mut E,
-) {
-    let shared = server.answers();
-    if let Some(first) = scanner.first.take() {
-        let _ = submit(rt, shared, &mut scanner.seat, Act::Scan(first));
-    }
-    give_all(rt, server, &mut scanner.seat, directory, errors);
-}
-
-// Gives what is wanted, until the run ends.
-fn give_all<C: Channels, R: Files + Wait + Clock + Copy + Drop, E: Write>(
-    rt: &R,
-    server: &Server<Shared>,
     seat: &mut Seat<C>,
+    first: Option<Listing<Global>>,
     directory: &str,
     errors: &mut E,
 ) {
     let shared = server.answers();
+    if let Some(first) = first {
+        let _ = submit(rt, shared, seat, Act::Scan(first));
+    }
     for _ in rt.forever() {
         match shared.agenda.next(rt, &shared.clock) {
             Errand::End => break,

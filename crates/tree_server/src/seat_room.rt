@@ -3,7 +3,6 @@ use crate::driver_state::DriverState;
 use crate::lane_service::LaneSeat;
 use crate::places::{Place, place_of};
 use crate::run::Carryover;
-use crate::scanning::ScannerSeat;
 use crate::service_lanes::LANE_COUNT;
 use crate::slot::Slot;
 use crate::threads::ThreadSlots;
@@ -14,6 +13,7 @@ use order_lanes::Report;
 use s6_events::NoMemory;
 use status_board::BoardReader;
 use std::alloc::Global;
+use tree_core::Listing;
 
 /// How many actors there are: one for ticks and scans, one for each lane, and one for each connection.
 pub const ACTOR_COUNT: usize = 16;
@@ -27,12 +27,12 @@ pub struct SeatRoom<C: Channels> {
     reports: Vec<Option<Report>>,
 }
 
-/// The seats of a run, each at its place, and room for what is left of them.
+/// The seats of a run, each at its place, what is scanned first, and room for what is left of the seats.
 #[derive(Drop)]
 pub struct RunSeats<C: Channels> {
+    pub scanner: Seat<C>,
     pub slots: ThreadSlots<C>,
-    /// What the thread that drives has.
-    pub state: DriverState<C>,
+    pub first: Option<Listing<Global>>,
     /// Empty, with room for a finish of each seat.
     pub finishes: Vec<Finished<C>>,
     /// Empty, with room for a report of each lane.
@@ -84,13 +84,11 @@ impl<C: Channels> SeatRoom<C> {
         }
         let reader = readers.into_iter().next()?;
         let state = DriverState::new(clients, reader, connections, last_step, first.is_some());
-        let scanner = Slot::new(ScannerSeat {
-            seat: scanner?,
-            first,
-        });
+        let driver = Slot::new(state);
         Some(RunSeats {
-            slots: ThreadSlots { scanner, lanes },
-            state,
+            scanner: scanner?,
+            slots: ThreadSlots { driver, lanes },
+            first,
             finishes,
             reports,
         })

@@ -41,7 +41,7 @@ use tree_core::{Listing, Tree};
 pub fn run_tree<
     B: Backend + Send,
     R: Net + Files + Threads + Wait + Clock + Copy + Sync + Send + Drop,
-    E: Write + Send,
+    E: Write,
     L: Log,
 >(
     rt: &R,
@@ -110,7 +110,7 @@ fn fault_of(error: &io::Error) -> ServeFault {
 fn record_and_serve<
     B: Backend + Send,
     R: Files + Threads + Wait + Clock + Copy + Sync + Send + Drop,
-    E: Write + Send,
+    E: Write,
     L: Log,
 >(
     rt: &R,
@@ -140,7 +140,7 @@ fn record_and_serve<
 fn serve<
     B: Backend + Send,
     R: Files + Threads + Wait + Clock + Copy + Sync + Send + Drop,
-    E: Write + Send,
+    E: Write,
     W: Write + Drop,
     L: Log,
 >(
@@ -171,7 +171,7 @@ fn serve<
 fn run_all<
     B: Backend + Send,
     R: Files + Threads + Wait + Clock + Copy + Sync + Send + Drop,
-    E: Write + Send,
+    E: Write,
     W: Write + Drop,
     L: Log,
 >(
@@ -218,7 +218,7 @@ fn run_all<
 fn run_once<
     B: Backend + Send,
     R: Files + Threads + Wait + Clock + Copy + Sync + Send + Drop,
-    E: Write + Send,
+    E: Write,
     W: Write + Drop,
 >(
     rt: &R,
@@ -264,7 +264,7 @@ fn run_named<
     B: Backend + Send,
     C: Channels + Lanes + Send + Sync,
     R: Files + Threads + Wait + Clock + Copy + Sync + Send + Drop,
-    E: Write + Send,
+    E: Write,
     W: Write + Drop,
 >(
     rt: &R,

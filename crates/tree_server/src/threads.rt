@@ -2,23 +2,26 @@
 use crate::driver_state::DriverState;
 use crate::driving::{RunEnd, drive_run};
 use crate::lane_service::{LaneSeat, serve_lane};
-use crate::options::ServeOptions;
-use crate::scanning::{ScannerSeat, attend};
+use crate::outcome::Outcome;
+use crate::scanning::attend;
 use crate::shared::Shared;
 use crate::slot::Slot;
 use channel_names::Channels;
+use inbox::Seat;
 use line_server::Server;
 use office::Office;
 use order_lanes::{Backend, Lanes};
 use status_board::Board;
+use std::alloc::Global;
 use std::io::Write;
 use std::rt::Files;
 use std::sync::Wait;
 use std::thread::{self, Builder, Scope, Threads};
 use std::time::Clock;
+use tree_core::Listing;
 
-/// The stack of the thread of actor 0, in bytes: it reads the directories of all services. Only what is touched takes memory.
-const SCANNER_STACK: usize = 8 * 1024 * 1024;
+/// The stack of the thread that drives, in bytes: a step may publish all rows of the board. Only what is touched takes memory.
+const DRIVER_STACK: usize = 8 * 1024 * 1024;
 
 /// The stack of the thread of a lane, in bytes.
 const LANE_STACK: usize = 1024 * 1024;
@@ -26,72 +29,69 @@ const LANE_STACK: usize = 1024 * 1024;
 /// What the threads of a run work with.
 #[derive(Drop)]
 pub struct ThreadSlots<C: Channels> {
-    pub scanner: Slot<ScannerSeat<C>>,
+    pub driver: Slot<DriverState<C>>,
     /// By the lanes' numbers.
     pub lanes: Vec<Slot<LaneSeat<C>>>,
 }
 
-/// Starts the threads of a run, drives it in this one, and waits for the end of all of them. Afterwards each slot has in it again what
-/// its thread worked with. One thread drives all runs, so what a run took in memory is what the next one takes again.
+/// Starts the threads of a run, does what actor 0 does in this one, and waits for the end of all of them. Afterwards each slot has in
+/// it again what its thread worked with.
 pub fn run_threads<
     C: Channels + Lanes + Send + Sync,
     D: Board<C> + Send,
     B: Backend + Send,
     R: Files + Threads + Wait + Clock + Copy + Sync + Drop,
-    E: Write + Send,
+    E: Write,
 >(
     rt: &R,
     server: &Server<Shared>,
     office: &Office<C, D, B>,
     slots: &ThreadSlots<C>,
-    state: &mut DriverState<C>,
-    options: ServeOptions<'_>,
+    scanner: &mut Seat<C>,
+    first: Option<Listing<Global>>,
+    handover: u64,
+    directory: &str,
     errors: &mut E,
 ) -> RunEnd {
-    let ServeOptions {
-        directory,
-        handover,
-        ..
-    } = options;
+    let outcome = Outcome::new();
     server.answers().agenda.begin(rt);
     thread::scope(thread::scope_env(), rt, |scope| {
-        let end = if start_all(scope, rt, server, office, slots, directory, errors) {
-            drive_run(rt, server, office, state, handover)
+        if start_all(scope, rt, server, office, slots, &outcome, handover) {
+            attend(rt, server, scanner, first, directory, errors);
         } else {
-            RunEnd::Thread
-        };
-        end_run(rt, server);
-        end
-    })
+            end_run(rt, server);
+        }
+    });
+    outcome.get(rt)
 }
 
 // Ends the threads of a run.
 fn end_run<R: Wait>(rt: &R, server: &Server<Shared>) {
     let shared = server.answers();
     shared.agenda.end(rt);
+    shared.driver.ring(rt);
     for bell in &shared.lanes {
         bell.ring(rt);
     }
 }
 
 // Starts all threads of a run but this one. Whether they run.
-fn start_all<'s, S, C, D, B, R, E>(
+fn start_all<'s, S, C, D, B, R>(
     scope: &Scope<'s, S>,
     rt: &'s R,
     server: &'s Server<Shared>,
     office: &'s Office<C, D, B>,
     slots: &'s ThreadSlots<C>,
-    directory: &'s str,
-    errors: &'s mut E,
+    outcome: &'s Outcome,
+    handover: u64,
 ) -> bool
 where
     C: Channels + Lanes + Send + Sync,
     D: Board<C> + Send,
     B: Backend + Send,
-    R: Files + Threads + Wait + Clock + Copy + Sync + Drop,
-    E: Write + Send,
+    R: Threads + Wait + Clock + Sync,
 {
-    if !start_scanner(scope, rt, server, &slots.scanner, directory, errors) {
+    if !start_driver(scope, rt, server, office, &slots.driver, outcome, handover) {
         return false;
     }
     for (lane, slot) in slots.lanes.iter().enumerate() {
@@ -102,39 +102,42 @@ where
     true
 }
 
-fn start_scanner<'s, S, C, R, E>(
+fn start_driver<'s, S, C, D, B, R>(
     scope: &Scope<'s, S>,
     rt: &'s R,
     server: &'s Server<Shared>,
-    slot: &'s Slot<ScannerSeat<C>>,
-    directory: &'s str,
-    errors: &'s mut E,
+    office: &'s Office<C, D, B>,
+    slot: &'s Slot<DriverState<C>>,
+    outcome: &'s Outcome,
+    handover: u64,
 ) -> bool
 where
-    C: Channels + Send,
-    R: Files + Threads + Wait + Clock + Copy + Sync + Drop,
-    E: Write + Send,
+    C: Channels + Lanes + Send + Sync,
+    D: Board<C> + Send,
+    B: Backend + Send,
+    R: Threads + Wait + Clock + Sync,
 {
     Builder::new()
-        .stack_size(SCANNER_STACK)
-        .spawn_scoped(
-            scope,
-            move || attend_slot(rt, server, slot, directory, errors),
-        )
+        .stack_size(DRIVER_STACK)
+        .spawn_scoped(scope, move || {
+            drive_and_end(rt, server, office, slot, outcome, handover)
+        })
         .is_ok()
 }
 
-fn attend_slot<C: Channels, R: Files + Wait + Clock + Copy + Drop, E: Write>(
+fn drive_and_end<C: Channels + Lanes, D: Board<C>, B: Backend, R: Wait + Clock>(
     rt: &R,
     server: &Server<Shared>,
-    slot: &Slot<ScannerSeat<C>>,
-    directory: &str,
-    errors: &mut E,
+    office: &Office<C, D, B>,
+    slot: &Slot<DriverState<C>>,
+    outcome: &Outcome,
+    handover: u64,
 ) {
-    if let Some(mut scanner) = slot.take(rt) {
-        attend(rt, server, &mut scanner, directory, errors);
-        slot.put(rt, scanner);
+    if let Some(mut state) = slot.take(rt) {
+        outcome.note(rt, drive_run(rt, server, office, &mut state, handover));
+        slot.put(rt, state);
     }
+    end_run(rt, server);
 }
 
 fn start_lane<'s, S, C, D, B, R>(

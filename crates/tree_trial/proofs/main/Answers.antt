@@ -1,13 +1,8 @@
 use denote.Exit.{no}
 use denote.Param.Send.{arg_send, param_send}
 use Rattle.child_runner.proofs.Crosses.{program_backend_send}
-use Rattle.tree_server.proofs.Crosses.{errors_send}
 use Rattle.tree_trial.proofs.main.Goals as goal
 
 -- a backend of processes may go to another thread
 pub run_tree-done-requires-send-B : goal.run_tree-done-requires-send-B
 run_tree-done-requires-send-B g c κs = param_send 0 _ (arg_send _ no _ program_backend_send)
-
--- the output of faults may go to another thread
-pub run_tree-done-requires-send-E : goal.run_tree-done-requires-send-E
-run_tree-done-requires-send-E g c κs = param_send 2 _ (arg_send _ no _ errors_send)

@@ -4,6 +4,3 @@ use Rattle.tree_server.proofs.serve.fn.serve.scope.Goals as goal
 -- what the closure's types are bound to, behind a fact of each type's lifetime
 pub run_all-done-requires-send-B : goal.run_all-done-requires-send-B
 run_all-done-requires-send-B g c κs within = param_send 0 _ c.requires.1.1.1.1.1.1.0
-
-pub run_all-done-requires-send-E : goal.run_all-done-requires-send-E
-run_all-done-requires-send-E g c κs within = param_send 2 _ c.requires.1.1.1.1.1.1.1

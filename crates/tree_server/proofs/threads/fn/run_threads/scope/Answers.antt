@@ -10,6 +10,3 @@ start_all-requires-send-D g c κs within = param_send 2 _ c.requires.1.1.1.1.1.1
 
 pub start_all-requires-send-B : goal.start_all-requires-send-B
 start_all-requires-send-B g c κs within = param_send 3 _ c.requires.1.1.1.1.1.1.1.2
-
-pub start_all-requires-send-E : goal.start_all-requires-send-E
-start_all-requires-send-E g c κs within = param_send 5 _ c.requires.1.1.1.1.1.1.1.3
