@@ -69,7 +69,7 @@ driver_state_send C g c =
         search (reader.the_send, crosses, sendable) depth 60 fits 20000,
         (
           search (connection_send, crosses, sendable) depth 60 fits 20000,
-          (number_send, (number_send, (number_send, (flag_send, tt)))),
+          (number_send, (number_send, (number_send, (flag_send, (flag_send, tt))))),
         ),
       ),
     ))
