@@ -57,18 +57,18 @@ pub(crate) fn write_head<W: Write>(head: bool, writer: &mut W) -> Result<(), Run
 pub(crate) fn write_step<W: Write>(
     alloc: Global,
     text: &mut Vec<u8>,
-    record: &Record,
+    step: &Record,
     number: u64,
     writer: &mut W,
 ) -> Result<(), RunFault>
-    ensures fits { OnOk result (FitsLine record.now.input) }
+    ensures fits { OnOk result (FitsLine step.now.input) }
     ensures ok { OnOk result (Appends (W.contents writer.old) (W.contents writer.new)
-        (step_lines Two (recorded_reply record.now.input record.now.reply))) }
+        (step_lines Two (recorded_reply step.now.input step.now.reply))) }
     ensures fault { IfErr result
-        (λ fault. StopsStep fault number record.now.input record.now.reply
+        (λ fault. StopsStep fault number step.now.input step.now.reply
         (W.contents writer.old) (W.contents writer.new)) }
 {
-    match spell_step(alloc, text, &record.input, &record.reply) {
+    match spell_step(alloc, text, &step.input, &step.reply) {
         Ok(()) => {}
         Err(SpellFault::Unspelt) => return Err(RunFault::Unspelt(number)),
         Err(_) => return Err(RunFault::NoMemory),

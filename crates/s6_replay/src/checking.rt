@@ -10,7 +10,8 @@ ghost use Rattle.s6_replay.specs.declared.fault.ReplayFault.TheVariants.{NoMemor
 use super::checked::Checked;
 use super::fault::ReplayFault;
 use super::head::read_head;
-use super::reading::{INPUT_LIMIT, Scratch, read_end, read_step};
+use super::limits::INPUT_LIMIT;
+use super::reading::{Scratch, read_end, read_step};
 use super::reply_text::push_reply;
 use super::version::Version;
 use std::alloc::{Allocator, Global};

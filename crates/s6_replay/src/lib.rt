@@ -8,6 +8,7 @@ mod counts;
 mod effect_lines;
 mod fault;
 mod head;
+mod limits;
 mod line;
 mod migration;
 mod reading;

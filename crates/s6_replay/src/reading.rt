@@ -6,21 +6,13 @@ ghost use Rattle.s6_replay.specs.Script.{IsReplyText, StopsBehind, input_limit, 
 ghost use Rattle.s6_replay.specs.Turn.{InputWasRead, WasRead, ReplyStops, HoldsReply, EndStops, text_in};
 
 use super::fault::ReplayFault;
+use super::limits::{INPUT_LIMIT, INPUT_LINE_LIMIT, REPLY_LINE_LIMIT};
 use super::line::{Ended, ReadFault, read_line};
 use super::version::Version;
 use s6_script::{LineFault, parse_with};
 use std::alloc::{Allocator, Global};
 use std::io::{BufRead, Read};
 use tree_core::{Effect, Input};
-
-/// The most input lines of a script.
-pub const INPUT_LIMIT: u64 = 1_000_000;
-
-/// The most bytes of an input line, with its newline.
-pub const INPUT_LINE_LIMIT: usize = 65_536;
-
-/// The most bytes of a reply line, with its newline.
-const REPLY_LINE_LIMIT: usize = 262_144;
 
 // What is used again for each step, so that one that needs no more room than those before it takes no memory: its lines, a text of what
 // was read or is written, and what the tree gave.

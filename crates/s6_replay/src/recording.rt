@@ -8,7 +8,7 @@ ghost use Rattle.s6_replay.specs.Script.{input_line, reply_record};
 ghost use Rattle.s6_replay.specs.Transcript.{reply_text};
 
 use super::block::{WriteFault, write_whole};
-use super::reading::INPUT_LINE_LIMIT;
+use super::limits::INPUT_LINE_LIMIT;
 use super::reply_text::push_reply;
 use s6_script::spell_plain;
 use std::alloc::{AllocError, Allocator};

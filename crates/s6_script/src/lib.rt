@@ -1,10 +1,10 @@
 //! Scripts, which are inputs of the machine as text. Their format is chosen here.
 #![tactic(auto)]
 
+mod act_limits;
 mod death_list;
 mod digits;
 mod entry_options;
-mod limits;
 mod parse;
 mod plain_spelling;
 mod spelling;

@@ -96,34 +96,36 @@ fn exit_of(words: &mut Words<'_>) -> Exit
     }
 }
 
-// Reads a verb.
+// Reads a verb: those that come most often are looked for first.
 fn verb_of(word: &[u8]) -> Verb
     ensures { (v : Verb) → word.now ≡ verb_word v → result ≡ v }
 {
-    if is_word(word, b"scan") {
+    if is_word(word, b"started") {
+        Verb::Started
+    } else if is_word(word, b"death") {
+        Verb::Death
+    } else if is_word(word, b"tick") {
+        Verb::Tick
+    } else if is_word(word, b"finished") {
+        Verb::Finished
+    } else if is_word(word, b"notify") {
+        Verb::Notify
+    } else if is_word(word, b"status") {
+        Verb::Status
+    } else if is_word(word, b"svc") {
+        Verb::Svc
+    } else if is_word(word, b"wait") {
+        Verb::Wait
+    } else if is_word(word, b"scan") {
         Verb::Scan
     } else if is_word(word, b"scanctl") {
         Verb::Scanctl
-    } else if is_word(word, b"svc") {
-        Verb::Svc
-    } else if is_word(word, b"started") {
-        Verb::Started
     } else if is_word(word, b"startfailed") {
         Verb::StartFailed
-    } else if is_word(word, b"notify") {
-        Verb::Notify
-    } else if is_word(word, b"death") {
-        Verb::Death
-    } else if is_word(word, b"finished") {
-        Verb::Finished
-    } else if is_word(word, b"status") {
-        Verb::Status
     } else if is_word(word, b"tally") {
         Verb::Tally
     } else if is_word(word, b"permafailon") {
         Verb::Permafailon
-    } else if is_word(word, b"wait") {
-        Verb::Wait
     } else if is_word(word, b"cancel") {
         Verb::Cancel
     } else if is_word(word, b"subscribe") {
@@ -132,10 +134,8 @@ fn verb_of(word: &[u8]) -> Verb
         Verb::Unsubscribe
     } else if is_word(word, b"send") {
         Verb::Send
-    } else if is_word(word, b"mkdir") {
-        Verb::Mkdir
     } else {
-        Verb::Tick
+        Verb::Mkdir
     }
 }
 

@@ -5,9 +5,9 @@ ghost use Rattle.tree_core.specs.Plain.{act_of};
 ghost use Rattle.s6_script.specs.Spelling.{act_words, spelling};
 ghost use Rattle.s6_script.specs.Telling.{SpellsIf};
 
+use super::act_limits::is_spelt;
 use super::death_list::push_permafailon_of;
 use super::digits::{push_number, push_spaced};
-use super::limits::is_spelt;
 use super::spelling::{
     push_ended, push_named, push_notify, push_report, push_scan, push_serial, push_started,
     push_svc,

@@ -3,23 +3,23 @@
 
 use child_runner::Keeper;
 use log::sink::Console;
+use replay_tool::run_tool;
 use std::process::ExitCode;
 use tree_front::{Asked, run_words};
-use tree_server::{HANDOVER, ServeFault, ServeOptions, ServiceLanes, run_tree, tell_serve_fault};
+use tree_server::{HANDOVER, ServeFault, ServiceLanes, run_tree, tell_serve_fault};
 
 fn main(rt: HostRuntime) -> ExitCode {
     let alloc = rt.alloc();
     let mut errors = rt.stderr();
-    let place = match run_words(&rt, alloc, rt.stdin(), rt.stdout(), &mut errors) {
+    let place = match run_words(&rt, alloc, &mut rt.stdout(), &mut errors) {
         Asked::Done(status) => return ExitCode::from(status),
+        Asked::Replay => {
+            let status = run_tool(&rt, alloc, alloc, rt.stdin(), rt.stdout(), &mut errors);
+            return ExitCode::from(status);
+        }
         Asked::Tree(place) => place,
     };
-    let options = ServeOptions {
-        directory: place.directory.as_str(),
-        socket: place.socket.as_str(),
-        record: place.record.as_deref(),
-        handover: HANDOVER,
-    };
+    let options = place.options(HANDOVER);
     let Ok(keeper) = Keeper::start(rt, alloc) else {
         return ExitCode::from(tell_serve_fault(ServeFault::Thread, &mut errors));
     };

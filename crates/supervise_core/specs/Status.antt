@@ -6,7 +6,7 @@ use Rattle.s6_events.specs.declared.moment.Moment.{Moment}
 use Rattle.s6_events.specs.declared.moment.Moment.TheVariants.{Event}
 use Rattle.s6_events.specs.CurrentLetter.{current_letter, up_or_down_since, ready_or_done_since, is_start, tells_state}
 use Rattle.s6_events.specs.CurrentLetter.{is_up_or_down, is_ready_or_done}
-use Rattle.supervise_core.specs.declared.status.Status.{Status}
+use Rattle.supervise_core.specs.declared.row.Status.{Status}
 
 -- the marks of a service, as they join the history
 abbrev pub mark_moments : ℕ → List Mark → List Moment

@@ -1,6 +1,6 @@
 //! A service as plain data.
 use super::chart::ChartState;
-use super::status::Status;
+use super::row::Status;
 use s6_events::{At, Exit};
 use std::alloc::Allocator;
 use std::marker::Model;

@@ -12,7 +12,6 @@ mod reports;
 mod row;
 mod service;
 mod service_state;
-mod status;
 mod timer;
 
 pub use change::Change;
@@ -20,7 +19,6 @@ pub use chart::ChartState;
 pub use image::ServiceImage;
 pub use out::Out;
 pub use phase::Phase;
-pub use row::Row;
+pub use row::{Row, Status};
 pub use service::Service;
 pub use service_state::ServiceState;
-pub use status::Status;

@@ -9,7 +9,7 @@ ghost use Rattle.supervise_core.specs.Service.{KeepsAgreeing};
 use super::change::Change;
 use super::chart::ChartState;
 use super::out::Out;
-use super::status::Status;
+use super::row::Status;
 use s6_events::{At, Sid};
 use servicedir::Config;
 use std::marker::Model;

@@ -9,7 +9,7 @@ use Rattle.s6_events.specs.Clock.{clock_of, clock_after}
 use Rattle.s6_events.specs.declared.mark.Mark.{Mark}
 use Rattle.s6_events.specs.declared.moment.Moment.{Moment}
 use Rattle.s6_events.specs.declared.moment.Moment.TheVariants as moment
-use Rattle.supervise_core.specs.declared.status.Status.{Status}
+use Rattle.supervise_core.specs.declared.row.Status.{Status}
 use Rattle.supervise_core.specs.Service.{Supervised, AgreesWith}
 use Rattle.supervise_core.specs.Status.{Agrees}
 use Rattle.supervise_core.proofs.Agreement.{agrees_other}

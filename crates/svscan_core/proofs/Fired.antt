@@ -9,7 +9,7 @@ use Rattle.s6_events.specs.Clock.{clock_of}
 use Rattle.s6_events.specs.declared.moment.Moment.{Moment}
 use Rattle.s6_events.specs.declared.moment.Moment.TheVariants as moments
 use Rattle.supervise_core.specs.declared.chart.ChartState.{ChartState}
-use Rattle.supervise_core.specs.declared.status.Status.{Status}
+use Rattle.supervise_core.specs.declared.row.Status.{Status}
 use Rattle.supervise_core.specs.ChartState.{Moved}
 use Rattle.supervise_core.specs.Service.{Supervised, ServiceView, service_view, AgreesAs, AgreesWith, KeepsAgreeing}
 use Rattle.supervise_core.specs.Status.{Agrees}

@@ -8,6 +8,7 @@ mod image;
 mod limits;
 mod listing;
 mod moves;
+mod nuke_and_terminate;
 mod pending;
 mod place;
 mod plan;

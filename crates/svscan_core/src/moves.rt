@@ -16,7 +16,7 @@ ghost use Rattle.svscan_core.specs.declared.visit.Visit.TheVariants.{Fire};
 use super::event::Event;
 use super::place::place_of;
 use super::slots::Slots;
-use super::visit::{Visit, take};
+use super::visit::Visit;
 use s6_events::{At, Exit, Mark, NoMemory, Order, Sid};
 use std::alloc::Allocator;
 use supervise_core::{Change, Out, ServiceState};
@@ -205,42 +205,6 @@ impl<A: Allocator + Copy> Moves<A> {
         Ok(())
     }
 
-    // The service at a place takes the change; answers whether that was a stale report.
-    fn change_at(
-        &mut self,
-        slots: &Slots<A>,
-        place: usize,
-        change: &Change,
-        now: At,
-        out: &mut Out,
-    ) -> Result<bool, NoMemory>
-        requires next { (c : ChartState)
-            → slice_get (charts_of (with_changes slots.now.services self.old.touched.items)) place
-            ≡ Some c → c.generation + 1 < 2 ^ 64 }
-        requires order { is_rising (serials_of
-            (charts_of (with_changes slots.now.services self.old.touched.items))) ≡ true }
-        ensures takes { OnOk result ((c : ChartState) → slice_get (charts_of (with_changes slots.now.services self.old.touched.items)) place ≡ Some c
-            → TakesAt now place c (changed_by change.now now c)
-            (step_so_far slots.now.services self.old) (step_so_far slots.now.services self.new)) }
-        ensures stale { IfOk result
-            (λ stale. (c : ChartState)
-            → slice_get (charts_of (with_changes slots.now.services self.old.touched.items)) place
-            ≡ Some c → stale ≡ (changed_by change.now now c).stale) }
-        ensures names { KeepNames slots.now.services self.old.touched.items
-            → OnOk result (KeepNames slots.now.services self.new.touched.items) }
-        ensures few { OnOk result (length self.new.orders.items
-            ≤ length self.old.orders.items + most_orders change.now) }
-    {
-        let Some(before) = standing_at(slots, self.touched.as_slice(), place) else {
-            return Ok(false);
-        };
-        let mut after = before;
-        take(&mut after, change, now, out);
-        let stale = out.stale;
-        self.touch(place, after, change.death(stale, now), out)?;
-        Ok(stale)
-    }
-
     /// The service of the serial takes the change, and no other one is looked at; answers whether that was a stale report.
     pub fn change_one(
         &mut self,
@@ -270,7 +234,14 @@ impl<A: Allocator + Copy> Moves<A> {
         let Some(place) = place_of(slots, sid) else {
             return Ok(false);
         };
-        let stale = self.change_at(slots, place, change, now, out)?;
+        let Some(before) = standing_at(slots, self.touched.as_slice(), place) else {
+            return Ok(false);
+        };
+        let mut after = before;
+        out.clear();
+        after.change_onto(change, now, out);
+        let stale = out.stale;
+        self.touch(place, after, change.death(stale, now), out)?;
         Ok(stale)
     }
 }

@@ -1,21 +1,19 @@
 //! What each service in turn takes: its timer, an order to all, or a look at its directory.
 ghost use Rattle.std.specs.Prelude.{◌≡◌, ◌+◌, ◌<◌, ◌≤◌, ◌^◌, length, true};
 ghost use Rattle.supervise_core.specs.ChartState.{no_move};
-ghost use Rattle.supervise_core.specs.Chart.{control_move, fire_move, changed_by};
+ghost use Rattle.supervise_core.specs.Chart.{fire_move, changed_by};
 ghost use Rattle.supervise_core.specs.MatchesMove.{MatchesMove, most_orders};
 ghost use Rattle.supervise_core.specs.Service.{KeepsAgreeing};
 ghost use Rattle.svscan_core.specs.Scan.{after_look};
 ghost use Rattle.svscan_core.specs.Visit.{visit_move};
 ghost use Rattle.svscan_core.specs.declared.visit.Visit.TheVariants.{Fire};
-ghost use Rattle.svscan_core.specs.Work.{leave_letters, nuke_move, terminate_move};
 
 use super::entry::ScanOrder;
 use super::listing::SortedListing;
-use arrayvec::ArrayVec;
+use super::nuke_and_terminate::{nuke, terminate};
 use s6_events::At;
 use std::alloc::Allocator;
 use supervise_core::{Change, Out, ServiceState};
-use svc_commands::{ControlLetter, Letters};
 
 /// What each service in turn takes: its timer rule, an order of all services, or a look at its directory.
 #[derive(Clone, Copy)]
@@ -23,16 +21,6 @@ pub enum Visit<'a, A: Allocator> {
     Fire,
     Command(ScanOrder),
     Look(&'a SortedListing<A>),
-}
-
-// The letters of a service that leaves.
-fn leaving_letters() -> Letters
-    ensures { result.items ≡ leave_letters }
-{
-    let mut letters = ArrayVec::new();
-    letters.push(ControlLetter::Exit);
-    letters.push(ControlLetter::Down);
-    letters
 }
 
 /// The service takes a change; `out` has the marks and orders of that change, and nothing else.
@@ -61,19 +49,6 @@ fn fire_timer(standing: &mut ServiceState, now: At, out: &mut Out)
     take(standing, &Change::Fire, now, out);
 }
 
-// Its supervisor is told to end, and it is told to go down.
-fn leave(standing: &mut ServiceState, now: At, out: &mut Out)
-    requires { standing.old.chart.generation + 1 < 2 ^ 64 }
-    ensures gives { MatchesMove (control_move leave_letters now standing.old.chart)
-        standing.new.chart out.new }
-    ensures agrees { KeepsAgreeing now out.new.events.items standing.old standing.new }
-    ensures sid { standing.new.chart.sid ≡ standing.old.chart.sid }
-    ensures name { standing.new.chart.name ≡ standing.old.chart.name }
-    ensures few { length out.new.orders.items ≤ 2 }
-{
-    take(standing, &Change::Control(leaving_letters()), now, out);
-}
-
 // Its directory is listed or not, and says what was read.
 fn look_at<A: Allocator + Copy>(standing: &mut ServiceState, listing: &SortedListing<A>, now: At)
     ensures { standing.new ≡ record standing.old
@@ -84,35 +59,6 @@ fn look_at<A: Allocator + Copy>(standing: &mut ServiceState, listing: &SortedLis
     if let Some(config) = listing.config_of(&name) {
         standing.set_config(config);
     }
-}
-
-// An inactive service leaves.
-fn nuke(standing: &mut ServiceState, now: At, out: &mut Out)
-    requires { standing.old.chart.generation + 1 < 2 ^ 64 }
-    ensures gives { MatchesMove (nuke_move now standing.old.chart) standing.new.chart out.new }
-    ensures agrees { KeepsAgreeing now out.new.events.items standing.old standing.new }
-    ensures sid { standing.new.chart.sid ≡ standing.old.chart.sid }
-    ensures name { standing.new.chart.name ≡ standing.old.chart.name }
-    ensures few { length out.new.orders.items ≤ 2 }
-{
-    if standing.chart().active {
-        out.clear();
-    } else {
-        leave(standing, now, out);
-    }
-}
-
-// The service becomes inactive, and leaves.
-fn terminate(standing: &mut ServiceState, now: At, out: &mut Out)
-    requires { standing.old.chart.generation + 1 < 2 ^ 64 }
-    ensures gives { MatchesMove (terminate_move now standing.old.chart) standing.new.chart out.new }
-    ensures agrees { KeepsAgreeing now out.new.events.items standing.old standing.new }
-    ensures sid { standing.new.chart.sid ≡ standing.old.chart.sid }
-    ensures name { standing.new.chart.name ≡ standing.old.chart.name }
-    ensures few { length out.new.orders.items ≤ 2 }
-{
-    standing.set_active(false, now);
-    leave(standing, now, out);
 }
 
 impl<A: Allocator + Copy> Visit<'_, A> {

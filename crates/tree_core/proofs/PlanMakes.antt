@@ -1,20 +1,24 @@
 -- A plan with the parts of a step is the step.
 use Rattle.std.proofs.Common.{rules, ◌≡◌, ℕ, ◌<◌, List, [], ◌∷◌, ◌++◌, Bool, true, false, cond, refl, sym, ◌∙◌, ap, map, max, subst, arith, nat_eq}
 use Rattle.std.proofs.Common.{get_or, append-nil, append_assoc}
-use Rattle.std.specs.Prelude.{nat_lt, Result, Ok, Err, IfOk, IsOk, IsOkAnd}
+use Rattle.std.specs.Prelude.{nat_lt, Option, None, Some, Result, Ok, Err, IfOk, IsOk, IsOkAnd}
 use Rattle.std.proofs.lemmas.Bool.Decides.{nat_tests}
 use Rattle.std.proofs.lemmas.List.{map-append}
-use Rattle.event_directory.specs.Changes.{DirectoryRequest, Offer, directories_after_change, directory_answer, matches_of}
+use Rattle.event_directory.specs.Changes.{DirectoryRequest, Offer, directories_after_change, directory_answer, directory_refusal, matches_of}
+use Rattle.event_directory.specs.Changes.{refused_or, subscribed_to, unless}
+use Rattle.event_directory.specs.Changes.DirectoryRequest.{no_directory_request, make_directory, send, subscribe, unsubscribe}
 use Rattle.event_directory.specs.Directories.{WrittenDirectories, directories_after_moments, matches_by}
 use Rattle.event_directory.specs.Pattern.{finds}
 use Rattle.event_directory.specs.Remembered.{AreHeard, DirectoriesPrepared, DirectoriesShown, directories_after_commit}
 use Rattle.event_directory.specs.declared.directory_change.DirectoryAnswer.{DirectoryAnswer}
+use Rattle.event_directory.specs.declared.directory_change.DirectoryAnswer.TheVariants.{Subscribed}
+use Rattle.event_directory.specs.declared.directory_change.DirectoryFault.{DirectoryFault}
 use Rattle.event_directory.specs.declared.hit.Hit.{Hit}
 use Rattle.s6_events.specs.Clock.{clock_of}
 use Rattle.s6_events.specs.declared.moment.Moment.{Moment}
 use Rattle.s6_events.specs.declared.moment.Moment.TheVariants.{Clock}
 use Rattle.s6_events.specs.declared.order.Order.{Order}
-use Rattle.supervise_core.specs.declared.status.Status.{Status}
+use Rattle.supervise_core.specs.declared.row.Status.{Status}
 use Rattle.supervise_core.specs.Chart.{fire_move}
 use Rattle.supervise_core.specs.Service.{Supervised}
 use Rattle.supervise_core.specs.Status.{Agrees}
@@ -41,7 +45,7 @@ use Rattle.tree_core.specs.Acts.{act_result, ask_of, directory_ask_of, offer_of,
 use Rattle.tree_core.specs.Listening.{Ask, as_match, as_release, watch_after, released_at_once}
 use Rattle.tree_core.specs.Machine.{Machine, directories_at, directories_of, watch_at, watch_of}
 use Rattle.tree_core.specs.Plan.{PresentState, IsNow, Plans, HasFired, Chooses, Chosen, ListenersAnswer, chosen_work, chosen_change, chosen_ask}
-use Rattle.tree_core.specs.Plan.{chosen_reply, released_by_answer, answers_at}
+use Rattle.tree_core.specs.Plan.{chosen_reply, is_subscribed, released_by_answer, answers_at}
 use Rattle.tree_core.specs.Plan.Chosen.{refuse, nothing, report, letters, listing, order, show, tally, failure, wait, cancel, ask_directories}
 use Rattle.tree_core.specs.Step.{StepResult, step, timed_step, with_listeners, with_clock, with_act, with_moves, step_limit, clock_moments}
 use Rattle.tree_core.proofs.Listened.{directories_join, directories_stay, history_stays, moments_join}
@@ -109,6 +113,7 @@ pub record Makes {A : Type 0} (now : ℕ) (pr : PresentState) (input : Input A) 
   pub given : List (ℕ × Verdict)
   pub matches : List (ℕ × Hit)
   pub told : ListenersAnswer
+  pub answered : plan.letters.answer ≡ told.directories
   pub now_is : plan.now ≡ now
   pub closes : plan.closing ≡ closing_after (chosen_work choice) pr.closing
   pub works : result_of prepared ≡ step_result (chosen_work choice) now (charts_of pr.services) pr.next_sid
@@ -126,6 +131,20 @@ pub record Makes {A : Type 0} (now : ℕ) (pr : PresentState) (input : Input A) 
   pub tallies : KeepTallied pr.next_sid pr.services prepared.services
       (deaths_given (chosen_work choice) now (services_after (fire_move now) (charts_of pr.services)))
   pub sound : IsSound pr.next_sid (charts_of pr.services)
+
+-- where no subscription was made, what is offered does not matter
+offered_alike : (ask : DirectoryRequest) (d : WrittenDirectories) (told : DirectoryAnswer) (x y : Offer) → told ≡ directory_answer ask d
+    → (is_subscribed told ≡ true → x ≡ y) → directories_after_change ask x d ≡ directories_after_change ask y d
+offered_alike no_directory_request d told x y is same = refl
+offered_alike (make_directory name) d told x y is same = refl
+offered_alike (send name text) d told x y is same = refl
+offered_alike (unsubscribe id) d told x y is same = refl
+offered_alike (subscribe source) d told x y is same = by_refusal (directory_refusal (subscribe source) d) is
+  where
+    by_refusal : (f : Option DirectoryFault) → told ≡ refused_or f (Subscribed d.next)
+        → unless f (subscribed_to source x d) d ≡ unless f (subscribed_to source y d) d
+    by_refusal None e = ap (λ o. subscribed_to source o d) (same (ap is_subscribed e))
+    by_refusal (Some fault) e = refl
 
 -- a machine with what is there now
 abbrev pub now_in : PresentState → Machine → Machine
@@ -243,12 +262,14 @@ plan_makes {A} pr input plan prepared later directories effect choice left p old
           })
           ∙ sym (ap (λ s. watch_of s.machine) t)))))
           (p.listens.stands (watch_of m) kept);
-      hearing =
-          subst (AreHeard finds (directories_after_commit directories (offer_of input.act)))
-          ((λ i. directories_after_change (sym chosen.asks i) (offer_of input.act) (there i))
+      hearing = λ offer same.
+          subst (AreHeard finds (directories_after_commit directories offer))
+          (offered_alike (chosen_ask choice) (directories_after_moments (directories_of m) plan.history) p.told.directories offer
+          (offer_of input.act) (p.hears_letters.answer (directories_of m) heard) (λ made. same (ap is_subscribed p.answered ∙ made))
+          ∙ ((λ i. directories_after_change (sym chosen.asks i) (offer_of input.act) (there i))
           ∙ (directories_stay (directory_ask_of input.act fired) (offer_of input.act) (directories_of done)
-          ∙ sym (ap (λ s. directories_of s.machine) t)))
-          (p.hears_letters.stands (offer_of input.act) (directories_of m) heard);
+          ∙ sym (ap (λ s. directories_of s.machine) t))))
+          (p.hears_letters.stands offer (directories_of m) heard);
     }
 
 -- and it is the step of each machine that has now what a tree has

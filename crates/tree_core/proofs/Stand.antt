@@ -1,6 +1,7 @@
 -- What makes the step of an input stands for the machine after it.
-use Rattle.std.proofs.Common.{◌≡◌, ◌+◌, ◌-◌, ◌*◌, ◌<◌, ◌≤◌, ◌++◌, ◌∷◌, List, [], drop, map, max, min, ℕ, arith, length, sym, ap, ◌∙◌, subst}
+use Rattle.std.proofs.Common.{◌≡◌, ◌+◌, ◌-◌, ◌*◌, ◌<◌, ◌≤◌, ◌++◌, ◌∷◌, List, [], true, drop, map, max, min, ℕ, arith, length, sym, ap, ◌∙◌, subst}
 use Rattle.std.proofs.lemmas.List.{length-append, length-drop, drop-append-le, drop-drop}
+use Rattle.event_directory.specs.Changes.{Offer}
 use Rattle.event_directory.specs.Pattern.{finds}
 use Rattle.event_directory.specs.Remembered.{AreHeard, DirectoriesPrepared, DirectoriesShown, directories_after_commit}
 use Rattle.s6_events.specs.declared.moment.Moment.{Moment}
@@ -15,7 +16,7 @@ use Rattle.wait_conditions.specs.Watch.{WrittenWaiter}
 use Rattle.std.proofs.lemmas.List.Elements.{All-cons, All-head, All-tail}
 use Rattle.tree_core.specs.Acts.{offer_of}
 use Rattle.tree_core.specs.Machine.{Machine, directories_of, watch_of}
-use Rattle.tree_core.specs.Plan.{PresentState, present_state, IsNow, Plans}
+use Rattle.tree_core.specs.Plan.{PresentState, present_state, is_subscribed, IsNow, Plans}
 use Rattle.tree_core.specs.Run.{after, outcome}
 use Rattle.std.specs.Prelude.{All, get_or}
 use Rattle.supervise_core.specs.declared.chart.ChartState.{ChartState}
@@ -88,10 +89,10 @@ kept_within old new kept whole e n size le within =
     omega (arith, rest, size, le, within)
 
 pub stands_after : {A : Type 0} (t new : StoredTree) (input : Input A) (plan : StepPlan A) (prepared : RegistryPrepared) (later : WaitsShown)
-    (directories : DirectoriesPrepared) (effect : Effect A) → PlansAll t input plan prepared later directories effect
-    → Installs t new plan prepared later (directories_after_commit directories (offer_of input.act))
+    (directories : DirectoriesPrepared) (effect : Effect A) (offer : Offer) → (is_subscribed plan.letters.answer ≡ true → offer ≡ offer_of input.act)
+    → PlansAll t input plan prepared later directories effect → Installs t new plan prepared later (directories_after_commit directories offer)
     → (m : Machine) → StandsFor t m → (outcome_of effect ≡ outcome m input) × StandsFor new (after m input)
-stands_after {A} t new input plan prepared later directories effect plans n m s =
+stands_after {A} t new input plan prepared later directories effect offer same plans n m s =
     let p : Plans m input plan prepared later directories effect = plans m (is_now t m s) in (
       p.outcome,
       record {
@@ -111,7 +112,8 @@ stands_after {A} t new input plan prepared later directories effect plans n m s 
         numbered = subst (λ (k : ℕ). AllBefore k (after m input).deaths) p.next_sid p.numbered;
         reading = step-reads m input s.reading;
         waiting = subst (λ (x : WaitsShown). WaitsStandFor x (watch_of (after m input))) (sym n.waits) p.waiting;
-        hearing = subst (λ (x : DirectoriesShown). AreHeard finds x (directories_of (after m input))) (sym n.directories) p.hearing;
+        hearing = subst (λ (x : DirectoriesShown). AreHeard finds x (directories_of (after m input))) (sym n.directories)
+            (p.hearing offer same);
       },
     )
 

@@ -2,7 +2,7 @@
 use Rattle.std.specs.Prelude.{◌≡◌, ◌==◌, ℕ, ◌+◌, ◌≤◌, ◌++◌, List, [], Bool, true, false, map, if◌then◌else◌, find}
 use Rattle.std.specs.Prelude.{bytes_eq, option_map, Option, None, Some, length, nat_lt}
 use Rattle.std.specs.List.{list_any}
-use Rattle.event_directory.specs.Changes.{DirectoryRequest, directory_answer}
+use Rattle.event_directory.specs.Changes.{DirectoryRequest, Offer, directory_answer}
 use Rattle.event_directory.specs.Changes.DirectoryRequest.{no_directory_request, make_directory, send, subscribe}
 use Rattle.event_directory.specs.Changes.DirectoryRequest.{unsubscribe}
 use Rattle.event_directory.specs.Pattern.{finds}
@@ -150,6 +150,11 @@ abbrev pub directory_reply : {A : Type 0} → DirectoryAnswer → Reply A
 directory_reply directories.Done = answers.Done
 directory_reply (directories.Subscribed id) = answers.Subscription id
 directory_reply (directories.Refused fault) = answers.Refused (as_refusal fault)
+
+-- a subscription was made
+abbrev pub is_subscribed : DirectoryAnswer → Bool
+is_subscribed (directories.Subscribed id) = true
+is_subscribed told = false
 
 -- a waiter that is released as it is made
 abbrev pub released_by_answer : WaitAnswer → List (ℕ × Verdict)
@@ -312,5 +317,5 @@ pub record Plans {A : Type 0} (m : Machine) (input : Input A) (plan : StepPlan A
   pub tallies : AllTallied prepared.services (step m input).machine.deaths
   pub numbered : AllBefore prepared.next_sid (step m input).machine.deaths
   pub waiting : WaitsStandFor waits (watch_of (step m input).machine)
-  pub hearing : AreHeard finds (directories_after_commit directories (offer_of input.act))
-      (directories_of (step m input).machine)
+  pub hearing : (offer : Offer) → (is_subscribed plan.letters.answer ≡ true → offer ≡ offer_of input.act)
+      → AreHeard finds (directories_after_commit directories offer) (directories_of (step m input).machine)

@@ -1,35 +1,25 @@
-//! What is to be done for an act, and the order in which its refusals are looked for.
-ghost use Rattle.std.specs.Prelude.{◌≡◌, ◌==◌, ◌+◌, ◌<◌, ◌≤◌, ◌^◌, ◌++◌, List, map, find, bytes_eq, length, option_map, All, IfOk, IsOk, None, Some, if◌then◌else◌, true, false};
-ghost use Rattle.std.specs.List.{list_any};
-ghost use Rattle.death_tally.specs.PermanentFailure.{are_permanent_failure};
+//! What an act asks of the services, the waiters and the event directories. Why it may be refused is in `refusals.rt`.
+ghost use Rattle.std.specs.Prelude.{◌≡◌, ◌+◌, ◌<◌, ◌^◌, List, All, IfOk, IsOk, true};
 ghost use Rattle.event_directory.specs.Changes.{directory_request_of};
-ghost use Rattle.s6_events.specs.Clock.{clock_of};
-ghost use Rattle.supervise_core.specs.Chart.{fire_move};
-ghost use Rattle.supervise_core.specs.StatusRow.{status_row};
-ghost use Rattle.supervise_core.specs.declared.change.Change.TheVariants.{Control};
-ghost use Rattle.svscan_core.specs.Moves.{moment_of, services_after, events_after};
-ghost use Rattle.svscan_core.specs.Sound.{AllAgree};
 ghost use Rattle.s6_events.specs.declared.moment.Moment.{Moment};
 ghost use Rattle.svscan_core.specs.Asked.{work_asked, IsOrderly};
 ghost use Rattle.svscan_core.specs.Table.{charts_of};
+ghost use Rattle.svscan_core.specs.Work.{closing_after};
 ghost use Rattle.wait_conditions.specs.Steps.{wait_request_of};
-ghost use Rattle.tree_core.specs.Acts.{all_named, serials_named, source_named};
-ghost use Rattle.tree_core.specs.Limits.{name_limit, service_limit};
+ghost use Rattle.tree_core.specs.Limits.{service_limit};
 ghost use Rattle.tree_core.specs.Machine.{Machine};
-ghost use Rattle.tree_core.specs.Plan.{chosen_of, chosen_work, chosen_change, chosen_ask, report_choice, letters_choice, row_choice, failure_choice, scan_choice, wait_choice, subscribe_choice, send_choice, tally_in, AsksNothing, Chooses, HasFired, is_reading};
+ghost use Rattle.tree_core.specs.Plan.{chosen_of, chosen_work, chosen_change, chosen_ask, AsksNothing, Chooses, HasFired, is_reading};
 
-use super::input::{Act, Target};
+use super::input::Act;
 use super::limits::NAME_LIMIT;
-use super::names::has_repeated_name;
+use super::refusals::{copy_of, judge, letters, report, scan, send, show, subscribe, wait};
 use super::reply::Refusal;
 use arrayvec::ArrayVec;
-use death_tally::{DeathList, permafails};
 use event_directory::{DirectoryChange, Message, Source};
 use s6_events::{At, Condition, Mode, Name, NoMemory, Sid, SubId, WaitId};
 use std::alloc::Allocator;
-use supervise_core::{Change, Phase, Row};
-use svc_commands::Letters as ControlLetters;
-use svscan_core::{Entry, Registry, ScanOrder, ServiceWork, has_repeats};
+use supervise_core::{Change, Row};
+use svscan_core::{Entry, Registry, ScanOrder, ServiceWork};
 use wait_conditions::WaitChange;
 
 /// What a step does for its act: why that is refused, or what it asks of the services, the waiters or the event directories.
@@ -52,216 +42,52 @@ pub enum Choice<'a> {
     Unsubscribe(SubId),
 }
 
+/// What a step asks of the services, of the waiters and of the event directories, and whether the tree is closing after it.
+#[derive(Clone, Copy)]
+pub struct Requests<'a> {
+    pub services: ServiceWork<'a>,
+    pub waiters: WaitChange<'a>,
+    pub directories: DirectoryChange<'a>,
+    pub closing: bool,
+}
+
 impl Choice<'_> {
-    /// What is asked of the services.
-    pub fn work(&self) -> ServiceWork<'_>
-        ensures { work_asked result ≡ chosen_work (chosen_of self.now) }
+    /// What is asked of each part at this moment, of a tree that is closing or not.
+    pub fn requests(&self, now: At, closing: bool) -> Requests<'_>
+        ensures services { work_asked result.services ≡ chosen_work (chosen_of self.now) }
+        ensures waiters { wait_request_of result.waiters ≡ chosen_change now (chosen_of self.now) }
+        ensures directories { directory_request_of result.directories
+            ≡ chosen_ask (chosen_of self.now) }
+        ensures closing { result.closing
+            ≡ closing_after (chosen_work (chosen_of self.now)) closing }
     {
+        let mut asked = Requests {
+            services: ServiceWork::Nothing,
+            waiters: WaitChange::Nothing,
+            directories: DirectoryChange::Nothing,
+            closing,
+        };
         match self {
-            Choice::Report(sid, change) => ServiceWork::Change(*sid, change),
-            Choice::Letters(sid, change) => ServiceWork::Change(*sid, change),
-            Choice::Listing(listing) => ServiceWork::Listing(listing),
-            Choice::Command(order) => ServiceWork::Command(*order),
-            _ => ServiceWork::Nothing,
-        }
-    }
-
-    /// What is asked of the waiters, at this moment.
-    pub fn wait_change(&self, now: At) -> WaitChange<'_>
-        ensures { wait_request_of result ≡ chosen_change now (chosen_of self.now) }
-    {
-        match self {
-            Choice::Wait(condition, mode, timeout, sids) => {
-                WaitChange::Add(*condition, *mode, sids.as_slice(), *timeout, now)
+            Choice::Report(sid, change) => asked.services = ServiceWork::Change(*sid, change),
+            Choice::Letters(sid, change) => asked.services = ServiceWork::Change(*sid, change),
+            Choice::Listing(listing) => asked.services = ServiceWork::Listing(listing),
+            Choice::Command(order) => {
+                asked.services = ServiceWork::Command(*order);
+                asked.closing = closing || matches!(order, ScanOrder::Terminate);
             }
-            Choice::Cancel(id) => WaitChange::Cancel(*id),
-            _ => WaitChange::Nothing,
+            Choice::Wait(condition, mode, timeout, sids) => {
+                asked.waiters = WaitChange::Add(*condition, *mode, sids.as_slice(), *timeout, now);
+            }
+            Choice::Cancel(id) => asked.waiters = WaitChange::Cancel(*id),
+            Choice::MakeDirectory(name) => asked.directories = DirectoryChange::Make(*name),
+            Choice::Send(name, message) => asked.directories = DirectoryChange::Send(
+                *name, message,
+            ),
+            Choice::Subscribe(source) => asked.directories = DirectoryChange::Subscribe(*source),
+            Choice::Unsubscribe(id) => asked.directories = DirectoryChange::Unsubscribe(*id),
+            _ => {}
         }
-    }
-
-    /// What is asked of the event directories.
-    pub fn directory_change(&self) -> DirectoryChange<'_>
-        ensures { directory_request_of result ≡ chosen_ask (chosen_of self.now) }
-    {
-        match self {
-            Choice::MakeDirectory(name) => DirectoryChange::Make(*name),
-            Choice::Send(name, message) => DirectoryChange::Send(*name, message),
-            Choice::Subscribe(source) => DirectoryChange::Subscribe(*source),
-            Choice::Unsubscribe(id) => DirectoryChange::Unsubscribe(*id),
-            _ => DirectoryChange::Nothing,
-        }
-    }
-}
-
-// The same list.
-fn copy_of<T: Copy + Default, const N: usize>(list: &ArrayVec<T, N>) -> ArrayVec<T, N>
-    ensures { result ≡ list.now }
-{
-    let mut copy = ArrayVec::new();
-    if copy.try_extend_from_slice(list.as_slice()).is_err() {
-        unreachable!()
-    }
-    copy
-}
-
-// A report for the service of a serial.
-fn report<'a, A: Allocator + Copy>(registry: &Registry<A>, sid: Sid, change: Change) -> Choice<'a>
-    ensures { chosen_of result ≡ report_choice
-        (list_any (λ c. c.sid == sid) (charts_of registry.now.shown.services)) sid change }
-{
-    if registry.get(sid).is_none() {
-        return Choice::Refuse(Refusal::NoService);
-    }
-    Choice::Report(sid, change)
-}
-
-// Letters for the service of a name.
-fn letters<'a, A: Allocator + Copy>(
-    registry: &Registry<A>,
-    name: Name,
-    letters: &ControlLetters,
-    now: At,
-) -> Choice<'a>
-    requires { All (λ c. c.generation + 1 < 2 ^ 64) (charts_of registry.now.shown.services) }
-    ensures { chosen_of result ≡ letters_choice
-        (find (λ c. bytes_eq name c.name)
-        (services_after (fire_move now) (charts_of registry.now.shown.services)))
-        (Control letters.now) }
-{
-    let Some(standing) = registry.after_timers(name, now) else {
-        return Choice::Refuse(Refusal::NoService);
-    };
-    if standing.chart().phase == Phase::Gone {
-        return Choice::Refuse(Refusal::Ended);
-    }
-    Choice::Letters(standing.sid(), Change::Control(copy_of(letters)))
-}
-
-// The status row of the service of a name.
-fn show<'a, A: Allocator + Copy>(registry: &Registry<A>, name: Name, now: At) -> Choice<'a>
-    requires { All (λ c. c.generation + 1 < 2 ^ 64) (charts_of registry.now.shown.services) }
-    ensures idle { AsksNothing now (chosen_of result) }
-    ensures row { (history : List Moment) → clock_of history ≡ now →
-        AllAgree registry.now.shown.services history
-        → chosen_of result ≡ row_choice
-        (option_map (status_row (history
-        ++ map moment_of (events_after (fire_move now) (charts_of registry.now.shown.services)))
-        now)
-        (find (λ c. bytes_eq name c.name)
-        (services_after (fire_move now) (charts_of registry.now.shown.services)))) }
-{
-    match registry.after_timers(name, now) {
-        Some(standing) => Choice::Show(standing.status().row(&standing.chart(), now)),
-        None => Choice::Refuse(Refusal::NoService),
-    }
-}
-
-// Whether the last deaths of the service of a name are a permanent failure.
-fn judge<'a, A: Allocator + Copy>(
-    registry: &Registry<A>,
-    name: Name,
-    now: At,
-    seconds: u32,
-    count: u32,
-    list: &DeathList,
-) -> Choice<'a>
-    ensures idle { AsksNothing now (chosen_of result) }
-    ensures failure { chosen_of result
-        ≡ failure_choice (option_map (are_permanent_failure now seconds count list.now)
-        (tally_in name registry.now.shown.services)) }
-{
-    match registry.named(name) {
-        Some(service) => { Choice::Failure(permafails(service.tally(), now, seconds, count, list)) }
-        None => Choice::Refuse(Refusal::NoService),
-    }
-}
-
-// A listing is refused while the tree is closing, and where a name stands in it twice.
-fn scan<A: Allocator + Copy>(
-    alloc: A,
-    listing: &[Entry],
-    closing: bool,
-) -> Result<Choice<'_>, NoMemory>
-    ensures { IfOk result (λ choice. chosen_of choice ≡ scan_choice closing listing.now) }
-{
-    if closing {
-        return Ok(Choice::Refuse(Refusal::Closing));
-    }
-    if has_repeats(alloc, listing)? {
-        return Ok(Choice::Refuse(Refusal::Repeated));
-    }
-    Ok(Choice::Listing(listing))
-}
-
-// The serials of the services of these names, at most the limit, where each name is that of one.
-fn serials_of<A: Allocator + Copy>(
-    registry: &Registry<A>,
-    names: &[Name],
-) -> Option<ArrayVec<Sid, NAME_LIMIT>>
-    requires { length names.now ≤ name_limit }
-    ensures { option_map (λ sids. sids.items) result
-        ≡ (if all_named names.now (charts_of registry.now.shown.services)
-        then Some (serials_named names.now (charts_of registry.now.shown.services)) else None) }
-{
-    let mut sids = ArrayVec::new();
-    for name in names {
-        match registry.find(*name) {
-            Some(sid) => sids.push(sid),
-            None => return None,
-        }
-    }
-    Some(sids)
-}
-
-// A wait for the services of these names.
-fn wait<'a, A: Allocator + Copy>(
-    alloc: A,
-    registry: &Registry<A>,
-    condition: Condition,
-    mode: Mode,
-    timeout: u32,
-    names: &[Name],
-) -> Result<Choice<'a>, NoMemory>
-    ensures { IfOk result (λ choice. chosen_of choice
-        ≡ wait_choice condition mode timeout names.now (charts_of registry.now.shown.services)) }
-{
-    if names.is_empty() {
-        return Ok(Choice::Refuse(Refusal::Empty));
-    }
-    if has_repeated_name(alloc, names)? {
-        return Ok(Choice::Refuse(Refusal::Repeated));
-    }
-    if names.len() > NAME_LIMIT {
-        return Ok(Choice::Refuse(Refusal::TooMany));
-    }
-    Ok(match serials_of(registry, names) {
-        Some(sids) => Choice::Wait(condition, mode, timeout, sids),
-        None => Choice::Refuse(Refusal::NoService),
-    })
-}
-
-// A subscription to the event directory of a service or to a free one.
-fn subscribe<'a, A: Allocator + Copy>(registry: &Registry<A>, target: Target) -> Choice<'a>
-    ensures { chosen_of result ≡ subscribe_choice
-        (source_named target (charts_of registry.now.shown.services)) }
-{
-    let source = match target {
-        Target::Directory(name) => Source::Directory(name),
-        Target::Service(name) => match registry.find(name) {
-            Some(sid) => Source::Service(sid),
-            None => return Choice::Refuse(Refusal::NoService),
-        },
-    };
-    Choice::Subscribe(source)
-}
-
-// A message; the event directory of a service takes none from outside.
-fn send<'a>(target: Target, message: &'a Message) -> Choice<'a>
-    ensures { chosen_of result ≡ send_choice target message.now }
-{
-    match target {
-        Target::Service(_) => Choice::Refuse(Refusal::Reserved),
-        Target::Directory(name) => Choice::Send(name, message),
+        asked
     }
 }
 

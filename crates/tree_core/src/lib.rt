@@ -12,6 +12,7 @@ mod limits;
 mod names;
 mod plain;
 mod plan;
+mod refusals;
 mod reply;
 mod rows;
 mod tree;

@@ -9,12 +9,11 @@ ghost use Rattle.svscan_core.specs.Moves.{moment_of};
 ghost use Rattle.svscan_core.specs.Table.{charts_of};
 ghost use Rattle.svscan_core.specs.Timers.{TimersAgree};
 ghost use Rattle.svscan_core.specs.Registry.{Fits, registry_prepared, result_of};
-ghost use Rattle.svscan_core.specs.Work.{closing_after};
 ghost use Rattle.tree_core.specs.Acts.{tally_reply};
 ghost use Rattle.tree_core.specs.Limits.{service_limit, moment_limit};
 ghost use Rattle.tree_core.specs.Machine.{Machine};
 ghost use Rattle.wait_conditions.specs.Stands.{WaitsShown, FitsWaits, MakesPlan, waits_shown};
-ghost use Rattle.tree_core.specs.Plan.{present_state, chosen_of, lists_more, tally_in, chosen_work, chosen_reply, waiter_reply, directory_reply, IsNow, Plans, IsQuiet};
+ghost use Rattle.tree_core.specs.Plan.{present_state, chosen_of, lists_more, tally_in, chosen_reply, waiter_reply, directory_reply, IsNow, Plans, IsQuiet};
 ghost use Rattle.tree_core.specs.Step.{clock_moments, step_limit};
 
 use super::choice::{Choice, choose};
@@ -25,7 +24,7 @@ use deadlines::{Deadlines, DeadlinesPlan};
 use event_directory::{Directories, DirectoriesPlan, DirectoryAnswer, DirectoryFault, Pattern};
 use s6_events::{At, History, HistoryPlan, Moment, Name, NoMemory};
 use std::alloc::Allocator;
-use svscan_core::{Event, Registry, RegistryPlan, ScanOrder};
+use svscan_core::{Event, Registry, RegistryPlan};
 use wait_conditions::{WaitAnswer, Waits, WaitsPlan};
 
 /// A step that is known before anything is changed: the clock and whether the tree is closing after it, and the plan of each part.
@@ -148,13 +147,6 @@ fn reply_to<A: Allocator + Copy>(
     })
 }
 
-// After a terminate the tree is closing.
-fn closes(choice: &Choice, closing: bool) -> bool
-    ensures { result ≡ closing_after (chosen_work (chosen_of choice.now)) closing }
-{
-    closing || matches!(choice, Choice::Command(ScanOrder::Terminate))
-}
-
 /// The step of an input, at this clock: each part prepares its own, and the effect is filled. The clock after the step is worked out
 /// here alone, and so is which services are due. It is called once, and its plan is large: inlined, that isn't moved.
 #[inline(always)]
@@ -218,11 +210,12 @@ pub fn plan_step<A: Allocator + Copy>(
     let now = later(clock, input.at);
     let due = deadlines.due(alloc, now)?;
     let choice = choose(alloc, registry, &input.act, closing, now)?;
-    let services = registry.prepare(due.as_slice(), &choice.work(), now)?;
+    let asked = choice.requests(now, closing);
+    let services = registry.prepare(due.as_slice(), &asked.services, now)?;
     let moments = moments_of(alloc, clock, input.at, services.events())?;
     let joining = moments.as_slice();
-    let waiters = waits.prepare(joining, &choice.wait_change(now))?;
-    let letters = directories.prepare(joining, &choice.directory_change())?;
+    let waiters = waits.prepare(joining, &asked.waiters)?;
+    let letters = directories.prepare(joining, &asked.directories)?;
     let history = history.prepare(moments)?;
     let timers = deadlines.prepare(services.timers())?;
     effect.reply = reply_to(
@@ -238,7 +231,7 @@ pub fn plan_step<A: Allocator + Copy>(
     effect.release_all(&waiters)?;
     Ok(StepPlan {
         now,
-        closing: closes(&choice, closing),
+        closing: asked.closing,
         services,
         timers,
         history,

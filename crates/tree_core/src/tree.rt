@@ -1,5 +1,5 @@
 //! The tree: one input is one step.
-ghost use Rattle.std.specs.Prelude.{◌≡◌, IfOk, OnOk, IfErr, OnErr, IsOk, None, false, option_map};
+ghost use Rattle.std.specs.Prelude.{◌≡◌, IfOk, OnOk, IfErr, IsOk, true, option_map};
 ghost use Rattle.tree_core.specs.Acts.{offer_of};
 ghost use Rattle.tree_core.specs.Effect.{outcome_of};
 ghost use Rattle.tree_core.specs.Ended.{has_ended};
@@ -8,7 +8,7 @@ ghost use Rattle.event_directory.specs.Pattern.{finds};
 ghost use Rattle.wait_conditions.specs.Watch.{state_named};
 ghost use Rattle.tree_core.specs.Machine.{new_machine, directories_of, watch_of, Machine};
 ghost use Rattle.tree_core.specs.NextDue.{next_due};
-ghost use Rattle.tree_core.specs.Plan.{IsQuiet};
+ghost use Rattle.tree_core.specs.Plan.{is_subscribed, IsQuiet};
 ghost use Rattle.tree_core.specs.Rows.{row_named, all_rows};
 ghost use Rattle.svscan_core.specs.Table.{charts_of};
 ghost use Rattle.tree_core.specs.StandsFor.{StandsFor};
@@ -25,7 +25,7 @@ use super::reply::{Refusal, Reply};
 use super::rows::{row_of, rows_of};
 use arrayvec::ArrayVec;
 use deadlines::Deadlines;
-use event_directory::{Directories, Pattern, SubView};
+use event_directory::{Directories, DirectoryAnswer, Pattern, SubView};
 use s6_events::{At, History, Moment, Name, NoMemory, SubId, WaitId};
 use std::alloc::Allocator;
 use std::marker::Model;
@@ -79,22 +79,26 @@ impl<A: Allocator + Copy> Tree<A> {
         }
     }
 
-    // One step, as the definitions have it. The pattern that an act offers is taken out of it where the step is made.
-    fn take_step(&mut self, input: &mut Input<A>, effect: &mut Effect<A>) -> Result<(), NoMemory>
-        ensures ok { OnOk result ((m : Machine) → StandsFor self.old m →
-            (outcome_of effect.new ≡ outcome m input.old)
-            × StandsFor self.new (after m input.old)) }
-        ensures err { OnErr result ((self.new ≡ self.old) × (input.new ≡ input.old)) }
+    /// Takes one input, whole: the clock first, then the due timers, then the act; and fills the effect with all that the step gives.
+    /// What was in the effect is gone, but its memory is used again: who steps often keeps one effect, and a step then costs what it
+    /// gives. Where a growth was refused the same input comes back with `NoMemory`, and nothing has changed at all but the effect.
+    pub fn apply_into(
+        &mut self,
+        mut input: Input<A>,
+        effect: &mut Effect<A>,
+    ) -> Result<(), (Input<A>, NoMemory)>
+        ensures step { OnOk result ((m : Machine) → StandsFor self.old m →
+            (outcome_of effect.new ≡ outcome m input) × StandsFor self.new (after m input)) }
+        ensures unchanged { IfErr result (λ back. (back.0 ≡ input) × (self.new ≡ self.old)) }
         ensures spent { self.old.steps ≡ step_limit → IsOk result }
-        ensures quiet { IsQuiet input.old self.old.clock (charts_of self.old.services)
-            → IsOk result }
+        ensures quiet { IsQuiet input self.old.clock (charts_of self.old.services) → IsOk result }
     {
         effect.clear();
         if self.steps == STEP_LIMIT {
             effect.reply = Reply::Refused(Refusal::Spent);
             return Ok(());
         }
-        let plan = plan_step(
+        let planned = plan_step(
             &mut self.registry,
             &mut self.deadlines,
             &mut self.history,
@@ -102,10 +106,14 @@ impl<A: Allocator + Copy> Tree<A> {
             &mut self.directories,
             self.clock,
             self.closing,
-            input,
+            &input,
             effect,
-        )?;
-        let offer = take_offer(&mut input.act);
+        );
+        let plan = match planned {
+            Ok(plan) => plan,
+            Err(refused) => return Err((input, refused)),
+        };
+        let offer = take_offer(&mut input.act, &plan.letters.answer);
         self.clock = plan.now;
         self.steps += 1;
         self.closing = plan.closing;
@@ -116,27 +124,6 @@ impl<A: Allocator + Copy> Tree<A> {
         self.directories.commit(plan.letters, offer);
         self.history.forget(self.waits.needed_from());
         Ok(())
-    }
-
-    /// Takes one input, whole: the clock first, then the due timers, then the act; and fills the effect with all that the step gives.
-    /// What was in the effect is gone, but its memory is used again: who steps often keeps one effect, and a step then costs what it
-    /// gives. Where a growth was refused the same input comes back with `NoMemory`, and nothing has changed at all but the effect.
-    pub fn apply_into(
-        &mut self,
-        input: Input<A>,
-        effect: &mut Effect<A>,
-    ) -> Result<(), (Input<A>, NoMemory)>
-        ensures step { OnOk result ((m : Machine) → StandsFor self.old m →
-            (outcome_of effect.new ≡ outcome m input) × StandsFor self.new (after m input)) }
-        ensures unchanged { IfErr result (λ back. (back.0 ≡ input) × (self.new ≡ self.old)) }
-        ensures spent { self.old.steps ≡ step_limit → IsOk result }
-        ensures quiet { IsQuiet input self.old.clock (charts_of self.old.services) → IsOk result }
-    {
-        let mut input = input;
-        match self.take_step(&mut input, effect) {
-            Ok(()) => Ok(()),
-            Err(refused) => Err((input, refused)),
-        }
     }
 
     /// Takes one input as `apply_into` does, with an effect of its own. A refused act is a step like any other. Where a growth was
@@ -248,18 +235,13 @@ fn kept_of<A: Allocator + Copy>(history: &History<A>, forgotten: u64) -> &[Momen
     }
 }
 
-// Whether an act offers a pattern.
-fn offers<A: Allocator>(act: &Act<A>) -> bool
-    ensures { result ≡ false → offer_of act.now ≡ None }
+// The pattern that an act offers, and whether it is to repeat, where the event directories answered with a new subscription. An act is
+// large, and no other one is moved.
+fn take_offer<A: Allocator>(act: &mut Act<A>, told: &DirectoryAnswer) -> Option<(Pattern, bool)>
+    ensures { is_subscribed told.now ≡ true
+        → option_map (λ o. (o.0, o.1)) result ≡ offer_of act.old }
 {
-    matches!(act, Act::Subscribe(_, _, _))
-}
-
-// The pattern that an act offers to the event directories, and whether it is to repeat. An act is large, and no other one is moved.
-fn take_offer<A: Allocator>(act: &mut Act<A>) -> Option<(Pattern, bool)>
-    ensures { option_map (λ o. (o.0, o.1)) result ≡ offer_of act.old }
-{
-    if !offers(act) {
+    if !matches!(told, DirectoryAnswer::Subscribed(_)) {
         return None;
     }
     match std::mem::replace(act, Act::Tick) {

@@ -1,15 +1,14 @@
-//! Running the tool that the words ask for.
+//! What the words ask for: a client that is run here, or a tree or a replay that the program runs.
 use crate::asked::{Program, program_named};
 use crate::help_text::SVSCAN_HELP;
-use replay_tool::run_tool;
 use s6_tools::{Tool, run_client};
 use std::alloc::Global;
 use std::env::Env;
-use std::io::{Read, Write};
+use std::io::Write;
 use std::net::Net;
 use std::process::Processes;
 use std::{env, io};
-use tree_server::refuse_usage;
+use tree_server::{ServeOptions, refuse_usage};
 
 /// The status of a program to which the system refused something.
 const SYSTEM_STATUS: u8 = 111;
@@ -25,6 +24,18 @@ pub struct TreePlace {
     pub record: Option<String>,
 }
 
+impl TreePlace {
+    /// How a tree here is served, whose next run goes on after so many steps.
+    pub fn options(&self, handover: u64) -> ServeOptions<'_> {
+        ServeOptions {
+            directory: self.directory.as_str(),
+            socket: self.socket.as_str(),
+            record: self.record.as_deref(),
+            handover,
+        }
+    }
+}
+
 /// What the words ask for.
 #[derive(Drop)]
 pub enum Asked {
@@ -32,32 +43,28 @@ pub enum Asked {
     Done(u8),
     /// A tree is to run here.
     Tree(TreePlace),
+    /// What `replay_tool` does: a replay, or a text of the program itself.
+    Replay,
 }
 
-/// Runs the tool that the command line asks for, on this input and these outputs, but for a tree, which its caller runs. Where a tool
-/// was not done one line on `errors` says why.
-pub fn run_words<R: Env + Net + Processes, I: Read + Drop, W: Write + Drop, E: Write>(
+/// Does what the command line asks for, with these outputs, but for a tree and a replay, which its caller runs. Where it was not done one
+/// line on `errors` says why. Words for which there is no memory are left to the replay, which needs none for them.
+pub fn run_words<R: Env + Net + Processes, W: Write, E: Write>(
     rt: &R,
     alloc: Global,
-    input: I,
-    output: W,
+    output: &mut W,
     errors: &mut E,
 ) -> Asked {
-    let mut output = output;
     let Ok(words) = words_of(rt, alloc) else {
-        return Asked::Done(run_tool(rt, alloc, alloc, input, output, errors));
+        return Asked::Replay;
     };
     match program_of(words.as_slice()) {
-        Program::Other => Asked::Done(run_tool(rt, alloc, alloc, input, output, errors)),
-        Program::Svscan => read_place(words, &mut output, errors),
-        Program::Client(tool) => {
-            match borrowed(alloc, words.as_slice()) {
-                Ok(all) => {
-                    Asked::Done(run_client(rt, alloc, tool, all.as_slice(), &mut output, errors))
-                }
-                Err(_) => Asked::Done(tell_no_memory(tool, errors)),
-            }
-        }
+        Program::Other => Asked::Replay,
+        Program::Svscan => read_place(words, output, errors),
+        Program::Client(tool) => match borrowed(alloc, words.as_slice()) {
+            Ok(all) => Asked::Done(run_client(rt, alloc, tool, all.as_slice(), output, errors)),
+            Err(_) => Asked::Done(tell_no_memory(tool, errors)),
+        },
     }
 }
 

@@ -13,11 +13,12 @@ mod trial;
 
 use child_runner::Keeper;
 use log::sink::Console;
+use replay_tool::run_tool;
 use std::env;
 use std::env::Env;
 use std::process::ExitCode;
 use tree_front::{Asked, run_words};
-use tree_server::{HANDOVER, ServeFault, ServeOptions, ServiceLanes, run_tree, tell_serve_fault};
+use tree_server::{HANDOVER, ServeFault, ServiceLanes, run_tree, tell_serve_fault};
 use trial::try_all;
 
 // After how many steps the next run goes on.
@@ -35,16 +36,15 @@ fn main(rt: HostRuntime) -> ExitCode {
     if !has_words {
         return ExitCode::from(try_all(&rt, alloc, rt.process(), rt.stdout(), &mut errors));
     }
-    let place = match run_words(&rt, alloc, rt.stdin(), rt.stdout(), &mut errors) {
+    let place = match run_words(&rt, alloc, &mut rt.stdout(), &mut errors) {
         Asked::Done(status) => return ExitCode::from(status),
+        Asked::Replay => {
+            let status = run_tool(&rt, alloc, alloc, rt.stdin(), rt.stdout(), &mut errors);
+            return ExitCode::from(status);
+        }
         Asked::Tree(place) => place,
     };
-    let options = ServeOptions {
-        directory: place.directory.as_str(),
-        socket: place.socket.as_str(),
-        record: place.record.as_deref(),
-        handover: handover(&(&rt, alloc)),
-    };
+    let options = place.options(handover(&(&rt, alloc)));
     let Ok(keeper) = Keeper::start(rt, alloc) else {
         return ExitCode::from(tell_serve_fault(ServeFault::Thread, &mut errors));
     };

@@ -1,6 +1,6 @@
 -- Runs that are put into the list of them, and taken out.
 use Rattle.std.proofs.Common.{◌≡◌, ◌≤◌, ◌<◌, ◌+◌, ◌-◌, ℕ, zero, suc, List, [], ◌∷◌, ◌++◌, Bool, true, false, ◌&&◌, ◌||◌, arith, length, take, drop, get_or, refl, sym, ap, ◌∙◌, append_assoc, if◌then◌else◌}
-use Rattle.std.specs.Prelude.{◌==◌, nat_le, nat_lt, IfSome, slice_get}
+use Rattle.std.specs.Prelude.{◌==◌, nat_le, nat_lt, IfSome, slice_get, slice_set}
 use Rattle.std.specs.List.{list_all, list_any, remove}
 use Rattle.std.proofs.lemmas.Bool.Decides.{nat_tests}
 use Rattle.std.proofs.lemmas.List.{take-append-drop, drop_more, take_more, take_at, drop_at, length-take-le}
@@ -213,3 +213,49 @@ pub put_is : (xs one two : List StateRun) (place sid q : ℕ) (state was : Super
 put_is xs one two place sid q state was within all stop is e f =
     by_zero xs one two place sid q state _ refl within all stop e
     (f ∙ ap (λ s. if nat_lt 0 sid then take place one ++ with_run (sid - 1) s (drop place one) else one) is)
+
+-- a run before a place reaches up to a serial
+pub covered_before : (xs : List StateRun) (j q : ℕ) (r : StateRun) → j < length xs → r ≡ get_or xs j r → q ≤ r.last
+    → covers (take (suc j) xs) q ≡ true
+covered_before [] j q r lt e h = absurd (omega (arith, lt))
+covered_before (x ∷ xs) zero q r lt e h =
+    let near : nat_le q x.last ≡ true = grind (arith, nat_tests, ap (λ (t : StateRun). t.last) e) in
+    ap (λ b. b || false) near
+covered_before (x ∷ xs) (suc j) q r lt e h =
+    or_rest (nat_le q x.last) (covers (take (suc j) xs) q) (covered_before xs j q r (omega (arith, lt)) e h)
+  where
+    or_rest : (a b : Bool) → b ≡ true → (a || b) ≡ true
+    or_rest true b h = refl
+    or_rest false b h = h
+
+set_first : (sid last q : ℕ) (state was rest : SupervisorState) (lt eq : Bool) → last ≡ sid → (q < sid → ⊥) → nat_lt q sid ≡ lt → (q == sid) ≡ eq
+    → (if nat_le q sid then state else rest) ≡ (if eq then state else (if nat_le q last then was else rest))
+set_first sid last q state was rest lt true same none l e =
+    let here : nat_le q sid ≡ true = grind (arith, nat_tests) in ap (λ b. if b then state else rest) here
+set_first sid last q state was rest true false same none l e = absurd (none (grind (arith, nat_tests)))
+set_first sid last q state was rest false false same none l e =
+    let past : nat_le q sid ≡ false = grind (arith, nat_tests) in
+    let beyond : nat_le q last ≡ false = grind (arith, nat_tests) in
+    ap (λ b. if b then state else rest) past ∙ sym (ap (λ b. if b then was else rest) beyond)
+
+set_later : (b eq : Bool) (x y z state : SupervisorState) → (b ≡ true → eq ≡ false) → (b ≡ false → y ≡ (if eq then state else z))
+    → (if b then x else y) ≡ (if eq then state else (if b then x else z))
+set_later true true x y z state off rest = let bad : true ≡ false = off refl in cc
+set_later true false x y z state off rest = refl
+set_later false eq x y z state off rest = rest refl
+
+-- the run of one service alone says something else
+pub set_one : (xs : List StateRun) (place sid q : ℕ) (state : SupervisorState) → place < length xs
+    → list_all (λ r. nat_lt r.last sid) (take place xs) ≡ true → IfSome (slice_get xs place) (λ r. r.last ≡ sid)
+    → (q < sid → covers (take place xs) q ≡ true)
+    → state_in (slice_set xs place (record { last = sid; state = state })) q ≡ (if q == sid then state else state_in xs q)
+set_one [] place sid q state within all is low = absurd (omega (arith, within))
+set_one (x ∷ xs) zero sid q state within all is low =
+    set_first sid x.last q state x.state (state_in xs q) _ _ is (λ lt. let bad : false ≡ true = low lt in cc) refl refl
+set_one (x ∷ xs) (suc p) sid q state within all is low =
+    let first : nat_lt x.last sid ≡ true = first_on (nat_lt x.last sid) (list_all (λ r. nat_lt r.last sid) (take p xs)) all in
+    set_later (nat_le q x.last) (q == sid) x.state (state_in (slice_set xs p (record { last = sid; state = state })) q) (state_in xs q) state
+    (λ near. grind (arith, nat_tests))
+    (λ far. set_one xs p sid q state (omega (arith, within))
+    (rest_on (nat_lt x.last sid) (list_all (λ r. nat_lt r.last sid) (take p xs)) all) is
+    (λ lt. ap (λ b. b || covers (take p xs) q) (sym far) ∙ low lt))

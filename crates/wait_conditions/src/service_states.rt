@@ -1,6 +1,6 @@
 //! What is known of every service, for waiters to come.
-ghost use Rattle.std.specs.Prelude.{◌≡◌, ◌==◌, ◌≤◌, ◌<◌, ◌+◌, ◌-◌, ◌*◌, ◌++◌, [], ◌∷◌, ℕ, true, false, length, take, drop, slice_get, nat_lt, vec_len, vec_capacity, if◌then◌else◌, IsOk, IfSome, OnOk, OnErr};
-ghost use Rattle.std.specs.List.{list_all, remove};
+ghost use Rattle.std.specs.Prelude.{◌≡◌, ◌==◌, ◌≤◌, ◌<◌, ◌+◌, ◌-◌, ◌*◌, ◌++◌, [], ◌∷◌, ℕ, true, false, length, take, drop, slice_get, slice_set, nat_le, nat_lt, vec_len, vec_capacity, if◌then◌else◌, IsOk, IfSome, OnOk, OnErr};
+ghost use Rattle.std.specs.List.{list_all, list_any, remove};
 ghost use Rattle.s6_events.specs.Newest.{mark_of};
 ghost use Rattle.wait_conditions.specs.States.{state_in, state_over};
 ghost use Rattle.wait_conditions.specs.SupervisorState.{state_after};
@@ -100,6 +100,32 @@ fn is_repeated(runs: &[StateRun], place: usize) -> bool
     says_the_same(runs[place], runs[place + 1])
 }
 
+// Whether a run ends with this serial.
+fn ends_with(run: StateRun, last: u64) -> bool
+    ensures { result ≡ true → run.last ≡ last }
+{
+    run.last.0 == last
+}
+
+// Whether the run before this place reaches up to the serial below this one, if there is any.
+fn is_reached_below(runs: &[StateRun], place: usize, sid: Sid) -> bool
+    requires { place ≤ length runs.now }
+    ensures { result ≡ true → (other : ℕ) → other < sid
+        → list_any (λ r. nat_le other r.last) (take place runs.now) ≡ true }
+{
+    sid.0 == 0 || (place > 0 && ends_with(runs[place - 1], sid.0 - 1))
+}
+
+// Whether the run at this place is that of the service alone.
+fn is_of_one(runs: &[StateRun], place: usize, sid: Sid) -> bool
+    ensures within { result ≡ true → place < length runs.now }
+    ensures last { result ≡ true → IfSome (slice_get runs.now place) (λ r. r.last ≡ sid) }
+    ensures below { result ≡ true → (other : ℕ) → other < sid
+        → list_any (λ r. nat_le other r.last) (take place runs.now) ≡ true }
+{
+    place < runs.len() && ends_with(runs[place], sid.0) && is_reached_below(runs, place, sid)
+}
+
 // Whether there is a run at this place that says nothing of its own.
 fn is_redundant(runs: &[StateRun], place: usize) -> bool
     ensures within { result ≡ true → place < length runs.now }
@@ -145,6 +171,22 @@ fn insert_below<A: Allocator>(
     if sid.0 > 0 {
         insert_run(runs, place, Sid(sid.0 - 1), state);
     }
+}
+
+// The run at this place says this from now on.
+fn set_run<A: Allocator>(
+    runs: &mut Vec<StateRun, A>,
+    place: usize,
+    last: Sid,
+    state: SupervisorState,
+)
+    requires { place < vec_len runs.old }
+    ensures runs { runs.new.items
+        ≡ slice_set runs.old.items place (record { last = last; state = state }) }
+    ensures len { vec_len runs.new ≡ vec_len runs.old }
+    ensures capacity { vec_capacity runs.new ≡ vec_capacity runs.old }
+{
+    runs[place] = StateRun { last, state };
 }
 
 impl<A: Allocator + Copy> ServiceStates<A> {
@@ -226,6 +268,11 @@ impl<A: Allocator> ServiceStates<A> {
         ensures room { self.old.spare_capacity ≤ self.new.spare_capacity + 2 }
     {
         let place = place_of(&self.runs, sid);
+        if is_of_one(&self.runs, place, sid) {
+            set_run(&mut self.runs, place, sid, state);
+            self.tidy(place);
+            return;
+        }
         let was = state_of_service(&self.runs, sid);
         insert_run(&mut self.runs, place, sid, state);
         insert_below(&mut self.runs, place, sid, was);

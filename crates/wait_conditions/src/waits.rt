@@ -19,12 +19,12 @@ ghost use Rattle.wait_conditions.specs.Watch.{wait_terms, new_waiter, new_releas
 use crate::add_fault::AddFault;
 use crate::image::WaitsImage;
 use crate::planning::{list_serials, release_all};
-use crate::refusing::{deadline_for, refusal_for};
 use crate::service_states::ServiceStates;
 use crate::verdict::{Verdict, WaitState};
 use crate::wait_change::{WaitAnswer, WaitChange};
 use crate::wait_plan::{ChangePlan, PlannedChange, WaitsPlan};
 use crate::waiter::{new_waiter, release_at_once};
+use crate::waiter_limits::{deadline_for, refusal_for};
 use crate::waiter_list::WaiterList;
 use s6_events::{At, Condition, Mode, Moment, NoMemory, Sid, WaitId};
 use std::alloc::Allocator;

@@ -38,7 +38,7 @@ returns-in_err-services-clause-quiet g c = λ q.
     let none = none_for_quiet c.args.input.now c.args.clock c.later-now.result c.as_slice.result.now c.args.deadlines.now.timers
     (charts_of c.args.registry.now.shown.services) c.later-now.ensures.later c.later-now.ensures.bound
     (c.as_slice.ensures.value ∙ c.in_ok-due.ensures.due) c.requires.timers q in
-    let still = c.work.ensures ∙ (c.in_ok-choice.ensures.idle q.reading).work in
+    let still = c.requests-asked.ensures.services ∙ (c.in_ok-choice.ensures.idle q.reading).work in
     not_ok c.prepare.result _ _ c.in_err-services.was (c.prepare.ensures.quiet none still)
 
 pub returns-clause-step : goal.returns-clause-step
@@ -60,9 +60,10 @@ returns-clause-step g c = λ steps left m is later made.
       given = given;
       matches = matches;
       told = told;
+      answered = refl;
       now_is = refl;
-      closes = c.closes.ensures;
-      works = c.in_ok-services.ensures.prepared ∙ ap (λ w. step_result w c.later-now.result (charts_of services) next) c.work.ensures;
+      closes = c.requests-asked.ensures.closing;
+      works = c.in_ok-services.ensures.prepared ∙ ap (λ w. step_result w c.later-now.result (charts_of services) next) c.requests-asked.ensures.services;
       chooses = λ n history fired. c.in_ok-choice.ensures.chosen n history fired;
       reply = c.release_all.ensures.reply ∙ (c.match_all.ensures.reply ∙ (c.tell.ensures.reply ∙ (c.in_ok-effect.ensures.reply
           ∙ ((λ i. chosen_reply (chosen_of c.in_ok-choice.choice) c.prepare.new.self.shown.services (result_of prepared)
@@ -83,8 +84,8 @@ returns-clause-step g c = λ steps left m is later made.
       listens =
           subst (λ (x : List Moment). Listens kept later x (chosen_change c.later-now.result (chosen_of c.in_ok-choice.choice)) given told.waiters)
           (sym planned)
-          (subst (λ (x : WaitRequest). Listens kept later moments x given told.waiters) c.wait_change.ensures
-          (subst (λ (x : List Moment). Listens kept later x (wait_request_of c.wait_change.result) given told.waiters)
+          (subst (λ (x : WaitRequest). Listens kept later moments x given told.waiters) c.requests-asked.ensures.waiters
+          (subst (λ (x : List Moment). Listens kept later x (wait_request_of c.requests-asked.result.waiters) given told.waiters)
           c.as_slice-joining.ensures.value
           (record {
             stands = λ w st. c.in_ok-waiters.ensures.prepared w st later made;
@@ -94,13 +95,13 @@ returns-clause-step g c = λ steps left m is later made.
       hears_letters =
           subst (λ (x : List Moment). HearsLetters heard hearing x (chosen_ask (chosen_of c.in_ok-choice.choice)) matches told.directories)
           (sym planned)
-          (subst (λ (x : DirectoryRequest). HearsLetters heard hearing moments x matches told.directories) c.directory_change.ensures
-          (subst (λ (x : List Moment). HearsLetters heard hearing x (directory_request_of c.directory_change.result) matches told.directories)
+          (subst (λ (x : DirectoryRequest). HearsLetters heard hearing moments x matches told.directories) c.requests-asked.ensures.directories
+          (subst (λ (x : List Moment). HearsLetters heard hearing x (directory_request_of c.requests-asked.result.directories) matches told.directories)
           c.as_slice-joining.ensures.value
           (record { stands = c.in_ok-letters.ensures.prepared; matched = c.in_ok-letters.ensures.matches; answer = c.in_ok-letters.ensures.answer })));
       agrees = c.in_ok-services.ensures.agrees;
       tallies = subst (λ (w : Work). KeepTallied next services prepared.services
-          (deaths_given w c.later-now.result (services_after (fire_move c.later-now.result) (charts_of services)))) c.work.ensures
+          (deaths_given w c.later-now.result (services_after (fire_move c.later-now.result) (charts_of services)))) c.requests-asked.ensures.services
           c.in_ok-services.ensures.tallies;
       sound = c.len-count.ensures.sound;
     }) m is
@@ -109,13 +110,13 @@ pub returns-clause-grows : goal.returns-clause-grows
 returns-clause-grows g c = λ n below.
     let works = c.in_ok-services.ensures.prepared in
     subst (λ (w : WorkResult). Below (n + 2) w.services) (sym works)
-    (step_grows (work_asked c.work.result) c.later-now.result
+    (step_grows (work_asked c.requests-asked.result.services) c.later-now.result
     (charts_of c.args.registry.now.shown.services) c.args.registry.now.shown.next_sid n below)
 
 pub returns-clause-next : goal.returns-clause-next
 returns-clause-next g c =
     let works = ap (λ (w : WorkResult). w.next_sid) c.in_ok-services.ensures.prepared in
-    let few = step_next (work_asked c.work.result) c.later-now.result
+    let few = step_next (work_asked c.requests-asked.result.services) c.later-now.result
     (charts_of c.args.registry.now.shown.services) c.args.registry.now.shown.next_sid c.len-count.ensures.sound.few in
     omega (arith, works, few)
 
@@ -128,7 +129,7 @@ returns-clause-timers g c = λ timers agree.
 pub returns-clause-count : goal.returns-clause-count
 returns-clause-count g c =
     let events = ap (λ (w : WorkResult). length w.events) c.in_ok-services.ensures.prepared in
-    let few = step_events (work_asked c.work.result) c.later-now.result
+    let few = step_events (work_asked c.requests-asked.result.services) c.later-now.result
     (charts_of c.args.registry.now.shown.services) c.args.registry.now.shown.next_sid c.len-count.ensures.sound.few in
     let seen = ap length c.events.ensures in
     let planned = ap length c.in_ok-history.ensures.ok in
@@ -139,7 +140,7 @@ returns-in_err-tell-clause-quiet g c = λ q.
     let none = none_for_quiet c.args.input.now c.args.clock c.later-now.result c.as_slice.result.now c.args.deadlines.now.timers
     (charts_of c.args.registry.now.shown.services) c.later-now.ensures.later c.later-now.ensures.bound
     (c.as_slice.ensures.value ∙ c.in_ok-due.ensures.due) c.requires.timers q in
-    let still = c.work.ensures ∙ (c.in_ok-choice.ensures.idle q.reading).work in
+    let still = c.requests-asked.ensures.services ∙ (c.in_ok-choice.ensures.idle q.reading).work in
     let idle = c.in_ok-services.ensures.still none still in
     let nothing = ap (λ (p : RegistryPrepared). p.events) idle in
     not_ok c.tell.result _ _ c.in_err-tell.was (c.tell.ensures.quiet (c.events-2.ensures ∙ nothing))
@@ -149,31 +150,31 @@ returns-in_err-waiters-clause-quiet g c = λ q.
     let none = none_for_quiet c.args.input.now c.args.clock c.later-now.result c.as_slice.result.now c.args.deadlines.now.timers
     (charts_of c.args.registry.now.shown.services) c.later-now.ensures.later c.later-now.ensures.bound
     (c.as_slice.ensures.value ∙ c.in_ok-due.ensures.due) c.requires.timers q in
-    let still = c.work.ensures ∙ (c.in_ok-choice.ensures.idle q.reading).work in
+    let still = c.requests-asked.ensures.services ∙ (c.in_ok-choice.ensures.idle q.reading).work in
     let idle = c.in_ok-services.ensures.still none still in
     let nothing = ap (λ (p : RegistryPrepared). p.events) idle in
     let silent = c.as_slice-joining.ensures.value ∙ c.in_ok-moments.ensures.quiet q.early (c.events.ensures ∙ nothing) in
     not_ok_and c.prepare-2.result _ _ _ c.in_err-waiters.was
-    (c.prepare-2.ensures.quiet silent (c.wait_change.ensures ∙ (c.in_ok-choice.ensures.idle q.reading).waiters))
+    (c.prepare-2.ensures.quiet silent (c.requests-asked.ensures.waiters ∙ (c.in_ok-choice.ensures.idle q.reading).waiters))
 
 pub returns-in_err-letters-clause-quiet : goal.returns-in_err-letters-clause-quiet
 returns-in_err-letters-clause-quiet g c = λ q.
     let none = none_for_quiet c.args.input.now c.args.clock c.later-now.result c.as_slice.result.now c.args.deadlines.now.timers
     (charts_of c.args.registry.now.shown.services) c.later-now.ensures.later c.later-now.ensures.bound
     (c.as_slice.ensures.value ∙ c.in_ok-due.ensures.due) c.requires.timers q in
-    let still = c.work.ensures ∙ (c.in_ok-choice.ensures.idle q.reading).work in
+    let still = c.requests-asked.ensures.services ∙ (c.in_ok-choice.ensures.idle q.reading).work in
     let idle = c.in_ok-services.ensures.still none still in
     let nothing = ap (λ (p : RegistryPrepared). p.events) idle in
     let silent = c.as_slice-joining.ensures.value ∙ c.in_ok-moments.ensures.quiet q.early (c.events.ensures ∙ nothing) in
     not_ok_and c.prepare-3.result _ _ _ c.in_err-letters.was
-    (c.prepare-3.ensures.quiet silent (c.directory_change.ensures ∙ (c.in_ok-choice.ensures.idle q.reading).directories))
+    (c.prepare-3.ensures.quiet silent (c.requests-asked.ensures.directories ∙ (c.in_ok-choice.ensures.idle q.reading).directories))
 
 pub returns-in_err-history-clause-quiet : goal.returns-in_err-history-clause-quiet
 returns-in_err-history-clause-quiet g c = λ q.
     let none = none_for_quiet c.args.input.now c.args.clock c.later-now.result c.as_slice.result.now c.args.deadlines.now.timers
     (charts_of c.args.registry.now.shown.services) c.later-now.ensures.later c.later-now.ensures.bound
     (c.as_slice.ensures.value ∙ c.in_ok-due.ensures.due) c.requires.timers q in
-    let still = c.work.ensures ∙ (c.in_ok-choice.ensures.idle q.reading).work in
+    let still = c.requests-asked.ensures.services ∙ (c.in_ok-choice.ensures.idle q.reading).work in
     let idle = c.in_ok-services.ensures.still none still in
     let nothing = ap (λ (p : RegistryPrepared). p.events) idle in
     let silent = c.in_ok-moments.ensures.quiet q.early (c.events.ensures ∙ nothing) in
@@ -184,7 +185,7 @@ returns-in_err-timers-clause-quiet g c = λ q.
     let none = none_for_quiet c.args.input.now c.args.clock c.later-now.result c.as_slice.result.now c.args.deadlines.now.timers
     (charts_of c.args.registry.now.shown.services) c.later-now.ensures.later c.later-now.ensures.bound
     (c.as_slice.ensures.value ∙ c.in_ok-due.ensures.due) c.requires.timers q in
-    let still = c.work.ensures ∙ (c.in_ok-choice.ensures.idle q.reading).work in
+    let still = c.requests-asked.ensures.services ∙ (c.in_ok-choice.ensures.idle q.reading).work in
     let idle = c.in_ok-services.ensures.still none still in
     let nothing = ap (λ (p : RegistryPrepared). p.events) idle in
     not_ok c.prepare-5.result _ _ c.in_err-timers.was
@@ -195,11 +196,11 @@ returns-in_err-match_all-clause-quiet g c = λ q.
     let none = none_for_quiet c.args.input.now c.args.clock c.later-now.result c.as_slice.result.now c.args.deadlines.now.timers
     (charts_of c.args.registry.now.shown.services) c.later-now.ensures.later c.later-now.ensures.bound
     (c.as_slice.ensures.value ∙ c.in_ok-due.ensures.due) c.requires.timers q in
-    let still = c.work.ensures ∙ (c.in_ok-choice.ensures.idle q.reading).work in
+    let still = c.requests-asked.ensures.services ∙ (c.in_ok-choice.ensures.idle q.reading).work in
     let idle = c.in_ok-services.ensures.still none still in
     let nothing = ap (λ (p : RegistryPrepared). p.events) idle in
     let silent = c.as_slice-joining.ensures.value ∙ c.in_ok-moments.ensures.quiet q.early (c.events.ensures ∙ nothing) in
-    let calm = c.in_ok-letters.ensures.quiet silent (c.directory_change.ensures ∙ (c.in_ok-choice.ensures.idle q.reading).directories) in
+    let calm = c.in_ok-letters.ensures.quiet silent (c.requests-asked.ensures.directories ∙ (c.in_ok-choice.ensures.idle q.reading).directories) in
     not_ok c.match_all.result _ _ c.in_err-match_all.was (c.match_all.ensures.quiet calm.0)
 
 pub returns-in_err-release_all-clause-quiet : goal.returns-in_err-release_all-clause-quiet
@@ -207,11 +208,11 @@ returns-in_err-release_all-clause-quiet g c = λ q.
     let none = none_for_quiet c.args.input.now c.args.clock c.later-now.result c.as_slice.result.now c.args.deadlines.now.timers
     (charts_of c.args.registry.now.shown.services) c.later-now.ensures.later c.later-now.ensures.bound
     (c.as_slice.ensures.value ∙ c.in_ok-due.ensures.due) c.requires.timers q in
-    let still = c.work.ensures ∙ (c.in_ok-choice.ensures.idle q.reading).work in
+    let still = c.requests-asked.ensures.services ∙ (c.in_ok-choice.ensures.idle q.reading).work in
     let idle = c.in_ok-services.ensures.still none still in
     let nothing = ap (λ (p : RegistryPrepared). p.events) idle in
     let silent = c.as_slice-joining.ensures.value ∙ c.in_ok-moments.ensures.quiet q.early (c.events.ensures ∙ nothing) in
-    let calm = c.in_ok-waiters.ensures.quiet silent (c.wait_change.ensures ∙ (c.in_ok-choice.ensures.idle q.reading).waiters) in
+    let calm = c.in_ok-waiters.ensures.quiet silent (c.requests-asked.ensures.waiters ∙ (c.in_ok-choice.ensures.idle q.reading).waiters) in
     not_ok c.release_all.result _ _ c.in_err-release_all.was (c.release_all.ensures.quiet calm.0 (ap released_by_answer calm.1))
 
 pub returns-in_err-moments-clause-quiet : goal.returns-in_err-moments-clause-quiet
@@ -219,7 +220,7 @@ returns-in_err-moments-clause-quiet g c = λ q.
     let none = none_for_quiet c.args.input.now c.args.clock c.later-now.result c.as_slice.result.now c.args.deadlines.now.timers
     (charts_of c.args.registry.now.shown.services) c.later-now.ensures.later c.later-now.ensures.bound
     (c.as_slice.ensures.value ∙ c.in_ok-due.ensures.due) c.requires.timers q in
-    let still = c.work.ensures ∙ (c.in_ok-choice.ensures.idle q.reading).work in
+    let still = c.requests-asked.ensures.services ∙ (c.in_ok-choice.ensures.idle q.reading).work in
     let idle = c.in_ok-services.ensures.still none still in
     let nothing = ap (λ (p : RegistryPrepared). p.events) idle in
     not_ok_and c.moments_of.result _ _ _ c.in_err-moments.was (c.moments_of.ensures.quiet q.early (c.events.ensures ∙ nothing))

@@ -1,0 +1,64 @@
+//! The two orders of all services: nuke, by which an inactive service leaves, and terminate, by which each one does.
+ghost use Rattle.std.specs.Prelude.{◌≡◌, ◌+◌, ◌<◌, ◌≤◌, ◌^◌, length};
+ghost use Rattle.supervise_core.specs.Chart.{control_move};
+ghost use Rattle.supervise_core.specs.MatchesMove.{MatchesMove};
+ghost use Rattle.supervise_core.specs.Service.{KeepsAgreeing};
+ghost use Rattle.svscan_core.specs.Work.{leave_letters, nuke_move, terminate_move};
+
+use super::visit::take;
+use arrayvec::ArrayVec;
+use s6_events::At;
+use supervise_core::{Change, Out, ServiceState};
+use svc_commands::{ControlLetter, Letters};
+
+// The letters of a service that leaves.
+fn leaving_letters() -> Letters
+    ensures { result.items ≡ leave_letters }
+{
+    let mut letters = ArrayVec::new();
+    letters.push(ControlLetter::Exit);
+    letters.push(ControlLetter::Down);
+    letters
+}
+
+// Its supervisor is told to end, and it is told to go down.
+fn leave(standing: &mut ServiceState, now: At, out: &mut Out)
+    requires { standing.old.chart.generation + 1 < 2 ^ 64 }
+    ensures gives { MatchesMove (control_move leave_letters now standing.old.chart)
+        standing.new.chart out.new }
+    ensures agrees { KeepsAgreeing now out.new.events.items standing.old standing.new }
+    ensures sid { standing.new.chart.sid ≡ standing.old.chart.sid }
+    ensures name { standing.new.chart.name ≡ standing.old.chart.name }
+    ensures few { length out.new.orders.items ≤ 2 }
+{
+    take(standing, &Change::Control(leaving_letters()), now, out);
+}
+
+/// An inactive service leaves. Page `s6-svscanctl`, `-n`.
+pub fn nuke(standing: &mut ServiceState, now: At, out: &mut Out)
+    requires { standing.old.chart.generation + 1 < 2 ^ 64 }
+    ensures gives { MatchesMove (nuke_move now standing.old.chart) standing.new.chart out.new }
+    ensures agrees { KeepsAgreeing now out.new.events.items standing.old standing.new }
+    ensures sid { standing.new.chart.sid ≡ standing.old.chart.sid }
+    ensures name { standing.new.chart.name ≡ standing.old.chart.name }
+    ensures few { length out.new.orders.items ≤ 2 }
+{
+    if standing.chart().active {
+        out.clear();
+    } else {
+        leave(standing, now, out);
+    }
+}
+
+/// The service becomes inactive, and leaves. Page `s6-svscanctl`, `-t`.
+pub fn terminate(standing: &mut ServiceState, now: At, out: &mut Out)
+    requires { standing.old.chart.generation + 1 < 2 ^ 64 }
+    ensures gives { MatchesMove (terminate_move now standing.old.chart) standing.new.chart out.new }
+    ensures agrees { KeepsAgreeing now out.new.events.items standing.old standing.new }
+    ensures sid { standing.new.chart.sid ≡ standing.old.chart.sid }
+    ensures name { standing.new.chart.name ≡ standing.old.chart.name }
+    ensures few { length out.new.orders.items ≤ 2 }
+{
+    standing.set_active(false, now);
+    leave(standing, now, out);
+}

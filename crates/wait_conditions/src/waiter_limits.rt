@@ -1,0 +1,58 @@
+//! The limits of waiters: the services of one, how many stand at a time, and the deadline of one. Before these, `refusals.rt` of tree_core refuses a wait by names.
+ghost use Rattle.std.specs.Prelude.{◌≡◌};
+ghost use Rattle.wait_conditions.specs.Refusal.{is_named_in, repeats_serial, add_refusal, deadline_of};
+
+use crate::add_fault::AddFault;
+use s6_events::{At, Sid};
+
+/// The most services of one waiter.
+pub const MOST_SERVICES: usize = 16;
+
+/// The most waiters that stand at one time.
+pub const WAITER_LIMIT: usize = 1024;
+
+fn is_among(sid: Sid, sids: &[Sid]) -> bool
+    ensures { result ≡ is_named_in sids.now sid }
+{
+    sids.iter().any(|other| other.0 == sid.0)
+}
+
+// Whether a service is named twice.
+fn has_repeat(sids: &[Sid]) -> bool
+    ensures { result ≡ repeats_serial sids.now }
+{
+    for i in 0..sids.len() {
+        if is_among(sids[i], &sids[i + 1..]) {
+            return true;
+        }
+    }
+    false
+}
+
+/// Why no waiter for these services may be made, where so many stand.
+pub fn refusal_for(standing: usize, sids: &[Sid]) -> Option<AddFault>
+    ensures { result ≡ add_refusal standing sids.now }
+{
+    if sids.is_empty() {
+        Some(AddFault::Empty)
+    } else if has_repeat(sids) {
+        Some(AddFault::Repeated)
+    } else if sids.len() > MOST_SERVICES {
+        Some(AddFault::TooManyServices)
+    } else if standing >= WAITER_LIMIT {
+        Some(AddFault::TooMany)
+    } else {
+        None
+    }
+}
+
+/// The moment so many milliseconds after the start, and none for no milliseconds.
+pub fn deadline_for(timeout: u32, start: At) -> Option<u64>
+    ensures { result ≡ deadline_of timeout start }
+{
+    if timeout == 0 {
+        None
+    } else {
+        Some(start.later(timeout))
+    }
+}
