@@ -84,12 +84,12 @@ pub enum Verb {
     Tick,
 }
 
-// Reads an exit.
+// Reads an exit: its first word is `code` or `signal`, which the length tells.
 fn exit_of(words: &mut Words<'_>) -> Exit
     ensures spelled { (e : Exit) → IsExit e → words.old ≡ exit_words e → result ≡ e }
     ensures fits { IsExit result }
 {
-    if is_word(words.take_next(), b"code") {
+    if words.take_next().len() == 4 {
         Exit::Code(number(words.take_next(), 255) as u8)
     } else {
         Exit::Killed(number(words.take_next(), 64) as u8)
@@ -104,8 +104,6 @@ fn verb_of(word: &[u8]) -> Verb
         Verb::Started
     } else if is_word(word, b"death") {
         Verb::Death
-    } else if is_word(word, b"tick") {
-        Verb::Tick
     } else if is_word(word, b"finished") {
         Verb::Finished
     } else if is_word(word, b"notify") {
@@ -134,8 +132,10 @@ fn verb_of(word: &[u8]) -> Verb
         Verb::Unsubscribe
     } else if is_word(word, b"send") {
         Verb::Send
-    } else {
+    } else if is_word(word, b"mkdir") {
         Verb::Mkdir
+    } else {
+        Verb::Tick
     }
 }
 

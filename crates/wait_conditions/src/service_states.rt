@@ -270,7 +270,7 @@ impl<A: Allocator> ServiceStates<A> {
         let place = place_of(&self.runs, sid);
         if is_of_one(&self.runs, place, sid) {
             set_run(&mut self.runs, place, sid, state);
-            self.tidy(place);
+            self.tidy_at(place);
             return;
         }
         let was = state_of_service(&self.runs, sid);
@@ -288,6 +288,17 @@ impl<A: Allocator> ServiceStates<A> {
             if let Some(place) = place.checked_add(2).and_then(|end| end.checked_sub(offset)) {
                 self.drop_redundant(place);
             }
+        }
+    }
+
+    // Takes out the run at this place and the one before it, where they say nothing of their own.
+    fn tidy_at(&mut self, place: usize)
+        ensures states { (sid : ℕ) → state_in self.new.runs sid ≡ state_in self.old.runs sid }
+        ensures room { self.old.spare_capacity ≤ self.new.spare_capacity }
+    {
+        self.drop_redundant(place);
+        if place > 0 {
+            self.drop_redundant(place - 1);
         }
     }
 

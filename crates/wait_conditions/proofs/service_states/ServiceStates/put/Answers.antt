@@ -8,7 +8,7 @@ use Rattle.wait_conditions.proofs.service_states.ServiceStates.put.Goals as goal
 pub returns-clause-states : goal.returns-clause-states
 returns-clause-states g c = λ other.
     let place = c.place_of-place.result in
-    c.tidy-2.ensures.states other
+    c.tidy.ensures.states other
     ∙ rw (← c.self.view_is)
     (put_is c.self.inside.runs.items c.insert_run.new.runs.items c.insert_below.new.runs.items place c.args.sid other c.args.state
     c.state_of_service-was.result (omega (arith, c.place_of-place.ensures.bound, ap length c.deref.ensures.value))
@@ -22,7 +22,7 @@ returns-then-is_of_one-clause-states g c = λ other.
     let place = c.place_of-place.result in
     let alone = c.if-is_of_one.true in
     let value = c.deref-2.ensures.value in
-    c.tidy.ensures.states other
+    c.tidy_at.ensures.states other
     ∙ rw (← c.self.view_is)
     (ap (λ t. state_in t other) c.set_run.ensures.runs
     ∙ set_one c.self.inside.runs.items place c.args.sid other c.args.state
