@@ -4,18 +4,18 @@
 mod backend;
 mod desk;
 mod lane;
+mod lane_orders;
 mod lanes;
 pub mod probe;
 mod report;
 mod ring;
-mod sending;
 #[cfg(test)]
 mod tests;
 
 pub use backend::{AskFault, Backend};
 pub use desk::{Carried, Desk};
 pub use lane::Lane;
+pub use lane_orders::{blocked_lane, send_all};
 pub use lanes::Lanes;
 pub use report::Report;
 pub use ring::{LANE_ROOM, LaneRing, open_lane_rings};
-pub use sending::{blocked_lane, send_all};

@@ -3,6 +3,7 @@
 
 mod ahead;
 mod choice;
+mod clock;
 mod copied;
 mod effect;
 mod image;

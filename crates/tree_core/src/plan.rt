@@ -1,11 +1,9 @@
 //! A step that is known before anything is changed.
-ghost use Rattle.std.specs.Prelude.{ℕ, false, ◌≡◌, ◌+◌, ◌*◌, ◌<◌, ◌≤◌, ◌^◌, ◌++◌, List, [], map, max, length, All, IfOk, IsOk, IsOkAnd, OnOk};
+ghost use Rattle.std.specs.Prelude.{ℕ, false, ◌≡◌, ◌+◌, ◌*◌, ◌<◌, ◌≤◌, ◌^◌, List, [], length, All, IfOk, IsOk, OnOk};
 ghost use Rattle.deadlines.specs.declared.timer.Timer.{Timer};
 ghost use Rattle.deadlines.specs.Timers.{with_timer_changes};
 ghost use Rattle.event_directory.specs.Changes.{Offer};
 ghost use Rattle.event_directory.specs.Remembered.{directories_after_commit, plan_number};
-ghost use Rattle.s6_events.specs.At.{last_moment};
-ghost use Rattle.svscan_core.specs.Moves.{moment_of};
 ghost use Rattle.svscan_core.specs.Table.{charts_of};
 ghost use Rattle.svscan_core.specs.Timers.{TimersAgree};
 ghost use Rattle.svscan_core.specs.Registry.{Fits, registry_prepared, result_of};
@@ -14,17 +12,18 @@ ghost use Rattle.tree_core.specs.Limits.{service_limit, moment_limit};
 ghost use Rattle.tree_core.specs.Machine.{Machine};
 ghost use Rattle.wait_conditions.specs.Stands.{WaitsShown, FitsWaits, MakesPlan, waits_shown};
 ghost use Rattle.tree_core.specs.Plan.{present_state, chosen_of, lists_more, tally_in, chosen_reply, waiter_reply, directory_reply, IsNow, Plans, IsQuiet};
-ghost use Rattle.tree_core.specs.Step.{clock_moments, step_limit};
+ghost use Rattle.tree_core.specs.Step.{step_limit};
 
 use super::choice::{Choice, choose};
+use super::clock::{later, moments_of};
 use super::effect::Effect;
 use super::input::Input;
 use super::reply::{Refusal, Reply, ScanReport, TallyReport};
 use deadlines::{Deadlines, DeadlinesPlan};
 use event_directory::{Directories, DirectoriesPlan, DirectoryAnswer, DirectoryFault, Pattern};
-use s6_events::{At, History, HistoryPlan, Moment, Name, NoMemory};
+use s6_events::{At, History, HistoryPlan, Name, NoMemory};
 use std::alloc::Allocator;
-use svscan_core::{Event, Registry, RegistryPlan};
+use svscan_core::{Registry, RegistryPlan};
 use wait_conditions::{WaitAnswer, Waits, WaitsPlan};
 
 /// A step that is known before anything is changed: the clock and whether the tree is closing after it, and the plan of each part.
@@ -37,36 +36,6 @@ pub struct StepPlan<A: Allocator> {
     pub history: HistoryPlan<A>,
     pub waiters: WaitsPlan<A>,
     pub letters: DirectoriesPlan<A>,
-}
-
-// The later of two moments.
-fn later(a: At, b: At) -> At
-    ensures later { result ≡ max a b }
-    ensures bound { result ≤ last_moment }
-{
-    if a.millis() < b.millis() { b } else { a }
-}
-
-// The moments of a step: the clock reading, and then its marks.
-fn moments_of<A: Allocator + Copy>(
-    alloc: A,
-    clock: At,
-    at: At,
-    events: &[Event],
-) -> Result<Vec<Moment, A>, NoMemory>
-    ensures moments { IfOk result
-        (λ moments. moments.items ≡ clock_moments clock at ++ map moment_of events.now) }
-    ensures count { IfOk result (λ moments. length moments.items ≤ 1 + length events.now) }
-    ensures quiet { at ≤ clock → events.now ≡ [] → IsOkAnd result (λ moments. moments.items ≡ []) }
-{
-    let mut moments = Vec::new(alloc);
-    if clock.millis() < at.millis() {
-        moments.push(Moment::Clock(at))?;
-    }
-    for event in events {
-        moments.push(Moment::Event(event.sid, event.mark))?;
-    }
-    Ok(moments)
 }
 
 // The last deaths of the service of a name are answered.

@@ -1,4 +1,9 @@
-//! The two kinds of a failed condition.
+//! Why a condition that does not hold fails, if it does.
+ghost use Rattle.std.specs.Prelude.{◌≡◌};
+ghost use Rattle.wait_conditions.specs.Fails.{failure_at};
+
+use s6_events::Condition;
+
 /// Why a condition of a service, which doesn't hold, is given up.
 #[derive(Clone, Copy, Debug, PartialEq, Eq)]
 pub enum Failure {
@@ -6,4 +11,18 @@ pub enum Failure {
     Permanent,
     /// The supervisor of the service has ended.
     Unsupervised,
+}
+
+/// Why a condition that doesn't hold fails, if it does.
+pub fn condition_failure(condition: Condition, failed: bool, ended: bool) -> Option<Failure>
+    ensures { result ≡ failure_at condition failed ended }
+{
+    let asks_up = !matches!(condition, Condition::Down | Condition::Finished);
+    if asks_up && failed {
+        Some(Failure::Permanent)
+    } else if ended {
+        Some(Failure::Unsupervised)
+    } else {
+        None
+    }
 }

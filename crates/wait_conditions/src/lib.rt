@@ -2,10 +2,11 @@
 #![tactic(auto)]
 
 mod add_fault;
+mod condition_holds;
 mod counts;
+mod deadline;
 mod failure;
 mod image;
-mod judging;
 pub mod laws;
 mod next_deadline;
 mod planning;

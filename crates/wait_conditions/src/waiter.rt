@@ -12,7 +12,7 @@ ghost use Rattle.wait_conditions.specs.Watched.{watched_as};
 ghost use Rattle.wait_conditions.specs.WaitsFields.{IsCounted};
 
 use crate::counts::{Counts, count_all, watch_all};
-use crate::judging::reaches_deadline;
+use crate::deadline::reaches_deadline;
 use crate::service_states::ServiceStates;
 use crate::supervisor_state::SinceState;
 use crate::verdict::{Verdict, WaitState};

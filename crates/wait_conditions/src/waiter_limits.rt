@@ -1,9 +1,9 @@
-//! The limits of waiters: the services of one, how many stand at a time, and the deadline of one. Before these, `refusals.rt` of tree_core refuses a wait by names.
+//! The limits of waiters: the services of one, and how many stand at a time. Before these, `refusals.rt` of tree_core refuses a wait by names.
 ghost use Rattle.std.specs.Prelude.{◌≡◌};
-ghost use Rattle.wait_conditions.specs.Refusal.{is_named_in, repeats_serial, add_refusal, deadline_of};
+ghost use Rattle.wait_conditions.specs.Refusal.{is_named_in, repeats_serial, add_refusal};
 
 use crate::add_fault::AddFault;
-use s6_events::{At, Sid};
+use s6_events::Sid;
 
 /// The most services of one waiter.
 pub const MOST_SERVICES: usize = 16;
@@ -43,16 +43,5 @@ pub fn refusal_for(standing: usize, sids: &[Sid]) -> Option<AddFault>
         Some(AddFault::TooMany)
     } else {
         None
-    }
-}
-
-/// The moment so many milliseconds after the start, and none for no milliseconds.
-pub fn deadline_for(timeout: u32, start: At) -> Option<u64>
-    ensures { result ≡ deadline_of timeout start }
-{
-    if timeout == 0 {
-        None
-    } else {
-        Some(start.later(timeout))
     }
 }

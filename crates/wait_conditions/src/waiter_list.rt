@@ -8,8 +8,8 @@ ghost use Rattle.wait_conditions.specs.Verdict.{reaches};
 ghost use Rattle.wait_conditions.specs.Watchers.{AreDueFrom, BeganInOrder, earlier, serials_where, touched_by};
 ghost use Rattle.wait_conditions.specs.WaitsFields.{IsCounted, waiters_view};
 
+use crate::deadline::reaches_deadline;
 use crate::image::{WaiterImage, images_of};
-use crate::judging::reaches_deadline;
 use crate::next_deadline::earliest_deadline;
 use crate::planning::copy_touched;
 use crate::releasing::change_touched;

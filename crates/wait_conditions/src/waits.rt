@@ -17,6 +17,7 @@ ghost use Rattle.wait_conditions.specs.Watch.{Watch, new_watch, releases, waits_
 ghost use Rattle.wait_conditions.specs.Watch.{wait_terms, new_waiter, new_release, waiter_state};
 
 use crate::add_fault::AddFault;
+use crate::deadline::deadline_for;
 use crate::image::WaitsImage;
 use crate::planning::{list_serials, release_all};
 use crate::service_states::ServiceStates;
@@ -24,7 +25,7 @@ use crate::verdict::{Verdict, WaitState};
 use crate::wait_change::{WaitAnswer, WaitChange};
 use crate::wait_plan::{ChangePlan, PlannedChange, WaitsPlan};
 use crate::waiter::{new_waiter, release_at_once};
-use crate::waiter_limits::{deadline_for, refusal_for};
+use crate::waiter_limits::refusal_for;
 use crate::waiter_list::WaiterList;
 use s6_events::{At, Condition, Mode, Moment, NoMemory, Sid, WaitId};
 use std::alloc::Allocator;

@@ -1,7 +1,7 @@
 use Rattle.std.proofs.Common.{rules, ◌≡◌, ◌<◌, ◌%◌, length, Some, slice_get, refl, arith}
 use Rattle.std.proofs.lemmas.Option.{slice_get_read}
 use Rattle.order_lanes.proofs.Changing.{sent_more, room_less}
-use Rattle.order_lanes.proofs.sending.send_one.Goals as goal
+use Rattle.order_lanes.proofs.lane_orders.send_one.Goals as goal
 
 pub returns-clause-sent : goal.returns-clause-sent
 returns-clause-sent g c k below =

@@ -2,7 +2,7 @@ use Rattle.std.proofs.Common.{rules, ◌≡◌, ◌<◌, length, Some, slice_get
 use Rattle.std.proofs.lemmas.Option.{slice_get_read, slice_get_within}
 use Rattle.channel_names.proofs.Places.{set_here}
 use Rattle.order_lanes.proofs.Changing.{sent_set, room_before, room_below}
-use Rattle.order_lanes.proofs.sending.blocked_lane.Goals as goal
+use Rattle.order_lanes.proofs.lane_orders.blocked_lane.Goals as goal
 
 pub returns-then-free_places-places-clause-blocked : goal.returns-then-free_places-places-clause-blocked
 returns-then-free_places-places-clause-blocked g c =

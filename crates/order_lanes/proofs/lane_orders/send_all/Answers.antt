@@ -4,7 +4,7 @@ use Rattle.s6_events.specs.declared.order.Order.{Order}
 use Rattle.order_lanes.specs.Lane.{sent_in}
 use Rattle.order_lanes.specs.LaneOrders.{orders_of_lane}
 use Rattle.order_lanes.proofs.Changing.{orders_more}
-use Rattle.order_lanes.proofs.sending.send_all.Goals as goal
+use Rattle.order_lanes.proofs.lane_orders.send_all.Goals as goal
 
 pub loop-order-init : goal.loop-order-init
 loop-order-init g c = (refl, grind (arith, rules), λ k below. sym (append-nil _), λ k l at. let r = c.requires.room k l at in omega arith)

@@ -1,7 +1,7 @@
 use Rattle.std.proofs.Common.{◌≡◌, ◌≤◌, ◌+◌, ◌++◌, take, map, length}
 use Rattle.svscan_core.specs.Moves.{moment_of}
 use Rattle.tree_core.specs.Step.{clock_moments}
-use Rattle.tree_core.proofs.plan.moments_of.Given as goal
+use Rattle.tree_core.proofs.clock.moments_of.Given as goal
 
 abbrev pub invariant-loop-event : goal.invariant-loop-event
 invariant-loop-event g l = record {

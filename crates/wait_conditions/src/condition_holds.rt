@@ -1,0 +1,27 @@
+//! Whether a condition holds of a service. When one fails is in `failure.rt`.
+ghost use Rattle.std.specs.Prelude.{◌≡◌};
+ghost use Rattle.wait_conditions.specs.Holds.{suits, holds_at};
+
+use s6_events::{Condition, Mark};
+
+fn letter_suits(condition: Condition, letter: Mark) -> bool
+    ensures { result ≡ suits condition letter }
+{
+    match condition {
+        Condition::Up | Condition::Restarted => matches!(letter, Mark::Spawned | Mark::Ready),
+        Condition::Ready | Condition::RestartedReady => matches!(letter, Mark::Ready),
+        Condition::Down => matches!(letter, Mark::Died | Mark::FinishDone),
+        Condition::Finished => matches!(letter, Mark::FinishDone),
+    }
+}
+
+/// Whether a condition holds at this letter, after a start or without one.
+pub fn condition_holds(condition: Condition, letter: Mark, spawned: bool) -> bool
+    ensures { result ≡ holds_at condition letter spawned }
+{
+    match condition {
+        Condition::Restarted | Condition::RestartedReady => letter_suits(condition, letter)
+            && spawned,
+        _ => letter_suits(condition, letter),
+    }
+}
