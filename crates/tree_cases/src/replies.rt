@@ -1,13 +1,9 @@
 //! Whether two replies are the same.
-ghost use Rattle.std.specs.Prelude.{◌≡◌, true};
-
 use std::alloc::Global;
 use tree_core::Reply;
 
 /// Whether they tell the same.
-pub fn is_same_reply(one: &Reply<Global>, other: &Reply<Global>) -> bool
-    ensures { result ≡ true → one.now ≡ other.now }
-{
+pub fn is_same_reply(one: &Reply<Global>, other: &Reply<Global>) -> bool {
     match (one, other) {
         (Reply::Done, Reply::Done) => true,
         (Reply::Refused(one), Reply::Refused(other)) => one == other,
