@@ -14,6 +14,43 @@ use std::alloc::{Allocator, Global};
 use std::io::{BufRead, Write};
 use tree_core::Tree;
 
+// Replays a script on a tree that has taken no step.
+fn replay_all<A: Allocator + Copy, R: BufRead, W: Write>(
+    alloc: A,
+    patterns: Global,
+    reader: &mut R,
+    writer: &mut W,
+    tree: &mut Tree<A>,
+    scratch: &mut Scratch<A>,
+) -> Result<Counts, ReplayFault>
+    requires { StandsFor tree.old new_machine }
+    ensures ok { IfOk result (λ counts. IsWhole A counts
+        (R.remaining reader.old) (R.remaining reader.new)
+        (W.contents writer.old) (W.contents writer.new)) }
+    ensures fault { IfErr result (λ fault. Stops A fault
+        (R.remaining reader.old) (R.remaining reader.new)
+        (W.contents writer.old) (W.contents writer.new)) }
+{
+    let version = match read_head(reader) {
+        Ok(version) => version,
+        Err(fault) => return Err(fault),
+    };
+    let mut counts = Counts::none();
+    for done in 0..INPUT_LIMIT {
+        match take_turn(
+            alloc, patterns, reader, writer, tree, scratch, version, done,
+        ) {
+            Err(fault) => return Err(fault),
+            Ok(Turn::End) => return Ok(counts),
+            Ok(Turn::Done { events, orders }) => counts = counts.with_input(events, orders),
+        }
+    }
+    match read_end(reader, version) {
+        Err(fault) => Err(fault),
+        Ok(()) => Ok(counts),
+    }
+}
+
 /// Replays a script of either version: reads its inputs one after the other, hands each to a new tree, and writes what the tree
 /// answers. Replies in the script are read and not compared. The script is read through the reader's own buffer and written a block at
 /// a time, so hand in a buffered writer; it is not flushed here. Patterns take their memory from `patterns`, and all else from `alloc`.
@@ -40,31 +77,7 @@ pub fn run<A: Allocator + Copy, R: BufRead, W: Write>(
         (R.remaining reader.old) (R.remaining reader.new)
         (W.contents writer.old) (W.contents writer.new)) }
 {
-    let version = match read_head(reader) {
-        Ok(version) => version,
-        Err(fault) => return Err(fault),
-    };
     let mut tree = Tree::new(alloc);
     let mut scratch = Scratch::new(alloc);
-    let mut counts = Counts::none();
-    for done in 0..INPUT_LIMIT {
-        match take_turn(
-            alloc,
-            patterns,
-            reader,
-            writer,
-            &mut tree,
-            &mut scratch,
-            version,
-            done,
-        ) {
-            Err(fault) => return Err(fault),
-            Ok(Turn::End) => return Ok(counts),
-            Ok(Turn::Done { events, orders }) => counts = counts.with_input(events, orders),
-        }
-    }
-    match read_end(reader, version) {
-        Err(fault) => Err(fault),
-        Ok(()) => Ok(counts),
-    }
+    replay_all(alloc, patterns, reader, writer, &mut tree, &mut scratch)
 }

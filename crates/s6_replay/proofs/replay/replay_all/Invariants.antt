@@ -1,7 +1,7 @@
 use Rattle.std.proofs.Common.{List}
 use Rattle.s6_replay.specs.Script.{Recorded}
 use Rattle.s6_replay.proofs.Runs.{RunsTo}
-use Rattle.s6_replay.proofs.replay.run.Given as goal
+use Rattle.s6_replay.proofs.replay.replay_all.Given as goal
 
 abbrev pub invariant-loop-done : goal.invariant-loop-done
 invariant-loop-done g l =

@@ -1,9 +1,9 @@
 use Rattle.std.proofs.Common.{arith, refl}
 use Rattle.s6_replay.proofs.Runs.{starts, goes_on, turn_stops, end_stops}
-use Rattle.s6_replay.proofs.replay.run.Goals as goal
+use Rattle.s6_replay.proofs.replay.replay_all.Goals as goal
 
 pub loop-done-init : goal.loop-done-init
-loop-done-init g c = starts _ c.in-Ok.version _ _ _ _ _ c.in-Ok.ensures.ok c.new-tree.ensures c.none-counts.ensures.inputs
+loop-done-init g c = starts _ c.in-Ok.version _ _ _ _ _ c.in-Ok.ensures.ok c.requires c.none-counts.ensures.inputs
     c.none-counts.ensures.events c.none-counts.ensures.orders
 
 pub loop-done-preserved : goal.loop-done-preserved
