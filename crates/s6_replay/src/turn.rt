@@ -1,7 +1,7 @@
 //! One turn of a replay.
-ghost use Rattle.std.specs.Prelude.{◌<◌, ◌+◌, IfOk, IfErr};
+ghost use Rattle.std.specs.Prelude.{◌<◌, IfOk, IfErr};
 ghost use Rattle.s6_replay.specs.Script.{input_limit};
-ghost use Rattle.s6_replay.specs.Turn.{IsAnswered, AnswerStops, Turns, TurnStops};
+ghost use Rattle.s6_replay.specs.Turn.{Turns, TurnStops};
 
 use super::block::{WriteFault, write_block};
 use super::fault::ReplayFault;
@@ -9,7 +9,7 @@ use super::reading::{Scratch, read_step};
 use super::version::Version;
 use std::alloc::{Allocator, Global};
 use std::io::{BufRead, Write};
-use tree_core::{Effect, Input, Tree};
+use tree_core::Tree;
 
 // What one turn did.
 #[derive(Clone, Copy, Debug, PartialEq, Eq)]
@@ -18,36 +18,6 @@ pub enum Turn {
     Done { events: usize, orders: usize },
     // The script has ended.
     End,
-}
-
-// Applies an input, and writes its block under its number. Answers how many events and orders it gave. What was in the effect is gone.
-fn answer_input<A: Allocator + Copy, W: Write>(
-    tree: &mut Tree<A>,
-    effect: &mut Effect<A>,
-    text: &mut Vec<u8, A>,
-    writer: &mut W,
-    input: Input<A>,
-    input_number: u64,
-) -> Result<(usize, usize), ReplayFault>
-    ensures fault { IfErr result
-        (λ fault. AnswerStops fault input_number tree.old input (W.contents writer.old)
-        (W.contents writer.new)) }
-    ensures ok { IfOk result
-        (λ given. IsAnswered given.0 given.1 input_number tree.old tree.new input
-        (W.contents writer.old) (W.contents writer.new)) }
-{
-    let Ok(()) = tree.apply_into(input, effect) else {
-        return Err(ReplayFault::NoMemory);
-    };
-    let given = (
-        effect.events.as_slice().len(),
-        effect.orders.as_slice().len(),
-    );
-    match write_block(input_number, effect, text, writer) {
-        Ok(()) => Ok(given),
-        Err(WriteFault::Write) => Err(ReplayFault::Write),
-        Err(WriteFault::NoMemory) => Err(ReplayFault::NoMemory),
-    }
 }
 
 // Reads the step behind so many others, applies its input, and writes its block.
@@ -73,8 +43,14 @@ pub fn take_turn<A: Allocator + Copy, R: BufRead, W: Write>(
         return Ok(Turn::End);
     };
     let Scratch { text, effect, .. } = scratch;
-    match answer_input(tree, effect, text, writer, input, done + 1) {
-        Ok((events, orders)) => Ok(Turn::Done { events, orders }),
-        Err(fault) => Err(fault),
+    let Ok(()) = tree.apply_into(input, effect) else {
+        return Err(ReplayFault::NoMemory);
+    };
+    let events = effect.events.as_slice().len();
+    let orders = effect.orders.as_slice().len();
+    match write_block(done + 1, effect, text, writer) {
+        Ok(()) => Ok(Turn::Done { events, orders }),
+        Err(WriteFault::Write) => Err(ReplayFault::Write),
+        Err(WriteFault::NoMemory) => Err(ReplayFault::NoMemory),
     }
 }
