@@ -25,8 +25,7 @@ pub enum ReadFault {
     NoMemory,
 }
 
-// Reads the next line, without its newline, which may have so many bytes with it: most lines lie in the reader's buffer. At a fault, what
-// the line holds was read.
+// Reads the next line, without its newline, which may have so many bytes with it. At a fault, what the line holds was read.
 pub fn read_line<A: Allocator + Copy, R: BufRead, const LIMIT: usize>(
     reader: &mut R,
     line: &mut Vec<u8, A>,
@@ -38,9 +37,6 @@ pub fn read_line<A: Allocator + Copy, R: BufRead, const LIMIT: usize>(
     ensures part { OnErr result (IsPart LIMIT line.new.items) }
 {
     line.clear();
-    if let Some(ended) = read_buffered::<A, R, LIMIT>(reader, line)? {
-        return Ok(ended);
-    }
     while line.len() < LIMIT {
         if let Some(ended) = read_byte::<A, R, LIMIT>(reader, line)? {
             return Ok(ended);
