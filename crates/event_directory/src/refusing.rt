@@ -1,4 +1,4 @@
-//! Why a change of the event directories is refused.
+//! Why a change of the event directories is refused. Before this, `refusals.rt` of tree_core refuses by names (NoService, Reserved).
 ghost use Rattle.std.specs.Prelude.{◌≡◌, ◌==◌, [], Bool, bytes_eq, option_map};
 ghost use Rattle.std.specs.List.{list_any};
 ghost use Rattle.event_directory.specs.Changes.{directory_request_of};

@@ -7,7 +7,6 @@ ghost use Rattle.event_directory.specs.Remembered.{DirectoriesShown, with_subscr
 
 use crate::directory_change::{DirectoryChange, DirectoryFault};
 use crate::finds::Finds;
-use crate::hearing::{hear_letters, hear_moments};
 use crate::hit::Hit;
 use crate::image::{DirectoriesImage, source_images};
 use crate::listened::{begin_each, commit_each, leave_at, list_at, reserve_at, take_in_at};
@@ -17,6 +16,7 @@ use crate::pending::Pending;
 use crate::refusing::refusal;
 use crate::source::Source;
 use crate::source_directory::SourceDirectory;
+use crate::step_letters::{hear_letters, hear_moments};
 use crate::sub_view::SubView;
 use s6_events::{Moment, Name, NoMemory, SubId};
 use std::alloc::Allocator;

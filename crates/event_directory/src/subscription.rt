@@ -1,4 +1,4 @@
-//! One subscription: what it has heard, and where in the text of its directory its own begins.
+//! One subscription: what a letter gives it (a match, Done, Overlong), and where in the text of its directory its own begins.
 ghost use Rattle.std.specs.Prelude.{◌≡◌, ◌<◌, ◌≤◌, ◌+◌, [], IfOk, OnOk, length, vec_len};
 ghost use Rattle.event_directory.specs.SubscriberList.{hit_between, is_live};
 ghost use Rattle.event_directory.specs.Stored.{heard_in, live_offset, new_reader, new_reading, next_reading};

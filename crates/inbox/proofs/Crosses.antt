@@ -14,8 +14,8 @@ use Rattle.rtrb.proofs.producer.Producer.TheSendSync as producer
 use Rattle.s6_events.proofs.ids.Actor.TheSendSync as actor
 use Rattle.channel_names.specs.declared.channels.Channels.{Ghosts}
 use Rattle.inbox.specs.contracts.submission.Submission as Submission
-use Rattle.inbox.specs.contracts.seat.Seat as Seat
-use Rattle.inbox.specs.contracts.seat.Seat.TheInside as Inside
+use Rattle.inbox.specs.contracts.ring.Seat as Seat
+use Rattle.inbox.specs.contracts.ring.Seat.TheInside as Inside
 use Rattle.inbox.specs.contracts.drain.Drain as Drain
 use Rattle.inbox.specs.contracts.drain.Drain.TheInside as DrainInside
 use Rattle.rtrb.specs.contracts.AnyItems as AnyItems

@@ -4,15 +4,9 @@
 mod drain;
 mod finished;
 mod ring;
-mod seat;
 mod submission;
-#[cfg(test)]
-mod tests;
-mod ticket;
 
 pub use drain::Drain;
 pub use finished::Finished;
-pub use ring::{Ring, open_rings};
-pub use seat::Seat;
+pub use ring::{Full, Ring, Seat, Ticket, open_rings};
 pub use submission::Submission;
-pub use ticket::{Full, Ticket};

@@ -1,15 +1,19 @@
-//! One ring for each actor, and how they are opened.
-ghost use Rattle.std.specs.Prelude.{◌≡◌, ◌≤◌, [], IfOk, map};
+//! The rings: one for each actor, of 64 places. A seat hands in at its end, and gets a ticket, numbered from 1, or that the ring is full.
+ghost use Rattle.std.specs.Prelude.{◌≡◌, ◌+◌, ◌-◌, ◌^◌, ◌<◌, ◌≤◌, [], ◌∷◌, ◌++◌, length, map, IsOk, IfOk, IfErr, IfSome};
+ghost use Rattle.rtrb.specs.Ring.{sent, known_free, producer_capacity};
+ghost use Rattle.channel_names.specs.RingName.{producer_ring};
 ghost use Rattle.inbox.specs.Ends.{places, numbers_below};
 
 use crate::drain::Drain;
-use crate::seat::Seat;
+use crate::finished::Finished;
 use crate::submission::Submission;
 use channel_names::Channels;
-use rtrb::{Consumer, Producer, RingBuffer};
-use s6_events::{Actor, NoMemory};
+use rtrb::{Consumer, Producer, PushError, RingBuffer};
+use s6_events::{Actor, At, NoMemory};
 use std::alloc::Global;
-use std::marker::Model;
+use std::marker::{Model, PhantomData};
+use thiserror::Error;
+use tree_core::Act;
 
 /// How many submissions a ring holds.
 const PLACES: usize = 64;
@@ -87,4 +91,113 @@ pub fn open_rings(alloc: Global, actors: u8) -> Result<Vec<Ring>, NoMemory>
         rings.push(Ring::open(alloc, actor)?)?;
     }
     Ok(rings)
+}
+
+/// What an actor gets for a submission, and by which its reply is asked for later. The number counts the submissions of its
+/// seat, from 1.
+#[derive(Clone, Copy, PartialEq, Eq, Debug)]
+pub struct Ticket {
+    pub actor: Actor,
+    pub number: u64,
+}
+
+/// The ring was full: 64 submissions of the seat wait to be taken. The seat is as it was, and takes the next one as soon as one of
+/// them was taken.
+#[derive(Clone, Copy, PartialEq, Eq, Debug, Error)]
+#[error("64 submissions of the seat wait to be taken")]
+pub struct Full;
+
+/// An actor's end of its ring: here it hands in what happened. It may move to a thread of its own.
+#[derive(Drop)]
+pub struct Seat<C: Channels> {
+    actor: Actor,
+    count: u64,
+    producer: Producer<Submission>,
+    channels: PhantomData<C>,
+}
+
+impl<C: Channels> Model for Seat<C> {
+    ghost use Rattle.std.specs.Prelude.{◌≡◌, ◌-◌, length};
+    ghost use Rattle.rtrb.specs.Ring.{sent, known_free, producer_capacity};
+    ghost use Rattle.channel_names.specs.RingName.{producer_ring};
+    ghost use Rattle.inbox.specs.Ends.{SeatView, places};
+
+    ghost Value = { SeatView };
+
+    ghost view = { λ s. record { actor = s.actor; submitted = sent s.producer; waiting = places - known_free s.producer } };
+
+    ghost invariant = { λ s. (s.count ≡ length (sent s.producer)) × (producer_capacity s.producer ≡ places) × (producer_ring s.producer ≡ C.seat_ring s.actor) };
+}
+
+impl<C: Channels> Seat<C> {
+    // The end of a ring through which nothing went yet.
+    pub(crate) fn over(actor: Actor, producer: Producer<Submission>) -> Seat<C>
+        requires ring { producer_ring producer ≡ C.seat_ring actor }
+        requires unused { (sent producer ≡ []) × (known_free producer ≡ places)
+            × (producer_capacity producer ≡ places) }
+        ensures { result ≡ record { actor = actor; submitted = []; waiting = 0 } }
+    {
+        Seat {
+            actor,
+            count: 0,
+            producer,
+            channels: PhantomData,
+        }
+    }
+
+    /// Hands in an act that comes at this moment. `Full` where the ring holds 64 that aren't known to be taken: the act then comes
+    /// back, and nothing has changed. It takes no lock and no memory, and waits for nobody. A seat takes fewer than 2^63
+    /// submissions; `sent` counts them.
+    pub fn submit(&mut self, at: At, act: Act<Global>) -> Result<Ticket, (Act<Global>, Full)>
+        requires { length self.old.submitted < 2 ^ 63 }
+        ensures actor { self.new.actor ≡ self.old.actor }
+        ensures appended { IfOk result
+            (λ _. self.new.submitted ≡ self.old.submitted ++ record { at = at; act = act } ∷ []) }
+        ensures ticket { IfOk result
+            (λ t. (t.actor ≡ self.old.actor) × (t.number ≡ length self.new.submitted)) }
+        ensures one_more { IfOk result (λ _. self.new.waiting ≤ self.old.waiting + 1) }
+        ensures full { IfErr result
+            (λ e. (e.0 ≡ act) × (self.new.submitted ≡ self.old.submitted)
+            × (self.new.waiting ≡ places)) }
+        ensures succeeds { self.old.waiting < places → IsOk result }
+    {
+        match self.producer.push(Submission { at, act }) {
+            Ok(()) => {
+                self.count += 1;
+                Ok(Ticket {
+                    actor: self.actor,
+                    number: self.count,
+                })
+            }
+            Err(PushError::Full(back)) => Err((back.act, Full)),
+        }
+    }
+
+    /// Who hands in here.
+    pub fn actor(&self) -> Actor
+        ensures { result ≡ self.now.actor }
+    {
+        self.actor
+    }
+
+    /// How many submissions were taken in so far.
+    pub fn sent(&self) -> u64
+        ensures { result ≡ length self.now.submitted }
+    {
+        self.count
+    }
+
+    /// Submits no more. By what is left of the seat a drain can tell whether it took all.
+    pub fn finish(self) -> Finished<C>
+        ensures actor { result.actor ≡ self.actor }
+        ensures submitted { IfSome result.submitted (λ all. all ≡ self.submitted) }
+    {
+        let Seat {
+            actor,
+            count: _,
+            producer,
+            channels: _,
+        } = self;
+        Finished::over(actor, producer.finish())
+    }
 }

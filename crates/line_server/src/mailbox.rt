@@ -1,4 +1,4 @@
-//! Where texts for one connection are posted, and whoever writes them waits.
+//! Where texts for one connection are posted, and whoever writes them waits. A connection for which too much waits is ended here.
 use crate::outbox::{Outbox, PostFault};
 use std::alloc::Global;
 use std::net::Shutdown;

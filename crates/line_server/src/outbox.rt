@@ -1,4 +1,4 @@
-//! What waits to be written to a connection, in order and up to a limit.
+//! What waits to be written to a connection, in order and up to a limit, at which `mailbox.rt` ends the connection.
 ghost use Rattle.std.specs.Prelude.{◌≡◌, ◌++◌, ◌+◌, ◌<◌, ◌≤◌, [], Err, length, OnOk, OnErr, true, false};
 ghost use Rattle.line_server.specs.Outbox.{outbox_limit};
 ghost use Rattle.line_server.specs.declared.outbox.PostFault.TheVariants.{Full, Closed};

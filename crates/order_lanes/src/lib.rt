@@ -9,8 +9,6 @@ mod lanes;
 pub mod probe;
 mod report;
 mod ring;
-#[cfg(test)]
-mod tests;
 
 pub use backend::{AskFault, Backend};
 pub use desk::{Carried, Desk};

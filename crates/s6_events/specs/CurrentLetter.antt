@@ -1,7 +1,7 @@
 -- What the marks of a service say of it: its current letter, and since when.
 use Rattle.std.specs.Prelude.{ℕ, List, Bool, true, false, ◌||◌, Option, None, Some}
 use Rattle.s6_events.specs.declared.mark.Mark.{Mark}
-use Rattle.s6_events.specs.declared.mark.Mark.TheVariants.{SupervisorStarted, Spawned, Ready, Died, FinishDone}
+use Rattle.s6_events.specs.declared.mark.Mark.TheVariants.{SupervisorStarted, Spawned, Ready, Died, PermanentFailure, FinishDone, SupervisorEnded}
 use Rattle.s6_events.specs.declared.moment.Moment.{Moment}
 use Rattle.s6_events.specs.Newest.{Dated, newest}
 
@@ -43,6 +43,14 @@ mark_or_done (Some (_, mark)) = mark
 -- the current letter: the newest of s, u, U, d, D, or D where that is s or there is none
 abbrev pub current_letter : ℕ → List Moment → Mark
 current_letter sid history = mark_or_done (newest (start_or tells_state) sid history)
+
+-- it after one more mark, if there is one: s begins anew, u, U, d and D become the letter, and O and x leave it
+abbrev pub letter_after : Option Mark → Mark → Mark
+letter_after None letter = letter
+letter_after (Some SupervisorStarted) letter = FinishDone
+letter_after (Some PermanentFailure) letter = letter
+letter_after (Some SupervisorEnded) letter = letter
+letter_after (Some other) letter = other
 
 -- the moment, unless the mark is s or there is none
 abbrev pub moment_unless_start : Option Dated → Option ℕ

@@ -1,4 +1,4 @@
-//! The list of all moments, of which the first may be forgotten.
+//! The list of all moments, of which the first may be forgotten. What a letter makes of a service is in `current_letter.rt`.
 ghost use Rattle.std.specs.Prelude.{◌≡◌, ◌==◌, ◌+◌, ◌-◌, ◌^◌, ◌<◌, ◌≤◌, ◌++◌, ◌∷◌, [], length, drop, vec_len, vec_capacity, IsOk, IfOk, OnOk, OnErr, option_map};
 ghost use Rattle.s6_events.specs.History.{end_of, from_place, forgotten_by};
 

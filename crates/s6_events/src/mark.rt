@@ -1,48 +1,8 @@
-//! The letters of event directories, and the seven marks of supervisors among them.
-ghost use Rattle.std.specs.Prelude.{◌≡◌, ◌≤◌, None, Some, if◌then◌else◌};
-ghost use Rattle.s6_events.specs.Mark.{letter_of, is_letter};
+//! The seven marks of supervisors, and their letters.
+ghost use Rattle.std.specs.Prelude.{◌≡◌};
+ghost use Rattle.s6_events.specs.Mark.{letter_of};
 
-use std::marker::Model;
-
-/// A letter of an event directory: a byte from 0x21 to 0x7e. Page `fifodir`; that an event is one printable byte is this
-/// project's own rule.
-#[derive(Clone, Copy, PartialEq, Eq, PartialOrd, Ord, Hash, Debug)]
-pub struct Letter {
-    byte: u8,
-}
-
-impl Model for Letter {
-    ghost use Rattle.std.specs.Prelude.{ℕ, ◌≡◌, true};
-    ghost use Rattle.s6_events.specs.Letter.{is_letter};
-
-    ghost Value = { ℕ };
-
-    ghost view = { λ l. l.byte };
-
-    ghost invariant = { λ l. is_letter l.byte ≡ true };
-
-    ghost inverse = { λ n. record { byte = n } };
-}
-
-impl Letter {
-    /// The letter of this byte, or None where it is below 0x21 or above 0x7e.
-    pub fn new(byte: u8) -> Option<Letter>
-        ensures { result ≡ (if is_letter byte then Some byte else None) }
-    {
-        if (0x21..=0x7e).contains(&byte) {
-            Some(Letter { byte })
-        } else {
-            None
-        }
-    }
-
-    /// Its byte.
-    pub fn byte(self) -> u8
-        ensures { result ≡ self }
-    {
-        self.byte
-    }
-}
+use super::letter::Letter;
 
 /// What a supervisor tells of its service, in the event directory of that service. Page `s6-supervise`, "Events".
 #[derive(Clone, Copy, Debug, Default, PartialEq, Eq)]
@@ -78,6 +38,6 @@ impl Mark {
             Mark::PermanentFailure => b'O',
             Mark::SupervisorEnded => b'x',
         };
-        Letter { byte }
+        Letter::of(byte)
     }
 }

@@ -1,4 +1,4 @@
-//! Reading one line.
+//! Reading one line, which its newline ends and the limit of `limits.rt` may. Which fault its end is, is found in `reading.rt`.
 ghost use Rattle.std.specs.Prelude.{◌≡◌, ◌<◌, ◌≤◌, List, ℕ, length, Option, None, Ok, IfOk, OnErr};
 ghost use Rattle.std.specs.Io.KnownBytes.{Consumes, Keeps};
 ghost use Rattle.s6_replay.specs.Lines.{EndsAs, GoesOnOrEnds, IsPart};

@@ -1,4 +1,4 @@
-//! Reading the lines of a step.
+//! Reading the lines of a step: which fault each of them has, and where it is.
 ghost use Rattle.std.specs.Prelude.{◌≡◌, ◌<◌, ◌≤◌, [], IfOk, IfErr, OnOk, IfSome};
 ghost use Rattle.std.specs.Io.KnownBytes.{Consumes, IsAtEnd};
 ghost use Rattle.s6_script.specs.Spelling.{spelling};

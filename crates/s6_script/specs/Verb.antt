@@ -1,5 +1,5 @@
 -- The words of an act: its verb, and the words behind it.
-use Rattle.std.specs.Prelude.{ℕ, Bool, true, false, List, [], ◌∷◌, ◌==◌, codes, decimal, map}
+use Rattle.std.specs.Prelude.{ℕ, Bool, true, false, List, [], ◌∷◌, ◌==◌, ◌-◌, ◌&&◌, codes, decimal, length, map, slice_index_or}
 use Rattle.std.specs.List.{slice_split}
 use Rattle.hex.specs.Hex.{encode_lower}
 use Rattle.s6_events.specs.declared.condition.Condition.{Condition}
@@ -42,6 +42,11 @@ verb_word verbs.Unsubscribe = codes "unsubscribe"
 verb_word verbs.Send = codes "send"
 verb_word verbs.Mkdir = codes "mkdir"
 verb_word verbs.Tick = codes "tick"
+
+-- the word is as long as this one and ends as it does
+abbrev pub has_form_of : List ℕ → List ℕ → Bool
+has_form_of word other = (length word == length other)
+    && (slice_index_or word (length word - 1) 0 == slice_index_or other (length other - 1) 0)
 
 -- the verb of an act
 abbrev pub verb_of_act : {A : Type 0} → Act A → Verb

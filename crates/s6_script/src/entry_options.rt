@@ -1,4 +1,5 @@
-//! The entries of a scan: what a configuration sets that isn't at its default, how an entry is spelled, and how it is read.
+//! The entries of a scan: what a configuration sets that isn't at its default, how an entry is spelled, and how it is read. Another spelling
+//! of the same entry is refused in `parse.rt`, as of every word: the input is spelled again and compared.
 ghost use Rattle.std.specs.Prelude.{◌≡◌, ◌≢◌, ◌++◌, ◌∷◌, ℕ, ◌+◌, ◌≤◌, List, length, map, codes, decimal, IsTrue, IfOk, OnOk, MatchOption, All};
 ghost use Rattle.std.specs.List.{slice_split, flat_map};
 ghost use Rattle.servicedir.specs.Config.{is_served};

@@ -2,14 +2,14 @@
 //! any value of its type. The input that comes of this is spelled again, and answered only where this gives the line. So each line
 //! that spells no input is refused with no case of its own. A pattern is built last, so that a line is refused for it only where it
 //! spells an input otherwise.
-ghost use Rattle.std.specs.Prelude.{◌≡◌, ℕ, ◌≤◌, ◌<◌, ◌^◌, ◌∷◌, ◌++◌, [], List, Bool, Err, IfOk, decimal, drop, map, length, slice_index_or};
+ghost use Rattle.std.specs.Prelude.{◌≡◌, ℕ, ◌≤◌, ◌<◌, ◌^◌, ◌-◌, ◌∷◌, ◌++◌, [], List, Bool, Err, IfOk, decimal, drop, map, length, slice_index_or};
 ghost use Rattle.hex.specs.Hex.{IsBytes, encode_lower};
 ghost use Rattle.s6_script.specs.Spelling.{HasExpression, IsSpelt, IsExit, IsAct, Spells, SpellsButForPattern, input_words};
 ghost use Rattle.s6_script.specs.Unbuilt.{act_read, input_read, FitsButText};
 ghost use Rattle.s6_events.specs.At.{last_moment};
 ghost use Rattle.svc_commands.specs.ControlLetter.{byte_of};
 ghost use Rattle.svc_commands.specs.declared.control_letter.ControlLetter.{ControlLetter};
-ghost use Rattle.s6_script.specs.Verb.{exit_words, order_word, verb_word, verb_of_act, details};
+ghost use Rattle.s6_script.specs.Verb.{exit_words, has_form_of, order_word, verb_word, verb_of_act, details};
 ghost use Rattle.svscan_core.specs.declared.entry.ScanOrder.{ScanOrder};
 
 use super::death_list::permafailon_of;
@@ -96,43 +96,61 @@ fn exit_of(words: &mut Words<'_>) -> Exit
     }
 }
 
-// Reads a verb: those that come most often are looked for first.
+// The last byte of a word, or 0 where it has none.
+fn last_of(word: &[u8]) -> u8
+    ensures { result ≡ slice_index_or word.now (length word.now - 1) 0 }
+{
+    match word.last() {
+        Some(last) => *last,
+        None => 0,
+    }
+}
+
+// Whether a word is as long as this one and ends as it does.
+fn has_form_of(word: &[u8], other: &[u8]) -> bool
+    ensures { result ≡ has_form_of word.now other.now }
+{
+    word.len() == other.len() && last_of(word) == last_of(other)
+}
+
+// Reads a verb: no two of them have both their length and their last byte in common, and what only looks like one is refused later,
+// since it is spelled in another way. Those that come most often are looked for first.
 fn verb_of(word: &[u8]) -> Verb
     ensures { (v : Verb) → word.now ≡ verb_word v → result ≡ v }
 {
-    if is_word(word, b"started") {
+    if has_form_of(word, b"started") {
         Verb::Started
-    } else if is_word(word, b"death") {
+    } else if has_form_of(word, b"death") {
         Verb::Death
-    } else if is_word(word, b"finished") {
+    } else if has_form_of(word, b"finished") {
         Verb::Finished
-    } else if is_word(word, b"notify") {
+    } else if has_form_of(word, b"notify") {
         Verb::Notify
-    } else if is_word(word, b"status") {
+    } else if has_form_of(word, b"status") {
         Verb::Status
-    } else if is_word(word, b"svc") {
+    } else if has_form_of(word, b"svc") {
         Verb::Svc
-    } else if is_word(word, b"wait") {
+    } else if has_form_of(word, b"wait") {
         Verb::Wait
-    } else if is_word(word, b"scan") {
+    } else if has_form_of(word, b"scan") {
         Verb::Scan
-    } else if is_word(word, b"scanctl") {
+    } else if has_form_of(word, b"scanctl") {
         Verb::Scanctl
-    } else if is_word(word, b"startfailed") {
+    } else if has_form_of(word, b"startfailed") {
         Verb::StartFailed
-    } else if is_word(word, b"tally") {
+    } else if has_form_of(word, b"tally") {
         Verb::Tally
-    } else if is_word(word, b"permafailon") {
+    } else if has_form_of(word, b"permafailon") {
         Verb::Permafailon
-    } else if is_word(word, b"cancel") {
+    } else if has_form_of(word, b"cancel") {
         Verb::Cancel
-    } else if is_word(word, b"subscribe") {
+    } else if has_form_of(word, b"subscribe") {
         Verb::Subscribe
-    } else if is_word(word, b"unsubscribe") {
+    } else if has_form_of(word, b"unsubscribe") {
         Verb::Unsubscribe
-    } else if is_word(word, b"send") {
+    } else if has_form_of(word, b"send") {
         Verb::Send
-    } else if is_word(word, b"mkdir") {
+    } else if has_form_of(word, b"mkdir") {
         Verb::Mkdir
     } else {
         Verb::Tick

@@ -6,8 +6,6 @@ mod history;
 mod reader;
 mod shot;
 mod shown;
-#[cfg(test)]
-mod tests;
 mod told;
 mod writer;
 

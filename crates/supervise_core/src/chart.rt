@@ -2,11 +2,10 @@
 ghost use Rattle.std.specs.Prelude.{◌≡◌, ◌+◌, ◌<◌, ◌≤◌, ◌^◌, length};
 ghost use Rattle.supervise_core.specs.ChartState.{new_service};
 ghost use Rattle.supervise_core.specs.Moves.{begin_move};
-ghost use Rattle.supervise_core.specs.Chart.{with_activity, with_config, changed_by};
+ghost use Rattle.supervise_core.specs.Chart.{changed_by};
 ghost use Rattle.supervise_core.specs.MatchesMove.{MatchesMove, AppendsMove, most_marks, most_orders};
 
 use super::change::Change;
-use super::moves::SUPERVISOR_PAUSE;
 use super::out::Out;
 use super::phase::Phase;
 use s6_events::{At, Exit, Name, Sid};
@@ -129,31 +128,5 @@ impl ChartState {
             Change::SetConfig(config) => self.set_config(*config),
             Change::SetActive(active) => self.set_active(*active, now),
         }
-    }
-
-    /// Its directory is listed, or no longer listed. That matters to an ended supervisor: it starts again 1000 ms after its
-    /// directory came back, and never while the directory is away. Page `s6-svscan`; the 1000 ms are chosen here.
-    pub fn set_active(&mut self, active: bool, now: At)
-        ensures { self.new ≡ with_activity active now self.old }
-    {
-        if self.phase == Phase::Gone {
-            if !active {
-                self.timer = None;
-            } else if !self.active {
-                self.timer = Some(now.later(SUPERVISOR_PAUSE));
-            }
-        }
-        self.active = active;
-    }
-
-    /// Its directory was read again, and says this now. The number of deaths that are kept stays that of the scan that opened
-    /// the service. Page `servicedir`.
-    pub fn set_config(&mut self, config: Config)
-        ensures { self.new ≡ with_config config self.old }
-    {
-        self.config = Config {
-            max_death_tally: self.config.max_death_tally,
-            ..config
-        };
     }
 }

@@ -1,11 +1,13 @@
 //! One service under its supervisor: what each report, each timer and each look at its directory makes of its state.
 #![tactic(auto)]
 
+mod activity;
 mod change;
 mod chart;
 mod image;
 mod letters;
 mod moves;
+mod new_config;
 mod out;
 mod phase;
 mod reports;

@@ -1,13 +1,10 @@
 -- A change that is added to nothing is the change.
-use Rattle.std.proofs.Common.{◌≡◌, [], ◌++◌, Bool, true, false, ◌||◌, refl, ap, ◌∙◌}
+use Rattle.std.proofs.Common.{◌≡◌, [], ◌++◌, false, ◌||◌, ap, ◌∙◌}
+use Rattle.std.proofs.Math.Bool.{or-false}
 use Rattle.supervise_core.specs.declared.chart.ChartState.{ChartState}
 use Rattle.supervise_core.specs.declared.out.Out.{Out}
 use Rattle.supervise_core.specs.ChartState.{Moved}
 use Rattle.supervise_core.specs.MatchesMove.{AppendsMove, MatchesMove}
-
-or_false : (b : Bool) → (b || false) ≡ b
-or_false true = refl
-or_false false = refl
 
 pub matches_alone : (moved : Moved) (after : ChartState) (old new : Out) → old.events.items ≡ [] → old.orders.items ≡ [] → old.stale ≡ false
     → AppendsMove moved after old new → MatchesMove moved after new
@@ -15,5 +12,5 @@ matches_alone moved after old new marks orders stale a = record {
   chart = a.chart;
   marks = a.marks ∙ ap (λ ms. ms ++ moved.marks) marks;
   orders = a.orders ∙ ap (λ os. os ++ moved.orders) orders;
-  stale = a.stale ∙ (ap (λ b. moved.stale || b) stale ∙ or_false moved.stale);
+  stale = a.stale ∙ (ap (λ b. moved.stale || b) stale ∙ or-false moved.stale);
 }

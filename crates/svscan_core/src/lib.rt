@@ -16,8 +16,6 @@ mod registry;
 mod scan;
 mod slots;
 mod table;
-#[cfg(test)]
-mod tests;
 mod visit;
 mod work;
 
@@ -26,6 +24,7 @@ pub use event::Event;
 pub use image::RegistryImage;
 pub use limits::{ORDER_LIMIT, SERVICE_LIMIT};
 pub use listing::has_repeats;
+pub use nuke_and_terminate::closing_after;
 pub use plan::{Answer, RegistryPlan};
 pub use registry::Registry;
 pub use work::ServiceWork;

@@ -3,8 +3,10 @@ ghost use Rattle.std.specs.Prelude.{◌≡◌, ◌+◌, ◌<◌, ◌≤◌, ◌^
 ghost use Rattle.supervise_core.specs.Chart.{control_move};
 ghost use Rattle.supervise_core.specs.MatchesMove.{MatchesMove};
 ghost use Rattle.supervise_core.specs.Service.{KeepsAgreeing};
-ghost use Rattle.svscan_core.specs.Work.{leave_letters, nuke_move, terminate_move};
+ghost use Rattle.svscan_core.specs.Work.{closing_after, leave_letters, nuke_move, terminate_move};
+ghost use Rattle.svscan_core.specs.Work.Work.{command};
 
+use super::entry::ScanOrder;
 use super::visit::take;
 use arrayvec::ArrayVec;
 use s6_events::At;
@@ -47,6 +49,16 @@ pub fn nuke(standing: &mut ServiceState, now: At, out: &mut Out)
         out.clear();
     } else {
         leave(standing, now, out);
+    }
+}
+
+/// Whether the tree is closing once this order is done: terminate closes it, for good. Page `s6-svscanctl`, `-t`.
+pub fn closing_after(order: ScanOrder, closing: bool) -> bool
+    ensures { result ≡ closing_after (command order) closing }
+{
+    match order {
+        ScanOrder::Terminate => true,
+        ScanOrder::Nuke => closing,
     }
 }
 

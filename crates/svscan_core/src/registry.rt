@@ -35,9 +35,6 @@ use std::alloc::Allocator;
 use std::marker::Model;
 use supervise_core::{Change, Out, Service, ServiceState};
 
-#[cfg(test)]
-mod tests;
-
 /// The services of a scan directory, at most `SERVICE_LIMIT`, in rising serial. A step is worked out first (`prepare`), which changes nothing
 /// that is shown, and then made (`commit`), which takes no memory; or one thing alone is done at once (`scan`, `control`,
 /// `change`). The memory in which a step is worked out is kept from step to step. Page `s6-svscan`.
@@ -107,6 +104,13 @@ impl<A: Allocator + Copy> Registry<A> {
         ensures sound { IsSound self.now.shown.next_sid (charts_of self.now.shown.services) }
     {
         self.slots.len()
+    }
+
+    /// The serial of the next service that is added: what `prepare` and `scan` ask of it can be tested by this.
+    pub fn next_sid(&self) -> Sid
+        ensures { result ≡ self.now.shown.next_sid }
+    {
+        Sid(self.next_sid)
     }
 
     /// The allocator that it was made with.

@@ -1,4 +1,4 @@
-//! A scan before anything is changed: which services are dropped, which names are added.
+//! A scan before anything is changed: what the listing makes of each service, which are dropped, which names are added.
 ghost use Rattle.std.specs.Prelude.{◌≡◌, ℕ, ◌+◌, ◌*◌, ◌<◌, ◌≤◌, ◌^◌, ◌++◌, ◌∷◌, [], List, map, filter, length, bytes_eq, All, IfOk, OnOk, true, false};
 ghost use Rattle.std.specs.List.{list_any};
 ghost use Rattle.s6_events.specs.Clock.{clock_of};
@@ -12,7 +12,7 @@ ghost use Rattle.svscan_core.specs.Listing.{names_in};
 ghost use Rattle.svscan_core.specs.Moves.{moment_of};
 ghost use Rattle.svscan_core.specs.Moving.{with_changes, timers_of, KeepNames};
 ghost use Rattle.svscan_core.specs.Names.{lists, repeats_name};
-ghost use Rattle.svscan_core.specs.Scan.{after_scan, dropped_by, stays, leaves, stands, with_service, with_new_name, with_name, with_names};
+ghost use Rattle.svscan_core.specs.Scan.{after_look, after_scan, dropped_by, stays, leaves, stands, with_service, with_new_name, with_name, with_names};
 ghost use Rattle.deadlines.specs.declared.timer.Timer.{Timer};
 ghost use Rattle.deadlines.specs.declared.timer.TimerChange.TheVariants.{Clear};
 ghost use Rattle.deadlines.specs.Timers.{with_timer_changes};
@@ -30,7 +30,7 @@ use super::visit::Visit;
 use s6_events::{At, Name, NoMemory, Sid};
 use servicedir::Config;
 use std::alloc::Allocator;
-use supervise_core::{ChartState, Out, Phase, Service};
+use supervise_core::{ChartState, Out, Phase, Service, ServiceState};
 
 /// What a listing drops and adds, before anything is changed. The lists keep their memory from step to step.
 #[derive(Drop)]
@@ -42,6 +42,22 @@ pub struct Scanning<A: Allocator> {
     pub added: Vec<Service<A>, A>,
     pub listed: Vec<Listed, A>,
     pub next_sid: u64,
+}
+
+/// A service becomes active or inactive by the listing, and takes the configuration that was read. Page `s6-svscan`.
+pub fn look_at<A: Allocator + Copy>(
+    standing: &mut ServiceState,
+    listing: &SortedListing<A>,
+    now: At,
+)
+    ensures { standing.new ≡ record standing.old
+        { chart = after_look listing.now now standing.old.chart } }
+{
+    let name = standing.chart().name;
+    standing.set_active(listing.has(&name), now);
+    if let Some(config) = listing.config_of(&name) {
+        standing.set_config(config);
+    }
 }
 
 // A service stays unless its directory and its supervisor are both gone.

@@ -4,13 +4,13 @@ ghost use Rattle.supervise_core.specs.ChartState.{no_move};
 ghost use Rattle.supervise_core.specs.Chart.{fire_move, changed_by};
 ghost use Rattle.supervise_core.specs.MatchesMove.{MatchesMove, most_orders};
 ghost use Rattle.supervise_core.specs.Service.{KeepsAgreeing};
-ghost use Rattle.svscan_core.specs.Scan.{after_look};
 ghost use Rattle.svscan_core.specs.Visit.{visit_move};
 ghost use Rattle.svscan_core.specs.declared.visit.Visit.TheVariants.{Fire};
 
 use super::entry::ScanOrder;
 use super::listing::SortedListing;
 use super::nuke_and_terminate::{nuke, terminate};
+use super::scan::look_at;
 use s6_events::At;
 use std::alloc::Allocator;
 use supervise_core::{Change, Out, ServiceState};
@@ -47,18 +47,6 @@ fn fire_timer(standing: &mut ServiceState, now: At, out: &mut Out)
     ensures few { length out.new.orders.items ≤ 1 }
 {
     take(standing, &Change::Fire, now, out);
-}
-
-// Its directory is listed or not, and says what was read.
-fn look_at<A: Allocator + Copy>(standing: &mut ServiceState, listing: &SortedListing<A>, now: At)
-    ensures { standing.new ≡ record standing.old
-        { chart = after_look listing.now now standing.old.chart } }
-{
-    let name = standing.chart().name;
-    standing.set_active(listing.has(&name), now);
-    if let Some(config) = listing.config_of(&name) {
-        standing.set_config(config);
-    }
 }
 
 impl<A: Allocator + Copy> Visit<'_, A> {

@@ -35,7 +35,7 @@ use Rattle.svscan_core.proofs.SerialsRise.{fired_numbers}
 use Rattle.svscan_core.proofs.Tallied.{joined_before}
 use Rattle.tree_core.specs.declared.effect.Effect.{Effect}
 use Rattle.tree_core.specs.declared.input.Input.{Input}
-use Rattle.tree_core.specs.declared.plan.StepPlan.{StepPlan}
+use Rattle.tree_core.specs.declared.step.StepPlan.{StepPlan}
 use Rattle.wait_conditions.specs.declared.verdict.Verdict.{Verdict}
 use Rattle.wait_conditions.specs.declared.wait_change.WaitAnswer.{WaitAnswer}
 use Rattle.wait_conditions.specs.Stands.{WaitsShown, WaitsStandFor}

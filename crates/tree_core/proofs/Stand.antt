@@ -7,7 +7,7 @@ use Rattle.event_directory.specs.Remembered.{AreHeard, DirectoriesPrepared, Dire
 use Rattle.s6_events.specs.declared.moment.Moment.{Moment}
 use Rattle.supervise_core.specs.Service.{Supervised}
 use Rattle.tree_core.specs.declared.input.Input.{Input}
-use Rattle.tree_core.specs.declared.plan.StepPlan.{StepPlan}
+use Rattle.tree_core.specs.declared.step.StepPlan.{StepPlan}
 use Rattle.tree_core.specs.Effect.{outcome_of}
 use Rattle.wait_conditions.specs.Kept.{StoredWaiter, NoneBegan}
 use Rattle.wait_conditions.specs.Stands.{WaitsShown, WaitsStandFor, stored_waiter, needed_from}

@@ -35,7 +35,7 @@ use Rattle.tree_core.specs.declared.input.Act.TheVariants.{Status, Permafailon, 
 use Rattle.tree_core.specs.declared.input.Input.{Input}
 use Rattle.tree_core.specs.declared.input.Target.{Target}
 use Rattle.tree_core.specs.declared.input.Target.TheVariants as target
-use Rattle.tree_core.specs.declared.plan.StepPlan.{StepPlan}
+use Rattle.tree_core.specs.declared.step.StepPlan.{StepPlan}
 use Rattle.tree_core.specs.declared.reply.Reply.{Reply}
 use Rattle.tree_core.specs.declared.reply.Reply.TheVariants as answers
 use Rattle.supervise_core.specs.ChartState.{is_gone}

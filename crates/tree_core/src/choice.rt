@@ -19,7 +19,7 @@ use event_directory::{DirectoryChange, Message, Source};
 use s6_events::{At, Condition, Mode, Name, NoMemory, Sid, SubId, WaitId};
 use std::alloc::Allocator;
 use supervise_core::{Change, Row};
-use svscan_core::{Entry, Registry, ScanOrder, ServiceWork};
+use svscan_core::{Entry, Registry, ScanOrder, ServiceWork, closing_after};
 use wait_conditions::WaitChange;
 
 /// What a step does for its act: why that is refused, or what it asks of the services, the waiters or the event directories.
@@ -73,7 +73,7 @@ impl Choice<'_> {
             Choice::Listing(listing) => asked.services = ServiceWork::Listing(listing),
             Choice::Command(order) => {
                 asked.services = ServiceWork::Command(*order);
-                asked.closing = closing || matches!(order, ScanOrder::Terminate);
+                asked.closing = closing_after(*order, closing);
             }
             Choice::Wait(condition, mode, timeout, sids) => {
                 asked.waiters = WaitChange::Add(*condition, *mode, sids.as_slice(), *timeout, now);

@@ -12,10 +12,10 @@ pub mod laws;
 mod limits;
 mod names;
 mod plain;
-mod plan;
 mod refusals;
 mod reply;
 mod rows;
+mod step;
 mod tree;
 
 pub use effect::{Effect, Match, Release};

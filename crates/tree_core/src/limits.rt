@@ -1,6 +1,18 @@
 //! The limits of a tree, whose words in clauses are those of `specs/Limits.antt`.
+ghost use Rattle.std.specs.Prelude.{◌≡◌, ◌==◌};
+ghost use Rattle.tree_core.specs.Step.{step_limit};
 
 pub use svscan_core::{ORDER_LIMIT, SERVICE_LIMIT};
 
 /// The most names of one wait.
 pub const NAME_LIMIT: usize = 16;
+
+/// The most steps of a tree: 2^48.
+const STEP_LIMIT: u64 = 281_474_976_710_656;
+
+/// Whether a tree that took so many steps is spent: each further input is refused, and changes nothing.
+pub fn is_spent(steps: u64) -> bool
+    ensures { result ≡ (steps == step_limit) }
+{
+    steps == STEP_LIMIT
+}

@@ -154,7 +154,7 @@ fn serials_of<A: Allocator + Copy>(
     Some(sids)
 }
 
-/// A wait for the services of these names.
+/// A wait for the services of these names. Where 1,024 waiters stand it is refused last, by `refusal_for` of wait_conditions.
 pub fn wait<'a, A: Allocator + Copy>(
     alloc: A,
     registry: &Registry<A>,

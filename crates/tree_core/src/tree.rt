@@ -1,4 +1,4 @@
-//! The tree: one input is one step.
+//! The tree: one input is one step, worked out by `step.rt` and then made here, or is handed back whole for want of memory.
 ghost use Rattle.std.specs.Prelude.{◌≡◌, IfOk, OnOk, IfErr, IsOk, true, option_map};
 ghost use Rattle.tree_core.specs.Acts.{offer_of};
 ghost use Rattle.tree_core.specs.Effect.{outcome_of};
@@ -19,10 +19,10 @@ use super::ahead::{are_gone, next_timer};
 use super::effect::Effect;
 use super::image::Image;
 use super::input::{Act, Input};
-use super::limits::SERVICE_LIMIT;
-use super::plan::plan_step;
+use super::limits::{SERVICE_LIMIT, is_spent};
 use super::reply::{Refusal, Reply};
 use super::rows::{row_of, rows_of};
+use super::step::plan_step;
 use arrayvec::ArrayVec;
 use deadlines::Deadlines;
 use event_directory::{Directories, DirectoryAnswer, Pattern, SubView};
@@ -32,9 +32,6 @@ use std::marker::Model;
 use supervise_core::Row;
 use svscan_core::Registry;
 use wait_conditions::{WaitState, Waits, earlier_of};
-
-/// The most steps of a tree: 2^48.
-const STEP_LIMIT: u64 = 281_474_976_710_656;
 
 /// All services, waiters and event directories, their clock and their history: the written machine, as far as it is remembered. A tree keeps the allocator
 /// that it was made with.
@@ -94,7 +91,7 @@ impl<A: Allocator + Copy> Tree<A> {
         ensures quiet { IsQuiet input self.old.clock (charts_of self.old.services) → IsOk result }
     {
         effect.clear();
-        if self.steps == STEP_LIMIT {
+        if is_spent(self.steps) {
             effect.reply = Reply::Refused(Refusal::Spent);
             return Ok(());
         }

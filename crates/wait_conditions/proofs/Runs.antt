@@ -214,20 +214,6 @@ put_is xs one two place sid q state was within all stop is e f =
     by_zero xs one two place sid q state _ refl within all stop e
     (f ∙ ap (λ s. if nat_lt 0 sid then take place one ++ with_run (sid - 1) s (drop place one) else one) is)
 
--- a run before a place reaches up to a serial
-pub covered_before : (xs : List StateRun) (j q : ℕ) (r : StateRun) → j < length xs → r ≡ get_or xs j r → q ≤ r.last
-    → covers (take (suc j) xs) q ≡ true
-covered_before [] j q r lt e h = absurd (omega (arith, lt))
-covered_before (x ∷ xs) zero q r lt e h =
-    let near : nat_le q x.last ≡ true = grind (arith, nat_tests, ap (λ (t : StateRun). t.last) e) in
-    ap (λ b. b || false) near
-covered_before (x ∷ xs) (suc j) q r lt e h =
-    or_rest (nat_le q x.last) (covers (take (suc j) xs) q) (covered_before xs j q r (omega (arith, lt)) e h)
-  where
-    or_rest : (a b : Bool) → b ≡ true → (a || b) ≡ true
-    or_rest true b h = refl
-    or_rest false b h = h
-
 set_first : (sid last q : ℕ) (state was rest : SupervisorState) (lt eq : Bool) → last ≡ sid → (q < sid → ⊥) → nat_lt q sid ≡ lt → (q == sid) ≡ eq
     → (if nat_le q sid then state else rest) ≡ (if eq then state else (if nat_le q last then was else rest))
 set_first sid last q state was rest lt true same none l e =

@@ -1,15 +1,7 @@
 -- What one more mark of a service changes.
-use Rattle.std.specs.Prelude.{Bool, true, false, Option, Some, None}
+use Rattle.std.specs.Prelude.{Bool, true, false, Option, Some}
 use Rattle.s6_events.specs.declared.mark.Mark.{Mark}
 use Rattle.s6_events.specs.declared.mark.Mark.TheVariants as mark
-
--- s begins anew, u, U, d and D become the letter, and O and x leave it
-abbrev pub letter_after : Option Mark → Mark → Mark
-letter_after None letter = letter
-letter_after (Some mark.SupervisorStarted) letter = mark.FinishDone
-letter_after (Some mark.PermanentFailure) letter = letter
-letter_after (Some mark.SupervisorEnded) letter = letter
-letter_after (Some other) letter = other
 
 -- s begins a supervisor, and x ends it
 abbrev pub ended_after : Option Mark → Bool → Bool

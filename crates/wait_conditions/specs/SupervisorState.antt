@@ -2,12 +2,12 @@
 use Rattle.std.specs.Prelude.{ℕ, List, Option}
 use Rattle.s6_events.specs.declared.mark.Mark.{Mark}
 use Rattle.s6_events.specs.declared.moment.Moment.{Moment}
-use Rattle.s6_events.specs.CurrentLetter.{current_letter}
+use Rattle.s6_events.specs.CurrentLetter.{current_letter, letter_after}
 use Rattle.wait_conditions.specs.declared.supervisor_state.SupervisorState.{SupervisorState}
 use Rattle.wait_conditions.specs.declared.supervisor_state.SinceState.{SinceState}
 use Rattle.wait_conditions.specs.Holds.{has_spawned}
 use Rattle.wait_conditions.specs.Fails.{has_failed, has_ended}
-use Rattle.wait_conditions.specs.OneMore.{letter_after, ended_after, spawned_after, failed_after}
+use Rattle.wait_conditions.specs.OneMore.{ended_after, spawned_after, failed_after}
 
 -- its current letter, and whether its supervisor has ended
 abbrev pub state_of : ℕ → List Moment → SupervisorState

@@ -1,15 +1,14 @@
-//! The counters of a waiter, and the verdict that they give.
+//! The counters of a waiter, by which `verdict.rt` gives its verdict.
 ghost use Rattle.std.specs.Prelude.{◌≡◌, ◌≤◌, [], map, length, false, is_some};
 ghost use Rattle.s6_events.specs.Newest.{mark_of};
-ghost use Rattle.wait_conditions.specs.Counts.{recounted, counts_after, counts_of, count_is_enough, count_is_hopeless, verdict_by};
+ghost use Rattle.wait_conditions.specs.Counts.{recounted, counts_after, counts_of};
 ghost use Rattle.wait_conditions.specs.Verdict.{is_failure_for_good};
 ghost use Rattle.wait_conditions.specs.Watched.{watched_after};
 
 use crate::failure::Failure;
 use crate::supervisor_state::mark_in;
-use crate::verdict::{Verdict, WaitState};
 use crate::watched_service::WatchedService;
-use s6_events::{Condition, Mode, Moment};
+use s6_events::{Condition, Moment};
 
 /// How many of a waiter's services hold, how many fail, and how many of these for good.
 #[derive(Clone, Copy, Debug)]
@@ -79,43 +78,6 @@ impl Counts {
             holding: recount(self.holding, false, joining.holds),
             failing: recount(self.failing, false, joining.failure.is_some()),
             permanent: recount(self.permanent, false, is_permanent_failure(joining.failure)),
-        }
-    }
-
-    fn is_enough(&self, mode: Mode, services: usize) -> bool
-        ensures { result ≡ count_is_enough mode services self.now.holding }
-    {
-        match mode {
-            Mode::All => self.holding == services,
-            Mode::One => self.holding > 0,
-        }
-    }
-
-    fn is_hopeless(&self, mode: Mode, services: usize) -> bool
-        ensures { result ≡ count_is_hopeless mode services self.now.failing }
-    {
-        match mode {
-            Mode::All => self.failing > 0,
-            Mode::One => self.failing == services,
-        }
-    }
-
-    /// The verdict that they give of so many services, late or not.
-    pub fn verdict(&self, mode: Mode, services: usize, late: bool) -> WaitState
-        ensures { result ≡ verdict_by mode services self.now late }
-    {
-        if self.is_enough(mode, services) {
-            WaitState::Released(Verdict::Held)
-        } else if self.is_hopeless(mode, services) {
-            if self.permanent > 0 {
-                WaitState::Released(Verdict::Failed)
-            } else {
-                WaitState::Released(Verdict::Gone)
-            }
-        } else if late {
-            WaitState::Released(Verdict::TimedOut)
-        } else {
-            WaitState::Waiting
         }
     }
 }

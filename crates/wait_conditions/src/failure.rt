@@ -1,4 +1,4 @@
-//! Why a condition that does not hold fails, if it does.
+//! Why a condition that does not hold fails, if it does. What the newest marks say of that is kept in `supervisor_state.rt`.
 ghost use Rattle.std.specs.Prelude.{◌≡◌};
 ghost use Rattle.wait_conditions.specs.Fails.{failure_at};
 

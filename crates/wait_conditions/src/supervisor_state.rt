@@ -1,10 +1,11 @@
-//! What is known of a service, and of it since a waiter began.
+//! What the newest marks of a service say, in all the history and since a waiter began: its letter, a start, a failure, an end.
 ghost use Rattle.std.specs.Prelude.{◌≡◌, []};
+ghost use Rattle.s6_events.specs.CurrentLetter.{letter_after};
 ghost use Rattle.s6_events.specs.Newest.{mark_of};
-ghost use Rattle.wait_conditions.specs.OneMore.{letter_after, ended_after, spawned_after, failed_after};
+ghost use Rattle.wait_conditions.specs.OneMore.{ended_after, spawned_after, failed_after};
 ghost use Rattle.wait_conditions.specs.SupervisorState.{state_of, since_of, state_after, since_after};
 
-use s6_events::{Mark, Moment, Sid};
+use s6_events::{Mark, Moment, Sid, letter_after};
 
 /// What is known of a service.
 #[derive(Clone, Copy, Debug, PartialEq, Eq)]
@@ -34,9 +35,8 @@ fn next_letter(mark: Option<Mark>, letter: Mark) -> Mark
     ensures { result ≡ letter_after mark letter }
 {
     match mark {
-        None | Some(Mark::PermanentFailure) | Some(Mark::SupervisorEnded) => letter,
-        Some(Mark::SupervisorStarted) => Mark::FinishDone,
-        Some(other) => other,
+        Some(mark) => letter_after(letter, mark),
+        None => letter,
     }
 }
 

@@ -1,4 +1,10 @@
-//! Verdicts, and where a waiter stands.
+//! Verdicts: which one a waiter gets, and where it stands.
+ghost use Rattle.std.specs.Prelude.{◌≡◌};
+ghost use Rattle.wait_conditions.specs.Counts.{count_is_enough, count_is_hopeless, verdict_by};
+
+use crate::counts::Counts;
+use s6_events::Mode;
+
 /// How a wait ends. Page `s6-svwait`; `Gone` is chosen here.
 #[derive(Clone, Copy, Debug, PartialEq, Eq)]
 pub enum Verdict {
@@ -19,4 +25,44 @@ pub enum WaitState {
     Waiting,
     /// It was released, with this verdict, which never changes.
     Released(Verdict),
+}
+
+// Whether the condition holds of as many services as the mode asks for.
+fn is_enough(counts: Counts, mode: Mode, services: usize) -> bool
+    ensures { result ≡ count_is_enough mode services counts.holding }
+{
+    match mode {
+        Mode::All => counts.holding == services,
+        Mode::One => counts.holding > 0,
+    }
+}
+
+// Whether it fails of so many that it can't hold any more.
+fn is_hopeless(counts: Counts, mode: Mode, services: usize) -> bool
+    ensures { result ≡ count_is_hopeless mode services counts.failing }
+{
+    match mode {
+        Mode::All => counts.failing > 0,
+        Mode::One => counts.failing == services,
+    }
+}
+
+/// The verdict over so many services, of which the condition holds and fails as counted, where the deadline has come or not: the first
+/// that applies of Held, Failed or Gone, TimedOut, and Waiting.
+pub fn verdict_of(counts: Counts, mode: Mode, services: usize, late: bool) -> WaitState
+    ensures { result ≡ verdict_by mode services counts late }
+{
+    if is_enough(counts, mode, services) {
+        WaitState::Released(Verdict::Held)
+    } else if is_hopeless(counts, mode, services) {
+        if counts.permanent > 0 {
+            WaitState::Released(Verdict::Failed)
+        } else {
+            WaitState::Released(Verdict::Gone)
+        }
+    } else if late {
+        WaitState::Released(Verdict::TimedOut)
+    } else {
+        WaitState::Waiting
+    }
 }

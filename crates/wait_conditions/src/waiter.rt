@@ -15,7 +15,7 @@ use crate::counts::{Counts, count_all, watch_all};
 use crate::deadline::reaches_deadline;
 use crate::service_states::ServiceStates;
 use crate::supervisor_state::SinceState;
-use crate::verdict::{Verdict, WaitState};
+use crate::verdict::{Verdict, WaitState, verdict_of};
 use crate::watched_service::WatchedService;
 use arrayvec::ArrayVec;
 use s6_events::{Condition, Mode, Moment, Sid, WaitId};
@@ -95,9 +95,7 @@ fn judge(waiter: &mut Waiter, late: bool)
     ensures waiter { waiter_view waiter.new ≡ judged late (waiter_view waiter.old) }
     ensures counted { IsCounted waiter.new }
 {
-    waiter.standing = waiter
-        .counts
-        .verdict(waiter.mode, waiter.watched.len(), late);
+    waiter.standing = verdict_of(waiter.counts, waiter.mode, waiter.watched.len(), late);
     if waiter.standing != WaitState::Waiting {
         waiter.watched.clear();
         waiter.counts = Counts::none();

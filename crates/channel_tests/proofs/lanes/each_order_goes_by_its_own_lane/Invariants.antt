@@ -1,0 +1,6 @@
+use Rattle.std.proofs.Common.{[], if◌then◌else◌, nat_eq}
+use Rattle.channel_tests.proofs.lanes.each_order_goes_by_its_own_lane.Given as goal
+
+-- the rings that were just opened
+abbrev pub ghosts-send_and_carry : goal.ghosts-send_and_carry
+ghosts-send_and_carry g a = record { lane_ring = λ lane. if nat_eq lane 0 then a.first.0.ring else a.second.0.ring; asked_before = λ lane. [] }

@@ -1,0 +1,6 @@
+use Rattle.std.proofs.Common.{[]}
+use Rattle.channel_tests.proofs.lanes.refused_growth_loses_nothing.Given as goal
+
+-- the ring that was just opened is the only one
+abbrev pub ghosts-ask_twice : goal.ghosts-ask_twice
+ghosts-ask_twice g a = record { lane_ring = λ lane. a.ring.ring; asked_before = λ lane. [] }

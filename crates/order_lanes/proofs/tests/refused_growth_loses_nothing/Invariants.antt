@@ -1,6 +1,0 @@
-use Rattle.std.proofs.Common.{[]}
-use Rattle.order_lanes.proofs.tests.refused_growth_loses_nothing.Given as goal
-
--- the ring that was just opened is the only one
-abbrev pub ghosts-ask_twice : goal.ghosts-ask_twice
-ghosts-ask_twice g a = record { lane_ring = λ lane. a.ring.ring; asked_before = λ lane. [] }

@@ -1,0 +1,16 @@
+//! The current letter of a service: the newest of its marks s, u, U, d and D, where an s counts as D.
+ghost use Rattle.std.specs.Prelude.{◌≡◌, Some};
+ghost use Rattle.s6_events.specs.CurrentLetter.{letter_after};
+
+use super::mark::Mark;
+
+/// The current letter of a service once it has one more mark. Before the first one it is D. Page `s6-svstat`.
+pub fn letter_after(letter: Mark, mark: Mark) -> Mark
+    ensures { result ≡ letter_after (Some mark) letter }
+{
+    match mark {
+        Mark::SupervisorStarted => Mark::FinishDone,
+        Mark::PermanentFailure | Mark::SupervisorEnded => letter,
+        Mark::Spawned | Mark::Ready | Mark::Died | Mark::FinishDone => mark,
+    }
+}

@@ -1,0 +1,25 @@
+//! What a scan makes of a service that stands: it becomes active or inactive.
+ghost use Rattle.std.specs.Prelude.{◌≡◌};
+ghost use Rattle.supervise_core.specs.Chart.{with_activity};
+
+use super::chart::ChartState;
+use super::moves::SUPERVISOR_PAUSE;
+use super::phase::Phase;
+use s6_events::At;
+
+impl ChartState {
+    /// Its directory is listed, or no longer listed. That matters to an ended supervisor: it starts again 1000 ms after its
+    /// directory came back, and never while the directory is away. Page `s6-svscan`; the 1000 ms are chosen here.
+    pub fn set_active(&mut self, active: bool, now: At)
+        ensures { self.new ≡ with_activity active now self.old }
+    {
+        if self.phase == Phase::Gone {
+            if !active {
+                self.timer = None;
+            } else if !self.active {
+                self.timer = Some(now.later(SUPERVISOR_PAUSE));
+            }
+        }
+        self.active = active;
+    }
+}

@@ -1,0 +1,226 @@
+use Rattle.std.proofs.Common.{◌≡◌, List, length, subst, arith, ◌+◌, ◌∙◌, ◌++◌, refl, sym, ap, map}
+use Rattle.event_directory.specs.Changes.{DirectoryRequest, directory_request_of}
+use Rattle.supervise_core.specs.Chart.{fire_move}
+use Rattle.svscan_core.specs.Deaths.{deaths_given, KeepTallied}
+use Rattle.svscan_core.specs.Moves.{moment_of, services_after}
+use Rattle.svscan_core.specs.Registry.{result_of, registry_prepared, RegistryPrepared}
+use Rattle.svscan_core.specs.Table.{Table, charts_of}
+use Rattle.svscan_core.specs.Asked.{work_asked}
+use Rattle.svscan_core.specs.Work.{Work, WorkResult, step_result}
+use Rattle.svscan_core.proofs.Few.{step_next}
+use Rattle.svscan_core.proofs.Marks.{step_events}
+use Rattle.svscan_core.proofs.Growing.{Below, step_grows}
+use Rattle.s6_events.specs.declared.moment.Moment.{Moment}
+use Rattle.wait_conditions.specs.Stands.{waits_shown}
+use Rattle.wait_conditions.specs.Steps.{WaitRequest, wait_request_of}
+use Rattle.tree_core.specs.Listening.{as_match, as_release}
+use Rattle.tree_core.specs.Plan.{present_state, chosen_of, chosen_change, chosen_ask, chosen_reply, released_by_answer, ListenersAnswer}
+use Rattle.tree_core.specs.Step.{clock_moments}
+use Rattle.tree_core.proofs.PlanMakes.{HearsLetters, Listens, plans_all, not_ok, not_ok_and}
+use Rattle.tree_core.proofs.TimersDue.{due_now, none_for_quiet}
+use Rattle.svscan_core.specs.Timers.{TimersAgree}
+use Rattle.deadlines.specs.Timers.{with_timer_changes}
+use Rattle.tree_core.proofs.step.plan_step.Goals as goal
+
+pub prepare-requires-clause-due : goal.prepare-requires-clause-due
+prepare-requires-clause-due g c =
+    due_now c.later-now.result c.args.registry.now.shown.next_sid _ c.args.deadlines.now.timers (charts_of c.args.registry.now.shown.services)
+    c.later-now.ensures.bound (c.as_slice.ensures.value ∙ c.in_ok-due.ensures.due) c.requires.timers c.len-count.ensures.sound.order
+
+pub returns-in_err-due-clause-quiet : goal.returns-in_err-due-clause-quiet
+returns-in_err-due-clause-quiet g c = λ q.
+    not_ok c.due.result _ _ c.in_err-due.was
+    (c.due.ensures.quiet (none_for_quiet c.args.input.now c.args.clock c.later-now.result _ c.args.deadlines.now.timers
+    (charts_of c.args.registry.now.shown.services) c.later-now.ensures.later c.later-now.ensures.bound refl c.requires.timers q))
+
+pub returns-in_err-services-clause-quiet : goal.returns-in_err-services-clause-quiet
+returns-in_err-services-clause-quiet g c = λ q.
+    let none = none_for_quiet c.args.input.now c.args.clock c.later-now.result c.as_slice.result.now c.args.deadlines.now.timers
+    (charts_of c.args.registry.now.shown.services) c.later-now.ensures.later c.later-now.ensures.bound
+    (c.as_slice.ensures.value ∙ c.in_ok-due.ensures.due) c.requires.timers q in
+    let still = c.requests-asked.ensures.services ∙ (c.in_ok-choice.ensures.idle q.reading).work in
+    not_ok c.prepare.result _ _ c.in_err-services.was (c.prepare.ensures.quiet none still)
+
+pub returns-clause-step : goal.returns-clause-step
+returns-clause-step g c = λ steps left m is later made.
+    let services = c.args.registry.now.shown.services in
+    let next = c.args.registry.now.shown.next_sid in
+    let prepared = registry_prepared c.prepare.new.self.shown.services c.in_ok-services.services in
+    let kept = waits_shown c.args.waits.now in
+    let moments = c.in_ok-moments.moments.items in
+    let heard = c.args.directories.now.shown in
+    let hearing = c.prepare-3.new.self.prepared in
+    let given = c.in_ok-waiters.waiters.released in
+    let matches = c.in_ok-letters.letters.matches.items in
+    let told : ListenersAnswer = record { waiters = c.in_ok-waiters.waiters.answer; directories = c.in_ok-letters.letters.answer } in
+    let planned : c.in_ok-history.history ≡ moments = c.in_ok-history.ensures.ok in
+    plans_all (present_state c.args.clock steps c.args.closing services next kept heard) c.later-now.result c.args.input.now _
+    prepared later hearing c.release_all.new.self (chosen_of c.in_ok-choice.choice) left c.later-now.ensures.later
+    (record {
+      given = given;
+      matches = matches;
+      told = told;
+      answered = refl;
+      now_is = refl;
+      closes = c.requests-asked.ensures.closing;
+      works = c.in_ok-services.ensures.prepared ∙ ap (λ w. step_result w c.later-now.result (charts_of services) next) c.requests-asked.ensures.services;
+      chooses = λ n history fired. c.in_ok-choice.ensures.chosen n history fired;
+      reply = c.release_all.ensures.reply ∙ (c.match_all.ensures.reply ∙ (c.tell.ensures.reply ∙ (c.in_ok-effect.ensures.reply
+          ∙ ((λ i. chosen_reply (chosen_of c.in_ok-choice.choice) c.prepare.new.self.shown.services (result_of prepared)
+          (record { waiters = c.answer.ensures i; directories = c.in_ok-letters.letters.answer }))
+          ∙ ap (λ (t : Table). chosen_reply (chosen_of c.in_ok-choice.choice) t.services (result_of prepared) told)
+          c.prepare.ensures.shown))));
+      events = c.release_all.ensures.events ∙ (c.match_all.ensures.events
+          ∙ (c.in_ok-tell.ensures.events ∙ (ap (λ es. es ++ c.events-2.result.now) c.requires.events ∙ c.events-2.ensures)));
+      orders = c.release_all.ensures.orders ∙ (c.match_all.ensures.orders
+          ∙ (c.in_ok-tell.ensures.orders ∙ (ap (λ os. os ++ c.orders.result.now) c.requires.orders ∙ c.orders.ensures.orders)));
+      matched = c.release_all.ensures.matched ∙ (c.in_ok-match_all.ensures.matched
+          ∙ ap (λ ms. ms ++ map as_match matches) (c.tell.ensures.matched ∙ c.requires.matched));
+      released = c.in_ok-release_all.ensures.released
+          ∙ ap (λ rs. rs ++ (map as_release given ++ map as_release (released_by_answer told.waiters)))
+          (c.match_all.ensures.released ∙ (c.tell.ensures.released ∙ c.requires.released));
+      moments = planned ∙ (c.in_ok-moments.ensures.moments
+          ∙ ap (λ es. clock_moments c.args.clock c.args.input.now.at ++ map moment_of es) c.events.ensures);
+      listens =
+          subst (λ (x : List Moment). Listens kept later x (chosen_change c.later-now.result (chosen_of c.in_ok-choice.choice)) given told.waiters)
+          (sym planned)
+          (subst (λ (x : WaitRequest). Listens kept later moments x given told.waiters) c.requests-asked.ensures.waiters
+          (subst (λ (x : List Moment). Listens kept later x (wait_request_of c.requests-asked.result.waiters) given told.waiters)
+          c.as_slice-joining.ensures.value
+          (record {
+            stands = λ w st. c.in_ok-waiters.ensures.prepared w st later made;
+            released = c.in_ok-waiters.ensures.released;
+            answer = c.in_ok-waiters.ensures.answer;
+          })));
+      hears_letters =
+          subst (λ (x : List Moment). HearsLetters heard hearing x (chosen_ask (chosen_of c.in_ok-choice.choice)) matches told.directories)
+          (sym planned)
+          (subst (λ (x : DirectoryRequest). HearsLetters heard hearing moments x matches told.directories) c.requests-asked.ensures.directories
+          (subst (λ (x : List Moment). HearsLetters heard hearing x (directory_request_of c.requests-asked.result.directories) matches told.directories)
+          c.as_slice-joining.ensures.value
+          (record { stands = c.in_ok-letters.ensures.prepared; matched = c.in_ok-letters.ensures.matches; answer = c.in_ok-letters.ensures.answer })));
+      agrees = c.in_ok-services.ensures.agrees;
+      tallies = subst (λ (w : Work). KeepTallied next services prepared.services
+          (deaths_given w c.later-now.result (services_after (fire_move c.later-now.result) (charts_of services)))) c.requests-asked.ensures.services
+          c.in_ok-services.ensures.tallies;
+      sound = c.len-count.ensures.sound;
+    }) m is
+
+pub returns-clause-grows : goal.returns-clause-grows
+returns-clause-grows g c = λ n below.
+    let works = c.in_ok-services.ensures.prepared in
+    subst (λ (w : WorkResult). Below (n + 2) w.services) (sym works)
+    (step_grows (work_asked c.requests-asked.result.services) c.later-now.result
+    (charts_of c.args.registry.now.shown.services) c.args.registry.now.shown.next_sid n below)
+
+pub returns-clause-next : goal.returns-clause-next
+returns-clause-next g c =
+    let works = ap (λ (w : WorkResult). w.next_sid) c.in_ok-services.ensures.prepared in
+    let few = step_next (work_asked c.requests-asked.result.services) c.later-now.result
+    (charts_of c.args.registry.now.shown.services) c.args.registry.now.shown.next_sid c.len-count.ensures.sound.few in
+    omega (arith, works, few)
+
+pub returns-clause-timers : goal.returns-clause-timers
+returns-clause-timers g c = λ timers agree.
+    subst (λ cs. TimersAgree (with_timer_changes cs timers)
+    (charts_of (registry_prepared c.prepare.new.self.shown.services c.in_ok-services.services).services))
+    (sym (c.in_ok-timers.ensures.ok ∙ c.timers.ensures)) (c.in_ok-services.ensures.timers timers agree)
+
+pub returns-clause-count : goal.returns-clause-count
+returns-clause-count g c =
+    let events = ap (λ (w : WorkResult). length w.events) c.in_ok-services.ensures.prepared in
+    let few = step_events (work_asked c.requests-asked.result.services) c.later-now.result
+    (charts_of c.args.registry.now.shown.services) c.args.registry.now.shown.next_sid c.len-count.ensures.sound.few in
+    let seen = ap length c.events.ensures in
+    let planned = ap length c.in_ok-history.ensures.ok in
+    omega (arith, events, few, seen, planned, c.in_ok-moments.ensures.count)
+
+pub returns-in_err-tell-clause-quiet : goal.returns-in_err-tell-clause-quiet
+returns-in_err-tell-clause-quiet g c = λ q.
+    let none = none_for_quiet c.args.input.now c.args.clock c.later-now.result c.as_slice.result.now c.args.deadlines.now.timers
+    (charts_of c.args.registry.now.shown.services) c.later-now.ensures.later c.later-now.ensures.bound
+    (c.as_slice.ensures.value ∙ c.in_ok-due.ensures.due) c.requires.timers q in
+    let still = c.requests-asked.ensures.services ∙ (c.in_ok-choice.ensures.idle q.reading).work in
+    let idle = c.in_ok-services.ensures.still none still in
+    let nothing = ap (λ (p : RegistryPrepared). p.events) idle in
+    not_ok c.tell.result _ _ c.in_err-tell.was (c.tell.ensures.quiet (c.events-2.ensures ∙ nothing))
+
+pub returns-in_err-waiters-clause-quiet : goal.returns-in_err-waiters-clause-quiet
+returns-in_err-waiters-clause-quiet g c = λ q.
+    let none = none_for_quiet c.args.input.now c.args.clock c.later-now.result c.as_slice.result.now c.args.deadlines.now.timers
+    (charts_of c.args.registry.now.shown.services) c.later-now.ensures.later c.later-now.ensures.bound
+    (c.as_slice.ensures.value ∙ c.in_ok-due.ensures.due) c.requires.timers q in
+    let still = c.requests-asked.ensures.services ∙ (c.in_ok-choice.ensures.idle q.reading).work in
+    let idle = c.in_ok-services.ensures.still none still in
+    let nothing = ap (λ (p : RegistryPrepared). p.events) idle in
+    let silent = c.as_slice-joining.ensures.value ∙ c.in_ok-moments.ensures.quiet q.early (c.events.ensures ∙ nothing) in
+    not_ok_and c.prepare-2.result _ _ _ c.in_err-waiters.was
+    (c.prepare-2.ensures.quiet silent (c.requests-asked.ensures.waiters ∙ (c.in_ok-choice.ensures.idle q.reading).waiters))
+
+pub returns-in_err-letters-clause-quiet : goal.returns-in_err-letters-clause-quiet
+returns-in_err-letters-clause-quiet g c = λ q.
+    let none = none_for_quiet c.args.input.now c.args.clock c.later-now.result c.as_slice.result.now c.args.deadlines.now.timers
+    (charts_of c.args.registry.now.shown.services) c.later-now.ensures.later c.later-now.ensures.bound
+    (c.as_slice.ensures.value ∙ c.in_ok-due.ensures.due) c.requires.timers q in
+    let still = c.requests-asked.ensures.services ∙ (c.in_ok-choice.ensures.idle q.reading).work in
+    let idle = c.in_ok-services.ensures.still none still in
+    let nothing = ap (λ (p : RegistryPrepared). p.events) idle in
+    let silent = c.as_slice-joining.ensures.value ∙ c.in_ok-moments.ensures.quiet q.early (c.events.ensures ∙ nothing) in
+    not_ok_and c.prepare-3.result _ _ _ c.in_err-letters.was
+    (c.prepare-3.ensures.quiet silent (c.requests-asked.ensures.directories ∙ (c.in_ok-choice.ensures.idle q.reading).directories))
+
+pub returns-in_err-history-clause-quiet : goal.returns-in_err-history-clause-quiet
+returns-in_err-history-clause-quiet g c = λ q.
+    let none = none_for_quiet c.args.input.now c.args.clock c.later-now.result c.as_slice.result.now c.args.deadlines.now.timers
+    (charts_of c.args.registry.now.shown.services) c.later-now.ensures.later c.later-now.ensures.bound
+    (c.as_slice.ensures.value ∙ c.in_ok-due.ensures.due) c.requires.timers q in
+    let still = c.requests-asked.ensures.services ∙ (c.in_ok-choice.ensures.idle q.reading).work in
+    let idle = c.in_ok-services.ensures.still none still in
+    let nothing = ap (λ (p : RegistryPrepared). p.events) idle in
+    let silent = c.in_ok-moments.ensures.quiet q.early (c.events.ensures ∙ nothing) in
+    not_ok c.prepare-4.result _ _ c.in_err-history.was (c.prepare-4.ensures.quiet silent)
+
+pub returns-in_err-timers-clause-quiet : goal.returns-in_err-timers-clause-quiet
+returns-in_err-timers-clause-quiet g c = λ q.
+    let none = none_for_quiet c.args.input.now c.args.clock c.later-now.result c.as_slice.result.now c.args.deadlines.now.timers
+    (charts_of c.args.registry.now.shown.services) c.later-now.ensures.later c.later-now.ensures.bound
+    (c.as_slice.ensures.value ∙ c.in_ok-due.ensures.due) c.requires.timers q in
+    let still = c.requests-asked.ensures.services ∙ (c.in_ok-choice.ensures.idle q.reading).work in
+    let idle = c.in_ok-services.ensures.still none still in
+    let nothing = ap (λ (p : RegistryPrepared). p.events) idle in
+    not_ok c.prepare-5.result _ _ c.in_err-timers.was
+    (c.prepare-5.ensures.quiet (c.timers.ensures ∙ ap (λ (p : RegistryPrepared). p.timers) idle))
+
+pub returns-in_err-match_all-clause-quiet : goal.returns-in_err-match_all-clause-quiet
+returns-in_err-match_all-clause-quiet g c = λ q.
+    let none = none_for_quiet c.args.input.now c.args.clock c.later-now.result c.as_slice.result.now c.args.deadlines.now.timers
+    (charts_of c.args.registry.now.shown.services) c.later-now.ensures.later c.later-now.ensures.bound
+    (c.as_slice.ensures.value ∙ c.in_ok-due.ensures.due) c.requires.timers q in
+    let still = c.requests-asked.ensures.services ∙ (c.in_ok-choice.ensures.idle q.reading).work in
+    let idle = c.in_ok-services.ensures.still none still in
+    let nothing = ap (λ (p : RegistryPrepared). p.events) idle in
+    let silent = c.as_slice-joining.ensures.value ∙ c.in_ok-moments.ensures.quiet q.early (c.events.ensures ∙ nothing) in
+    let calm = c.in_ok-letters.ensures.quiet silent (c.requests-asked.ensures.directories ∙ (c.in_ok-choice.ensures.idle q.reading).directories) in
+    not_ok c.match_all.result _ _ c.in_err-match_all.was (c.match_all.ensures.quiet calm.0)
+
+pub returns-in_err-release_all-clause-quiet : goal.returns-in_err-release_all-clause-quiet
+returns-in_err-release_all-clause-quiet g c = λ q.
+    let none = none_for_quiet c.args.input.now c.args.clock c.later-now.result c.as_slice.result.now c.args.deadlines.now.timers
+    (charts_of c.args.registry.now.shown.services) c.later-now.ensures.later c.later-now.ensures.bound
+    (c.as_slice.ensures.value ∙ c.in_ok-due.ensures.due) c.requires.timers q in
+    let still = c.requests-asked.ensures.services ∙ (c.in_ok-choice.ensures.idle q.reading).work in
+    let idle = c.in_ok-services.ensures.still none still in
+    let nothing = ap (λ (p : RegistryPrepared). p.events) idle in
+    let silent = c.as_slice-joining.ensures.value ∙ c.in_ok-moments.ensures.quiet q.early (c.events.ensures ∙ nothing) in
+    let calm = c.in_ok-waiters.ensures.quiet silent (c.requests-asked.ensures.waiters ∙ (c.in_ok-choice.ensures.idle q.reading).waiters) in
+    not_ok c.release_all.result _ _ c.in_err-release_all.was (c.release_all.ensures.quiet calm.0 (ap released_by_answer calm.1))
+
+pub returns-in_err-moments-clause-quiet : goal.returns-in_err-moments-clause-quiet
+returns-in_err-moments-clause-quiet g c = λ q.
+    let none = none_for_quiet c.args.input.now c.args.clock c.later-now.result c.as_slice.result.now c.args.deadlines.now.timers
+    (charts_of c.args.registry.now.shown.services) c.later-now.ensures.later c.later-now.ensures.bound
+    (c.as_slice.ensures.value ∙ c.in_ok-due.ensures.due) c.requires.timers q in
+    let still = c.requests-asked.ensures.services ∙ (c.in_ok-choice.ensures.idle q.reading).work in
+    let idle = c.in_ok-services.ensures.still none still in
+    let nothing = ap (λ (p : RegistryPrepared). p.events) idle in
+    not_ok_and c.moments_of.result _ _ _ c.in_err-moments.was (c.moments_of.ensures.quiet q.early (c.events.ensures ∙ nothing))

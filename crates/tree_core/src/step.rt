@@ -1,0 +1,211 @@
+//! A step, in its order: clock, due timers, act, who looks at its moments, reply. It is known before anything is changed; `apply_into` of
+//! `tree.rt` makes it, or hands the input back where memory was refused.
+ghost use Rattle.std.specs.Prelude.{ℕ, false, ◌≡◌, ◌+◌, ◌*◌, ◌<◌, ◌≤◌, ◌^◌, List, [], length, All, IfOk, IsOk, OnOk};
+ghost use Rattle.deadlines.specs.declared.timer.Timer.{Timer};
+ghost use Rattle.deadlines.specs.Timers.{with_timer_changes};
+ghost use Rattle.event_directory.specs.Changes.{Offer};
+ghost use Rattle.event_directory.specs.Remembered.{directories_after_commit, plan_number};
+ghost use Rattle.svscan_core.specs.Table.{charts_of};
+ghost use Rattle.svscan_core.specs.Timers.{TimersAgree};
+ghost use Rattle.svscan_core.specs.Registry.{Fits, registry_prepared, result_of};
+ghost use Rattle.tree_core.specs.Acts.{tally_reply};
+ghost use Rattle.tree_core.specs.Limits.{service_limit, moment_limit};
+ghost use Rattle.tree_core.specs.Machine.{Machine};
+ghost use Rattle.wait_conditions.specs.Stands.{WaitsShown, FitsWaits, MakesPlan, waits_shown};
+ghost use Rattle.tree_core.specs.Plan.{present_state, chosen_of, lists_more, tally_in, chosen_reply, waiter_reply, directory_reply, IsNow, Plans, IsQuiet};
+ghost use Rattle.tree_core.specs.Step.{step_limit};
+
+use super::choice::{Choice, choose};
+use super::clock::{later, moments_of};
+use super::effect::Effect;
+use super::input::Input;
+use super::reply::{Refusal, Reply, ScanReport, TallyReport};
+use deadlines::{Deadlines, DeadlinesPlan};
+use event_directory::{Directories, DirectoriesPlan, DirectoryAnswer, DirectoryFault, Pattern};
+use s6_events::{At, History, HistoryPlan, Name, NoMemory};
+use std::alloc::Allocator;
+use svscan_core::{Registry, RegistryPlan};
+use wait_conditions::{WaitAnswer, Waits, WaitsPlan};
+
+/// A step that is known before anything is changed: the clock and whether the tree is closing after it, and the plan of each part.
+#[derive(Drop)]
+pub struct StepPlan<A: Allocator> {
+    pub now: At,
+    pub closing: bool,
+    pub services: RegistryPlan<A>,
+    pub timers: DeadlinesPlan<A>,
+    pub history: HistoryPlan<A>,
+    pub waiters: WaitsPlan<A>,
+    pub letters: DirectoriesPlan<A>,
+}
+
+// The last deaths of the service of a name are answered.
+fn tally_of<A: Allocator + Copy>(
+    alloc: A,
+    registry: &Registry<A>,
+    name: Name,
+) -> Result<Reply<A>, NoMemory>
+    ensures { IfOk result (λ reply. reply
+        ≡ tally_reply (tally_in name registry.now.shown.services)) }
+{
+    match registry.named(name) {
+        Some(service) => Ok(Reply::Tally(TallyReport::new(service.tally().list(alloc)?))),
+        None => Ok(Reply::Refused(Refusal::NoService)),
+    }
+}
+
+// What is answered of a waiter that is asked for, or that is to end.
+fn waiter_reply<A: Allocator>(told: &WaitAnswer) -> Reply<A>
+    ensures { result ≡ waiter_reply told.now }
+{
+    match told {
+        WaitAnswer::Added(id, _) => Reply::Waiter(*id),
+        WaitAnswer::Refused(_) => Reply::Refused(Refusal::TooMany),
+        WaitAnswer::Cancelled(false) => Reply::Refused(Refusal::NoSuch),
+        WaitAnswer::Cancelled(true) | WaitAnswer::Nothing => Reply::Done,
+    }
+}
+
+// What is answered of what was asked of the event directories.
+fn directory_reply<A: Allocator>(told: &DirectoryAnswer) -> Reply<A>
+    ensures { result ≡ directory_reply told.now }
+{
+    match told {
+        DirectoryAnswer::Done => Reply::Done,
+        DirectoryAnswer::Subscribed(id) => Reply::Subscription(*id),
+        DirectoryAnswer::Refused(DirectoryFault::NoSuch) => Reply::Refused(Refusal::NoSuch),
+        DirectoryAnswer::Refused(DirectoryFault::TooMany) => Reply::Refused(Refusal::TooMany),
+        DirectoryAnswer::Refused(DirectoryFault::Exists) => Reply::Refused(Refusal::Exists),
+    }
+}
+
+// What is answered, once the work of the choice was prepared, and what it asks of the waiters and of the event directories was
+// answered so.
+#[inline(always)]
+fn reply_to<A: Allocator + Copy>(
+    alloc: A,
+    registry: &Registry<A>,
+    plan: &RegistryPlan<A>,
+    choice: &Choice,
+    waiters: &WaitAnswer,
+    directories: &DirectoryAnswer,
+) -> Result<Reply<A>, NoMemory>
+    ensures reply { IfOk result (λ reply. reply
+        ≡ chosen_reply (chosen_of choice.now) registry.now.shown.services
+        (result_of (registry_prepared registry.now.shown.services plan.now))
+        (record { waiters = waiters.now; directories = directories.now })) }
+    ensures quiet { lists_more (chosen_of choice.now) ≡ false → IsOk result }
+{
+    Ok(match choice {
+        Choice::Refuse(why) => Reply::Refused(*why),
+        Choice::Report(_, _) if plan.is_stale() => Reply::Refused(Refusal::Stale),
+        Choice::Listing(_) => Reply::Scanned(ScanReport::new(
+            plan.dropped().to_vec(alloc)?,
+            plan.listed().to_vec(alloc)?,
+        )),
+        Choice::Show(row) => Reply::Row(*row),
+        Choice::Tally(name) => tally_of(alloc, registry, *name)?,
+        Choice::Failure(fails) => Reply::PermanentFailure(*fails),
+        Choice::Wait(_, _, _, _) | Choice::Cancel(_) => waiter_reply(waiters),
+        Choice::MakeDirectory(_)
+        | Choice::Send(_, _)
+        | Choice::Subscribe(_)
+        | Choice::Unsubscribe(_) => directory_reply(directories),
+        Choice::Report(_, _) | Choice::Nothing | Choice::Letters(_, _) | Choice::Command(_) => {
+            Reply::Done
+        }
+    })
+}
+
+/// The step of an input, at this clock: each part prepares its own, and the effect is filled. The clock after the step is worked out
+/// here alone, and so is which services are due. It is called once, and its plan is large: inlined, that isn't moved.
+#[inline(always)]
+pub fn plan_step<A: Allocator + Copy>(
+    registry: &mut Registry<A>,
+    deadlines: &mut Deadlines<A>,
+    history: &mut History<A>,
+    waits: &mut Waits<A>,
+    directories: &mut Directories<Pattern, A>,
+    clock: At,
+    closing: bool,
+    input: &Input<A>,
+    effect: &mut Effect<A>,
+) -> Result<StepPlan<A>, NoMemory>
+    requires timers { TimersAgree deadlines.old.timers (charts_of registry.old.shown.services) }
+    requires generations { All (λ c. c.generation + 2 < 2 ^ 64)
+        (charts_of registry.old.shown.services) }
+    requires next { registry.old.shown.next_sid + service_limit + 1 < 2 ^ 64 }
+    requires waiters { waits.old.next < 2 ^ 63 }
+    requires subscriptions { directories.old.shown.next < 2 ^ 63 }
+    requires events { effect.old.events.items ≡ [] }
+    requires orders { effect.old.orders.items ≡ [] }
+    requires matched { effect.old.matched.items ≡ [] }
+    requires released { effect.old.released.items ≡ [] }
+    ensures shown { registry.new.shown ≡ registry.old.shown }
+    ensures set { deadlines.new.timers ≡ deadlines.old.timers }
+    ensures forgotten { history.new.forgotten ≡ history.old.forgotten }
+    ensures kept { history.new.kept ≡ history.old.kept }
+    ensures waits { waits_shown waits.new ≡ waits_shown waits.old }
+    ensures directories { directories.new.shown ≡ directories.old.shown }
+    ensures step { IfOk result (λ plan. (steps : ℕ) → steps < step_limit → (m : Machine)
+        → IsNow (present_state clock steps closing registry.old.shown.services
+        registry.old.shown.next_sid (waits_shown waits.old) directories.old.shown) m
+        → (later : WaitsShown) → MakesPlan plan.waiters (waits_shown waits.old) later
+        → Plans m input.now plan (registry_prepared registry.new.shown.services plan.services) later
+        directories.new.prepared effect.new) }
+    ensures fits { IfOk result (λ plan. Fits registry.new plan.services) }
+    ensures room { IfOk result (λ plan. length plan.history ≤ history.new.spare_capacity) }
+    ensures timer_room { IfOk result (λ plan. length plan.timers ≤ deadlines.new.spare_capacity) }
+    ensures waiter_room { IfOk result (λ plan. FitsWaits plan.waiters waits.new) }
+    ensures number { IfOk result (λ plan. plan_number plan.letters ≡ directories.new.number) }
+    ensures grows { IfOk result (λ plan. (n : ℕ)
+        → All (λ c. c.generation ≤ n) (charts_of registry.old.shown.services)
+        → All (λ c. c.generation ≤ n + 2)
+        (charts_of (registry_prepared registry.new.shown.services plan.services).services)) }
+    ensures next { IfOk result
+        (λ plan. plan.services.next_sid ≤ registry.old.shown.next_sid + service_limit) }
+    ensures waiters { IfOk result (λ plan. plan.waiters.next ≤ waits.old.next + 1) }
+    ensures subscriptions { OnOk result
+        ((offer : Offer) → (directories_after_commit directories.new.prepared offer).next
+        ≤ directories.old.shown.next + 1) }
+    ensures count { IfOk result (λ plan. length plan.history ≤ moment_limit) }
+    ensures timers { IfOk result
+        (λ plan. (timers : List Timer) → TimersAgree timers (charts_of registry.old.shown.services)
+        → TimersAgree (with_timer_changes plan.timers timers)
+        (charts_of (registry_prepared registry.new.shown.services plan.services).services)) }
+    ensures quiet { IsQuiet input.now clock (charts_of registry.old.shown.services) → IsOk result }
+{
+    let alloc = registry.allocator();
+    let _count = registry.len();
+    let now = later(clock, input.at);
+    let due = deadlines.due(alloc, now)?;
+    let choice = choose(alloc, registry, &input.act, closing, now)?;
+    let asked = choice.requests(now, closing);
+    let services = registry.prepare(due.as_slice(), &asked.services, now)?;
+    let moments = moments_of(alloc, clock, input.at, services.events())?;
+    let joining = moments.as_slice();
+    let waiters = waits.prepare(joining, &asked.waiters)?;
+    let letters = directories.prepare(joining, &asked.directories)?;
+    let history = history.prepare(moments)?;
+    let timers = deadlines.prepare(services.timers())?;
+    effect.reply = reply_to(
+        alloc,
+        registry,
+        &services,
+        &choice,
+        &waiters.answer(),
+        &letters.answer,
+    )?;
+    effect.tell(services.events(), services.orders())?;
+    effect.match_all(&letters)?;
+    effect.release_all(&waiters)?;
+    Ok(StepPlan {
+        now,
+        closing: asked.closing,
+        services,
+        timers,
+        history,
+        waiters,
+        letters,
+    })
+}
