@@ -1,4 +1,6 @@
-//! Laws of the written machine. Each is the contract of a function that does nothing, so that its statement is proved.
+//! Laws of the written machine. Each is the contract of a function that does nothing, so that its statement is proved; that statement is in
+//! the file of `specs/` that the contract cites. What keeps them: a run comes once a pause is over by `restart.rt` of finish_core, none
+//! after a permanent failure by `reports.rt`, marks and generations by `moves.rt`, signals by `letters.rt` of supervise_core.
 ghost use Rattle.std.specs.Prelude.{List, ℕ};
 ghost use Rattle.svscan_core.specs.Listing.{in_byte_order};
 ghost use Rattle.tree_core.specs.ByteOrder.{IsInByteOrder};

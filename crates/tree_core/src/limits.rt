@@ -1,4 +1,5 @@
-//! The limits of a tree, whose words in clauses are those of `specs/Limits.antt`.
+//! The limits of a tree, whose words in clauses are those of `specs/Limits.antt`. A timeout, and the seconds and the count of permafailon, are at
+//! most what a `u32` holds (`input.rt`).
 ghost use Rattle.std.specs.Prelude.{◌≡◌, ◌==◌};
 ghost use Rattle.tree_core.specs.Step.{step_limit};
 

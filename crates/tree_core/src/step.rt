@@ -1,5 +1,6 @@
 //! A step, in its order: clock, due timers, act, who looks at its moments, reply. It is known before anything is changed; `apply_into` of
-//! `tree.rt` makes it, or hands the input back where memory was refused.
+//! `tree.rt` makes it, or hands the input back where memory was refused. The due timers, in rising serial, and then the act's work are
+//! done in `work_out` of svscan_core (`pending.rt`).
 ghost use Rattle.std.specs.Prelude.{ℕ, false, ◌≡◌, ◌+◌, ◌*◌, ◌<◌, ◌≤◌, ◌^◌, List, [], length, All, IfOk, IsOk, OnOk};
 ghost use Rattle.deadlines.specs.declared.timer.Timer.{Timer};
 ghost use Rattle.deadlines.specs.Timers.{with_timer_changes};

@@ -13,6 +13,9 @@ use Rattle.child_runner.specs.contracts.bell.Bell as Bell
 use Rattle.line_server.proofs.server.Server.TheSendSync as server
 use Rattle.line_server.specs.contracts.server.Server as Server
 use Rattle.status_board.proofs.reader.BoardReader.TheSendSync as reader
+use Rattle.server_rules.proofs.plans.Plans.TheSendSync as plans
+use Rattle.server_rules.proofs.row_cache.RowCache.TheSendSync as row_cache
+use Rattle.server_rules.proofs.standing.Standing.TheSendSync as standing
 use Rattle.inbox.proofs.Crosses.{seat_send}
 use Rattle.tree_server.specs.contracts.calls.Call as Call
 use Rattle.tree_server.specs.contracts.calls.Caller as Caller
@@ -51,13 +54,13 @@ caller_sync : IsSync Caller.the_row
 caller_sync = search (turn_send, crosses, sendable) depth 60 fits 20000
 
 pub shared_sync : IsSync Shared.the_row
-shared_sync = search (caller_sync, bell_sync, crosses, sendable) depth 60 fits 20000
+shared_sync = search (caller_sync, bell_sync, row_cache.the_sync, plans.the_send, crosses, sendable) depth 60 fits 20000
 
 pub server_sync : IsSync (Server.the_row Shared.the_row)
 server_sync = search (shared_sync, server.the_sync, crosses, sendable) depth 60 fits 20000
 
 connection_send : IsSend Connection.the_row
-connection_send = search (crosses, sendable) depth 60 fits 20000
+connection_send = search (standing.the_send, crosses, sendable) depth 60 fits 20000
 
 driver_state_send : (C : RattleType) (g : Ghosts C.Denot) → IsSend C → IsSend (DriverState.the_row C g)
 driver_state_send C g c =

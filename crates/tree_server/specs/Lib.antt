@@ -1,8 +1,1 @@
-pub mod Answers
 pub mod Faults
-pub mod Files
-pub mod Places
-pub mod Plans
-pub mod Requests
-pub mod Standing
-pub mod Status

@@ -1,7 +1,7 @@
 //! What the thread of actor 0 is to do, and how it waits for it.
-use crate::plans::{Askers, Plans, Wanted};
 use crate::time::RunClock;
 use arrayvec::ArrayVec;
+use server_rules::{Askers, Plans, Wanted};
 use std::mem;
 use std::sync::{Condvar, Mutex, Wait};
 use std::time::{Clock, Duration};

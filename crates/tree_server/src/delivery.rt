@@ -1,15 +1,14 @@
 //! Handing out what steps gave.
 use crate::driver_state::{Connection, DriverState, Purpose};
-use crate::places::{Place, lane_of, place_of};
 use crate::posting::{finish_call, match_lines, post, release_lines, reply_lines};
 use crate::serving::{answer_status, end_next};
 use crate::shared::Shared;
-use crate::standing::Ending;
 use channel_names::Channels;
 use line_server::Server;
 use office::Office;
 use order_lanes::{Backend, Lanes};
 use s6_events::{NoMemory, Order};
+use server_rules::{Ending, Place, lane_of, place_of};
 use status_board::Board;
 use std::alloc::Global;
 use std::mem;

@@ -1,9 +1,9 @@
 //! What the thread that drives has of a run.
-use crate::standing::{Ending, Standing};
 use channel_names::Channels;
 use inbox::{Seat, Ticket};
 use line_server::SEAT_COUNT;
 use s6_events::{At, Name, NoMemory};
+use server_rules::{Ending, Standing};
 use status_board::BoardReader;
 use std::alloc::Global;
 use tree_core::Act;

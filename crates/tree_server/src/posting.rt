@@ -1,8 +1,8 @@
 //! Posting texts to connections.
-use crate::own_answer::OwnAnswer;
 use crate::shared::Shared;
 use line_server::Server;
 use s6_replay::{push_match, push_release, push_reply};
+use server_rules::OwnAnswer;
 use std::alloc::{AllocError, Global};
 use std::sync::Wait;
 use tree_core::{Match, Release, Reply};

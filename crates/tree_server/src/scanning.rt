@@ -1,14 +1,12 @@
 //! What actor 0 does: the first scan, those that clients ask for, and ticks.
 use crate::agenda::Errand;
 use crate::driver_state::hand_in;
-use crate::listing::read_listing;
-use crate::own_answer::OwnAnswer;
-use crate::plans::Askers;
 use crate::posting::post_own;
 use crate::shared::Shared;
 use channel_names::Channels;
 use inbox::Seat;
 use line_server::Server;
+use server_rules::{Askers, OwnAnswer, read_listing};
 use std::alloc::Global;
 use std::io::{ErrorKind, Write};
 use std::rt::Files;

@@ -1,7 +1,6 @@
 //! Sharing out the seats of a run.
 use crate::driver_state::DriverState;
 use crate::lane_service::LaneSeat;
-use crate::places::{Place, place_of};
 use crate::run::Carryover;
 use crate::service_lanes::LANE_COUNT;
 use crate::slot::Slot;
@@ -11,6 +10,7 @@ use inbox::{Finished, Seat};
 use line_server::SEAT_COUNT;
 use order_lanes::Report;
 use s6_events::NoMemory;
+use server_rules::{Place, place_of};
 use status_board::BoardReader;
 use std::alloc::Global;
 use tree_core::Listing;

@@ -1,14 +1,12 @@
 //! Beginning what connections ask for.
 use crate::calls::Call;
 use crate::driver_state::{DriverState, Purpose};
-use crate::own_answer::OwnAnswer;
 use crate::posting::{finish_call, post, post_own};
-use crate::row_cache::STATUS_AGE;
 use crate::shared::Shared;
-use crate::standing::Ending;
 use channel_names::Channels;
 use line_server::{SEAT_COUNT, Server};
 use s6_events::Name;
+use server_rules::{Ending, OwnAnswer, STATUS_AGE};
 use std::alloc::Global;
 use std::sync::Wait;
 use std::time::Clock;

@@ -1,14 +1,11 @@
 //! What the threads of a running tree share, from its first run to its last.
 use crate::agenda::Agenda;
 use crate::calls::{Call, Caller};
-use crate::own_answer::OwnAnswer;
-use crate::places::client_actor;
-use crate::requests::{Request, read_request};
-use crate::row_cache::RowCache;
 use crate::time::RunClock;
 use child_runner::Bell;
 use line_server::{Answers, Mailbox, Next};
 use s6_events::{At, Name};
+use server_rules::{OwnAnswer, Request, RowCache, client_actor, read_request};
 use std::alloc::Global;
 use std::sync::{Arc, Wait};
 use std::time::Clock;

@@ -1,8 +1,10 @@
-//! Why a condition that does not hold fails, if it does. What the newest marks say of that is kept in `supervisor_state.rt`.
+//! Why a condition that does not hold fails, if it does: for good, where the newest of u and O is an O, or since the newest of s and x is an
+//! x. Both are kept with each mark, in `supervisor_state.rt`.
 ghost use Rattle.std.specs.Prelude.{◌≡◌};
 ghost use Rattle.wait_conditions.specs.Fails.{failure_at};
+ghost use Rattle.wait_conditions.specs.OneMore.{ended_after, failed_after};
 
-use s6_events::Condition;
+use s6_events::{Condition, Mark};
 
 /// Why a condition of a service, which doesn't hold, is given up.
 #[derive(Clone, Copy, Debug, PartialEq, Eq)]
@@ -11,6 +13,28 @@ pub enum Failure {
     Permanent,
     /// The supervisor of the service has ended.
     Unsupervised,
+}
+
+/// Whether the newest of s and x of a service is an x, once it has one more mark, if it has.
+pub fn next_ended(mark: Option<Mark>, ended: bool) -> bool
+    ensures { result ≡ ended_after mark ended }
+{
+    match mark {
+        Some(Mark::SupervisorStarted) => false,
+        Some(Mark::SupervisorEnded) => true,
+        _ => ended,
+    }
+}
+
+/// Whether the newest of u and O of a service is an O, once it has one more mark, if it has.
+pub fn next_failed(mark: Option<Mark>, failed: bool) -> bool
+    ensures { result ≡ failed_after mark failed }
+{
+    match mark {
+        Some(Mark::Spawned) => false,
+        Some(Mark::PermanentFailure) => true,
+        _ => failed,
+    }
 }
 
 /// Why a condition that doesn't hold fails, if it does.

@@ -2,9 +2,10 @@
 ghost use Rattle.std.specs.Prelude.{◌≡◌, []};
 ghost use Rattle.s6_events.specs.CurrentLetter.{letter_after};
 ghost use Rattle.s6_events.specs.Newest.{mark_of};
-ghost use Rattle.wait_conditions.specs.OneMore.{ended_after, spawned_after, failed_after};
+ghost use Rattle.wait_conditions.specs.OneMore.{spawned_after};
 ghost use Rattle.wait_conditions.specs.SupervisorState.{state_of, since_of, state_after, since_after};
 
+use crate::failure::{next_ended, next_failed};
 use s6_events::{Mark, Moment, Sid, letter_after};
 
 /// What is known of a service.
@@ -40,32 +41,12 @@ fn next_letter(mark: Option<Mark>, letter: Mark) -> Mark
     }
 }
 
-fn next_ended(mark: Option<Mark>, ended: bool) -> bool
-    ensures { result ≡ ended_after mark ended }
-{
-    match mark {
-        Some(Mark::SupervisorStarted) => false,
-        Some(Mark::SupervisorEnded) => true,
-        _ => ended,
-    }
-}
-
 fn next_spawned(mark: Option<Mark>, spawned: bool) -> bool
     ensures { result ≡ spawned_after mark spawned }
 {
     match mark {
         Some(Mark::Spawned) => true,
         _ => spawned,
-    }
-}
-
-fn next_failed(mark: Option<Mark>, failed: bool) -> bool
-    ensures { result ≡ failed_after mark failed }
-{
-    match mark {
-        Some(Mark::Spawned) => false,
-        Some(Mark::PermanentFailure) => true,
-        _ => failed,
     }
 }
 

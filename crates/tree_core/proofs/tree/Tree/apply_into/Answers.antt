@@ -1,5 +1,6 @@
 use Rattle.std.proofs.Common.{arith, ◌≡◌, ◌∙◌, ◌+◌, ◌<◌, ◌≤◌, refl, ap, sym, subst, ◌++◌, List}
 use Rattle.std.specs.Prelude.{option_map}
+use Rattle.std.proofs.lemmas.Bool.Decides.{nat_tests}
 use Rattle.deadlines.specs.declared.timer.Timer.{Timer}
 use Rattle.deadlines.specs.Timers.{with_timer_changes}
 use Rattle.event_directory.specs.Changes.{Offer}
@@ -33,7 +34,7 @@ returns-clause-step g c = λ m s.
     let plan = c.in-Ok.plan in
     let counted = c.self.invariant.0 in
     let most = counted.steps in
-    let left : c.self.inside.steps < step_limit = omega (arith, most, c.if-self-eq-STEP_LIMIT.false) in
+    let left : c.self.inside.steps < step_limit = grind (arith, nat_tests, most, c.is_spent.ensures, c.if-is_spent.false) in
     let prepared = registry_prepared c.plan_step-planned.new.registry.shown.services plan.services in
     let shown = c.commit.ensures in
     let waits : waits_shown c.plan_step-planned.new.waits ≡ t.waits = c.in-Ok.ensures.waits in
@@ -69,7 +70,7 @@ invariant_of-self-2 g c =
     let plan = c.in-Ok.plan in
     let counted = c.self.invariant.0 in
     let most = counted.steps in
-    let left : c.self.inside.steps < step_limit = omega (arith, most, c.if-self-eq-STEP_LIMIT.false) in
+    let left : c.self.inside.steps < step_limit = grind (arith, nat_tests, most, c.is_spent.ensures, c.if-is_spent.false) in
     let prepared = registry_prepared c.plan_step-planned.new.registry.shown.services plan.services in
     let shown = c.commit.ensures in
     let waits : waits_shown c.plan_step-planned.new.waits ≡ t.waits = c.in-Ok.ensures.waits in

@@ -1,7 +1,7 @@
 -- The answers that are the server's own.
 use Rattle.std.specs.Prelude.{ℕ, List, codes}
-use Rattle.tree_server.specs.declared.own_answer.OwnAnswer.{OwnAnswer}
-use Rattle.tree_server.specs.declared.own_answer.OwnAnswer.TheVariants as own
+use Rattle.server_rules.specs.declared.own_answer.OwnAnswer.{OwnAnswer}
+use Rattle.server_rules.specs.declared.own_answer.OwnAnswer.TheVariants as own
 
 -- a line, and the empty line behind it
 abbrev pub own_text : OwnAnswer → List ℕ

@@ -4,9 +4,9 @@ ghost use Rattle.std.specs.Str.{bytes_eq};
 ghost use Rattle.s6_script.specs.Spelling.{Spells, SpellsButForPattern};
 ghost use Rattle.tree_core.specs.declared.input.Act.{Act};
 ghost use Rattle.tree_core.specs.declared.input.Input.{Input};
-ghost use Rattle.tree_server.specs.Requests.{request_of, script_line, scan_word, IsOwnAct, AsksFor};
-ghost use Rattle.tree_server.specs.declared.requests.Request.TheVariants as request;
-ghost use Rattle.tree_server.specs.declared.own_answer.OwnAnswer.TheVariants as own;
+ghost use Rattle.server_rules.specs.Requests.{request_of, script_line, scan_word, IsOwnAct, AsksFor};
+ghost use Rattle.server_rules.specs.declared.requests.Request.TheVariants as request;
+ghost use Rattle.server_rules.specs.declared.own_answer.OwnAnswer.TheVariants as own;
 
 use crate::own_answer::OwnAnswer;
 use s6_events::{Actor, At, Name};

@@ -1,6 +1,6 @@
 //! What is planned for actor 0: scans that clients asked for, and ticks.
 ghost use Rattle.std.specs.Prelude.{◌≡◌};
-ghost use Rattle.tree_server.specs.Plans.{is_called, wanted_at, is_nearer};
+ghost use Rattle.server_rules.specs.Plans.{is_called, wanted_at, is_nearer};
 
 use arrayvec::ArrayVec;
 use line_server::SEAT_COUNT;

@@ -1,7 +1,7 @@
 //! Which actor is whose, and which lane a service has.
 ghost use Rattle.std.specs.Prelude.{◌≡◌, ◌<◌};
 ghost use Rattle.order_lanes.specs.LaneOrders.{sid_of, lane_of};
-ghost use Rattle.tree_server.specs.Places.{place_of, client_actor};
+ghost use Rattle.server_rules.specs.Places.{place_of, client_actor};
 
 use s6_events::{Actor, Order};
 

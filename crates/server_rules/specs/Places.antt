@@ -1,7 +1,7 @@
 -- Whose inputs an actor's are.
 use Rattle.std.specs.Prelude.{ℕ, ◌+◌, ◌-◌, ◌==◌, Option, Some, None, nat_le, nat_lt, if◌then◌else◌}
-use Rattle.tree_server.specs.declared.places.Place.{Place}
-use Rattle.tree_server.specs.declared.places.Place.TheVariants.{Scanner, Lane, Client}
+use Rattle.server_rules.specs.declared.places.Place.{Place}
+use Rattle.server_rules.specs.declared.places.Place.TheVariants.{Scanner, Lane, Client}
 
 -- actor 0 gives scans and ticks, 1 to 4 the reports of a lane each, and 5 to 15 the requests of a connection each
 abbrev pub place_of : ℕ → Place

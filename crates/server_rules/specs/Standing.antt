@@ -7,8 +7,8 @@ use Rattle.tree_core.specs.declared.input.Act.{Act}
 use Rattle.tree_core.specs.declared.input.Act.TheVariants.{Cancel, Unsubscribe}
 use Rattle.tree_core.specs.declared.reply.Reply.{Reply}
 use Rattle.tree_core.specs.declared.reply.Reply.TheVariants as reply
-use Rattle.tree_server.specs.declared.standing.Ending.{Ending}
-use Rattle.tree_server.specs.declared.standing.Ending.TheVariants as ending
+use Rattle.server_rules.specs.declared.standing.Ending.{Ending}
+use Rattle.server_rules.specs.declared.standing.Ending.TheVariants as ending
 
 -- the waiter that a reply tells of
 abbrev pub waiters_of : Reply Global → List WaitId

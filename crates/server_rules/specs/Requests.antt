@@ -5,9 +5,9 @@ use Rattle.s6_script.specs.Spelling.{Spells}
 use Rattle.tree_core.specs.declared.input.Act.{Act}
 use Rattle.tree_core.specs.declared.input.Act.TheVariants.{Scan, Started, StartFailed, Notify, Death, FinishEnded, Status, Tick}
 use Rattle.tree_core.specs.declared.input.Input.{Input}
-use Rattle.tree_server.specs.declared.own_answer.OwnAnswer.TheVariants as own
-use Rattle.tree_server.specs.declared.requests.Request.{Request}
-use Rattle.tree_server.specs.declared.requests.Request.TheVariants as request
+use Rattle.server_rules.specs.declared.own_answer.OwnAnswer.TheVariants as own
+use Rattle.server_rules.specs.declared.requests.Request.{Request}
+use Rattle.server_rules.specs.declared.requests.Request.TheVariants as request
 
 -- the request for a scan, for which the server reads the scan directory itself
 abbrev pub scan_word : List ℕ

@@ -1,7 +1,7 @@
 //! What stands of a connection: the waiters and the subscriptions that it made.
 ghost use Rattle.std.specs.Prelude.{◌≡◌, ◌++◌, ◌==◌, [], filter, not, OnOk, OnErr, IsTrue, IsFalse};
 ghost use Rattle.std.specs.List.{Contains};
-ghost use Rattle.tree_server.specs.Standing.{waiters_of, subscriptions_of, Ends, ending_of, waiters_left, subscriptions_left};
+ghost use Rattle.server_rules.specs.Standing.{waiters_of, subscriptions_of, Ends, ending_of, waiters_left, subscriptions_left};
 
 use s6_events::{SubId, WaitId};
 use std::alloc::{AllocError, Global};

@@ -1,8 +1,8 @@
 -- What is wanted of actor 0 at a moment.
 use Rattle.std.specs.Prelude.{ℕ, Bool, not, length, ◌==◌, true, false, Option, Some, None, is_none, nat_le, nat_lt, ◌&&◌, ◌||◌, if◌then◌else◌}
-use Rattle.tree_server.specs.declared.plans.Plans.{Plans}
-use Rattle.tree_server.specs.declared.plans.Wanted.{Wanted}
-use Rattle.tree_server.specs.declared.plans.Wanted.TheVariants as wanted
+use Rattle.server_rules.specs.declared.plans.Plans.{Plans}
+use Rattle.server_rules.specs.declared.plans.Wanted.{Wanted}
+use Rattle.server_rules.specs.declared.plans.Wanted.TheVariants as wanted
 
 -- somebody waits for more than a moment: the run ends, or a client asks for a scan, and none is under way
 abbrev pub is_called : Plans → Bool

@@ -2,7 +2,7 @@
 ghost use Rattle.std.specs.Prelude.{◌≡◌, ◌++◌, OnOk, option_map};
 ghost use Rattle.std.specs.List.{find};
 ghost use Rattle.std.specs.Str.{bytes_eq};
-ghost use Rattle.tree_server.specs.Status.{status_line, status_text};
+ghost use Rattle.server_rules.specs.Status.{status_line, status_text};
 
 use s6_events::Name;
 use s6_replay::push_row;

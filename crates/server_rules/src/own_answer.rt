@@ -1,6 +1,6 @@
 //! The answers that are the server's own.
 ghost use Rattle.std.specs.Prelude.{◌≡◌};
-ghost use Rattle.tree_server.specs.Answers.{own_text};
+ghost use Rattle.server_rules.specs.Answers.{own_text};
 
 /// Why the server answers a line itself, and hands nothing in.
 #[derive(Clone, Copy, Debug, PartialEq, Eq)]

@@ -1,7 +1,7 @@
 //! The rows of the board as they were last read, for the threads of connections.
 ghost use Rattle.std.specs.Prelude.{◌≡◌, IfOk, IfSome, None, Some};
 ghost use Rattle.status_board.specs.Board.{last_shot};
-ghost use Rattle.tree_server.specs.Status.{status_text, is_fresh};
+ghost use Rattle.server_rules.specs.Status.{status_text, is_fresh};
 
 use crate::status::push_status;
 use channel_names::Channels;

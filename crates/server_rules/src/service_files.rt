@@ -1,7 +1,7 @@
 //! The files of a service directory, as they were found at one moment.
 ghost use Rattle.std.specs.Prelude.{◌≡◌, ◌≤◌, Err, IfOk, IfSome, option_map, length};
 ghost use Rattle.servicedir.specs.Files.{Counts, CountsRefusal, reading_limit};
-ghost use Rattle.tree_server.specs.Files.{found_of, content_of};
+ghost use Rattle.server_rules.specs.Files.{found_of, content_of};
 
 use s6_events::Name;
 use servicedir::{ReadFault, ServiceFile};
@@ -127,7 +127,7 @@ fn read_file<R: Files>(rt: &R, alloc: Global, path: &str) -> io::Result<Vec<u8>>
 }
 
 impl servicedir::Files for ServiceFiles {
-    ghost use Rattle.tree_server.specs.Files.{content_of, found_of};
+    ghost use Rattle.server_rules.specs.Files.{content_of, found_of};
 
     ghost gives = { λ f name file. content_of (found_of f file) };
 

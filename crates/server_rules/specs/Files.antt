@@ -2,9 +2,9 @@
 use Rattle.std.specs.Prelude.{ℕ, List, [], Option, Some, None}
 use Rattle.servicedir.specs.declared.files.ServiceFile.{ServiceFile}
 use Rattle.servicedir.specs.declared.files.ServiceFile.TheVariants as file
-use Rattle.tree_server.specs.declared.service_files.Found.{Found}
-use Rattle.tree_server.specs.declared.service_files.Found.TheVariants as found
-use Rattle.tree_server.specs.declared.service_files.ServiceFiles.{ServiceFiles}
+use Rattle.server_rules.specs.declared.service_files.Found.{Found}
+use Rattle.server_rules.specs.declared.service_files.Found.TheVariants as found
+use Rattle.server_rules.specs.declared.service_files.ServiceFiles.{ServiceFiles}
 
 -- what was found of this file
 abbrev pub found_of : ServiceFiles → ServiceFile → Found

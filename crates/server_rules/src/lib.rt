@@ -1,0 +1,21 @@
+//! What the server of a tree decides, with no thread of its own: what a line asks for, whose an actor is, when a tick or a scan is wanted,
+//! what stands of a connection, which rows may be told, and what a scan directory says.
+#![tactic(auto)]
+
+mod listing;
+mod own_answer;
+mod places;
+mod plans;
+mod requests;
+mod row_cache;
+mod service_files;
+mod standing;
+mod status;
+
+pub use listing::read_listing;
+pub use own_answer::OwnAnswer;
+pub use places::{Place, client_actor, lane_of, place_of};
+pub use plans::{Askers, Plans, Wanted};
+pub use requests::{Request, read_request};
+pub use row_cache::{RowCache, STATUS_AGE};
+pub use standing::{Ending, Standing};
