@@ -1,6 +1,6 @@
 //! Which lane an order goes by, and whether there is room for it.
 ghost use Rattle.std.specs.Prelude.{◌≡◌, ◌<◌, ◌+◌, ◌++◌, ◌∷◌, [], ℕ, length, IfSome, IfNone};
-ghost use Rattle.order_lanes.specs.LaneOrders.{sid_of, orders_of_lane};
+ghost use Rattle.order_lanes.specs.LaneOrders.{sid_of, lane_of, orders_of_lane};
 ghost use Rattle.order_lanes.specs.Lane.{sent_in, HaveRoom, IsBlocked};
 
 use crate::lane::Lane;
@@ -35,6 +35,14 @@ fn sid_of_order(order: &Order) -> u64
     }
 }
 
+/// Of so many lanes the one by which the order goes: service `sid` has lane `sid` mod the number of lanes.
+pub fn lane_of(order: &Order, lanes: usize) -> usize
+    requires { 0 < lanes }
+    ensures { result ≡ lane_of lanes order.now }
+{
+    (sid_of_order(order) % (lanes as u64)) as usize
+}
+
 // Sends an order into its lane.
 fn send_one<L: Lanes>(lanes: &mut Vec<Lane<L>>, order: &Order)
     requires lanes { 0 < length lanes.old.items }
@@ -46,12 +54,12 @@ fn send_one<L: Lanes>(lanes: &mut Vec<Lane<L>>, order: &Order)
     ensures len { length lanes.new.items ≡ length lanes.old.items }
 {
     let count = lanes.len();
-    let k = (sid_of_order(order) % (count as u64)) as usize;
+    let k = lane_of(order, count);
     let lane = &mut lanes[k];
     lane.send(*order);
 }
 
-/// Sends each order into its lane, in order: service `sid` has lane `sid` mod the number of lanes.
+/// Sends each order into its lane, in order.
 pub fn send_all<L: Lanes>(lanes: &mut Vec<Lane<L>>, orders: &[Order])
     requires lanes { 0 < length lanes.old.items }
     requires room { HaveRoom (length orders.now) lanes.old.items }

@@ -13,7 +13,7 @@ mod ring;
 pub use backend::{AskFault, Backend};
 pub use desk::{Carried, Desk};
 pub use lane::Lane;
-pub use lane_orders::{blocked_lane, send_all};
+pub use lane_orders::{blocked_lane, lane_of, send_all};
 pub use lanes::Lanes;
 pub use report::Report;
 pub use ring::{LANE_ROOM, LaneRing, open_lane_rings};

@@ -14,7 +14,7 @@ mod status;
 
 pub use listing::read_listing;
 pub use own_answer::OwnAnswer;
-pub use places::{Place, client_actor, lane_of, place_of};
+pub use places::{Place, client_actor, place_of};
 pub use plans::{Askers, Plans, Wanted};
 pub use requests::{Request, read_request};
 pub use row_cache::{RowCache, STATUS_AGE};

@@ -1,9 +1,8 @@
-//! Which actor is whose, and which lane a service has.
-ghost use Rattle.std.specs.Prelude.{◌≡◌, ◌<◌};
-ghost use Rattle.order_lanes.specs.LaneOrders.{sid_of, lane_of};
+//! Which actor is whose.
+ghost use Rattle.std.specs.Prelude.{◌≡◌};
 ghost use Rattle.server_rules.specs.Places.{place_of, client_actor};
 
-use s6_events::{Actor, Order};
+use s6_events::Actor;
 
 /// The actor of the first connection; those of the others follow.
 pub const FIRST_CLIENT: u8 = 5;
@@ -42,23 +41,4 @@ pub fn client_actor(seat: usize) -> Option<Actor>
     } else {
         None
     }
-}
-
-fn sid_of(order: &Order) -> u64
-    ensures { result ≡ sid_of order.now }
-{
-    match order {
-        Order::Run(sid, _, _, _) => sid.0,
-        Order::Finish(sid, _, _, _, _) => sid.0,
-        Order::Signal(sid, _, _) => sid.0,
-        Order::KillFinish(sid, _) => sid.0,
-    }
-}
-
-/// Of so many lanes the one by which the order goes.
-pub fn lane_of(order: &Order, lanes: usize) -> usize
-    requires { 0 < lanes }
-    ensures { result ≡ lane_of lanes order.now }
-{
-    (sid_of(order) % (lanes as u64)) as usize
 }
