@@ -291,14 +291,24 @@ impl<A: Allocator> ServiceStates<A> {
         }
     }
 
-    // Takes out the run at this place and the one before it, where they say nothing of their own.
+    // Takes out the run at this place and the one before it, where each says the same as the next one.
     fn tidy_at(&mut self, place: usize)
         ensures states { (sid : ℕ) → state_in self.new.runs sid ≡ state_in self.old.runs sid }
         ensures room { self.old.spare_capacity ≤ self.new.spare_capacity }
     {
-        self.drop_redundant(place);
+        self.drop_repeated(place);
         if place > 0 {
-            self.drop_redundant(place - 1);
+            self.drop_repeated(place - 1);
+        }
+    }
+
+    // Takes out the run at this place, if it says the same as the next one.
+    fn drop_repeated(&mut self, place: usize)
+        ensures states { (sid : ℕ) → state_in self.new.runs sid ≡ state_in self.old.runs sid }
+        ensures room { self.old.spare_capacity ≤ self.new.spare_capacity }
+    {
+        if place < self.runs.len() && is_repeated(&self.runs, place) {
+            self.runs.remove(place);
         }
     }
 

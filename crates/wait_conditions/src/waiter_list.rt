@@ -98,6 +98,20 @@ impl<A: Allocator> WaiterList<A> {
         self.waiters.push_reserved(waiter);
     }
 
+    /// `push` of a waiter in a box. It stands apart: inlined, a step that no waiter joins would fill a place for one in its frame.
+    #[inline(never)]
+    pub fn push_boxed(&mut self, waiter: Box<Waiter, A>)
+        requires room { 1 ≤ self.old.spare }
+        requires counted { IsCounted waiter.value }
+        requires apart { repeats_serial (map (λ w. w.sid) (waiter_view waiter.value).watched)
+            ≡ false }
+        requires serial { All (λ k. k.id < waiter.value.id) self.old.waiters }
+        requires place { All (λ k. k.place ≤ waiter.value.place) self.old.waiters }
+        ensures { self.new.waiters ≡ self.old.waiters ++ waiter_view waiter.value ∷ [] }
+    {
+        self.push(Box::into_inner(waiter));
+    }
+
     /// Takes the waiter of this serial out, if there is one.
     pub fn remove(&mut self, id: WaitId)
         ensures { self.new.waiters ≡ filter (is_other id) self.old.waiters }

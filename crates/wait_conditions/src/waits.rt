@@ -386,7 +386,8 @@ impl<A: Allocator + Copy> Waits<A> {
         }
     }
 
-    // A waiter is asked for, and made or refused.
+    // A waiter is asked for, and made or refused. It stands apart, since a step that asks for none has no place for one.
+    #[inline(never)]
     fn plan_add(
         &self,
         moments: &[Moment],
@@ -463,7 +464,7 @@ impl<A: Allocator + Copy> Waits<A> {
         self.spare = moments;
         match change {
             PlannedChange::Stay => {}
-            PlannedChange::Join(waiter) => self.list.push(Box::into_inner(waiter)),
+            PlannedChange::Join(waiter) => self.list.push_boxed(waiter),
             PlannedChange::Leave(id) => self.list.remove(id),
         }
     }

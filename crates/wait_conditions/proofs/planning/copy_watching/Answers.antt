@@ -1,6 +1,6 @@
 use Rattle.std.proofs.Common.{◌∙◌, ◌+◌, ◌<◌, ◌++◌, ◌∷◌, [], ap, sym, subst, arith, length, drop, map}
-use Rattle.std.proofs.lemmas.List.{drop_more, drop_all, length-map, length-drop, map-append, get_or-map}
-use Rattle.std.proofs.lemmas.List.Elements.{All-get_or, All-push, All-nil, All-same}
+use Rattle.std.proofs.lemmas.List.{drop_more, drop_all, length-map, length-drop, get_or-map}
+use Rattle.std.proofs.lemmas.List.Elements.{All-get_or, All-nil, All-same}
 use Rattle.wait_conditions.specs.declared.watchers.Watcher.{Watcher}
 use Rattle.wait_conditions.specs.Kept.{waiter_view}
 use Rattle.wait_conditions.specs.WaitsFields.{IsCounted, waiters_view}
@@ -32,8 +32,8 @@ bounds-waiters-place g c =
       length-drop c.loop-watcher.start (waiters_view c.args.waiters.now),
     )
 
-pub copy_of-requires : goal.copy_of-requires
-copy_of-requires g c =
+pub push_copy-requires-clause-waiter : goal.push_copy-requires-clause-waiter
+push_copy-requires-clause-waiter g c =
     let ws = c.args.watchers.now in
     let n = c.loop-watcher.watcher-index in
     let rest = map (λ (w : Watcher). w.waiter) (drop (n + 1) ws) in
@@ -68,13 +68,10 @@ loop-watcher-preserved g c =
       within = omega (arith, here);
       left = sym first.left ∙ ap (serials_where (watches c.args.sid)) (drop_on start place W c.place_from-place.ensures.from);
       copies =
-          ap waiters_view c.in_ok-push.ensures.items
-          ∙ (map-append waiter_view c.loop-watcher.copies.items (c.copy_of.result ∷ [])
-          ∙ (ap (λ k. waiters_view c.loop-watcher.copies.items ++ k ∷ []) c.copy_of.ensures.waiter
+          c.in_ok-push_copy.ensures.copies
           ∙ (ap (λ ks. ks ++ waiter_view w ∷ []) c.loop-watcher.invariant.copies
-          ∙ kept_more (watches c.args.sid) start place W rest (waiter_view w) c.place_from-place.ensures.from first seen)));
-      counted = All-same IsCounted c.push.new.self.items (c.loop-watcher.copies.items ++ c.copy_of.result ∷ []) c.in_ok-push.ensures.items
-          (All-push IsCounted c.loop-watcher.copies.items c.copy_of.result c.loop-watcher.invariant.counted c.copy_of.ensures.counted);
+          ∙ kept_more (watches c.args.sid) start place W rest (waiter_view w) c.place_from-place.ensures.from first seen);
+      counted = c.push_copy.ensures.counted;
     }
 
 pub returns-clause-copies : goal.returns-clause-copies

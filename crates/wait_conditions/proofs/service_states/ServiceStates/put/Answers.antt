@@ -1,4 +1,4 @@
-use Rattle.std.proofs.Common.{◌≡◌, ◌<◌, ◌∙◌, ap, length, take, true, false, subst, arith}
+use Rattle.std.proofs.Common.{◌≡◌, ◌∙◌, ap, length, take, true, false, subst, arith}
 use Rattle.std.specs.Prelude.{nat_le, nat_lt, IfSome, slice_get}
 use Rattle.std.specs.List.{list_all, list_any}
 use Rattle.wait_conditions.specs.States.{state_in}
