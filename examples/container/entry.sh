@@ -3,11 +3,21 @@
 #
 #   entry.sh DIRECTORY SOCKET [RECORD]
 #
-# svscan itself takes no signals. On TERM or INT this script tells it to end, and waits until every service is gone; its status is
-# that of svscan. S6_TREE is the path of the program; services find it and SOCKET in their environment.
+# svscan itself takes no signals. On TERM or INT this script tells it to end, again and again until it was told, and waits until every
+# service is gone; its status is that of svscan. S6_TREE is the path of the program; services find it and SOCKET in their environment.
 S6_TREE=${S6_TREE:-s6_tree}
 SOCKET=$2
 export S6_TREE SOCKET
+
+# Until the server has its socket, and while all its seats are taken, it can't be told.
+end_tree() {
+    while kill -0 "$server" 2>/dev/null && ! "$S6_TREE" svscanctl "$SOCKET" -t 2>/dev/null; do
+        sleep 0.1
+    done
+}
+
+is_ending=
+trap 'is_ending=yes' TERM INT
 
 # A shell has what runs in its background ignore INT and QUIT, and services would inherit that. GNU's env sets them back; then the
 # tree is in a session of its own, where a terminal's Ctrl-C doesn't reach it.
@@ -17,7 +27,8 @@ else
     "$S6_TREE" svscan "$@" &
 fi
 server=$!
-trap '"$S6_TREE" svscanctl "$SOCKET" -t' TERM INT
+trap end_tree TERM INT
+[ -z "$is_ending" ] || end_tree
 
 # A signal ends a wait early: while the server runs, it is waited for again.
 while :; do

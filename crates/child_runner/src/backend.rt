@@ -6,15 +6,14 @@ use crate::commands::{
     directory_of, finish_command, is_executable, is_read, kill_command, path_of, run_command,
 };
 use crate::keeper::Keeper;
-use crate::process::ServiceProcess;
+use crate::process::{Pipe, ServiceProcess};
 use crate::roll::Roll;
 use crate::roster::Roster;
 use crate::start::{Program, Start, is_last};
 use order_lanes::{AskFault, Backend, Report};
 use s6_events::{Name, NoMemory, Order};
 use std::alloc::Global;
-use std::io;
-use std::io::PipeReader;
+use std::io::{self, ErrorKind};
 use std::marker::Model;
 use std::process::{Child, Command, Processes, Stdio, SystemProcess};
 use std::rt::Files;
@@ -43,6 +42,14 @@ impl<R> Model for ProcessBackend<R> {
     ghost Value = { RollView };
 
     ghost view = { λ b. b.roll };
+}
+
+// Whether a program can't be started now nor later, since there is none or it may not be run.
+fn is_lasting(error: &io::Error) -> bool {
+    matches!(
+        error.kind(),
+        ErrorKind::NotFound | ErrorKind::PermissionDenied
+    )
 }
 
 /// A command, and what has to be there that it can be started.
@@ -84,8 +91,25 @@ impl<R: Drop> ProcessBackend<R> {
 }
 
 impl<R: Processes<Started = SystemProcess> + Files + Wait + Drop> ProcessBackend<R> {
-    // Starts what the launch says, or reports that it can't be started. All memory is taken before.
-    fn start(&mut self, order: &Order, start: &Start, launch: Launch) -> Result<(), NoMemory>
+    // Starts what the launch says, or reports that it can't be started.
+    fn start(&mut self, order: &Order, start: &Start, launch: Launch) -> Result<(), AskFault>
+        ensures added { OnOk result
+            (self.new ≡ record self.old { asked = self.old.asked ++ order.now ∷ [] }) }
+        ensures same { OnErr result (self.new ≡ self.old) }
+    {
+        match self.enter_and_run(order, start, launch) {
+            Ok(()) => Ok(()),
+            Err(_) => Err(AskFault::NoMemory),
+        }
+    }
+
+    // `start`. All memory is taken before anything is started.
+    fn enter_and_run(
+        &mut self,
+        order: &Order,
+        start: &Start,
+        launch: Launch,
+    ) -> Result<(), NoMemory>
         ensures added { OnOk result
             (self.new ≡ record self.old { asked = self.old.asked ++ order.now ∷ [] }) }
         ensures same { OnErr result (self.new ≡ self.old) }
@@ -106,8 +130,8 @@ impl<R: Processes<Started = SystemProcess> + Files + Wait + Drop> ProcessBackend
 
     fn run(&self, process: &ServiceProcess, launch: Launch) {
         match self.spawn(launch) {
-            Some((child, reader)) => {
-                process.begin(&self.rt, child, reader);
+            Some((child, pipe)) => {
+                process.begin(&self.rt, child, pipe);
                 self.roster.begin(&self.rt, process.number);
             }
             None => {
@@ -117,8 +141,8 @@ impl<R: Processes<Started = SystemProcess> + Files + Wait + Drop> ProcessBackend
         }
     }
 
-    // A child, and the end at which it is read; None where it can't be started.
-    fn spawn(&self, launch: Launch) -> Option<(Child<SystemProcess>, Option<PipeReader>)> {
+    // A child, and the pipe by which it is read; None where it can't be started.
+    fn spawn(&self, launch: Launch) -> Option<(Child<SystemProcess>, Option<Pipe>)> {
         let Launch {
             mut command,
             path,
@@ -127,14 +151,15 @@ impl<R: Processes<Started = SystemProcess> + Files + Wait + Drop> ProcessBackend
         if !is_executable(&self.rt, path.as_str()) {
             return None;
         }
-        let mut reader = None;
+        let mut pipe = None;
         if is_read {
-            let (ours, theirs) = io::pipe(&self.rt).ok()?;
+            let (reader, theirs) = io::pipe(&self.rt).ok()?;
+            let writer = theirs.try_clone().ok()?;
             command.stdout(Stdio::from(theirs));
-            reader = Some(ours);
+            pipe = Some(Pipe { reader, writer });
         }
         let child = command.spawn(&self.rt).ok()?;
-        Some((child, reader))
+        Some((child, pipe))
     }
 
     // The process number of a child that still lives.
@@ -148,20 +173,33 @@ impl<R: Processes<Started = SystemProcess> + Files + Wait + Drop> ProcessBackend
     }
 
     // Sends a child a signal, if it still lives.
-    fn signal(&mut self, order: &Order, start: &Start, signal: u8) -> Result<(), NoMemory>
+    fn signal(&mut self, order: &Order, start: &Start, signal: u8) -> Result<(), AskFault>
         ensures added { OnOk result
             (self.new ≡ record self.old { asked = self.old.asked ++ order.now ∷ [] }) }
         ensures same { OnErr result (self.new ≡ self.old) }
     {
-        let command = match self.pid_of(start) {
-            Some(pid) => Some(kill_command(self.alloc, pid, signal)?),
-            None => None,
-        };
-        self.roll.note(order)?;
-        if let Some(mut command) = command {
-            let _ = command.status(&self.rt);
+        if let Some(pid) = self.pid_of(start) {
+            self.send(pid, signal)?;
         }
-        Ok(())
+        match self.roll.note(order) {
+            Ok(()) => Ok(()),
+            Err(_) => Err(AskFault::NoMemory),
+        }
+    }
+
+    // Has a shell send a process a signal. `Busy` where the system has no room now for the shell.
+    fn send(&self, pid: u32, signal: u8) -> Result<(), AskFault> {
+        let Ok(mut command) = kill_command(self.alloc, pid, signal) else {
+            return Err(AskFault::NoMemory);
+        };
+        match command.spawn(&self.rt) {
+            Ok(mut shell) => {
+                let _ = shell.wait();
+                Ok(())
+            }
+            Err(error) if is_lasting(&error) => Ok(()),
+            Err(_) => Err(AskFault::Busy),
+        }
     }
 
     // How `run` is started.
@@ -184,18 +222,22 @@ impl<R: Processes<Started = SystemProcess> + Files + Wait + Drop> ProcessBackend
         })
     }
 
-    fn carry_out(&mut self, order: &Order) -> Result<(), NoMemory>
+    fn carry_out(&mut self, order: &Order) -> Result<(), AskFault>
         ensures added { OnOk result
             (self.new ≡ record self.old { asked = self.old.asked ++ order.now ∷ [] }) }
         ensures same { OnErr result (self.new ≡ self.old) }
     {
         match order {
             Order::Run(sid, generation, name, fd) => {
-                let launch = self.launch_of_run(name, *fd)?;
+                let Ok(launch) = self.launch_of_run(name, *fd) else {
+                    return Err(AskFault::NoMemory);
+                };
                 self.start(order, &Start::of_run(*sid, *generation), launch)
             }
             Order::Finish(sid, generation, name, code, signal) => {
-                let launch = self.launch_of_finish(name, *code, *signal)?;
+                let Ok(launch) = self.launch_of_finish(name, *code, *signal) else {
+                    return Err(AskFault::NoMemory);
+                };
                 self.start(order, &Start::of_finish(*sid, *generation), launch)
             }
             Order::Signal(sid, generation, signal) => {
@@ -239,15 +281,16 @@ impl<R: Processes<Started = SystemProcess> + Files + Wait + Drop> Backend for Pr
 
     ghost given = { λ b. b.given };
 
-    /// Starts or signals a process. `Busy` once the keeper is ending; `NoMemory` where a growth was refused, and then nothing was
-    /// done. A start that fails is accepted, and reported.
+    /// Starts or signals a process. `Busy` once the keeper is ending, and where a signal can't be sent now, since the system has no room
+    /// for one more process or descriptor; `NoMemory` where a growth was refused. Then nothing was done, and the order is to be asked
+    /// again. A start that fails is accepted, and reported.
     fn ask(&mut self, order: Order) -> Result<(), (Order, AskFault)> {
         if self.roster.is_ending(&self.rt) {
             return Err((order, AskFault::Busy));
         }
         match self.carry_out(&order) {
             Ok(()) => Ok(()),
-            Err(_) => Err((order, AskFault::NoMemory)),
+            Err(fault) => Err((order, fault)),
         }
     }
 

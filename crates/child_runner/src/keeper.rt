@@ -7,11 +7,7 @@ use crate::roster::Roster;
 use crate::watching::{STACK, give_back, watch};
 use s6_events::NoMemory;
 use std::alloc::{AllocError, AllocFailed, Global};
-use std::fs::OpenOptions;
-use std::io::Write;
-use std::os::fd::RawFd;
 use std::process::Processes;
-use std::rt::Files;
 use std::sync::{Arc, Wait};
 use std::thread;
 use std::thread::{Builder, JoinHandle, Scope, Threads};
@@ -70,7 +66,7 @@ impl<R: Threads + Wait + Clock + Copy + Send + Sync + Drop + 'static> Keeper<R> 
     }
 }
 
-impl<R: Processes + Files + Threads + Wait + Drop> Keeper<R> {
+impl<R: Processes + Threads + Wait + Drop> Keeper<R> {
     /// Ends it, once its backends are given up: kills the children that still live, waits for them, and joins all threads. Until
     /// then a backend answers Busy. Where memory for a signal is refused, it waits until that child ends by itself.
     pub fn end(self) {
@@ -92,7 +88,7 @@ impl<R: Processes + Files + Threads + Wait + Drop> Keeper<R> {
 }
 
 // Kills a child, and wakes the thread that reads its descriptor, which another program may keep open.
-fn stop<R: Processes + Files + Wait>(
+fn stop<R: Processes + Wait>(
     rt: &R,
     alloc: Global,
     process: &ServiceProcess,
@@ -100,22 +96,7 @@ fn stop<R: Processes + Files + Wait>(
     if let Some(pid) = process.pid(rt) {
         let _ = kill_command(alloc, pid, 9)?.status(rt);
     }
-    if let Some(descriptor) = process.reading(rt) {
-        wake(rt, alloc, descriptor)?;
-    }
-    Ok(())
-}
-
-// Writes to the pipe of this descriptor, so that a read there returns.
-fn wake<R: Files>(rt: &R, alloc: Global, descriptor: RawFd) -> Result<(), NoMemory> {
-    let path = format!(in alloc; "/proc/self/fd/{descriptor}")?;
-    if let Ok(mut pipe) = OpenOptions::new()
-        .read(true)
-        .write(true)
-        .open(rt, path.as_str())
-    {
-        let _ = pipe.write(b"\n");
-    }
+    process.write_last_byte(rt);
     Ok(())
 }
 

@@ -5,15 +5,24 @@ use crate::start::Start;
 use order_lanes::Report;
 use s6_events::Exit;
 use std::alloc::Global;
-use std::io::PipeReader;
-use std::os::fd::{AsRawFd, RawFd};
+use std::io::{PipeReader, PipeWriter, Write};
 use std::process::{Child, SystemProcess};
 use std::sync::{Arc, Condvar, Mutex, Wait};
 use std::time::{Clock, Duration};
 
-/// How many milliseconds an end waits for a first newline that the descriptor may still hold, where another program keeps the
-/// descriptor open.
+/// How many milliseconds an end waits at most until all was read that the child wrote.
 const LAST_WORDS: u64 = 1000;
+
+/// What is written to a child's pipe once it has ended, behind all that the child wrote, so that nobody reads on for another program that
+/// keeps the descriptor open. Of a child that has ended nothing is heard behind such a byte of its own.
+pub(crate) const LAST_BYTE: u8 = 0;
+
+/// The pipe by which a child is read: the end that is read, and one more of those that are written to.
+#[derive(Drop)]
+pub(crate) struct Pipe {
+    pub reader: PipeReader,
+    pub writer: PipeWriter,
+}
 
 /// What the thread of a child takes over.
 #[derive(Drop)]
@@ -31,6 +40,8 @@ pub(crate) struct ServiceProcess {
     progress: Mutex<Progress>,
     changed: Condvar,
     running: Mutex<Option<Running>>,
+    // Where its last byte is written, once.
+    writer: Mutex<Option<PipeWriter>>,
 }
 
 impl ServiceProcess {
@@ -43,6 +54,7 @@ impl ServiceProcess {
             progress: Mutex::new(Progress::new()),
             changed: Condvar::new(),
             running: Mutex::new(None),
+            writer: Mutex::new(None),
         }
     }
 
@@ -53,11 +65,17 @@ impl ServiceProcess {
     }
 
     /// It runs.
-    pub fn begin<R: Wait>(&self, rt: &R, child: Child<SystemProcess>, reader: Option<PipeReader>) {
-        let reading = reader.as_ref().map(|end| end.as_raw_fd());
+    pub fn begin<R: Wait>(&self, rt: &R, child: Child<SystemProcess>, pipe: Option<Pipe>) {
         self.progress
             .lock(rt)
-            .begin(&self.start.program, child.id(), reading);
+            .begin(&self.start.program, child.id(), pipe.is_some());
+        let reader = match pipe {
+            Some(Pipe { reader, writer }) => {
+                *self.writer.lock(rt) = Some(writer);
+                Some(reader)
+            }
+            None => None,
+        };
         *self.running.lock(rt) = Some(Running { child, reader });
         self.bell.ring(rt);
     }
@@ -101,11 +119,12 @@ impl ServiceProcess {
         self.changed.notify_all();
     }
 
-    /// It ended so, and was waited for. The end is told once all was read that it wrote, or after a while.
+    /// It ended so, and was waited for. The end is told once all was read that it wrote.
     pub fn end<R: Wait + Clock>(&self, rt: &R, exit: Exit) {
+        self.progress.lock(rt).begin_to_end();
+        self.write_last_byte(rt);
         let time = Duration::from_millis(LAST_WORDS);
-        let mut progress = self.progress.lock(rt);
-        progress.lose_pid();
+        let progress = self.progress.lock(rt);
         let (mut progress, _late) = self
             .changed
             .wait_timeout_while(rt, progress, time, |known| !known.may_end());
@@ -115,6 +134,19 @@ impl ServiceProcess {
         self.bell.ring(rt);
     }
 
+    /// Whether it was waited for.
+    pub fn is_ending<R: Wait>(&self, rt: &R) -> bool {
+        self.progress.lock(rt).is_ending()
+    }
+
+    /// Wakes whoever reads what it writes, once that was read which it wrote before.
+    pub fn write_last_byte<R: Wait>(&self, rt: &R) {
+        let writer = self.writer.lock(rt).take();
+        if let Some(mut writer) = writer {
+            let _ = writer.write_all(&[LAST_BYTE]);
+        }
+    }
+
     /// Nobody listens to it any more. Whether that is new.
     pub fn give_up<R: Wait>(&self, rt: &R) -> bool {
         let is_new = self.progress.lock(rt).give_up();
@@ -122,14 +154,9 @@ impl ServiceProcess {
         is_new
     }
 
-    /// Whether nobody listens to it any more.
-    pub fn is_given_up<R: Wait>(&self, rt: &R) -> bool {
-        self.progress.lock(rt).is_given_up()
-    }
-
-    /// The descriptor by which it is still read.
-    pub fn reading<R: Wait>(&self, rt: &R) -> Option<RawFd> {
-        self.progress.lock(rt).reading()
+    /// Whether what it writes is wanted no more: its end can be told, or nobody listens.
+    pub fn is_over<R: Wait>(&self, rt: &R) -> bool {
+        self.progress.lock(rt).is_over()
     }
 
     /// The next thing to tell.

@@ -3,7 +3,6 @@ use crate::start::{Program, Start};
 use arrayvec::ArrayVec;
 use order_lanes::Report;
 use s6_events::Exit;
-use std::os::fd::RawFd;
 
 /// What is to be told first.
 #[derive(Clone, Copy, PartialEq, Eq, Debug)]
@@ -25,10 +24,12 @@ pub(crate) struct Progress {
     pid: Option<u32>,
     // What it wrote and nobody was told yet.
     written: ArrayVec<u8, 64>,
-    // The descriptor by which it is read.
-    reading: Option<RawFd>,
+    // Whether it is still read.
+    is_read: bool,
     // Whether it wrote its first newline, after which nothing is told of what it writes.
     is_heard: bool,
+    // Whether it was waited for.
+    is_ending: bool,
     exit: Option<Exit>,
     is_given_up: bool,
 }
@@ -40,8 +41,9 @@ impl Progress {
             stage: Stage::Starting,
             pid: None,
             written: ArrayVec::new(),
-            reading: None,
+            is_read: false,
             is_heard: false,
+            is_ending: false,
             exit: None,
             is_given_up: false,
         }
@@ -52,9 +54,9 @@ impl Progress {
         self.stage = Stage::Failed;
     }
 
-    /// It lives, and is read by this descriptor.
-    pub fn begin(&mut self, program: &Program, pid: u32, reading: Option<RawFd>) {
-        self.reading = reading;
+    /// It lives. Whether it is read.
+    pub fn begin(&mut self, program: &Program, pid: u32, is_read: bool) {
+        self.is_read = is_read;
         self.stage = match program {
             Program::Run => Stage::Fresh(pid),
             Program::Finish => Stage::Living,
@@ -68,13 +70,19 @@ impl Progress {
     }
 
     /// It was waited for, so its number may be another's from now on.
-    pub fn lose_pid(&mut self) {
+    pub fn begin_to_end(&mut self) {
         self.pid = None;
+        self.is_ending = true;
+    }
+
+    /// Whether it was waited for.
+    pub fn is_ending(&self) -> bool {
+        self.is_ending
     }
 
     /// Nothing more is read.
     pub fn stop_reading(&mut self) {
-        self.reading = None;
+        self.is_read = false;
     }
 
     /// It wrote its first newline: what it writes from now on is told to nobody.
@@ -82,14 +90,9 @@ impl Progress {
         self.is_heard = true;
     }
 
-    /// The descriptor by which it is still read.
-    pub fn reading(&self) -> Option<RawFd> {
-        self.reading
-    }
-
     /// Whether its end can be told: all that matters of what it wrote was read, or nobody listens.
     pub fn may_end(&self) -> bool {
-        self.reading.is_none() || self.is_heard || self.is_given_up
+        !self.is_read || self.is_heard || self.is_given_up
     }
 
     pub fn end(&mut self, exit: Exit) {
@@ -101,11 +104,6 @@ impl Progress {
         let is_new = !self.is_given_up;
         self.is_given_up = true;
         is_new
-    }
-
-    /// Whether nobody listens any more.
-    pub fn is_given_up(&self) -> bool {
-        self.is_given_up
     }
 
     /// Whether what it writes is wanted no more.

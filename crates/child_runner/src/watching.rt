@@ -1,5 +1,7 @@
 //! The threads of one child: one waits for it, and one more reads what it writes.
-use crate::process::{Running, ServiceProcess};
+ghost use Rattle.std.specs.Prelude.{◌<◌, length, IfSome};
+
+use crate::process::{LAST_BYTE, Running, ServiceProcess};
 use crate::roster::Roster;
 use arrayvec::ArrayVec;
 use s6_events::Exit;
@@ -90,7 +92,8 @@ fn exit_of(status: io::Result<ExitStatus>) -> Exit {
 /// How many bytes are read at once.
 const PART: usize = 64;
 
-// Tells what the child writes up to its first newline, and reads on: a daemon that still writes would die of a closed end.
+// Tells what the child writes up to its first newline, and reads on until it has ended: a daemon that still writes would die of a closed
+// end.
 fn listen<R: Wait + Drop>(rt: R, process: Arc<ServiceProcess, Global>, mut reader: PipeReader) {
     let mut is_told = false;
     for _ in 0..u64::MAX {
@@ -99,17 +102,32 @@ fn listen<R: Wait + Drop>(rt: R, process: Arc<ServiceProcess, Global>, mut reade
         } else {
             process.await_room(&rt)
         };
-        if process.is_given_up(&rt) {
+        if process.is_over(&rt) {
             break;
         }
         let Some(part) = read_part(&mut reader, room) else {
             break;
         };
+        let last = last_place(&rt, &process, part.as_slice());
         if !is_told {
-            is_told = tell(&rt, &process, part.as_slice());
+            let end = last.unwrap_or(part.len());
+            is_told = tell(&rt, &process, &part.as_slice()[..end]);
+        }
+        if last.is_some() {
+            break;
         }
     }
     process.stop_reading(&rt);
+}
+
+// Where the last byte stands among these of a child that has ended; None where it is still to come.
+fn last_place<R: Wait>(rt: &R, process: &ServiceProcess, bytes: &[u8]) -> Option<usize>
+    ensures { IfSome result (λ place. place < length bytes.now) }
+{
+    if !process.is_ending(rt) {
+        return None;
+    }
+    bytes.iter().position(|byte| *byte == LAST_BYTE)
 }
 
 // At most so many bytes; None at the end.

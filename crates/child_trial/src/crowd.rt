@@ -1,5 +1,5 @@
 //! Many services at once.
-use crate::census::{count_children, count_descriptors};
+use crate::census::{count_children, count_descriptors, status_field};
 use crate::stage::Stage;
 use order_lanes::Report;
 use std::alloc::AllocError;
@@ -124,6 +124,54 @@ impl<R: Processes<Started = SystemProcess> + Files + Wait + Clock + Drop> Stage<
             "no pipe of another is inherited: {}",
             is_tried && has_none
         )
+    }
+
+    /// Services that end, and leave a program behind that keeps their descriptor: no thread and no descriptor of theirs stays here.
+    pub fn try_leavers(&mut self, output: &mut impl Write) -> io::Result<()> {
+        let before = self.count_own()?;
+        self.write("leaver", "run", "sleep 20 & exit 5", 0o755)?;
+        let mut are_asked = true;
+        for sid in 700..708 {
+            are_asked = self.run(sid, "leaver", Some(3))? && are_asked;
+        }
+        let deaths = self.count_deaths(16);
+        writeln!(
+            output,
+            "8 that leave a program behind: asked {are_asked}, {deaths} deaths, threads and descriptors as before {}",
+            self.falls_back_to(before)?
+        )
+    }
+
+    // How many of the next reports, at most so many, are deaths.
+    fn count_deaths(&mut self, reports: u32) -> u32 {
+        let mut deaths = 0u32;
+        for _ in 0..reports {
+            match self.next_report() {
+                Some(Report::Death(..)) => deaths = deaths.saturating_add(1),
+                Some(_) => {}
+                None => break,
+            }
+        }
+        deaths
+    }
+
+    // How many descriptors and threads this process has.
+    fn count_own(&self) -> io::Result<(usize, u64)> {
+        let descriptors = count_descriptors(&self.rt, self.alloc)?;
+        let threads = status_field(&self.rt, self.alloc, "Threads:")?;
+        Ok((descriptors, threads))
+    }
+
+    // Whether there are no more descriptors and threads than these, within ten seconds.
+    fn falls_back_to(&mut self, before: (usize, u64)) -> io::Result<bool> {
+        for _ in 0..200u32 {
+            let own = self.count_own()?;
+            if own.0 <= before.0 && own.1 <= before.1 {
+                return Ok(true);
+            }
+            let _ = self.is_silent(50);
+        }
+        Ok(false)
     }
 }
 

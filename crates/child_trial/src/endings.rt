@@ -98,7 +98,8 @@ fn try_stage<R: Processes<Started = SystemProcess> + Files + Wait + Clock + Drop
     stage.try_long_line(output)?;
     stage.try_deaf(output)?;
     stage.try_crowd(output)?;
-    stage.try_heirs(output)
+    stage.try_heirs(output)?;
+    stage.try_leavers(output)
 }
 
 /// How many seconds the end of a keeper may take. A grandchild that keeps a descriptor open lives longer.

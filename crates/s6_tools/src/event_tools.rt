@@ -1,6 +1,6 @@
 //! `mkfifodir`, `ftrig-notify` and `ftrig-wait`.
-ghost use Rattle.std.specs.Prelude.{◌≡◌, option_map};
-ghost use Rattle.s6_tools.specs.Targets.{before_event, target_of};
+ghost use Rattle.std.specs.Prelude.{◌≡◌, All, IfOk, option_map};
+ghost use Rattle.s6_tools.specs.Targets.{before_event, target_of, IsPrintable};
 
 use crate::answer::Answer;
 use crate::connection::Connection;
@@ -36,6 +36,18 @@ fn read_target(word: &str) -> Result<Target, ToolFault> {
 
 fn name_of(word: &str) -> Result<Name, ToolFault> {
     Name::new(word.as_bytes()).ok_or(ToolFault::Usage)
+}
+
+// A pattern is printable; a newline in it would begin another request.
+fn read_pattern(word: &str) -> Result<&str, ToolFault>
+    ensures same { IfOk result (λ pattern. pattern.now ≡ word.now) }
+    ensures printable { IfOk result (λ pattern. All IsPrintable pattern.now) }
+{
+    if word.bytes().all(|byte| matches!(byte, 32..=126)) {
+        Ok(word)
+    } else {
+        Err(ToolFault::Usage)
+    }
 }
 
 /// Makes a free event directory. Page `s6-mkfifodir`.
@@ -83,7 +95,8 @@ pub fn run_ftrig_wait<R: Net, W: Write>(
     let [target, pattern] = words else {
         return Err(ToolFault::Usage);
     };
-    let request = subscribe_request(alloc, &read_target(target)?, pattern)?;
+    let (target, pattern) = (read_target(target)?, read_pattern(pattern)?);
+    let request = subscribe_request(alloc, &target, pattern)?;
     let mut connection = Connection::open(rt, alloc, socket)?;
     match connection.ask(request.as_slice())? {
         Answer::Subscription => {}

@@ -1,9 +1,9 @@
 -- What a line of a client asks for.
-use Rattle.std.specs.Prelude.{◌≡◌, ℕ, List, ◌∷◌, ◌++◌, codes, decimal}
+use Rattle.std.specs.Prelude.{◌≡◌, ◌==◌, ℕ, List, ◌∷◌, ◌++◌, codes, decimal, if◌then◌else◌}
 use Rattle.std.specs.declared.alloc.Global.{Global}
 use Rattle.s6_script.specs.Spelling.{Spells}
 use Rattle.tree_core.specs.declared.input.Act.{Act}
-use Rattle.tree_core.specs.declared.input.Act.TheVariants.{Scan, Started, StartFailed, Notify, Death, FinishEnded, Status, Tick}
+use Rattle.tree_core.specs.declared.input.Act.TheVariants.{Scan, Started, StartFailed, Notify, Death, FinishEnded, Status, Wait, Subscribe, Tick}
 use Rattle.tree_core.specs.declared.input.Input.{Input}
 use Rattle.server_rules.specs.declared.own_answer.OwnAnswer.TheVariants as own
 use Rattle.server_rules.specs.declared.requests.Request.{Request}
@@ -28,17 +28,33 @@ IsOwnAct (FinishEnded sid generation exit) = Unit {0}
 IsOwnAct Tick = Unit {0}
 IsOwnAct act = ⊥
 
+-- the actor of the last seat, which is kept for short requests
+abbrev pub last_client : ℕ
+last_client = 15
+
+-- an act after which a client waits for more than its reply: not on the last seat
+abbrev pub waiting_request : ℕ → Act Global → Request
+waiting_request actor act = if actor == last_client then request.Refused own.Busy else request.Step act
+
 -- what an act is that a client asks for: a status comes from the board
-abbrev pub request_of : Act Global → Request
-request_of (Scan listing) = request.Refused own.Line
-request_of (Started sid generation pid) = request.Refused own.Line
-request_of (StartFailed sid generation) = request.Refused own.Line
-request_of (Notify sid generation bytes) = request.Refused own.Line
-request_of (Death sid generation exit) = request.Refused own.Line
-request_of (FinishEnded sid generation exit) = request.Refused own.Line
-request_of Tick = request.Refused own.Line
-request_of (Status name) = request.Status name
-request_of act = request.Step act
+abbrev pub request_of : ℕ → Act Global → Request
+request_of actor (Scan listing) = request.Refused own.Line
+request_of actor (Started sid generation pid) = request.Refused own.Line
+request_of actor (StartFailed sid generation) = request.Refused own.Line
+request_of actor (Notify sid generation bytes) = request.Refused own.Line
+request_of actor (Death sid generation exit) = request.Refused own.Line
+request_of actor (FinishEnded sid generation exit) = request.Refused own.Line
+request_of actor Tick = request.Refused own.Line
+request_of actor (Status name) = request.Status name
+request_of actor (Wait condition mode timeout names) = waiting_request actor (Wait condition mode timeout names)
+request_of actor (Subscribe target pattern repeats) = waiting_request actor (Subscribe target pattern repeats)
+request_of actor act = request.Step act
+
+-- no step after which a client waits
+abbrev pub IsShort : Request → Type 0
+IsShort (request.Step (Wait condition mode timeout names)) = ⊥
+IsShort (request.Step (Subscribe target pattern repeats)) = ⊥
+IsShort r = Unit {0}
 
 -- a status or a step is what the line spells
 abbrev pub AsksFor : Request → List ℕ → Type 0

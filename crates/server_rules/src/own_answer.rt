@@ -11,6 +11,8 @@ pub enum OwnAnswer {
     Pattern,
     /// The ring of the connection is full.
     Full,
+    /// The connection has the last seat, where nobody may wait.
+    Busy,
     /// A growth was refused.
     NoMemory,
     /// The scan directory could not be read.
@@ -26,6 +28,7 @@ impl OwnAnswer {
             OwnAnswer::Line => b"refused Line\n\n",
             OwnAnswer::Pattern => b"refused Pattern\n\n",
             OwnAnswer::Full => b"refused Full\n\n",
+            OwnAnswer::Busy => b"refused Busy\n\n",
             OwnAnswer::NoMemory => b"refused NoMemory\n\n",
             OwnAnswer::Directory => b"refused Directory\n\n",
         }

@@ -7,6 +7,9 @@ use s6_events::Actor;
 /// The actor of the first connection; those of the others follow.
 pub const FIRST_CLIENT: u8 = 5;
 
+/// The actor of the last connection, whose seat is kept for short requests.
+pub const LAST_CLIENT: u8 = 15;
+
 /// Whose inputs an actor's are.
 #[derive(Clone, Copy, PartialEq, Eq, Debug)]
 pub enum Place {

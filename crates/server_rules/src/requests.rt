@@ -4,11 +4,12 @@ ghost use Rattle.std.specs.Str.{bytes_eq};
 ghost use Rattle.s6_script.specs.Spelling.{Spells, SpellsButForPattern};
 ghost use Rattle.tree_core.specs.declared.input.Act.{Act};
 ghost use Rattle.tree_core.specs.declared.input.Input.{Input};
-ghost use Rattle.server_rules.specs.Requests.{request_of, script_line, scan_word, IsOwnAct, AsksFor};
+ghost use Rattle.server_rules.specs.Requests.{request_of, script_line, scan_word, last_client, IsOwnAct, IsShort, AsksFor};
 ghost use Rattle.server_rules.specs.declared.requests.Request.TheVariants as request;
 ghost use Rattle.server_rules.specs.declared.own_answer.OwnAnswer.TheVariants as own;
 
 use crate::own_answer::OwnAnswer;
+use crate::places::LAST_CLIENT;
 use s6_events::{Actor, At, Name};
 use s6_script::{LineFault, parse_line, push_number, push_spaced};
 use std::alloc::{AllocError, Global};
@@ -27,7 +28,8 @@ pub enum Request {
     Refused(OwnAnswer),
 }
 
-/// Reads a line of a client: a line of a script without its moment and its actor.
+/// Reads a line of a client: a line of a script without its moment and its actor. The last seat is kept for short requests, so that
+/// however many clients wait, another can still tell the tree what to do: there a wait or a subscription is refused as `Busy`.
 pub fn read_request(alloc: Global, at: At, actor: Actor, line: &[u8]) -> Request
     ensures scan { bytes_eq line.now scan_word ≡ true → result ≡ request.Scan }
     ensures only { result ≡ request.Scan → bytes_eq line.now scan_word ≡ true }
@@ -36,6 +38,8 @@ pub fn read_request(alloc: Global, at: At, actor: Actor, line: &[u8]) -> Request
         → Spells (script_line at actor line.now) i → IsOwnAct i.act }
     ensures pattern { result ≡ request.Refused own.Pattern
         → SpellsButForPattern Global (script_line at actor line.now) }
+    ensures busy { result ≡ request.Refused own.Busy → actor ≡ last_client }
+    ensures short { actor ≡ last_client → IsShort result }
 {
     if line == b"scanctl a".as_slice() {
         return Request::Scan;
@@ -44,16 +48,16 @@ pub fn read_request(alloc: Global, at: At, actor: Actor, line: &[u8]) -> Request
         return Request::Refused(OwnAnswer::NoMemory);
     };
     match parse_line(alloc, alloc, text.as_slice()) {
-        Ok(input) => request_of(input.act),
+        Ok(input) => request_of(actor, input.act),
         Err(LineFault::Line) => Request::Refused(OwnAnswer::Line),
         Err(LineFault::Pattern) => Request::Refused(OwnAnswer::Pattern),
         Err(LineFault::NoMemory) => Request::Refused(OwnAnswer::NoMemory),
     }
 }
 
-// What an act asks for that a client sent. Reports, listings and ticks are for the server's own actors.
-fn request_of(act: Act<Global>) -> Request
-    ensures { result ≡ request_of act }
+// What an act asks for that this client sent. Reports, listings and ticks are for the server's own actors.
+fn request_of(actor: Actor, act: Act<Global>) -> Request
+    ensures { result ≡ request_of actor act }
 {
     match act {
         Act::Status(name) => Request::Status(name),
@@ -64,6 +68,9 @@ fn request_of(act: Act<Global>) -> Request
         | Act::Death(..)
         | Act::FinishEnded(..)
         | Act::Tick => Request::Refused(OwnAnswer::Line),
+        Act::Wait(..) | Act::Subscribe(..) if actor.number() == LAST_CLIENT => {
+            Request::Refused(OwnAnswer::Busy)
+        }
         act => Request::Step(act),
     }
 }

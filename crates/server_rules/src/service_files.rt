@@ -117,8 +117,11 @@ fn look<R: Files>(rt: &R, alloc: Global, directory: &str, file: ServiceFile) -> 
     }
 }
 
-// The bytes of a file, of a longer one the first 4097.
+// The bytes of a regular file, of a longer one the first 4097. Another file is not opened: a pipe would wait there for its writer.
 fn read_file<R: Files>(rt: &R, alloc: Global, path: &str) -> io::Result<Vec<u8>> {
+    if !fs::metadata(rt, path)?.is_file() {
+        return Err(ErrorKind::InvalidInput.into());
+    }
     let file = fs::File::open(rt, path)?;
     let mut text = Vec::new(alloc);
     let mut reader = file.take(READING_LIMIT as u64);

@@ -134,9 +134,23 @@ fn try_twelve<R: Net + Processes + Clock, W: Write>(
     reader.read_to_end(&mut text)?;
     output.write_all(b"one more: ")?;
     output.write_all(text.as_slice())?;
+    let refused = count_refused_waits(stage.alloc, streams.as_slice())?;
+    write!(output, "of eleven that wait, refused: {refused}\n")?;
     let _ = streams.pop();
     let is_free = stage.comes_to(rt, "svc -u web", "0")?;
     write!(output, "a seat is free again: {is_free}\n")
+}
+
+// How many of these connections may not wait.
+fn count_refused_waits(alloc: Global, streams: &[UnixStream]) -> io::Result<usize> {
+    let mut refused = 0usize;
+    for stream in streams {
+        let reply = ask(alloc, stream, b"wait D a 0 web\n")?;
+        if reply.as_slice() == b"refused Busy\n\n".as_slice() {
+            refused = refused.saturating_add(1);
+        }
+    }
+    Ok(refused)
 }
 
 // A client that asks and never reads: others are answered meanwhile, and in the end it is closed.

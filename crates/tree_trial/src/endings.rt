@@ -20,5 +20,24 @@ pub fn try_end<R: Files + Processes + Clock, W: Write>(
     write!(output, "the socket is gone: {is_gone}\n")?;
     stage.tell(rt, "svc -u web", output)?;
     let told = stage.start_without_record(rt)?;
-    write!(output, "a record that can't be made: {}\n", told.as_str())
+    write!(output, "a record that can't be made: {}\n", told.as_str())?;
+    try_other_file(rt, stage, output)
+}
+
+// A file that is no socket, where the socket would be: the server leaves it alone.
+fn try_other_file<R: Files + Processes, W: Write>(
+    rt: &R,
+    stage: &Stage,
+    output: &mut W,
+) -> io::Result<()> {
+    fs::write(rt, stage.socket(), "kept")?;
+    let told = stage.start_refused(rt)?;
+    let text = fs::read_to_string(&(rt, stage.alloc), stage.socket())?;
+    let is_kept = text.as_str() == "kept";
+    fs::remove_file(rt, stage.socket())?;
+    write!(
+        output,
+        "another file at the socket's path: {}, kept {is_kept}\n",
+        told.as_str()
+    )
 }

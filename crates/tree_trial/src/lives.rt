@@ -72,6 +72,7 @@ fn try_directories<R: Processes, W: Write>(
         "ftrig-notify web/event u",
         "ftrig-wait nothing a",
         "ftrig-wait queue (",
+        "ftrig-wait queue a\nb",
     ] {
         stage.tell(rt, words, output)?;
     }

@@ -207,6 +207,12 @@ impl Stage {
         self.outcome_of(rt, &mut command)
     }
 
+    /// What comes of a server that is refused its socket: its status, and what it wrote.
+    pub fn start_refused<R: Processes>(&self, rt: &R) -> io::Result<String> {
+        let mut command = self.server_command()?;
+        self.outcome_of(rt, &mut command)
+    }
+
     // The status of a command that has ended, and what it wrote.
     fn outcome_of<R: Processes>(&self, rt: &R, command: &mut Command) -> io::Result<String> {
         let output = command.output(rt)?;
