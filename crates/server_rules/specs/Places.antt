@@ -1,5 +1,5 @@
 -- Whose inputs an actor's are.
-use Rattle.std.specs.Prelude.{ℕ, ◌+◌, ◌-◌, ◌==◌, Option, Some, None, nat_le, nat_lt, if◌then◌else◌}
+use Rattle.std.specs.Prelude.{ℕ, ◌+◌, ◌-◌, ◌==◌, Option, Some, None, nat_lt, if◌then◌else◌}
 use Rattle.server_rules.specs.declared.places.Place.{Place}
 use Rattle.server_rules.specs.declared.places.Place.TheVariants.{Scanner, Lane, Client}
 

@@ -1,5 +1,5 @@
 -- What stands of a connection, and what ends it.
-use Rattle.std.specs.Prelude.{◌≡◌, ℕ, List, [], ◌∷◌, ◌++◌, ◌==◌, filter, not, Option, Some, None}
+use Rattle.std.specs.Prelude.{◌≡◌, List, [], ◌∷◌, ◌++◌, ◌==◌, filter, not, Option, Some, None}
 use Rattle.std.specs.declared.alloc.Global.{Global}
 use Rattle.s6_events.specs.declared.ids.WaitId.{WaitId}
 use Rattle.s6_events.specs.declared.ids.SubId.{SubId}
