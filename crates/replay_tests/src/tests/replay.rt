@@ -1,9 +1,13 @@
 //! Scripts and transcripts: what no clause says, and the worked rows.
+use super::cases::Case;
+use super::{holds, same};
 use s6_replay::{Counts, ReplayFault, run};
 use std::alloc::Global;
 use std::process::Abort;
+use std::test::Fail;
 
 mod cut;
+mod ends;
 mod fakes;
 mod images;
 mod limits;
@@ -14,19 +18,7 @@ mod refused;
 mod rows;
 mod spelling;
 
-// The script of the row `restart-after-pause`, and the blocks of its transcript.
-const SCRIPT: &str =
-    "s6-script 1\n0 1 scan web\n0 1 started 1 1 500\n300 1 death 1 1 code 1\n1299 1 tick\n1300 1 tick\n";
-
-const BLOCKS: [&str; 5] = [
-    "1 scanned +1:web\ne 1 s\no run 1 1\n",
-    "2 done\ne 1 u\n",
-    "3 done\ne 1 d\ne 1 D\n",
-    "4 done\n",
-    "5 done\no run 1 2\n",
-];
-
-// What a replay answers, and what it wrote.
+// What is answered, and what was written.
 #[derive(Drop)]
 struct Replayed {
     answer: Result<Counts, ReplayFault>,
@@ -41,28 +33,57 @@ fn replay_in_memory(alloc: Global, script: &[u8]) -> Replayed {
     Replayed { answer, written }
 }
 
-// How many of the blocks the text is, or None where it isn't a number of whole ones.
-fn count_blocks(blocks: &[&str], text: &[u8]) -> Option<usize> {
-    let mut rest = text;
-    for (count, block) in blocks.iter().enumerate() {
-        if rest.is_empty() {
-            return Some(count);
+// The answer in words.
+fn words_of(alloc: Global, answer: &Result<Counts, ReplayFault>) -> Result<String, Fail> {
+    Ok(match answer {
+        Ok(
+            Counts {
+                inputs,
+                events,
+                orders,
+            },
+        ) => format!(in alloc; "{inputs} inputs, {events} events, {orders} orders")?,
+        Err(fault) => format!(in alloc; "{fault}")?,
+    })
+}
+
+// What was done gives the answer of the case, and what is written there.
+fn check_replayed(
+    rt: &impl Abort,
+    alloc: Global,
+    found: &Replayed,
+    case: &Case,
+) -> Result<(), Fail> {
+    let words = words_of(alloc, &found.answer)?;
+    same(rt, case.name, words.as_bytes(), case.answer.as_bytes());
+    same(
+        rt,
+        case.name,
+        found.written.as_slice(),
+        case.written.as_bytes(),
+    );
+    Ok(())
+}
+
+// How many blocks of the transcript the text is, from its beginning on, or None where it isn't a number of whole ones. A block begins
+// with its number, and its other lines with a letter.
+fn count_blocks(transcript: &str, text: &[u8]) -> Option<usize> {
+    let rest = transcript.as_bytes().strip_prefix(text)?;
+    let mut count = 0usize;
+    let mut begins_line = true;
+    for byte in text {
+        if begins_line && byte.is_ascii_digit() {
+            count = count.saturating_add(1);
         }
-        rest = rest.strip_prefix(block.as_bytes())?;
+        begins_line = *byte == b'\n';
     }
-    if rest.is_empty() {
-        Some(blocks.len())
+    let is_end = match rest.first() {
+        Some(byte) => byte.is_ascii_digit(),
+        None => true,
+    };
+    if begins_line && is_end {
+        Some(count)
     } else {
         None
     }
-}
-
-// A replay has stopped with this fault, or with none, after so many whole blocks.
-fn stops(
-    rt: &impl Abort,
-    place: usize,
-    found: (Option<ReplayFault>, Option<usize>),
-    wanted: (Option<ReplayFault>, Option<usize>),
-) {
-    assert_eq!(rt; found, wanted, "at {place}");
 }

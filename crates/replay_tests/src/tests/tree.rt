@@ -1,326 +1,212 @@
 //! What no clause says: that every act succeeds with ample memory, on a table of 64 and with the longest lists, and that each growth
 //! of a step may be refused. What a step gives is its clauses' matter; the worked rows run as scripts in `replay`.
-
-use arrayvec::ArrayVec;
-use death_tally::DeathList;
+use super::templates::{make_text, push_template};
+use super::{holds, same};
 use linked_list_allocator::LocalHeap;
-use s6_events::{Actor, At, Condition, Exit, Letter, Mode, Name, NoMemory, Sid, SubId, WaitId};
-use servicedir::Config;
-use std::alloc::{Allocator, Global};
+use s6_events::{Letter, Name, NoMemory, SubId, WaitId};
+use s6_script::parse_line;
+use std::alloc::{AllocError, Allocator, Global};
 use std::process::Abort;
 use std::test::Fail;
-use svc_commands::{ControlLetter, Letters};
-use tree_core::{
-    Act, Entry, Input, Listing, Message, Names, Pattern, ScanOrder, State, Target, Tree, WaitState,
-};
+use tree_core::{Act, Effect, Input, State, Tree, WaitState};
 
-// What one service is told, or the scan directory, before the act has memory of its own.
-#[derive(Clone, Copy, Debug)]
-enum Deed {
-    /// So many names are listed, each with a `finish` and a notification descriptor; the 65th couldn't be read.
-    Scan(u8),
-    /// So many names are listed, each with the plain configuration.
-    ScanPlain(u8),
-    Scanctl(ScanOrder),
-    /// One letter so many times.
-    Svc(ControlLetter, u8),
-    Started(u64),
-    StartFailed(u64),
-    /// So many bytes and a newline.
-    Notify(u64, u8),
-    Death(u64, Exit),
-    FinishEnded(u64, Exit),
-    Status,
-    Tally,
-    Permafailon,
-    /// For the condition of all services of these serials, with this timeout.
-    Wait(Condition, u32, &'static [u8]),
-    /// Of the waiter of this serial.
-    Cancel,
-    /// To the service of this serial, for this pattern: again after each match.
-    Subscribe(&'static str),
-    /// To the free directory of this serial, for this pattern: once.
-    SubscribeThere(&'static str),
-    /// Of the subscription of this serial.
-    Unsubscribe,
-    /// This message to the free directory of this serial.
-    Send(&'static [u8]),
-    /// A free directory of this serial.
-    MakeDir,
-    Tick,
+// What each of 64 services in turn is told, in a template, and how many events, orders, matches and releases that gives in all. `&`
+// stands for the names of 64 services, and of a directory that couldn't be read. Each waits for the first service and the last.
+const ROUNDS: &str = "0 1 scan& > 64 64 0 0
+0 1 started # 1 500 > 64 0 0 0
+0 1 notify # 1 6161616161616161616161616161616161616161616161616161616161616161616161616161616161616161616161616161616161616161616161616161610a > 64 0 0 0
+0 1 svc s~ hhhhhhhhhhhhhhhhhhhhhhhhhhhhhhhhhhhhhhhhhhhhhhhhhhhhhhhhhhhhhhh > 0 4032 0 0
+4 1 subscribe svc s~ repeat d.* > 0 0 0 0
+5 1 death # 1 signal 9 > 64 64 64 0
+5 1 wait D a 0 s01 s64 > 0 0 0 0
+6 1 finished # 1 code 0 > 64 0 0 64
+6 1 cancel # > 0 0 0 0
+6 1 unsubscribe # > 0 0 0 0
+6 1 mkdir s~ > 0 0 0 0
+6 1 subscribe dir s~ once b$ > 0 0 0 0
+6 1 send dir s~ abc > 0 0 64 0
+7 1 status s~ > 0 0 0 0
+7 1 tally s~ > 0 0 0 0
+7 1 permafailon s~ 1 1 1,SIGKILL > 0 0 0 0
+1005 1 tick > 0 64 0 0
+1006 1 startfailed # 2 > 0 0 0 0
+1008 1 scan > 0 0 0 0
+1009 1 scanctl n > 64 0 0 0
+1010 1 scan > 0 0 0 0
+1011 1 status s~ > 0 0 0 0
+1012 1 scan& > 64 64 0 0
+1013 1 scanctl t > 0 0 0 0
+1014 1 scan& > 0 0 0 0";
+
+// How much the tree gave.
+#[derive(Clone, Copy)]
+struct Given {
+    events: usize,
+    orders: usize,
+    matched: usize,
+    released: usize,
 }
 
-// As many names as a wait may have, and one more.
-const MOST: [u8; 16] = [1, 2, 3, 4, 5, 6, 7, 8, 9, 10, 11, 12, 13, 14, 15, 16];
-
-const MANY: [u8; 17] = [1, 2, 3, 4, 5, 6, 7, 8, 9, 10, 11, 12, 13, 14, 15, 16, 17];
-
-// The name of the service of a serial: s01, s02 and so on.
-fn name_of(serial: u8) -> Result<Name, Fail> {
-    let text = [b's', b'0' + serial / 10, b'0' + serial % 10];
-    Ok(Name::new(&text).ok_or("a name")?)
-}
-
-// The configuration of a service with a `finish` and a notification descriptor.
-fn with_finish() -> Config {
-    Config {
-        finish: true,
-        notification_fd: Some(3),
-        ..Config::plain()
+impl Given {
+    fn add(&mut self, effect: &Effect<Global>) {
+        self.events = self.events.saturating_add(effect.events.len());
+        self.orders = self.orders.saturating_add(effect.orders.len());
+        self.matched = self.matched.saturating_add(effect.matched.len());
+        self.released = self.released.saturating_add(effect.released.len());
     }
 }
 
-fn listing_of<A: Allocator + Copy>(
-    alloc: A,
-    count: u8,
-    config: Config,
-) -> Result<Listing<A>, Fail> {
-    let mut entries = Vec::new(alloc);
-    for serial in 0..count {
-        let name = name_of(serial.saturating_add(1))?;
-        let config = if serial < 64 { Some(config) } else { None };
-        entries.push(Entry { name, config })?;
+// The line of a service. Each has a `finish` and a notification descriptor.
+fn line_of(alloc: Global, template: &str, serial: u32) -> Result<String, AllocError> {
+    if let Some((scan, _)) = template.split_once('&') {
+        let names = [(64, " s~:finish,notify=3"), (1, " s65!")];
+        return make_text(alloc, scan, &names);
     }
-    Ok(Listing::new(entries))
+    let mut line = String::new(alloc);
+    push_template(&mut line, template, serial)?;
+    Ok(line)
 }
 
-fn letters_of(letter: ControlLetter, count: u8) -> Result<Letters, Fail> {
-    let mut letters = Letters::new();
-    for _ in 0..count {
-        letters.try_push(letter).ok().ok_or("a letter's place")?;
-    }
-    Ok(letters)
+// The tree takes the input of this line, with ample memory.
+fn take(alloc: Global, tree: &mut Tree<Global>, line: &str, given: &mut Given) -> Result<(), Fail> {
+    let input = parse_line(alloc, alloc, line.as_bytes())?;
+    let effect = tree.apply(input).ok().ok_or("memory")?;
+    given.add(&effect);
+    Ok(())
 }
 
-fn bytes_of(count: u8) -> Result<ArrayVec<u8, 64>, Fail> {
-    let mut bytes = ArrayVec::new();
-    for _ in 0..count {
-        bytes.try_push(b'a').ok().ok_or("a byte's place")?;
-    }
-    bytes.try_push(b'\n').ok().ok_or("a newline's place")?;
-    Ok(bytes)
-}
-
-fn names_of<A: Allocator + Copy>(alloc: A, serials: &[u8]) -> Result<Names<A>, Fail> {
-    let mut names = Vec::new(alloc);
-    for serial in serials {
-        names.push(name_of(*serial)?)?;
-    }
-    Ok(Names::new(names))
-}
-
-fn list_of<A: Allocator + Copy>(alloc: A) -> Result<DeathList, Fail> {
-    let list = DeathList::parse(alloc, b"1,SIGKILL").ok().ok_or("memory")?;
-    Ok(list.ok_or("a list")?)
-}
-
-fn message_of(bytes: &[u8]) -> Result<Message, Fail> {
-    Ok(Message::new(bytes).ok_or("a message")?)
-}
-
-// The patterns' memory is ample.
-fn input<A: Allocator + Copy>(
-    alloc: A,
-    patterns: Global,
-    at: u64,
-    deed: Deed,
-    serial: u8,
-) -> Result<Input<A>, Fail> {
-    let sid = Sid(u64::from(serial));
-    let act = match deed {
-        Deed::Scan(count) => Act::Scan(listing_of(alloc, count, with_finish())?),
-        Deed::ScanPlain(count) => Act::Scan(listing_of(alloc, count, Config::plain())?),
-        Deed::Scanctl(order) => Act::Scanctl(order),
-        Deed::Svc(letter, count) => Act::Svc(name_of(serial)?, letters_of(letter, count)?),
-        Deed::Started(generation) => Act::Started(sid, generation, 500),
-        Deed::StartFailed(generation) => Act::StartFailed(sid, generation),
-        Deed::Notify(generation, count) => Act::Notify(sid, generation, bytes_of(count)?),
-        Deed::Death(generation, exit) => Act::Death(sid, generation, exit),
-        Deed::FinishEnded(generation, exit) => Act::FinishEnded(sid, generation, exit),
-        Deed::Status => Act::Status(name_of(serial)?),
-        Deed::Tally => Act::Tally(name_of(serial)?),
-        Deed::Permafailon => Act::Permafailon(name_of(serial)?, 1, 1, list_of(alloc)?),
-        Deed::Wait(condition, timeout, serials) => {
-            Act::Wait(condition, Mode::All, timeout, names_of(alloc, serials)?)
-        }
-        Deed::Cancel => Act::Cancel(WaitId(u64::from(serial))),
-        Deed::Subscribe(pattern) => Act::Subscribe(
-            Target::Service(name_of(serial)?),
-            Pattern::build(patterns, pattern)?,
-            true,
-        ),
-        Deed::SubscribeThere(pattern) => Act::Subscribe(
-            Target::Directory(name_of(serial)?),
-            Pattern::build(patterns, pattern)?,
-            false,
-        ),
-        Deed::Unsubscribe => Act::Unsubscribe(SubId(u64::from(serial))),
-        Deed::Send(bytes) => Act::Send(Target::Directory(name_of(serial)?), message_of(bytes)?),
-        Deed::MakeDir => Act::MakeDir(name_of(serial)?),
-        Deed::Tick => Act::Tick,
+// All 64 services are told this: how much that gives.
+fn tell_all(alloc: Global, tree: &mut Tree<Global>, template: &str) -> Result<Given, Fail> {
+    let mut given = Given {
+        events: 0,
+        orders: 0,
+        matched: 0,
+        released: 0,
     };
-    Ok(Input {
-        actor: Actor::new(1).ok_or("an actor")?,
-        at: At::new(at).ok_or("a moment")?,
-        act,
-    })
-}
-
-// The moment, what each of 64 services in turn is told, and how many events, orders, matches and releases that gives in all.
-type Round = (u64, Deed, usize, usize, usize, usize);
-
-// Each waits for the first service and the last.
-const ROUNDS: &[Round] = &[
-    (0, Deed::Scan(65), 64, 64, 0, 0),
-    (0, Deed::Started(1), 64, 0, 0, 0),
-    (0, Deed::Notify(1, 63), 64, 0, 0, 0),
-    (0, Deed::Svc(ControlLetter::Hangup, 63), 0, 4032, 0, 0),
-    (4, Deed::Subscribe("d.*"), 0, 0, 0, 0),
-    (5, Deed::Death(1, Exit::Killed(9)), 64, 64, 64, 0),
-    (5, Deed::Wait(Condition::Finished, 0, &[1, 64]), 0, 0, 0, 0),
-    (6, Deed::FinishEnded(1, Exit::Code(0)), 64, 0, 0, 64),
-    (6, Deed::Cancel, 0, 0, 0, 0),
-    (6, Deed::Unsubscribe, 0, 0, 0, 0),
-    (6, Deed::MakeDir, 0, 0, 0, 0),
-    (6, Deed::SubscribeThere("b$"), 0, 0, 0, 0),
-    (6, Deed::Send(b"abc"), 0, 0, 64, 0),
-    (7, Deed::Status, 0, 0, 0, 0),
-    (7, Deed::Tally, 0, 0, 0, 0),
-    (7, Deed::Permafailon, 0, 0, 0, 0),
-    (1005, Deed::Tick, 0, 64, 0, 0),
-    (1006, Deed::StartFailed(2), 0, 0, 0, 0),
-    (1008, Deed::Scan(0), 0, 0, 0, 0),
-    (1009, Deed::Scanctl(ScanOrder::Nuke), 64, 0, 0, 0),
-    (1010, Deed::Scan(0), 0, 0, 0, 0),
-    (1011, Deed::Status, 0, 0, 0, 0),
-    (1012, Deed::Scan(65), 64, 64, 0, 0),
-    (1013, Deed::Scanctl(ScanOrder::Terminate), 0, 0, 0, 0),
-    (1014, Deed::Scan(65), 0, 0, 0, 0),
-];
-
-// All 64 services are told this, with ample memory: how many events, orders, matches and releases that gives.
-fn told_to_all(
-    alloc: Global,
-    tree: &mut Tree<Global>,
-    at: u64,
-    deed: Deed,
-) -> Result<(usize, usize, usize, usize), Fail> {
-    let mut events = 0usize;
-    let mut orders = 0usize;
-    let mut matched = 0usize;
-    let mut released = 0usize;
-    for serial in 1..65u8 {
-        let effect = tree
-            .apply(input(alloc, alloc, at, deed, serial)?)
-            .ok()
-            .ok_or("memory")?;
-        events = events.saturating_add(effect.events.len());
-        orders = orders.saturating_add(effect.orders.len());
-        matched = matched.saturating_add(effect.matched.len());
-        released = released.saturating_add(effect.released.len());
+    for serial in 1..65u32 {
+        let line = line_of(alloc, template, serial)?;
+        take(alloc, tree, line.as_str(), &mut given)?;
     }
-    Ok((events, orders, matched, released))
+    Ok(given)
 }
 
-// The clock, the steps, the number of rows, and whether the services of two names have one.
-fn shown<A: Allocator + Copy>(tree: &Tree<A>) -> Result<(u64, u64, usize, bool, bool), Fail> {
-    Ok((
-        tree.now().millis(),
-        tree.steps(),
-        tree.rows().len(),
-        tree.row(name_of(64)?).is_some(),
-        tree.row(name_of(65)?).is_some(),
-    ))
+fn written(alloc: Global, given: Given) -> Result<String, Fail> {
+    let Given {
+        events,
+        orders,
+        matched,
+        released,
+    } = given;
+    Ok(format!(in alloc; "{events} {orders} {matched} {released}")?)
 }
 
-fn take_rounds(
+fn check_round(
     rt: &impl Abort,
     alloc: Global,
     tree: &mut Tree<Global>,
-    rounds: &[Round],
+    round: &str,
 ) -> Result<(), Fail> {
-    for (at, deed, events, orders, matched, released) in rounds {
-        let given = told_to_all(alloc, tree, *at, *deed)?;
-        assert!(rt;
-            given == (*events, *orders, *matched, *released),
-            "{at} {deed:?}: {given:?}"
-        );
+    let (template, wanted) = round.split_once(" > ").unwrap_or((round, ""));
+    let given = tell_all(alloc, tree, template)?;
+    let found = written(alloc, given)?;
+    same(rt, template, found.as_bytes(), wanted.as_bytes());
+    Ok(())
+}
+
+// The clock, the steps, the number of rows, and whether the services of two names have one.
+fn shown(alloc: Global, tree: &Tree<Global>) -> Result<String, Fail> {
+    let (now, steps, rows) = (tree.now().millis(), tree.steps(), tree.rows().len());
+    let last = tree.row(Name::new(b"s64").ok_or("a name")?).is_some();
+    let unread = tree.row(Name::new(b"s65").ok_or("a name")?).is_some();
+    Ok(format!(in alloc; "{now} {steps} {rows} {last} {unread}")?)
+}
+
+// The last free directory's subscription, made after 64 others, has heard its letter.
+fn has_heard(tree: &Tree<Global>) -> Option<bool> {
+    let heard = tree.list(SubId(128))?;
+    let letters = [Letter::new(b'b')?];
+    Some(heard.letters == letters.as_slice() && heard.state == State::Done)
+}
+
+// A new tree takes the rounds, and stands so behind them.
+fn take_rounds(rt: &impl Abort, alloc: Global, tree: &mut Tree<Global>) -> Result<(), Fail> {
+    for round in ROUNDS.split('\n') {
+        check_round(rt, alloc, tree, round)?;
     }
+    let found = shown(alloc, tree)?;
+    same(rt, "the tree", found.as_bytes(), b"1014 1600 64 true false");
+    holds(rt, "the subscription", has_heard(tree) == Some(true));
     Ok(())
 }
 
 #[test]
 fn every_act_succeeds_with_ample_memory(rt: HostRuntime) -> Result<(), Fail> {
-    let mut tree = Tree::new(rt.alloc());
-    take_rounds(&rt, rt.alloc(), &mut tree, ROUNDS)?;
-    assert_eq!(rt; shown(&tree)?, (1014, 1600, 64, true, false));
-    // The last free directory's subscription, made after 64 others.
-    let heard = tree.list(SubId(128)).ok_or("a subscription")?;
-    assert!(rt;
-        heard.letters == [Letter::new(b'b').ok_or("a letter")?].as_slice()
-            && heard.state == State::Done
-    );
-    Ok(())
+    let mut tree = Box::new(rt.alloc(), Tree::new(rt.alloc()))?;
+    take_rounds(&rt, rt.alloc(), &mut tree)
 }
 
-// Every act, to the first service or all: each makes something grow, but for the permafailon and the last two.
-const DEEDS: &[(u64, Deed)] = &[
-    (0, Deed::Scan(3)),
-    (0, Deed::Started(1)),
-    (0, Deed::Wait(Condition::Up, 0, &[1])),
-    (0, Deed::Wait(Condition::Finished, 4, &[1])),
-    (1, Deed::Notify(1, 3)),
-    (2, Deed::Svc(ControlLetter::Terminate, 2)),
-    (5, Deed::Death(1, Exit::Code(1))),
-    (6, Deed::FinishEnded(1, Exit::Code(0))),
-    (6, Deed::Wait(Condition::Up, 0, &MANY)),
-    (6, Deed::Cancel),
-    (6, Deed::Tally),
-    (6, Deed::Permafailon),
-    (6, Deed::Subscribe("x")),
-    (6, Deed::MakeDir),
-    (6, Deed::SubscribeThere("b")),
-    (6, Deed::Send(b"aab")),
-    (6, Deed::Unsubscribe),
-    (1005, Deed::Tick),
-    (1006, Deed::StartFailed(2)),
-    (1007, Deed::Svc(ControlLetter::Exit, 1)),
-    (1008, Deed::Scan(0)),
-    (1008, Deed::Scanctl(ScanOrder::Nuke)),
-    (1008, Deed::Scanctl(ScanOrder::Terminate)),
-    (1008, Deed::Status),
-    (1008, Deed::Tick),
-];
+// Every act, to the first service or all: each makes something grow, but for the permafailon and the last two. One wait has more names
+// than it may.
+const LINES: &str = "0 1 scan s01:finish,notify=3 s02:finish,notify=3 s03:finish,notify=3
+0 1 started 1 1 500
+0 1 wait u a 0 s01
+0 1 wait D a 4 s01
+1 1 notify 1 1 6161610a
+2 1 svc s01 tt
+5 1 death 1 1 code 1
+6 1 finished 1 1 code 0
+6 1 wait u a 0 s01 s02 s03 s04 s05 s06 s07 s08 s09 s10 s11 s12 s13 s14 s15 s16 s17
+6 1 cancel 1
+6 1 tally s01
+6 1 permafailon s01 1 1 1,SIGKILL
+6 1 subscribe svc s01 repeat x
+6 1 mkdir s01
+6 1 subscribe dir s01 once b
+6 1 send dir s01 aab
+6 1 unsubscribe 1
+1005 1 tick
+1006 1 startfailed 1 2
+1007 1 svc s01 x
+1008 1 scan
+1008 1 scanctl n
+1008 1 scanctl t
+1008 1 status s01
+1008 1 tick";
 
-// What a refused input may not change: the moment, the number of names that it waits for or of bytes of its pattern, the clock, the
-// steps, the number of rows, where the first two waiters stand, and how many letters the second subscription has heard.
-type Before = (
-    u64,
-    usize,
-    u64,
-    u64,
-    usize,
-    Option<WaitState>,
-    Option<WaitState>,
-    Option<usize>,
-);
+// What a refused input may not change: of the input its moment, and the number of names that it waits for or of bytes of its pattern;
+// of the tree the clock, the steps, the number of rows, where the first two waiters stand, and how many letters the second
+// subscription has heard.
+#[derive(PartialEq, Drop)]
+struct Before {
+    moment: u64,
+    size: usize,
+    now: u64,
+    steps: u64,
+    rows: usize,
+    first: Option<WaitState>,
+    second: Option<WaitState>,
+    heard: Option<usize>,
+}
 
-fn before<A: Allocator + Copy>(tree: &Tree<A>, input: &Input<A>) -> Before {
-    let size = match &input.act {
+fn size_of<A: Allocator + Copy>(input: &Input<A>) -> usize {
+    match &input.act {
         Act::Wait(_, _, _, names) => names.names().len(),
         Act::Subscribe(_, pattern, _) => pattern.text().len(),
         _ => 0,
-    };
-    (
-        input.at.millis(),
-        size,
-        tree.now().millis(),
-        tree.steps(),
-        tree.rows().len(),
-        tree.result(WaitId(1)),
-        tree.result(WaitId(2)),
-        tree.list(SubId(2)).map(|view| view.letters.len()),
-    )
+    }
+}
+
+fn seen_in<A: Allocator + Copy>(tree: &Tree<A>, input: &Input<A>) -> Before {
+    Before {
+        moment: input.at.millis(),
+        size: size_of(input),
+        now: tree.now().millis(),
+        steps: tree.steps(),
+        rows: tree.rows().len(),
+        first: tree.result(WaitId(1)),
+        second: tree.result(WaitId(2)),
+        heard: tree.list(SubId(2)).map(|view| view.letters.len()),
+    }
 }
 
 // The tree takes the input, at once or, where a growth was refused, once more without the filler; whether one was refused.
@@ -329,12 +215,12 @@ fn applies_at_last<A: Allocator + Copy>(
     input: Input<A>,
     filler: Option<Vec<u8, A>>,
 ) -> Result<bool, Fail> {
-    let first = before(tree, &input);
+    let before = seen_in(tree, &input);
     match tree.apply(input) {
         Ok(_) => Ok(false),
         Err((back, NoMemory)) => {
             drop(filler);
-            if before(tree, &back) != first {
+            if seen_in(tree, &back) != before {
                 return Err("a refused step changes nothing".into());
             }
             tree.apply(back).ok().ok_or("memory")?;
@@ -343,72 +229,61 @@ fn applies_at_last<A: Allocator + Copy>(
     }
 }
 
-// One deed on a heap that has so many bytes left until a refusal gives it ample ones: whether there was one.
-fn apply_one<'a>(
+// One line on a heap that has so many bytes left until a refusal gives it ample ones: whether there was one.
+fn apply_line<'a>(
     heap: &'a LocalHeap,
     patterns: Global,
     tree: &mut Tree<&'a LocalHeap>,
     left: usize,
-    at: u64,
-    deed: Deed,
+    line: &str,
 ) -> Result<bool, Fail> {
-    let input = input(heap, patterns, at, deed, 1)?;
+    let input = parse_line(heap, patterns, line.as_bytes())?;
     let free = 65_536usize.saturating_sub(heap.used());
     let filler = Vec::<u8, _>::with_capacity(heap, free.saturating_sub(left)).ok();
     applies_at_last(tree, input, filler)
 }
 
-fn apply_all<'a>(
+// The lines on such a heap: how many refusals there were, and the steps.
+fn apply_lines<'a>(
     heap: &'a LocalHeap,
     patterns: Global,
     tree: &mut Tree<&'a LocalHeap>,
     left: usize,
-    deeds: &[(u64, Deed)],
-) -> Result<u32, Fail> {
+) -> Result<(u32, u64), Fail> {
     let mut refused = 0u32;
-    for (at, deed) in deeds {
-        if apply_one(heap, patterns, tree, left, *at, *deed)? {
+    for line in LINES.split('\n') {
+        if apply_line(heap, patterns, tree, left, line)? {
             refused = refused.saturating_add(1);
         }
     }
-    Ok(refused)
-}
-
-// The deeds on such a heap: how many refusals there were, and the steps.
-fn apply_with_little(
-    alloc: Global,
-    left: usize,
-    deeds: &[(u64, Deed)],
-) -> Result<(u32, u64), Fail> {
-    let heap = LocalHeap::new(alloc, 65_536)?;
-    let mut tree = Tree::new(&heap);
-    let refused = apply_all(&heap, alloc, &mut tree, left, deeds)?;
     Ok((refused, tree.steps()))
 }
 
-// With less and less memory: how many refusals there were, how many runs without one, and the steps of all runs.
-fn refusals(alloc: Global, deeds: &[(u64, Deed)]) -> Result<(u32, u32, u64), Fail> {
-    let mut refusals = 0u32;
-    let mut without = 0u32;
-    let mut steps = 0u64;
-    for step in 0..150usize {
-        let (refused, taken) = apply_with_little(alloc, 256 * step, deeds)?;
-        refusals = refusals.saturating_add(refused);
-        steps = steps.saturating_add(taken);
-        if refused == 0 {
-            without = without.saturating_add(1);
-        }
-    }
-    Ok((refusals, without, steps))
+// The same on a new tree.
+fn apply_to_new_tree(heap: &LocalHeap, patterns: Global, left: usize) -> Result<(u32, u64), Fail> {
+    let mut tree = Box::new(patterns, Tree::new(heap))?;
+    apply_lines(heap, patterns, &mut tree, left)
+}
+
+fn apply_on_new_heap(alloc: Global, left: usize) -> Result<(u32, u64), Fail> {
+    let heap = LocalHeap::new(alloc, 65_536)?;
+    apply_to_new_tree(&heap, alloc, left)
 }
 
 #[test]
 fn a_refused_step_hands_its_input_back_and_can_be_taken_again(rt: HostRuntime) -> Result<(), Fail> {
-    let (refusals, without, steps) = refusals(rt.alloc(), DEEDS)?;
+    let (mut refusals, mut without, mut all_steps) = (0u32, 0u32, 0u64);
+    for step in 0..150usize {
+        let (refused, steps) = apply_on_new_heap(rt.alloc(), 256 * step)?;
+        refusals = refusals.saturating_add(refused);
+        all_steps = all_steps.saturating_add(steps);
+        if refused == 0 {
+            without = without.saturating_add(1);
+        }
+    }
     assert!(&rt;
-        refusals > 50 && without > 5,
-        "{refusals} refusals, {without} runs with none"
+        refusals > 50 && without > 5 && all_steps == 3750,
+        "{refusals} refusals, {without} runs with none, {all_steps} steps"
     );
-    assert_eq!(rt; steps, 3750);
     Ok(())
 }

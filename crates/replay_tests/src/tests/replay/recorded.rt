@@ -1,184 +1,231 @@
 //! Scripts with recorded replies: migration, checking, and a replay that reads them.
-use linked_list_allocator::LocalHeap;
-use s6_replay::{Checked, Counts, ReplayFault, check, migrate, run};
+use super::rows::check_case;
+use super::{Case, Replayed, check_replayed, replay_in_memory, same, words_of};
+use crate::tests::templates::make_text;
+use s6_replay::{Checked, ReplayFault, check, migrate};
 use std::alloc::Global;
 use std::process::Abort;
 use std::test::Fail;
 
-// The row `status-of-a-running-service`, and the same with its replies.
-const SCRIPT: &str = "s6-script 1\n100 1 scan web\n50 1 started 1 1 7\n1100 1 status web\n";
+// Scripts, what a migration answers, and what it writes.
+pub const MIGRATIONS: &str = "status-of-a-running-service
+s6-script 1
+100 1 scan web
+50 1 started 1 1 7
+1100 1 status web
+> 3 inputs, 2 events, 1 orders
+s6-script 2
+100 1 scan web
+= scanned +1:web
+50 1 started 1 1 7
+= done
+1100 1 status web
+= row 1 web true true true false false 7 -1 -1 1 -1
+# the same with its replies
+s6-script 2
+100 1 scan web
+= scanned +1:web
+50 1 started 1 1 7
+= done
+1100 1 status web
+= row 1 web true true true false false 7 -1 -1 1 -1
+> no head line
+# a line that is no input
+s6-script 1
+100 1 scan web
+50 1 start
+> line 3 is no input
+s6-script 2
+100 1 scan web
+= scanned +1:web
+";
 
-const RECORDED: &str =
-    "s6-script 2\n100 1 scan web\n= scanned +1:web\n50 1 started 1 1 7\n= done\n1100 1 status web\n= row 1 web true true true false false 7 -1 -1 1 -1\n";
+// Scripts, and what a check of them finds.
+const CHECKS: &str = "each reply is the machine's
+s6-script 2
+100 1 scan web
+= scanned +1:web
+50 1 started 1 1 7
+= done
+1100 1 status web
+= row 1 web true true true false false 7 -1 -1 1 -1
+> legal 3
+# a head line alone
+s6-script 2
+> legal 0
+# no replies
+s6-script 1
+100 1 scan web
+50 1 started 1 1 7
+1100 1 status web
+> no head line
+# the last reply is another
+s6-script 2
+100 1 scan web
+= scanned +1:web
+50 1 started 1 1 7
+= done
+1100 1 status web
+= row 1 web true true true false false 7 -1 -1 2 -1
+> differs at line 7
+# the second reply is another
+s6-script 2
+100 1 scan web
+= scanned +1:web
+50 1 started 1 1 7
+= refused Stale
+1100 1 status web
+= done
+> differs at line 5
+";
 
-const TRANSCRIPT: &str =
-    "1 scanned +1:web\ne 1 s\no run 1 1\n2 done\ne 1 u\n3 row 1 web true true true false false 7 -1 -1 1 -1\n";
+// Scripts with faults in the lines of replies, and behind them: for a check and for a replay.
+const REPLY_FAULTS: &str = "no reply
+s6-script 2
+0 1 tick
+> the last line is not whole
+# a reply without newline
+s6-script 2
+0 1 tick
+= done> the last line is not whole
+# an empty reply
+s6-script 2
+0 1 tick
+=\x20
+> line 3 is no input
+# no space before the reply
+s6-script 2
+0 1 tick
+=done
+> line 3 is no input
+# an empty line
+s6-script 2
+0 1 tick
 
-// What a check answers.
-type Found = Result<Checked, ReplayFault>;
+> line 3 is no input
+# a tab in the reply
+s6-script 2
+0 1 tick
+= do\tne
+> line 3 is no input
+# no input behind the reply
+s6-script 2
+0 1 tick
+= done
+0 1 tock
+= done
+> line 4 is no input
+# a refused pattern behind the reply
+s6-script 2
+0 1 tick
+= done
+1 1 subscribe dir q once (
+> the pattern in line 4 does not build
+";
 
-fn checks(rt: &impl Abort, alloc: Global, script: &[u8], wanted: Found) {
-    let mut reader = script;
-    let found = check(alloc, alloc, &mut reader);
-    assert_eq!(rt; found, wanted);
+// A replay reads the replies, and doesn't compare them.
+const PASSED_OVER: &str = "other replies
+s6-script 2
+100 1 scan web
+= done
+50 1 started 1 1 7
+= done
+1100 1 status web
+= -
+> 3 inputs, 2 events, 1 orders
+1 scanned +1:web
+e 1 s
+o run 1 1
+2 done
+e 1 u
+3 row 1 web true true true false false 7 -1 -1 1 -1
+";
+
+// A migration of a script in memory.
+fn migrate_in_memory(alloc: Global, script: &str) -> Replayed {
+    let mut reader = script.as_bytes();
+    let mut written = Vec::new(alloc);
+    let answer = migrate(alloc, alloc, &mut reader, &mut written);
+    Replayed { answer, written }
+}
+
+fn check_migration(rt: &impl Abort, alloc: Global, case: &Case) -> Result<(), Fail> {
+    let found = migrate_in_memory(alloc, case.script);
+    check_replayed(rt, alloc, &found, case)
 }
 
 #[test]
-fn migration_writes_the_replies(rt: HostRuntime) -> Result<(), Fail> {
-    let mut written = Vec::new(rt.alloc());
-    let mut reader = SCRIPT.as_bytes();
-    let counts = migrate(rt.alloc(), rt.alloc(), &mut reader, &mut written)?;
-    let wanted = Counts {
-        inputs: 3,
-        events: 2,
-        orders: 1,
-    };
-    assert_eq!(&rt; counts, wanted);
-    assert_eq!(&rt; written.as_slice(), RECORDED.as_bytes());
+fn migrations_write_the_replies(rt: HostRuntime) -> Result<(), Fail> {
+    for text in MIGRATIONS.split("# ") {
+        check_migration(&rt, rt.alloc(), &Case::read(text))?;
+    }
     Ok(())
 }
 
-#[test]
-fn migration_reads_version_1_alone(rt: HostRuntime) {
-    let mut written = Vec::new(rt.alloc());
-    let mut reader = RECORDED.as_bytes();
-    let found = migrate(rt.alloc(), rt.alloc(), &mut reader, &mut written).err();
-    assert_eq!(&rt; found, Some(ReplayFault::Head));
-    assert!(&rt; written.is_empty());
+// What a check of the script finds, in words.
+fn found_by_check(alloc: Global, script: &str) -> Result<String, Fail> {
+    let mut reader = script.as_bytes();
+    Ok(match check(alloc, alloc, &mut reader) {
+        Ok(Checked::Legal(inputs)) => format!(in alloc; "legal {inputs}")?,
+        Ok(Checked::Differs(line)) => format!(in alloc; "differs at line {line}")?,
+        Err(fault) => format!(in alloc; "{fault}")?,
+    })
 }
 
-#[test]
-fn migration_stops_behind_whole_steps(rt: HostRuntime) {
-    let mut written = Vec::new(rt.alloc());
-    let mut reader = b"s6-script 1\n100 1 scan web\n50 1 start\n".as_slice();
-    let found = migrate(rt.alloc(), rt.alloc(), &mut reader, &mut written).err();
-    assert_eq!(&rt; found, Some(ReplayFault::Line(3)));
-    assert_eq!(&rt;
-        written.as_slice(),
-        b"s6-script 2\n100 1 scan web\n= scanned +1:web\n".as_slice()
-    );
+// A check of the script finds what the case says.
+fn check_found(rt: &impl Abort, alloc: Global, case: &Case) -> Result<(), Fail> {
+    let found = found_by_check(alloc, case.script)?;
+    same(rt, case.name, found.as_bytes(), case.answer.as_bytes());
+    Ok(())
 }
 
 #[test]
 fn check_compares_each_reply(rt: HostRuntime) -> Result<(), Fail> {
-    let alloc = rt.alloc();
-    checks(&rt, alloc, RECORDED.as_bytes(), Ok(Checked::Legal(3)));
-    checks(&rt, alloc, b"s6-script 2\n", Ok(Checked::Legal(0)));
-    checks(&rt, alloc, SCRIPT.as_bytes(), Err(ReplayFault::Head));
-    let lines = RECORDED.strip_suffix("1 -1\n").ok_or("row")?;
-    let other = format!(in alloc; "{lines}2 -1\n")?;
-    checks(&rt, alloc, other.as_bytes(), Ok(Checked::Differs(7)));
-    let both = other.as_str().split("= done").nth(0).ok_or("row")?;
-    let early = format!(in alloc; "{both}= refused Stale\n1100 1 status web\n= done\n")?;
-    checks(&rt, alloc, early.as_bytes(), Ok(Checked::Differs(5)));
+    for text in CHECKS.split("# ") {
+        check_found(&rt, rt.alloc(), &Case::read(text))?;
+    }
     Ok(())
 }
 
-// Faults in the lines of replies, and behind them.
-const FAULTS: [(&str, ReplayFault); 8] = [
-    ("0 1 tick\n", ReplayFault::Truncated),
-    ("0 1 tick\n= done", ReplayFault::Truncated),
-    ("0 1 tick\n= \n", ReplayFault::Line(3)),
-    ("0 1 tick\n=done\n", ReplayFault::Line(3)),
-    ("0 1 tick\n\n", ReplayFault::Line(3)),
-    ("0 1 tick\n= do\tne\n", ReplayFault::Line(3)),
-    ("0 1 tick\n= done\n0 1 tock\n= done\n", ReplayFault::Line(4)),
-    (
-        "0 1 tick\n= done\n1 1 subscribe dir q once (\n",
-        ReplayFault::Pattern(4),
-    ),
-];
+// A replay of the script answers so.
+fn check_answer(rt: &impl Abort, alloc: Global, case: &Case) -> Result<(), Fail> {
+    let found = replay_in_memory(alloc, case.script.as_bytes());
+    let words = words_of(alloc, &found.answer)?;
+    same(rt, case.name, words.as_bytes(), case.answer.as_bytes());
+    Ok(())
+}
 
 #[test]
 fn reply_lines_have_their_faults(rt: HostRuntime) -> Result<(), Fail> {
-    let alloc = rt.alloc();
-    for (lines, fault) in FAULTS {
-        let script = format!(in alloc; "s6-script 2\n{lines}")?;
-        checks(&rt, alloc, script.as_bytes(), Err(fault));
-        let mut written = Vec::new(alloc);
-        let mut reader = script.as_bytes();
-        let found = run(alloc, alloc, &mut reader, &mut written).err();
-        assert_eq!(&rt; found, Some(fault));
+    for text in REPLY_FAULTS.split("# ") {
+        let case = Case::read(text);
+        check_found(&rt, rt.alloc(), &case)?;
+        check_answer(&rt, rt.alloc(), &case)?;
     }
     Ok(())
 }
 
-// A script of one tick, whose reply has so many letters.
-fn long_reply(alloc: Global, letters: usize) -> Result<Vec<u8>, Fail> {
-    let mut script = Vec::from_slice(alloc, b"s6-script 2\n0 1 tick\n= ")?;
-    for _ in 0..letters {
-        script.push(b'x')?;
-    }
-    script.push(b'\n')?;
-    Ok(script)
+// A check of a script of one tick, whose reply has so many letters, finds this.
+fn check_long_reply(
+    rt: &impl Abort,
+    alloc: Global,
+    letters: u32,
+    wanted: &str,
+) -> Result<(), Fail> {
+    let parts = [(letters, "x"), (1, "\n")];
+    let script = make_text(alloc, "s6-script 2\n0 1 tick\n= ", &parts)?;
+    let found = found_by_check(alloc, script.as_str())?;
+    same(rt, "a long reply", found.as_bytes(), wanted.as_bytes());
+    Ok(())
 }
 
 #[test]
 fn a_reply_line_has_262_144_bytes_at_most(rt: HostRuntime) -> Result<(), Fail> {
-    let most = long_reply(rt.alloc(), 262_141)?;
-    checks(&rt, rt.alloc(), most.as_slice(), Ok(Checked::Differs(3)));
-    let more = long_reply(rt.alloc(), 262_142)?;
-    checks(&rt, rt.alloc(), more.as_slice(), Err(ReplayFault::Line(3)));
-    Ok(())
+    check_long_reply(&rt, rt.alloc(), 262_141, "differs at line 3")?;
+    check_long_reply(&rt, rt.alloc(), 262_142, "line 3 is no input")
 }
 
 #[test]
 fn replay_passes_over_recorded_replies(rt: HostRuntime) -> Result<(), Fail> {
-    let mut written = Vec::new(rt.alloc());
-    let mut reader =
-        b"s6-script 2\n100 1 scan web\n= done\n50 1 started 1 1 7\n= done\n1100 1 status web\n= -\n".as_slice();
-    let counts = run(rt.alloc(), rt.alloc(), &mut reader, &mut written)?;
-    assert_eq!(&rt; counts.inputs, 3);
-    assert_eq!(&rt; written.as_slice(), TRANSCRIPT.as_bytes());
-    Ok(())
-}
-
-// Whether the text begins a recorded script at the end of a step.
-fn is_whole(text: &[u8]) -> bool {
-    RECORDED.as_bytes().starts_with(text)
-        && (text.is_empty()
-            || text.len() == 12
-            || text.ends_with(b"web\n")
-            || text.ends_with(b"-1\n")
-            || text.ends_with(b"done\n"))
-}
-
-#[test]
-fn each_growth_of_a_migration_is_refused_in_turn(rt: HostRuntime) -> Result<(), Fail> {
-    let (mut done, mut refused) = (0u32, 0u32);
-    for step in 0..800usize {
-        let heap = LocalHeap::new(rt.alloc(), 16 * step)?;
-        let mut written = Vec::new(rt.alloc());
-        let mut reader = SCRIPT.as_bytes();
-        match migrate(&heap, rt.alloc(), &mut reader, &mut written) {
-            Ok(_) if written.as_slice() == RECORDED.as_bytes() => done = done.saturating_add(1),
-            Err(ReplayFault::NoMemory) if is_whole(written.as_slice()) => refused =
-                refused.saturating_add(1),
-            _ => return Err("neither whole nor refused".into()),
-        }
-        if done == 3 {
-            break;
-        }
-    }
-    assert!(&rt; done == 3 && refused > 2);
-    Ok(())
-}
-
-#[test]
-fn each_growth_of_a_check_is_refused_in_turn(rt: HostRuntime) -> Result<(), Fail> {
-    let (mut done, mut refused) = (0u32, 0u32);
-    for step in 0..800usize {
-        let heap = LocalHeap::new(rt.alloc(), 16 * step)?;
-        let mut reader = RECORDED.as_bytes();
-        match check(&heap, rt.alloc(), &mut reader) {
-            Ok(Checked::Legal(3)) => done = done.saturating_add(1),
-            Err(ReplayFault::NoMemory) => refused = refused.saturating_add(1),
-            _ => return Err("neither legal nor refused".into()),
-        }
-        if done == 3 {
-            break;
-        }
-    }
-    assert!(&rt; done == 3 && refused > 2);
-    Ok(())
+    check_case(&rt, rt.alloc(), &Case::read(PASSED_OVER))
 }

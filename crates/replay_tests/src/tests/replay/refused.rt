@@ -1,166 +1,353 @@
-//! Growths that are refused.
-use super::{BLOCKS, SCRIPT, count_blocks};
+//! Growths that are refused: the same work on heaps of a growing size, each of which refuses the first growth that it has no place for.
+use super::printing::reply_alone;
+use super::recorded::MIGRATIONS;
+use super::{Case, count_blocks, holds, words_of};
 use linked_list_allocator::LocalHeap;
-use s6_replay::{ReplayFault, run};
+use s6_replay::{
+    Checked, Counts, ReplayFault, SpellFault, WriteFault, check, migrate, run, write_effect,
+    write_input,
+};
 use s6_script::{LineFault, parse_line};
-use std::alloc::Global;
+use std::alloc::{Allocator, Global};
 use std::process::Abort;
 use std::test::Fail;
+use tree_core::{Effect, Input, Refusal, Reply};
 
-// The worked row `once-letters-and-row-after-death`.
-const LETTERS: &str =
-    "s6-script 1\n0 1 scan web:down\n1 1 svc web uO\n2 1 started 1 1 500\n5000 1 death 1 1 code 0\n9000 1 status web\n";
+// Scripts with what a replay answers and the transcript.
+const SCRIPTS: &str = "restart-after-pause
+s6-script 1
+0 1 scan web
+0 1 started 1 1 500
+300 1 death 1 1 code 1
+1299 1 tick
+1300 1 tick
+> 5 inputs, 4 events, 2 orders
+1 scanned +1:web
+e 1 s
+o run 1 1
+2 done
+e 1 u
+3 done
+e 1 d
+e 1 D
+4 done
+5 done
+o run 1 2
+# once-letters-and-row-after-death
+s6-script 1
+0 1 scan web:down
+1 1 svc web uO
+2 1 started 1 1 500
+5000 1 death 1 1 code 0
+9000 1 status web
+> 5 inputs, 4 events, 1 orders
+1 scanned +1:web
+e 1 s
+2 done
+o run 1 1
+3 done
+e 1 u
+4 done
+e 1 d
+e 1 D
+5 row 1 web false false false true false -1 0 -1 4 4
+# finish-of-125-is-permanent-failure, with a readiness report that no descriptor is there for
+s6-script 1
+0 1 scan web:finish
+0 1 started 1 1 500
+5 1 notify 1 1 0a
+10 1 death 1 1 signal 9
+20 1 finished 1 1 code 125
+> 5 inputs, 5 events, 2 orders
+1 scanned +1:web
+e 1 s
+o run 1 1
+2 done
+e 1 u
+3 done
+4 done
+e 1 d
+o finish 1 1 256 9
+5 done
+e 1 O
+e 1 D
+# a death, the tally that has it, and what it means
+s6-script 1
+0 1 scan web:tally=2
+0 1 started 1 1 5
+9 1 death 1 1 signal 11
+9 1 tally web
+9 1 permafailon web 1 1 1,SIGSEGV
+> 5 inputs, 4 events, 1 orders
+1 scanned +1:web
+e 1 s
+o run 1 1
+2 done
+e 1 u
+3 done
+e 1 d
+e 1 D
+4 tally 9:s11
+5 permafail 125
+# a waiter that is made, released and cancelled
+s6-script 1
+0 1 scan web
+0 1 started 1 1 5
+0 1 wait D a 500 web
+500 1 death 1 1 code 0
+500 1 cancel 1
+> 5 inputs, 4 events, 1 orders
+1 scanned +1:web
+e 1 s
+o run 1 1
+2 done
+e 1 u
+3 wait 1
+4 done
+e 1 d
+e 1 D
+r 1 timedout
+5 done
+# free-directory-and-its-refusals
+s6-script 1
+0 1 mkdir q
+0 1 subscribe dir q once b$
+0 1 send dir q abc
+0 1 send svc q u
+0 1 mkdir q
+> 5 inputs, 0 events, 0 orders
+1 done
+2 sub 1
+3 done
+m 1 b
+4 refused Reserved
+5 refused Exists
+# inputs before a pattern that is refused
+s6-script 1
+0 1 scan web
+0 1 started 1 1 5
+0 1 wait D a 0 web
+5 1 cancel 1
+5 1 cancel 1
+5 1 subscribe svc web once a (
+> the pattern in line 7 does not build
+1 scanned +1:web
+e 1 s
+o run 1 1
+2 done
+e 1 u
+3 wait 1
+4 done
+5 refused NoSuch
+";
 
-const LETTERS_BLOCKS: [&str; 5] = [
-    "1 scanned +1:web\ne 1 s\n",
-    "2 done\no run 1 1\n",
-    "3 done\ne 1 u\n",
-    "4 done\ne 1 d\ne 1 D\n",
-    "5 row 1 web false false false true false -1 0 -1 4 4\n",
-];
+const LINES: &str = "0 1 scan web:finish,kill=7 other
+0 1 notify 1 1 0a0a
+0 1 permafailon web 1 1 1-2,SIGHUP
+0 1 wait U o 9 web log
+0 1 subscribe dir q repeat u.*u d
+0 1 send dir q ud";
 
-// The worked row `finish-of-125-is-permanent-failure`, with a readiness report that no descriptor is there for.
-const FINISH: &str =
-    "s6-script 1\n0 1 scan web:finish\n0 1 started 1 1 500\n5 1 notify 1 1 0a\n10 1 death 1 1 signal 9\n20 1 finished 1 1 code 125\n";
-
-const FINISH_BLOCKS: [&str; 5] = [
-    "1 scanned +1:web\ne 1 s\no run 1 1\n",
-    "2 done\ne 1 u\n",
-    "3 done\n",
-    "4 done\ne 1 d\no finish 1 1 256 9\n",
-    "5 done\ne 1 O\ne 1 D\n",
-];
-
-// A death, the tally that has it, and what it means.
-const TALLY: &str =
-    "s6-script 1\n0 1 scan web:tally=2\n0 1 started 1 1 5\n9 1 death 1 1 signal 11\n9 1 tally web\n9 1 permafailon web 1 1 1,SIGSEGV\n";
-
-const TALLY_BLOCKS: [&str; 5] = [
-    "1 scanned +1:web\ne 1 s\no run 1 1\n",
-    "2 done\ne 1 u\n",
-    "3 done\ne 1 d\ne 1 D\n",
-    "4 tally 9:s11\n",
-    "5 permafail 125\n",
-];
-
-// A waiter that is made, released and cancelled.
-const WAIT: &str =
-    "s6-script 1\n0 1 scan web\n0 1 started 1 1 5\n0 1 wait D a 500 web\n500 1 death 1 1 code 0\n500 1 cancel 1\n";
-
-const WAIT_BLOCKS: [&str; 5] = [
-    "1 scanned +1:web\ne 1 s\no run 1 1\n",
-    "2 done\ne 1 u\n",
-    "3 wait 1\n",
-    "4 done\ne 1 d\ne 1 D\nr 1 timedout\n",
-    "5 done\n",
-];
-
-// The worked row `free-directory-and-its-refusals`.
-const FREE: &str =
-    "s6-script 1\n0 1 mkdir q\n0 1 subscribe dir q once b$\n0 1 send dir q abc\n0 1 send svc q u\n0 1 mkdir q\n";
-
-const FREE_BLOCKS: [&str; 5] = [
-    "1 done\n",
-    "2 sub 1\n",
-    "3 done\nm 1 b\n",
-    "4 refused Reserved\n",
-    "5 refused Exists\n",
-];
-
-// Inputs before a pattern that is refused.
-const PATTERN: &str =
-    "s6-script 1\n0 1 scan web\n0 1 started 1 1 5\n0 1 wait D a 0 web\n5 1 cancel 1\n5 1 cancel 1\n5 1 subscribe svc web once a (\n";
-
-const PATTERN_BLOCKS: [&str; 5] = [
-    "1 scanned +1:web\ne 1 s\no run 1 1\n",
-    "2 done\ne 1 u\n",
-    "3 wait 1\n",
-    "4 done\n",
-    "5 refused NoSuch\n",
-];
-
-// What a replay on a heap of so many bytes answers, and how many whole blocks it writes.
-fn replay_on_heap(
-    alloc: Global,
-    script: &str,
-    blocks: &[&str],
-    bytes: usize,
-) -> Result<(Option<ReplayFault>, Option<usize>), Fail> {
-    let heap = LocalHeap::new(alloc, bytes)?;
-    let mut reader = script.as_bytes();
-    let mut written = Vec::new(alloc);
-    let answer = run(&heap, alloc, &mut reader, &mut written);
-    Ok((answer.err(), count_blocks(blocks, written.as_slice())))
+// What is done on a heap.
+#[derive(Clone, Copy)]
+enum Work<'a> {
+    Replay(Case<'a>),
+    /// The written script is a recorded one.
+    Migrate(Case<'a>),
+    /// Of the recorded script, in which each of three replies is the machine's.
+    Check(Case<'a>),
+    Parse(&'a str),
+    /// The input of this line, which is written as the same line.
+    Spell(&'a str),
+    /// The block of a refusal.
+    Print,
 }
 
-// On heaps of a growing size each growth is the first one refused: some replays come to their end, which is this fault or none, some
-// stop before their first block, and each of the others stops between two blocks.
+// How far work came.
+#[derive(Clone, Copy)]
+enum Reached {
+    End,
+    /// Memory ran out before anything was written.
+    Nothing,
+    /// Memory ran out behind a whole part.
+    Between,
+    Wrong,
+}
+
+// How far a replay or a migration came with this answer, behind so many whole parts; all is written, or not.
+fn reached_by(
+    alloc: Global,
+    answer: Result<Counts, ReplayFault>,
+    parts: Option<usize>,
+    is_all: bool,
+    case: &Case,
+) -> Result<Reached, Fail> {
+    match (answer, parts) {
+        (Err(ReplayFault::NoMemory), Some(0)) => return Ok(Reached::Nothing),
+        (Err(ReplayFault::NoMemory), Some(_)) => return Ok(Reached::Between),
+        _ => {}
+    }
+    let words = words_of(alloc, &answer)?;
+    Ok(if is_all && words.as_str() == case.answer {
+        Reached::End
+    } else {
+        Reached::Wrong
+    })
+}
+
+fn replay_on(heap: &LocalHeap, alloc: Global, case: &Case) -> Result<Reached, Fail> {
+    let mut reader = case.script.as_bytes();
+    let mut written = Vec::new(alloc);
+    let answer = run(heap, alloc, &mut reader, &mut written);
+    let text = written.as_slice();
+    let blocks = count_blocks(case.written, text);
+    reached_by(alloc, answer, blocks, text == case.written.as_bytes(), case)
+}
+
+// How many whole steps of a recorded script the text has, each an input line and a reply line, or None where it is no such beginning.
+fn count_steps(recorded: &str, text: &[u8]) -> Option<usize> {
+    if text.is_empty() {
+        return Some(0);
+    }
+    let lines = text.iter().filter(|b| **b == b'\n').count();
+    if recorded.as_bytes().starts_with(text) && text.ends_with(b"\n") && lines % 2 == 1 {
+        Some(lines / 2)
+    } else {
+        None
+    }
+}
+
+fn migrate_on(heap: &LocalHeap, alloc: Global, case: &Case) -> Result<Reached, Fail> {
+    let mut reader = case.script.as_bytes();
+    let mut written = Vec::new(alloc);
+    let answer = migrate(heap, alloc, &mut reader, &mut written);
+    let text = written.as_slice();
+    let steps = count_steps(case.written, text);
+    reached_by(alloc, answer, steps, text == case.written.as_bytes(), case)
+}
+
+fn check_on(heap: &LocalHeap, alloc: Global, case: &Case) -> Reached {
+    let mut reader = case.written.as_bytes();
+    match check(heap, alloc, &mut reader) {
+        Ok(Checked::Legal(3)) => Reached::End,
+        Err(ReplayFault::NoMemory) => Reached::Nothing,
+        _ => Reached::Wrong,
+    }
+}
+
+fn parse_on(heap: &LocalHeap, alloc: Global, line: &str) -> Reached {
+    match parse_line(heap, alloc, line.as_bytes()).err() {
+        None => Reached::End,
+        Some(LineFault::NoMemory) => Reached::Nothing,
+        Some(_) => Reached::Wrong,
+    }
+}
+
+// How far it comes to write this text: nothing of it may be written before memory runs out.
+fn written_to(written: &[u8], text: &str, is_done: bool, is_refused: bool) -> Reached {
+    if is_done && written == text.as_bytes() {
+        Reached::End
+    } else if is_refused && written.is_empty() {
+        Reached::Nothing
+    } else {
+        Reached::Wrong
+    }
+}
+
+// How far it comes to write the input as this line.
+fn write_on<A: Allocator + Copy>(heap: A, alloc: Global, input: &Input<A>, line: &str) -> Reached {
+    let Ok(plain) = input.plain(heap) else {
+        return Reached::Between;
+    };
+    let mut written = Vec::new(alloc);
+    let fault = write_input(heap, &plain, &mut written).err();
+    let is_refused = fault == Some(SpellFault::NoMemory);
+    written_to(written.as_slice(), line, fault.is_none(), is_refused)
+}
+
+fn spell_on(heap: &LocalHeap, alloc: Global, line: &str) -> Reached {
+    match parse_line(heap, alloc, line.as_bytes()) {
+        Ok(input) => write_on(heap, alloc, &input, line),
+        Err(_) => Reached::Between,
+    }
+}
+
+// How far it comes to write the block of a refusal.
+fn write_block<A: Allocator + Copy>(heap: A, alloc: Global, effect: &Effect<A>) -> Reached {
+    let mut written = Vec::new(alloc);
+    let fault = write_effect(heap, 12, effect, &mut written).err();
+    let is_refused = fault == Some(WriteFault::NoMemory);
+    let text = "12 refused NoService\n";
+    written_to(written.as_slice(), text, fault.is_none(), is_refused)
+}
+
+fn print_on(heap: &LocalHeap, alloc: Global) -> Reached {
+    let effect = reply_alone(heap, Reply::Refused(Refusal::NoService));
+    write_block(heap, alloc, &effect)
+}
+
+// How far the work comes on a heap of so many bytes.
+fn do_work(alloc: Global, work: &Work, bytes: usize) -> Result<Reached, Fail> {
+    let heap = LocalHeap::new(alloc, bytes)?;
+    match work {
+        Work::Replay(case) => replay_on(&heap, alloc, case),
+        Work::Migrate(case) => migrate_on(&heap, alloc, case),
+        Work::Check(case) => Ok(check_on(&heap, alloc, case)),
+        Work::Parse(line) => Ok(parse_on(&heap, alloc, *line)),
+        Work::Spell(line) => Ok(spell_on(&heap, alloc, *line)),
+        Work::Print => Ok(print_on(&heap, alloc)),
+    }
+}
+
+// On heaps of a growing size each growth is the first one refused, up to 40 heaps on which the work comes to its end. On so many others,
+// or more, it comes nowhere.
 fn refuse_in_turn(
     rt: &impl Abort,
     alloc: Global,
-    script: &str,
-    blocks: &[&str],
-    end: Option<ReplayFault>,
+    row: &str,
+    work: &Work,
+    least: u32,
 ) -> Result<(), Fail> {
-    let mut done = 0u32;
-    let mut stopped = 0u32;
-    for step in 0..800usize {
-        if done == 3 {
-            break;
-        }
-        match replay_on_heap(alloc, script, blocks, 16 * step)? {
-            (fault, Some(5)) if fault == end => done = done.saturating_add(1),
-            (Some(ReplayFault::NoMemory), Some(0)) => stopped = stopped.saturating_add(1),
-            (Some(ReplayFault::NoMemory), Some(_)) => {}
-            _ => return Err("neither whole nor refused".into()),
-        }
-    }
-    assert!(rt; done > 2 && stopped > 2);
-    Ok(())
-}
-
-#[test]
-fn each_growth_is_refused_in_turn(rt: HostRuntime) -> Result<(), Fail> {
-    let scripts = [
-        (SCRIPT, BLOCKS, None),
-        (LETTERS, LETTERS_BLOCKS, None),
-        (FINISH, FINISH_BLOCKS, None),
-        (TALLY, TALLY_BLOCKS, None),
-        (WAIT, WAIT_BLOCKS, None),
-        (FREE, FREE_BLOCKS, None),
-        (PATTERN, PATTERN_BLOCKS, Some(ReplayFault::Pattern(7))),
-    ];
-    for (script, blocks, end) in scripts {
-        refuse_in_turn(&rt, rt.alloc(), script, &blocks, end)?;
-    }
-    Ok(())
-}
-
-// On heaps of a growing size the line is an input, or memory runs out, and each of these happens.
-fn refuse_line_in_turn(rt: &impl Abort, alloc: Global, line: &[u8]) -> Result<(), Fail> {
-    let mut done = 0u32;
+    let mut ended = 0u32;
     let mut refused = 0u32;
-    for step in 0..80usize {
-        if done == 3 {
+    for step in 0..1000usize {
+        match do_work(alloc, work, 16 * step)? {
+            Reached::End => ended = ended.saturating_add(1),
+            Reached::Nothing => refused = refused.saturating_add(1),
+            Reached::Between => {}
+            Reached::Wrong => return Err("neither whole nor refused".into()),
+        }
+        if ended == 40 {
             break;
         }
-        let heap = LocalHeap::new(alloc, 16 * step)?;
-        match parse_line(&heap, alloc, line).err() {
-            None => done = done.saturating_add(1),
-            Some(LineFault::NoMemory) => refused = refused.saturating_add(1),
-            Some(_) => return Err("no fault of the line".into()),
-        }
     }
-    assert!(rt; done > 2 && refused > 2, "{line:?}");
+    holds(rt, row, ended == 40 && refused >= least);
     Ok(())
 }
 
 #[test]
-fn a_line_without_memory(rt: HostRuntime) -> Result<(), Fail> {
-    refuse_line_in_turn(&rt, rt.alloc(), b"0 1 scan web:finish,kill=7 other")?;
-    refuse_line_in_turn(&rt, rt.alloc(), b"0 1 notify 1 1 0a0a")?;
-    refuse_line_in_turn(&rt, rt.alloc(), b"0 1 permafailon web 1 1 1-2,SIGHUP")?;
-    refuse_line_in_turn(&rt, rt.alloc(), b"0 1 wait U o 9 web log")?;
-    refuse_line_in_turn(&rt, rt.alloc(), b"0 1 subscribe dir q repeat u.*u d")?;
-    refuse_line_in_turn(&rt, rt.alloc(), b"0 1 send dir q ud")
+fn each_growth_of_a_replay_is_refused_in_turn(rt: HostRuntime) -> Result<(), Fail> {
+    for text in SCRIPTS.split("# ") {
+        let case = Case::read(text);
+        refuse_in_turn(&rt, rt.alloc(), case.name, &Work::Replay(case), 3)?;
+    }
+    Ok(())
+}
+
+#[test]
+fn each_growth_of_recording_is_refused_in_turn(rt: HostRuntime) -> Result<(), Fail> {
+    let text = MIGRATIONS.split("# ").next().ok_or("a migration")?;
+    let case = Case::read(text);
+    refuse_in_turn(&rt, rt.alloc(), "a migration", &Work::Migrate(case), 3)?;
+    refuse_in_turn(&rt, rt.alloc(), "a check", &Work::Check(case), 3)
+}
+
+#[test]
+fn each_growth_of_a_line_is_refused_in_turn(rt: HostRuntime) -> Result<(), Fail> {
+    for line in LINES.split('\n') {
+        refuse_in_turn(&rt, rt.alloc(), line, &Work::Parse(line), 3)?;
+    }
+    let line = "5 3 notify 7 2 0a0b";
+    refuse_in_turn(&rt, rt.alloc(), line, &Work::Spell(line), 1)?;
+    refuse_in_turn(&rt, rt.alloc(), "a block", &Work::Print, 3)
 }
