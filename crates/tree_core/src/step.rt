@@ -1,7 +1,7 @@
 //! A step, in its order: clock, due timers, act, who looks at its moments, reply. It is known before anything is changed; `apply_into` of
 //! `tree.rt` makes it, or hands the input back where memory was refused. The due timers, in rising serial, and then the act's work are
 //! done in `work_out` of svscan_core (`pending.rt`).
-ghost use Rattle.std.specs.Prelude.{ℕ, false, ◌≡◌, ◌+◌, ◌*◌, ◌<◌, ◌≤◌, ◌^◌, List, [], length, All, IfOk, IsOk, OnOk};
+ghost use Rattle.std.specs.Prelude.{ℕ, false, ◌≡◌, ◌+◌, ◌++◌, ◌*◌, ◌<◌, ◌≤◌, ◌^◌, List, [], length, map, All, IfOk, IsOk, OnOk};
 ghost use Rattle.deadlines.specs.declared.timer.Timer.{Timer};
 ghost use Rattle.deadlines.specs.Timers.{with_timer_changes};
 ghost use Rattle.event_directory.specs.Changes.{Offer};
@@ -11,9 +11,10 @@ ghost use Rattle.svscan_core.specs.Timers.{TimersAgree};
 ghost use Rattle.svscan_core.specs.Registry.{Fits, registry_prepared, result_of};
 ghost use Rattle.tree_core.specs.Acts.{tally_reply};
 ghost use Rattle.tree_core.specs.Limits.{service_limit, moment_limit};
+ghost use Rattle.tree_core.specs.Listening.{as_match, as_release};
 ghost use Rattle.tree_core.specs.Machine.{Machine};
 ghost use Rattle.wait_conditions.specs.Stands.{WaitsShown, FitsWaits, MakesPlan, waits_shown};
-ghost use Rattle.tree_core.specs.Plan.{present_state, chosen_of, lists_more, tally_in, chosen_reply, waiter_reply, directory_reply, IsNow, Plans, IsQuiet};
+ghost use Rattle.tree_core.specs.Plan.{present_state, chosen_of, lists_more, tally_in, chosen_reply, released_by_answer, waiter_reply, directory_reply, IsNow, Plans, IsQuiet};
 ghost use Rattle.tree_core.specs.Step.{step_limit};
 
 use super::choice::{Choice, choose};
@@ -118,6 +119,44 @@ fn reply_to<A: Allocator + Copy>(
     })
 }
 
+// Fills an empty effect with what the parts prepared: the reply, the marks and orders, and who was told of what.
+#[inline(always)]
+fn fill_effect<A: Allocator + Copy>(
+    registry: &Registry<A>,
+    choice: &Choice,
+    services: &RegistryPlan<A>,
+    waiters: &WaitsPlan<A>,
+    letters: &DirectoriesPlan<A>,
+    effect: &mut Effect<A>,
+) -> Result<(), NoMemory>
+    requires events { effect.old.events.items ≡ [] }
+    requires orders { effect.old.orders.items ≡ [] }
+    requires matched { effect.old.matched.items ≡ [] }
+    requires released { effect.old.released.items ≡ [] }
+    ensures reply { OnOk result (effect.new.reply
+        ≡ chosen_reply (chosen_of choice.now) registry.now.shown.services
+        (result_of (registry_prepared registry.now.shown.services services.now))
+        (record { waiters = waiters.now.answer; directories = letters.now.answer })) }
+    ensures events { OnOk result (effect.new.events.items ≡ services.now.events) }
+    ensures orders { OnOk result (effect.new.orders.items ≡ services.now.orders) }
+    ensures matched { OnOk result
+        (effect.new.matched.items ≡ map as_match letters.now.matches.items) }
+    ensures released { OnOk result (effect.new.released.items
+        ≡ map as_release waiters.now.released
+        ++ map as_release (released_by_answer waiters.now.answer)) }
+    ensures quiet { lists_more (chosen_of choice.now) ≡ false → services.now.events ≡ []
+        → letters.now.matches.items ≡ [] → waiters.now.released ≡ []
+        → released_by_answer waiters.now.answer ≡ [] → IsOk result }
+{
+    effect.tell(services.events(), services.orders())?;
+    effect.match_all(letters)?;
+    effect.release_all(waiters)?;
+    let alloc = registry.allocator();
+    let answer = waiters.answer();
+    effect.reply = reply_to(alloc, registry, services, choice, &answer, &letters.answer)?;
+    Ok(())
+}
+
 /// The step of an input, at this clock: each part prepares its own, and the effect is filled. The clock after the step is worked out
 /// here alone, and so is which services are due. It is called once, and its plan is large: inlined, that isn't moved.
 #[inline(always)]
@@ -189,17 +228,7 @@ pub fn plan_step<A: Allocator + Copy>(
     let letters = directories.prepare(joining, &asked.directories)?;
     let history = history.prepare(moments)?;
     let timers = deadlines.prepare(services.timers())?;
-    effect.reply = reply_to(
-        alloc,
-        registry,
-        &services,
-        &choice,
-        &waiters.answer(),
-        &letters.answer,
-    )?;
-    effect.tell(services.events(), services.orders())?;
-    effect.match_all(&letters)?;
-    effect.release_all(&waiters)?;
+    fill_effect(registry, &choice, &services, &waiters, &letters, effect)?;
     Ok(StepPlan {
         now,
         closing: asked.closing,

@@ -13,7 +13,6 @@ use Rattle.svscan_core.proofs.Growing.{Below, step_grows}
 use Rattle.s6_events.specs.declared.moment.Moment.{Moment}
 use Rattle.wait_conditions.specs.Stands.{waits_shown}
 use Rattle.wait_conditions.specs.Steps.{WaitRequest, wait_request_of}
-use Rattle.tree_core.specs.Listening.{as_match, as_release}
 use Rattle.tree_core.specs.Plan.{present_state, chosen_of, chosen_change, chosen_ask, chosen_reply, released_by_answer, ListenersAnswer}
 use Rattle.tree_core.specs.Step.{clock_moments}
 use Rattle.tree_core.proofs.PlanMakes.{HearsLetters, Listens, plans_all, not_ok, not_ok_and}
@@ -55,7 +54,7 @@ returns-clause-step g c = λ steps left m is later made.
     let told : ListenersAnswer = record { waiters = c.in_ok-waiters.waiters.answer; directories = c.in_ok-letters.letters.answer } in
     let planned : c.in_ok-history.history ≡ moments = c.in_ok-history.ensures.ok in
     plans_all (present_state c.args.clock steps c.args.closing services next kept heard) c.later-now.result c.args.input.now _
-    prepared later hearing c.release_all.new.self (chosen_of c.in_ok-choice.choice) left c.later-now.ensures.later
+    prepared later hearing c.fill_effect.new.effect (chosen_of c.in_ok-choice.choice) left c.later-now.ensures.later
     (record {
       given = given;
       matches = matches;
@@ -65,20 +64,12 @@ returns-clause-step g c = λ steps left m is later made.
       closes = c.requests-asked.ensures.closing;
       works = c.in_ok-services.ensures.prepared ∙ ap (λ w. step_result w c.later-now.result (charts_of services) next) c.requests-asked.ensures.services;
       chooses = λ n history fired. c.in_ok-choice.ensures.chosen n history fired;
-      reply = c.release_all.ensures.reply ∙ (c.match_all.ensures.reply ∙ (c.tell.ensures.reply ∙ (c.in_ok-effect.ensures.reply
-          ∙ ((λ i. chosen_reply (chosen_of c.in_ok-choice.choice) c.prepare.new.self.shown.services (result_of prepared)
-          (record { waiters = c.answer.ensures i; directories = c.in_ok-letters.letters.answer }))
-          ∙ ap (λ (t : Table). chosen_reply (chosen_of c.in_ok-choice.choice) t.services (result_of prepared) told)
-          c.prepare.ensures.shown))));
-      events = c.release_all.ensures.events ∙ (c.match_all.ensures.events
-          ∙ (c.in_ok-tell.ensures.events ∙ (ap (λ es. es ++ c.events-2.result.now) c.requires.events ∙ c.events-2.ensures)));
-      orders = c.release_all.ensures.orders ∙ (c.match_all.ensures.orders
-          ∙ (c.in_ok-tell.ensures.orders ∙ (ap (λ os. os ++ c.orders.result.now) c.requires.orders ∙ c.orders.ensures.orders)));
-      matched = c.release_all.ensures.matched ∙ (c.in_ok-match_all.ensures.matched
-          ∙ ap (λ ms. ms ++ map as_match matches) (c.tell.ensures.matched ∙ c.requires.matched));
-      released = c.in_ok-release_all.ensures.released
-          ∙ ap (λ rs. rs ++ (map as_release given ++ map as_release (released_by_answer told.waiters)))
-          (c.match_all.ensures.released ∙ (c.tell.ensures.released ∙ c.requires.released));
+      reply = c.in_ok-fill_effect.ensures.reply
+          ∙ ap (λ (t : Table). chosen_reply (chosen_of c.in_ok-choice.choice) t.services (result_of prepared) told) c.prepare.ensures.shown;
+      events = c.in_ok-fill_effect.ensures.events;
+      orders = c.in_ok-fill_effect.ensures.orders;
+      matched = c.in_ok-fill_effect.ensures.matched;
+      released = c.in_ok-fill_effect.ensures.released;
       moments = planned ∙ (c.in_ok-moments.ensures.moments
           ∙ ap (λ es. clock_moments c.args.clock c.args.input.now.at ++ map moment_of es) c.events.ensures);
       listens =
@@ -135,16 +126,6 @@ returns-clause-count g c =
     let planned = ap length c.in_ok-history.ensures.ok in
     omega (arith, events, few, seen, planned, c.in_ok-moments.ensures.count)
 
-pub returns-in_err-tell-clause-quiet : goal.returns-in_err-tell-clause-quiet
-returns-in_err-tell-clause-quiet g c = λ q.
-    let none = none_for_quiet c.args.input.now c.args.clock c.later-now.result c.as_slice.result.now c.args.deadlines.now.timers
-    (charts_of c.args.registry.now.shown.services) c.later-now.ensures.later c.later-now.ensures.bound
-    (c.as_slice.ensures.value ∙ c.in_ok-due.ensures.due) c.requires.timers q in
-    let still = c.requests-asked.ensures.services ∙ (c.in_ok-choice.ensures.idle q.reading).work in
-    let idle = c.in_ok-services.ensures.still none still in
-    let nothing = ap (λ (p : RegistryPrepared). p.events) idle in
-    not_ok c.tell.result _ _ c.in_err-tell.was (c.tell.ensures.quiet (c.events-2.ensures ∙ nothing))
-
 pub returns-in_err-waiters-clause-quiet : goal.returns-in_err-waiters-clause-quiet
 returns-in_err-waiters-clause-quiet g c = λ q.
     let none = none_for_quiet c.args.input.now c.args.clock c.later-now.result c.as_slice.result.now c.args.deadlines.now.timers
@@ -191,30 +172,6 @@ returns-in_err-timers-clause-quiet g c = λ q.
     not_ok c.prepare-5.result _ _ c.in_err-timers.was
     (c.prepare-5.ensures.quiet (c.timers.ensures ∙ ap (λ (p : RegistryPrepared). p.timers) idle))
 
-pub returns-in_err-match_all-clause-quiet : goal.returns-in_err-match_all-clause-quiet
-returns-in_err-match_all-clause-quiet g c = λ q.
-    let none = none_for_quiet c.args.input.now c.args.clock c.later-now.result c.as_slice.result.now c.args.deadlines.now.timers
-    (charts_of c.args.registry.now.shown.services) c.later-now.ensures.later c.later-now.ensures.bound
-    (c.as_slice.ensures.value ∙ c.in_ok-due.ensures.due) c.requires.timers q in
-    let still = c.requests-asked.ensures.services ∙ (c.in_ok-choice.ensures.idle q.reading).work in
-    let idle = c.in_ok-services.ensures.still none still in
-    let nothing = ap (λ (p : RegistryPrepared). p.events) idle in
-    let silent = c.as_slice-joining.ensures.value ∙ c.in_ok-moments.ensures.quiet q.early (c.events.ensures ∙ nothing) in
-    let calm = c.in_ok-letters.ensures.quiet silent (c.requests-asked.ensures.directories ∙ (c.in_ok-choice.ensures.idle q.reading).directories) in
-    not_ok c.match_all.result _ _ c.in_err-match_all.was (c.match_all.ensures.quiet calm.0)
-
-pub returns-in_err-release_all-clause-quiet : goal.returns-in_err-release_all-clause-quiet
-returns-in_err-release_all-clause-quiet g c = λ q.
-    let none = none_for_quiet c.args.input.now c.args.clock c.later-now.result c.as_slice.result.now c.args.deadlines.now.timers
-    (charts_of c.args.registry.now.shown.services) c.later-now.ensures.later c.later-now.ensures.bound
-    (c.as_slice.ensures.value ∙ c.in_ok-due.ensures.due) c.requires.timers q in
-    let still = c.requests-asked.ensures.services ∙ (c.in_ok-choice.ensures.idle q.reading).work in
-    let idle = c.in_ok-services.ensures.still none still in
-    let nothing = ap (λ (p : RegistryPrepared). p.events) idle in
-    let silent = c.as_slice-joining.ensures.value ∙ c.in_ok-moments.ensures.quiet q.early (c.events.ensures ∙ nothing) in
-    let calm = c.in_ok-waiters.ensures.quiet silent (c.requests-asked.ensures.waiters ∙ (c.in_ok-choice.ensures.idle q.reading).waiters) in
-    not_ok c.release_all.result _ _ c.in_err-release_all.was (c.release_all.ensures.quiet calm.0 (ap released_by_answer calm.1))
-
 pub returns-in_err-moments-clause-quiet : goal.returns-in_err-moments-clause-quiet
 returns-in_err-moments-clause-quiet g c = λ q.
     let none = none_for_quiet c.args.input.now c.args.clock c.later-now.result c.as_slice.result.now c.args.deadlines.now.timers
@@ -224,3 +181,17 @@ returns-in_err-moments-clause-quiet g c = λ q.
     let idle = c.in_ok-services.ensures.still none still in
     let nothing = ap (λ (p : RegistryPrepared). p.events) idle in
     not_ok_and c.moments_of.result _ _ _ c.in_err-moments.was (c.moments_of.ensures.quiet q.early (c.events.ensures ∙ nothing))
+
+pub returns-in_err-fill_effect-clause-quiet : goal.returns-in_err-fill_effect-clause-quiet
+returns-in_err-fill_effect-clause-quiet g c = λ q.
+    let none = none_for_quiet c.args.input.now c.args.clock c.later-now.result c.as_slice.result.now c.args.deadlines.now.timers
+    (charts_of c.args.registry.now.shown.services) c.later-now.ensures.later c.later-now.ensures.bound
+    (c.as_slice.ensures.value ∙ c.in_ok-due.ensures.due) c.requires.timers q in
+    let asks = c.in_ok-choice.ensures.idle q.reading in
+    let idle = c.in_ok-services.ensures.still none (c.requests-asked.ensures.services ∙ asks.work) in
+    let nothing = ap (λ (p : RegistryPrepared). p.events) idle in
+    let silent = c.as_slice-joining.ensures.value ∙ c.in_ok-moments.ensures.quiet q.early (c.events.ensures ∙ nothing) in
+    let heard = c.in_ok-letters.ensures.quiet silent (c.requests-asked.ensures.directories ∙ asks.directories) in
+    let told = c.in_ok-waiters.ensures.quiet silent (c.requests-asked.ensures.waiters ∙ asks.waiters) in
+    not_ok c.fill_effect.result _ _ c.in_err-fill_effect.was
+    (c.fill_effect.ensures.quiet asks.short nothing heard.0 told.0 (ap released_by_answer told.1))
