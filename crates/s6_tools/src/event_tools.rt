@@ -1,5 +1,5 @@
 //! `mkfifodir`, `ftrig-notify` and `ftrig-wait`.
-ghost use Rattle.std.specs.Prelude.{◌≡◌, All, IfOk, option_map};
+ghost use Rattle.std.specs.Prelude.{◌≡◌, All, IfOk, IsOk, option_map};
 ghost use Rattle.s6_tools.specs.Targets.{before_event, target_of, IsPrintable};
 
 use crate::answer::Answer;
@@ -42,6 +42,7 @@ fn name_of(word: &str) -> Result<Name, ToolFault> {
 fn read_pattern(word: &str) -> Result<&str, ToolFault>
     ensures same { IfOk result (λ pattern. pattern.now ≡ word.now) }
     ensures printable { IfOk result (λ pattern. All IsPrintable pattern.now) }
+    ensures taken { All IsPrintable word.now → IsOk result }
 {
     if word.bytes().all(|byte| matches!(byte, 32..=126)) {
         Ok(word)

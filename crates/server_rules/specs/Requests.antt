@@ -50,6 +50,16 @@ request_of actor (Wait condition mode timeout names) = waiting_request actor (Wa
 request_of actor (Subscribe target pattern repeats) = waiting_request actor (Subscribe target pattern repeats)
 request_of actor act = request.Step act
 
+-- an act after which a client waits for more than its reply
+abbrev pub IsWaiting : {A : Type 0} → Act A → Type 0
+IsWaiting (Wait condition mode timeout names) = Unit {0}
+IsWaiting (Subscribe target pattern repeats) = Unit {0}
+IsWaiting act = ⊥
+
+-- the line of the last seat spells such an act
+abbrev pub WaitsOnLastSeat : ℕ → List ℕ → Type 0
+WaitsOnLastSeat actor text = (actor ≡ last_client) × ((i : Input Global) × Spells text i × IsWaiting i.act)
+
 -- no step after which a client waits
 abbrev pub IsShort : Request → Type 0
 IsShort (request.Step (Wait condition mode timeout names)) = ⊥

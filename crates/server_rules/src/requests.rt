@@ -4,7 +4,7 @@ ghost use Rattle.std.specs.Str.{bytes_eq};
 ghost use Rattle.s6_script.specs.Spelling.{Spells, SpellsButForPattern};
 ghost use Rattle.tree_core.specs.declared.input.Act.{Act};
 ghost use Rattle.tree_core.specs.declared.input.Input.{Input};
-ghost use Rattle.server_rules.specs.Requests.{request_of, script_line, scan_word, last_client, IsOwnAct, IsShort, AsksFor};
+ghost use Rattle.server_rules.specs.Requests.{request_of, script_line, scan_word, last_client, IsOwnAct, IsShort, WaitsOnLastSeat, AsksFor};
 ghost use Rattle.server_rules.specs.declared.requests.Request.TheVariants as request;
 ghost use Rattle.server_rules.specs.declared.own_answer.OwnAnswer.TheVariants as own;
 
@@ -38,7 +38,8 @@ pub fn read_request(alloc: Global, at: At, actor: Actor, line: &[u8]) -> Request
         → Spells (script_line at actor line.now) i → IsOwnAct i.act }
     ensures pattern { result ≡ request.Refused own.Pattern
         → SpellsButForPattern Global (script_line at actor line.now) }
-    ensures busy { result ≡ request.Refused own.Busy → actor ≡ last_client }
+    ensures busy { result ≡ request.Refused own.Busy
+        → WaitsOnLastSeat actor (script_line at actor line.now) }
     ensures short { actor ≡ last_client → IsShort result }
 {
     if line == b"scanctl a".as_slice() {
