@@ -13,7 +13,7 @@ use crate::start::{Program, Start, is_last};
 use order_lanes::{AskFault, Backend, Report};
 use s6_events::{Name, NoMemory, Order};
 use std::alloc::Global;
-use std::io::{self, ErrorKind};
+use std::io::{self, Eprint, ErrorKind};
 use std::marker::Model;
 use std::process::{Child, Command, Processes, Stdio, SystemProcess};
 use std::rt::Files;
@@ -90,7 +90,7 @@ impl<R: Drop> ProcessBackend<R> {
     }
 }
 
-impl<R: Processes<Started = SystemProcess> + Files + Wait + Drop> ProcessBackend<R> {
+impl<R: Processes<Started = SystemProcess> + Files + Wait + Eprint + Drop> ProcessBackend<R> {
     // Starts what the launch says, or reports that it can't be started.
     fn start(&mut self, order: &Order, start: &Start, launch: Launch) -> Result<(), AskFault>
         ensures added { OnOk result
@@ -128,13 +128,15 @@ impl<R: Processes<Started = SystemProcess> + Files + Wait + Drop> ProcessBackend
         Ok(())
     }
 
-    fn run(&self, process: &ServiceProcess, launch: Launch) {
-        match self.spawn(launch) {
+    // One that can't be started is told on standard error too, since nobody else is there to tell of it.
+    fn run(&self, process: &ServiceProcess, mut launch: Launch) {
+        match self.spawn(&mut launch) {
             Some((child, pipe)) => {
                 process.begin(&self.rt, child, pipe);
                 self.roster.begin(&self.rt, process.number);
             }
             None => {
+                let _ = eprintln!(self.rt; "svscan: {} can't be started", launch.path);
                 process.fail(&self.rt);
                 self.roster.leave(&self.rt, process.number);
             }
@@ -142,23 +144,18 @@ impl<R: Processes<Started = SystemProcess> + Files + Wait + Drop> ProcessBackend
     }
 
     // A child, and the pipe by which it is read; None where it can't be started.
-    fn spawn(&self, launch: Launch) -> Option<(Child<SystemProcess>, Option<Pipe>)> {
-        let Launch {
-            mut command,
-            path,
-            is_read,
-        } = launch;
-        if !is_executable(&self.rt, path.as_str()) {
+    fn spawn(&self, launch: &mut Launch) -> Option<(Child<SystemProcess>, Option<Pipe>)> {
+        if !is_executable(&self.rt, launch.path.as_str()) {
             return None;
         }
         let mut pipe = None;
-        if is_read {
+        if launch.is_read {
             let (reader, theirs) = io::pipe(&self.rt).ok()?;
             let writer = theirs.try_clone().ok()?;
-            command.stdout(Stdio::from(theirs));
+            launch.command.stdout(Stdio::from(theirs));
             pipe = Some(Pipe { reader, writer });
         }
-        let child = command.spawn(&self.rt).ok()?;
+        let child = launch.command.spawn(&self.rt).ok()?;
         Some((child, pipe))
     }
 
@@ -276,7 +273,8 @@ impl<R: Processes<Started = SystemProcess> + Files + Wait + Drop> ProcessBackend
     }
 }
 
-impl<R: Processes<Started = SystemProcess> + Files + Wait + Drop> Backend for ProcessBackend<R> {
+impl<R: Processes<Started = SystemProcess> + Files + Wait + Eprint + Drop> Backend
+    for ProcessBackend<R> {
     ghost asked = { λ b. b.asked };
 
     ghost given = { λ b. b.given };

@@ -119,7 +119,7 @@ impl ServiceProcess {
         self.changed.notify_all();
     }
 
-    /// It ended so, and was waited for. The end is told once all was read that it wrote.
+    /// It ended so, and was waited for. The end is told once all was read that it wrote, or after a second.
     pub fn end<R: Wait + Clock>(&self, rt: &R, exit: Exit) {
         self.progress.lock(rt).begin_to_end();
         self.write_last_byte(rt);

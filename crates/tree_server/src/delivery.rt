@@ -41,27 +41,38 @@ fn deliver_next<C: Channels + Lanes, D: Board<C>, B: Backend, R: Wait + Clock>(
     state: &mut DriverState<C>,
 ) -> Result<bool, NoMemory> {
     let number = state.steps.saturating_add(1);
-    let Some(effect) = office.effect(rt, number)? else {
-        return Ok(false);
-    };
     let Some(actor) = office.actor(rt, number) else {
         return Ok(false);
     };
+    let Some(effect) = office.effect(rt, number)? else {
+        return Ok(false);
+    };
     state.steps = number;
-    match place_of(actor) {
+    hand_out(rt, server, state, place_of(actor), &effect);
+    Ok(true)
+}
+
+// What a step of this place's actor gave goes to whoever is to have it.
+fn hand_out<C: Channels, R: Wait + Clock>(
+    rt: &R,
+    server: &Server<Shared>,
+    state: &mut DriverState<C>,
+    place: Place,
+    effect: &Effect<Global>,
+) {
+    match place {
         Place::Scanner => {
             state.scans_and_ticks = state.scans_and_ticks.saturating_add(1);
             if mem::replace(&mut state.awaits_scan, false) {
                 server.answers().driver.ring(rt);
             }
             answer_askers(rt, server, state.scans_and_ticks, &effect.reply);
-            tell_others(rt, server, state.connections.as_slice(), &effect);
+            tell_others(rt, server, state.connections.as_slice(), effect);
         }
-        Place::Lane(_) => tell_others(rt, server, state.connections.as_slice(), &effect),
-        Place::Client(seat) => answer_client(rt, server, state, seat, &effect),
+        Place::Lane(_) => tell_others(rt, server, state.connections.as_slice(), effect),
+        Place::Client(seat) => answer_client(rt, server, state, seat, effect),
     }
     ring_lanes(rt, server.answers(), effect.orders.as_slice());
-    Ok(true)
 }
 
 // The reply to a scan goes to the clients that asked for it.

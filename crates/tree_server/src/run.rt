@@ -8,9 +8,10 @@ use crate::options::ServeOptions;
 use crate::recorder::Recorder;
 use crate::seat_room::{RunSeats, SeatRoom};
 use crate::shared::Shared;
-use crate::threads::{ThreadSlots, run_threads};
+use crate::slot::Slot;
+use crate::threads::run_threads;
 use channel_names::Channels;
-use inbox::{Finished, Seat};
+use inbox::Finished;
 use line_server::Server;
 use locked_services::Closed;
 use office::{Office, Opened};
@@ -68,86 +69,95 @@ pub fn run<
         seats,
         readers,
     } = opened;
-    let Some(run_seats) = room.share_out(seats, readers, carryover) else {
-        return AfterRun::Over(Err(ServeFault::NoMemory));
-    };
-    let RunSeats {
-        mut scanner,
-        slots,
-        first,
-        finishes,
-        reports,
-    } = run_seats;
+    match room.share_out(seats, readers, carryover) {
+        Some(run_seats) => run_office(rt, server, office, run_seats, options, errors, recorder),
+        None => AfterRun::Over(Err(ServeFault::NoMemory)),
+    }
+}
+
+// Runs the tree of an office whose seats are shared out.
+fn run_office<
+    C: Channels + Lanes + Send + Sync,
+    D: Board<C> + Send,
+    B: Backend + Send,
+    R: Files + Threads + Wait + Clock + Copy + Sync + Drop,
+    E: Write,
+    W: Write + Drop,
+>(
+    rt: &R,
+    server: &Server<Shared>,
+    office: Office<C, D, B>,
+    mut run_seats: RunSeats<C>,
+    options: ServeOptions<'_>,
+    errors: &mut E,
+    recorder: &mut Recorder<W>,
+) -> AfterRun<B> {
+    let first = run_seats.first.take();
     let end = run_threads(
         rt,
         server,
         &office,
-        &slots,
-        &mut scanner,
+        &run_seats.slots,
+        &mut run_seats.scanner,
         first,
         options.handover,
         options.directory,
         errors,
     );
     if end == RunEnd::Handover {
-        return hand_over(
-            rt, server, office, slots, scanner, finishes, reports, recorder,
-        );
+        return hand_over(rt, server, office, run_seats, recorder);
     }
-    let recorded = recorder.append(rt, &office);
+    AfterRun::Over(record_end(rt, &office, recorder, end))
+}
+
+// Records a run after which there is no other, and answers what comes of the tree.
+fn record_end<C: Channels + Lanes, D: Board<C>, B: Backend, R: Wait, W: Write + Drop>(
+    rt: &R,
+    office: &Office<C, D, B>,
+    recorder: &mut Recorder<W>,
+    end: RunEnd,
+) -> Result<(), ServeFault> {
+    let recorded = recorder.append(rt, office);
     match end {
-        RunEnd::Handover | RunEnd::Ended => AfterRun::Over(recorded),
-        RunEnd::Thread => AfterRun::Over(Err(ServeFault::Thread)),
-        RunEnd::Full => AfterRun::Over(Err(ServeFault::Full)),
+        RunEnd::Ended | RunEnd::Handover => recorded,
+        RunEnd::Thread => Err(ServeFault::Thread),
+        RunEnd::Full => Err(ServeFault::Full),
     }
 }
 
-// Does all that is left, records the run, finishes every seat, and closes the office. There is room for the finishes and the reports.
+// Does all that is left, records the run, finishes every seat, and closes the office.
 fn hand_over<C: Channels + Lanes, D: Board<C>, B: Backend, R: Wait + Clock, W: Write + Drop>(
     rt: &R,
     server: &Server<Shared>,
     office: Office<C, D, B>,
-    slots: ThreadSlots<C>,
-    scanner: Seat<C>,
-    finishes: Vec<Finished<C>>,
-    reports: Vec<Option<Report>>,
+    run_seats: RunSeats<C>,
     recorder: &mut Recorder<W>,
 ) -> AfterRun<B> {
-    let ThreadSlots { driver, lanes } = slots;
+    let driver = &run_seats.slots.driver;
+    if let Err(fault) = finish_steps(rt, server, &office, driver, recorder) {
+        return AfterRun::Over(Err(fault));
+    }
+    match run_seats.finish(rt) {
+        Some((finishes, carryover)) => close(office, finishes, carryover),
+        None => AfterRun::Over(Err(ServeFault::Thread)),
+    }
+}
+
+// Does all that is left, and records the run.
+fn finish_steps<C: Channels + Lanes, D: Board<C>, B: Backend, R: Wait + Clock, W: Write + Drop>(
+    rt: &R,
+    server: &Server<Shared>,
+    office: &Office<C, D, B>,
+    driver: &Slot<DriverState<C>>,
+    recorder: &mut Recorder<W>,
+) -> Result<(), ServeFault> {
     let Some(mut state) = driver.take(rt) else {
-        return AfterRun::Over(Err(ServeFault::Thread));
+        return Err(ServeFault::Thread);
     };
-    if let Err(fault) = drive_rest(rt, server, &office, &mut state) {
-        return AfterRun::Over(Err(fault));
-    }
-    if let Err(fault) = recorder.append(rt, &office) {
-        return AfterRun::Over(Err(fault));
-    }
-    let (mut finishes, mut reports) = (finishes, reports);
-    let _ = finishes.push(scanner.finish());
-    for slot in &lanes {
-        let Some(lane) = slot.take(rt) else {
-            return AfterRun::Over(Err(ServeFault::Thread));
-        };
-        let _ = finishes.push(lane.seat.finish());
-        let _ = reports.push(lane.kept);
-    }
-    let DriverState {
-        seats,
-        connections,
-        last_step,
-        ..
-    } = state;
-    for seat in seats {
-        let _ = finishes.push(seat.finish());
-    }
-    let carryover = Carryover {
-        first: None,
-        reports,
-        connections,
-        last_step,
-    };
-    close(office, finishes, carryover)
+    let done = drive_rest(rt, server, office, &mut state);
+    driver.put(rt, state);
+    done?;
+    recorder.append(rt, office)
 }
 
 fn close<C: Channels + Lanes, D: Board<C>, B: Backend>(
