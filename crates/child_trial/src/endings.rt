@@ -5,7 +5,7 @@ use crate::stage::Stage;
 use child_runner::Keeper;
 use order_lanes::Report;
 use std::alloc::Global;
-use std::io::{self, Write};
+use std::io::{self, Eprint, Write};
 use std::process::{Processes, SystemProcess};
 use std::rt::Files;
 use std::sync::Wait;
@@ -27,7 +27,7 @@ fn is_death_of(report: &Report, service: u64) -> bool {
     }
 }
 
-impl<R: Processes<Started = SystemProcess> + Files + Wait + Clock + Drop> Stage<R> {
+impl<R: Processes<Started = SystemProcess> + Files + Wait + Clock + Eprint + Drop> Stage<R> {
     // Starts one service. Whether the backend heard of it.
     fn hears_start(&mut self, sid: u64) -> io::Result<bool> {
         self.write("four", "run", "exec sleep 60", 0o755)?;
@@ -59,7 +59,7 @@ impl<R: Processes<Started = SystemProcess> + Files + Wait + Clock + Drop> Stage<
 }
 
 // Services of four backends that share a keeper: each hears of its own alone.
-fn try_four<R: Processes<Started = SystemProcess> + Files + Wait + Clock + Copy + Drop>(
+fn try_four<R: Processes<Started = SystemProcess> + Files + Wait + Clock + Eprint + Copy + Drop>(
     rt: &R,
     alloc: Global,
     keeper: &Keeper<R>,
@@ -88,7 +88,7 @@ fn try_four<R: Processes<Started = SystemProcess> + Files + Wait + Clock + Copy 
 }
 
 // Every trial of one backend.
-fn try_stage<R: Processes<Started = SystemProcess> + Files + Wait + Clock + Drop>(
+fn try_stage<R: Processes<Started = SystemProcess> + Files + Wait + Clock + Eprint + Drop>(
     stage: &mut Stage<R>,
     output: &mut impl Write,
 ) -> io::Result<()> {
@@ -106,13 +106,9 @@ fn try_stage<R: Processes<Started = SystemProcess> + Files + Wait + Clock + Drop
 const PATIENCE: u64 = 8;
 
 // Services that still live when the keeper ends, and one whose descriptor a grandchild keeps open.
-fn try_end<R: Processes<Started = SystemProcess> + Files + Threads + Wait + Clock + Copy + Drop>(
-    rt: &R,
-    alloc: Global,
-    keeper: Keeper<R>,
-    root: &str,
-    output: &mut impl Write,
-) -> io::Result<()> {
+fn try_end<
+    R: Processes<Started = SystemProcess> + Files + Threads + Wait + Clock + Eprint + Copy + Drop,
+>(rt: &R, alloc: Global, keeper: Keeper<R>, root: &str, output: &mut impl Write) -> io::Result<()> {
     let mut stage = Stage::new(*rt, alloc, &keeper, root)?;
     let crowd = stage.start_crowd(3, Some(3));
     let leaver = stage.start_leaver();
@@ -130,7 +126,7 @@ fn try_end<R: Processes<Started = SystemProcess> + Files + Threads + Wait + Cloc
 
 /// All trials. The keepers are ended in between, and nothing is left over.
 pub fn try_all<
-    R: Processes<Started = SystemProcess> + Files + Threads + Wait + Clock + Copy + Drop,
+    R: Processes<Started = SystemProcess> + Files + Threads + Wait + Clock + Eprint + Copy + Drop,
 >(
     rt: &R,
     alloc: Global,

@@ -4,7 +4,7 @@ use order_lanes::{Backend, Report};
 use s6_events::{Exit, Name, Order, Sid};
 use std::alloc::Global;
 use std::fs::Permissions;
-use std::io::ErrorKind;
+use std::io::{Eprint, ErrorKind};
 use std::os::unix::fs::PermissionsExt;
 use std::process::{Processes, SystemProcess};
 use std::rt::Files;
@@ -56,7 +56,7 @@ impl<R: Copy + Drop> Stage<R> {
     }
 }
 
-impl<R: Processes<Started = SystemProcess> + Files + Wait + Clock + Drop> Stage<R> {
+impl<R: Processes<Started = SystemProcess> + Files + Wait + Clock + Eprint + Drop> Stage<R> {
     /// Writes a program of a service, with this mode.
     pub fn write(&self, service: &str, program: &str, script: &str, mode: u32) -> io::Result<()> {
         let root = self.root.as_str();

@@ -2,171 +2,192 @@
 ghost use Rattle.std.specs.Prelude.{◌≡◌, ℕ, slice_get};
 ghost use Rattle.office.specs.Names.{ring_of, lane_ring_of, asked_of};
 
+use crate::parts::{
+    carry_all, finish, new_log, new_probes, new_tree, scan_of_two, submit, take_seat, wants_closed,
+};
 use channel_names::Channels;
-use inbox::{Finished, Seat, Ticket};
-use office::{CloseFault, Closed, NewOffice, Office, Opened};
-use office_cases::{new_log, new_office, new_tree, probes};
+use inbox::Seat;
+use office::{Closed, NewOffice, Office, Opened};
+use office_cases::open_office;
 use order_lanes::{Backend, Lanes};
-use s6_events::{At, Condition, Exit, Mode, Name, Order, Sid, WaitId};
-use servicedir::Config;
+use s6_events::{Condition, Exit, Mode, Name, Sid, WaitId};
 use status_board::Board;
 use std::alloc::Global;
 use std::marker::Brand;
 use std::process::Abort;
 use std::sync::Wait;
-use std::test::Fail;
-use tree_core::{Act, Entry, Listing, Names, Refusal, Release, Reply, Tree, Verdict};
+use tree_core::{Act, Names, Refusal, Release, Reply, Tree, Verdict};
 
-/// What a run that was closed left, the replies to its inputs, in order, the waiters that it released, and what was recorded of it.
+/// What was seen of a run: the replies to its inputs, in order, the waiters that it released, and what was recorded of it.
 #[derive(Drop)]
-struct RunEnd<B: Backend> {
-    closed: Closed<B>,
+struct Seen {
     replies: Vec<Reply<Global>>,
     released: Vec<Release>,
     record: Vec<u8>,
 }
 
-// The only name.
-fn name() -> Option<Name> {
-    Name::new(b"first")
-}
-
-// A scan that finds two services, whose serials are 1 and 2.
-fn scan_of_two(alloc: Global) -> Option<Act<Global>> {
-    let mut entries = Vec::new(alloc);
-    for text in ["first", "second"] {
-        let name = Name::new(text.as_bytes())?;
-        let config = Some(Config::plain());
-        entries.push(Entry { name, config }).ok()?;
+impl Seen {
+    // Nothing yet.
+    fn new(alloc: Global) -> Seen {
+        Seen {
+            replies: Vec::new(alloc),
+            released: Vec::new(alloc),
+            record: Vec::new(alloc),
+        }
     }
-    Some(Act::Scan(Listing::new(entries)))
 }
 
 // A wait for the first service to be up, without an end.
 fn wait_for_first(alloc: Global) -> Option<Act<Global>> {
     let mut names = Vec::new(alloc);
-    names.push(name()?).ok()?;
+    names.push(Name::new(b"first")?).ok()?;
     Some(Act::Wait(Condition::Up, Mode::One, 0, Names::new(names)))
 }
 
-// Submits an act at the moment 0; None where the seat has no place for it.
-fn submit<C: Channels>(seat: &mut Seat<C>, act: Act<Global>) -> Option<Ticket> {
-    if seat.sent() >= 64 {
-        return None;
-    }
-    seat.submit(At::zero(), act).ok()
-}
-
-// Asks each lane's backend all that its ring gives.
-fn carry_all<C: Channels + Lanes, D: Board<C>, B: Backend, R: Wait>(
+// Does this act. Its reply is added.
+fn do_one<C: Channels + Lanes, D: Board<C>, B: Backend, R: Wait + Abort>(
     rt: &R,
     office: &Office<C, D, B>,
+    seat: &mut Seat<C>,
+    act: Act<Global>,
+    replies: &mut Vec<Reply<Global>>,
 ) {
-    for lane in 0..office.lanes() {
-        office.carry(rt, lane, 64);
-    }
+    let ticket = submit(rt, seat, act);
+    office.drive(rt, 1);
+    let reply = office.reply(rt, ticket).expect(rt, "no memory");
+    let added = replies.push(reply.expect(rt, "no reply")).is_ok();
+    assert!(rt; added);
 }
 
-// The waiters that the first so many steps released.
-fn released_by<C: Channels + Lanes, D: Board<C>, B: Backend, R: Wait>(
+// Does these acts, one after the other. Their replies are added.
+fn do_all<C: Channels + Lanes, D: Board<C>, B: Backend, R: Wait + Abort>(
     rt: &R,
-    alloc: Global,
     office: &Office<C, D, B>,
-    steps: u64,
-) -> Result<Vec<Release>, Fail> {
-    let mut released = Vec::new(alloc);
-    for number in 1..=steps {
-        let effect = office.effect(rt, number)?.ok_or("no effect")?;
-        released.extend_from_slice(effect.released.as_slice())?;
+    seat: &mut Seat<C>,
+    acts: Vec<Act<Global>>,
+    replies: &mut Vec<Reply<Global>>,
+) {
+    for act in acts {
+        do_one(rt, office, seat, act, replies);
     }
-    Ok(released)
 }
 
-// What is recorded of a run of so many steps, behind the head line if `head`.
-fn record_of<C: Channels + Lanes, D: Board<C>, B: Backend, R: Wait>(
+// The waiters that the step of this number released are added.
+fn add_released<C: Channels + Lanes, D: Board<C>, B: Backend, R: Wait + Abort>(
     rt: &R,
-    alloc: Global,
+    office: &Office<C, D, B>,
+    number: u64,
+    released: &mut Vec<Release>,
+) {
+    let effect = office.effect(rt, number).expect(rt, "no memory");
+    let effect = effect.expect(rt, "no effect");
+    let added = released.extend_from_slice(effect.released.as_slice());
+    assert!(rt; added.is_ok());
+}
+
+// Looks at a run of so many steps: what they released, and what is recorded of it, behind the head line if `head`. Its orders are
+// carried.
+fn look_at_run<C: Channels + Lanes, D: Board<C>, B: Backend, R: Wait + Abort>(
+    rt: &R,
     office: &Office<C, D, B>,
     head: bool,
     steps: u64,
-) -> Result<Vec<u8>, Fail> {
-    let mut record = Vec::new(alloc);
-    match office.write_run(rt, head, &mut record) {
-        Ok(count) if count == steps => Ok(record),
-        _ => Err("not recorded".into()),
+    seen: &mut Seen,
+) {
+    for number in 1..=steps {
+        add_released(rt, office, number, &mut seen.released);
     }
+    carry_all(rt, office);
+    let count = office.write_run(rt, head, &mut seen.record).ok();
+    assert!(rt; count == Some(steps), "not recorded");
 }
 
-// Opens the office, does these acts in it, one after the other, records the run, behind the head line if `head`, and closes it.
-fn run_and_close<B: Backend, C: Channels + Lanes, R: Wait + Copy + Drop>(
+// Opens the office, does these acts in it, records the run, behind the head line if `head`, and closes it.
+fn run_and_close<B: Backend, C: Channels + Lanes, R: Wait + Abort + Copy + Drop>(
     rt: &R,
     alloc: Global,
     office: NewOffice<B>,
     acts: Vec<Act<Global>>,
     head: bool,
-) -> Result<RunEnd<B>, Fail>
+    seen: &mut Seen,
+) -> Closed<B>
     requires seats { (k : ℕ) → C.seat_ring k ≡ ring_of (slice_get office.rings k) }
     requires board { C.board ≡ office.board }
     requires lanes { (k : ℕ) → C.lane_ring k ≡ lane_ring_of (slice_get office.lane_rings k) }
     requires before { (k : ℕ) → C.asked_before k ≡ asked_of B.asked (slice_get office.backends k) }
 {
-    let Ok(opened) = office.open::<C, R>(alloc, *rt) else {
-        return Err("not opened".into());
-    };
+    let steps = acts.len() as u64;
+    let mut opened = open_office::<B, C, R>(rt, alloc, office).expect(rt, "not opened");
+    let mut seat = take_seat(rt, &mut opened.seats);
+    do_all(rt, &opened.office, &mut seat, acts, &mut seen.replies);
+    look_at_run(rt, &opened.office, head, steps, seen);
+    close(rt, alloc, opened, seat)
+}
+
+// Closes an office whose only seat this is.
+fn close<C: Channels + Lanes, D: Board<C>, B: Backend, R: Abort>(
+    rt: &R,
+    alloc: Global,
+    opened: Box<Opened<C, D, B>>,
+    seat: Seat<C>,
+) -> Closed<B> {
+    let mut finishes = Vec::new(alloc);
+    finish(rt, seat, &mut finishes);
     let Opened {
         office,
-        mut seats,
+        seats: _,
         readers: _,
-    } = opened;
-    let mut seat = seats.pop().ok_or("no seat")?;
-    let steps = acts.len() as u64;
-    let mut replies = Vec::new(alloc);
-    for act in acts {
-        let ticket = submit(&mut seat, act).ok_or("no place")?;
-        office.drive(rt, 1);
-        replies.push(office.reply(rt, ticket)?.ok_or("no reply")?)?;
-    }
-    let released = released_by(rt, alloc, &office, steps)?;
-    carry_all(rt, &office);
-    let record = record_of(rt, alloc, &office, head, steps)?;
-    let mut finishes = Vec::new(alloc);
-    finishes.push(seat.finish())?;
-    let Ok(closed) = office.close(finishes) else {
-        return Err("not closed".into());
-    };
-    Ok(RunEnd {
-        closed,
-        replies,
-        released,
-        record,
-    })
+    } = Box::into_inner(opened);
+    office.close(finishes).ok().expect(rt, "not closed")
 }
 
 // The same in a run of its own, whose names are picked here. That of a new tree has the head line.
-fn close_run<B: Backend, R: Wait + Copy + Drop>(
+fn close_run<B: Backend, R: Wait + Abort + Copy + Drop>(
     rt: &R,
     alloc: Global,
     tree: Box<Tree<Global>>,
     backends: Vec<B>,
     acts: Vec<Act<Global>>,
-) -> Result<RunEnd<B>, Fail> {
+    seen: &mut Seen,
+) -> Closed<B> {
     let head = tree.steps() == 0;
-    let Ok(office) = NewOffice::new(alloc, tree, 1, backends) else {
-        return Err("no office".into());
-    };
-    run_and_close::<B, Brand, R>(rt, alloc, office, acts, head)
+    let office = NewOffice::new(alloc, tree, 1, backends).ok();
+    run_and_close::<B, Brand, R>(rt, alloc, office.expect(rt, "no office"), acts, head, seen)
+}
+
+// The next run on what a closed one left.
+fn run_next<B: Backend, R: Wait + Abort + Copy + Drop>(
+    rt: &R,
+    alloc: Global,
+    closed: Closed<B>,
+    act: Act<Global>,
+    seen: &mut Seen,
+) {
+    let Closed {
+        tree,
+        steps: _,
+        backends,
+    } = closed;
+    let acts = Vec::from_array(alloc, [act]).ok();
+    let _closed = close_run(
+        rt,
+        alloc,
+        tree,
+        backends,
+        acts.expect(rt, "no memory"),
+        seen,
+    );
 }
 
 #[test]
-fn run_without_steps_is_closed(rt: HostRuntime) -> Result<(), Fail> {
+fn run_without_steps_is_closed(rt: HostRuntime) {
     let alloc = rt.alloc();
-    let log = new_log(alloc)?;
-    let backends = probes(rt, alloc, 4, &log)?;
-    let end = close_run(&rt, alloc, new_tree(alloc)?, backends, Vec::new(alloc))?;
-    assert_eq!(rt; end.closed.steps, 0);
-    assert_eq!(rt; end.closed.tree.steps(), 0);
-    assert_eq!(rt; end.closed.backends.len(), 4);
-    Ok(())
+    let log = new_log(&rt, alloc);
+    let backends = new_probes(rt, alloc, 4, &log);
+    let tree = new_tree(&rt, alloc);
+    let mut seen = Seen::new(alloc);
+    let closed = close_run(&rt, alloc, tree, backends, Vec::new(alloc), &mut seen);
+    wants_closed(&rt, &closed, 0, 4);
 }
 
 // Whether it tells of the waiter of this serial.
@@ -177,146 +198,96 @@ fn is_waiter(reply: Option<&Reply<Global>>, serial: u64) -> bool {
     }
 }
 
+// What is recorded of the run.
+fn wants_record<R: Abort>(rt: &R, seen: &Seen, wanted: &[u8]) {
+    assert!(rt; seen.record.as_slice() == wanted);
+}
+
 #[test]
-fn waiter_is_held_over(rt: HostRuntime) -> Result<(), Fail> {
+fn waiter_is_held_over(rt: HostRuntime) {
     let alloc = rt.alloc();
-    let log = new_log(alloc)?;
-    let backends = probes(rt, alloc, 1, &log)?;
-    let mut acts = Vec::new(alloc);
-    acts.push(scan_of_two(alloc).ok_or("no scan")?)?;
-    acts.push(wait_for_first(alloc).ok_or("no wait")?)?;
-    let end = close_run(&rt, alloc, new_tree(alloc)?, backends, acts)?;
-    assert!(rt; is_waiter(end.replies.get(1), 1));
-    assert_eq!(rt; end.released.len(), 0);
-    let first =
-        b"s6-script 2\n0 0 scan first second\n= scanned +1:first +2:second\n0 0 wait u o 0 first\n= wait 1\n";
-    assert!(rt; end.record.as_slice() == first.as_slice());
-    let Closed {
-        tree,
-        steps: _,
-        backends,
-    } = end.closed;
-    let mut acts = Vec::new(alloc);
-    acts.push(Act::Started(Sid(1), 1, 500))?;
-    let end = close_run(&rt, alloc, tree, backends, acts)?;
-    assert!(rt; matches!(end.replies.get(0), Some(Reply::Done)));
+    let log = new_log(&rt, alloc);
+    let closed = wait_in_run(&rt, alloc, new_probes(rt, alloc, 1, &log));
+    let mut seen = Seen::new(alloc);
+    run_next(&rt, alloc, closed, Act::Started(Sid(1), 1, 500), &mut seen);
+    look_at_release(&rt, &seen);
+}
+
+// A run in which a waiter waits.
+fn wait_in_run<B: Backend, R: Wait + Abort + Copy + Drop>(
+    rt: &R,
+    alloc: Global,
+    backends: Vec<B>,
+) -> Closed<B> {
+    let acts = scan_and_wait(rt, alloc);
+    let mut seen = Seen::new(alloc);
+    let closed = close_run(rt, alloc, new_tree(rt, alloc), backends, acts, &mut seen);
+    look_at_wait(rt, &seen);
+    closed
+}
+
+// The acts of such a run.
+fn scan_and_wait<R: Abort>(rt: &R, alloc: Global) -> Vec<Act<Global>> {
+    let scan = scan_of_two(alloc).expect(rt, "no scan");
+    let wait = wait_for_first(alloc).expect(rt, "no wait");
+    Vec::from_array(alloc, [scan, wait])
+        .ok()
+        .expect(rt, "no memory")
+}
+
+// The waiter was made, and waits still.
+fn look_at_wait<R: Abort>(rt: &R, seen: &Seen) {
+    assert!(rt; is_waiter(seen.replies.get(1), 1));
+    assert_eq!(rt; seen.released.len(), 0);
+    wants_record(
+        rt,
+        seen,
+        b"s6-script 2\n0 0 scan first second\n= scanned +1:first +2:second\n0 0 wait u o 0 first\n= wait 1\n",
+    );
+}
+
+// The waiter of the run before was released.
+fn look_at_release<R: Abort>(rt: &R, seen: &Seen) {
+    assert!(rt; matches!(seen.replies.get(0), Some(Reply::Done)));
     let held = Release {
         waiter: WaitId(1),
         verdict: Verdict::Held,
     };
-    assert!(rt; end.released.as_slice() == [held].as_slice());
-    let second = b"0 0 started 1 1 500\n= done\n";
-    assert!(rt; end.record.as_slice() == second.as_slice());
-    Ok(())
+    assert!(rt; seen.released.as_slice() == [held].as_slice());
+    wants_record(rt, seen, b"0 0 started 1 1 500\n= done\n");
 }
 
 #[test]
-fn repeated_death_is_stale(rt: HostRuntime) -> Result<(), Fail> {
+fn repeated_death_is_stale(rt: HostRuntime) {
     let alloc = rt.alloc();
-    let log = new_log(alloc)?;
-    let backends = probes(rt, alloc, 1, &log)?;
-    let mut acts = Vec::new(alloc);
-    acts.push(scan_of_two(alloc).ok_or("no scan")?)?;
-    acts.push(Act::Started(Sid(1), 1, 500))?;
-    acts.push(Act::Death(Sid(1), 1, Exit::Code(0)))?;
-    let end = close_run(&rt, alloc, new_tree(alloc)?, backends, acts)?;
-    assert!(rt; matches!(end.replies.get(2), Some(Reply::Done)));
-    let Closed {
-        tree,
-        steps: _,
-        backends,
-    } = end.closed;
-    let mut acts = Vec::new(alloc);
-    acts.push(Act::Death(Sid(1), 1, Exit::Code(0)))?;
-    let end = close_run(&rt, alloc, tree, backends, acts)?;
-    assert!(rt; matches!(end.replies.get(0), Some(Reply::Refused(Refusal::Stale))));
-    Ok(())
+    let log = new_log(&rt, alloc);
+    let closed = die_in_run(&rt, alloc, new_probes(rt, alloc, 1, &log));
+    let mut seen = Seen::new(alloc);
+    run_next(&rt, alloc, closed, death(), &mut seen);
+    assert!(rt; matches!(seen.replies.get(0), Some(Reply::Refused(Refusal::Stale))));
 }
 
-// The close of the office is refused for this fault, and all comes back.
-fn refuse<C: Channels + Lanes, D: Board<C>, B: Backend, R: Wait + Abort>(
-    rt: &R,
-    office: Office<C, D, B>,
-    finishes: Vec<Finished<C>>,
-    wanted: CloseFault,
-) -> Result<(Office<C, D, B>, Vec<Finished<C>>), Fail> {
-    let (lanes, steps, count) = (office.lanes(), office.steps(rt), finishes.len());
-    let Err((office, finishes, fault)) = office.close(finishes) else {
-        return Err("closed too early".into());
-    };
-    assert_eq!(rt; fault, wanted);
-    assert_eq!(rt; office.lanes(), lanes);
-    assert_eq!(rt; office.steps(rt), steps);
-    assert_eq!(rt; finishes.len(), count);
-    Ok((office, finishes))
+// The death of the first service's first run.
+fn death() -> Act<Global> {
+    Act::Death(Sid(1), 1, Exit::Code(0))
 }
 
-// Two seats submit an act each. The close is tried before the finishes are there, before the steps are made and before the orders are
-// asked, and at last the office is closed.
-fn close_in_steps<B: Backend, C: Channels + Lanes, R: Wait + Abort + Copy + Drop>(
+// A run in which a service dies.
+fn die_in_run<B: Backend, R: Wait + Abort + Copy + Drop>(
     rt: &R,
     alloc: Global,
-    office: NewOffice<B>,
-) -> Result<Closed<B>, Fail>
-    requires seats { (k : ℕ) → C.seat_ring k ≡ ring_of (slice_get office.rings k) }
-    requires board { C.board ≡ office.board }
-    requires lanes { (k : ℕ) → C.lane_ring k ≡ lane_ring_of (slice_get office.lane_rings k) }
-    requires before { (k : ℕ) → C.asked_before k ≡ asked_of B.asked (slice_get office.backends k) }
-{
-    let Ok(opened) = office.open::<C, R>(alloc, *rt) else {
-        return Err("not opened".into());
-    };
-    let Opened {
-        office,
-        mut seats,
-        readers: _,
-    } = opened;
-    let mut second = seats.pop().ok_or("no second seat")?;
-    let mut first = seats.pop().ok_or("no first seat")?;
-    submit(&mut first, scan_of_two(alloc).ok_or("no scan")?).ok_or("no place")?;
-    submit(&mut second, Act::Tick).ok_or("no place")?;
-    let (office, mut finishes) = refuse(rt, office, Vec::new(alloc), CloseFault::Missing)?;
-    finishes.push(second.finish())?;
-    let (office, mut finishes) = refuse(rt, office, finishes, CloseFault::Missing)?;
-    finishes.push(first.finish())?;
-    let (office, finishes) = refuse(rt, office, finishes, CloseFault::Left)?;
-    assert_eq!(rt; office.drive(rt, 9).steps, 2);
-    let (office, finishes) = refuse(rt, office, finishes, CloseFault::Left)?;
-    carry_all(rt, &office);
-    match office.close(finishes) {
-        Ok(closed) => Ok(closed),
-        Err(_) => Err("not closed".into()),
-    }
+    backends: Vec<B>,
+) -> Closed<B> {
+    let acts = scan_and_die(rt, alloc);
+    let mut seen = Seen::new(alloc);
+    let closed = close_run(rt, alloc, new_tree(rt, alloc), backends, acts, &mut seen);
+    assert!(rt; matches!(seen.replies.get(2), Some(Reply::Done)));
+    closed
 }
 
-// The same in a run whose names are picked here.
-fn close_at_last<B: Backend, R: Wait + Abort + Copy + Drop>(
-    rt: &R,
-    alloc: Global,
-    office: NewOffice<B>,
-) -> Result<Closed<B>, Fail> {
-    close_in_steps::<B, Brand, R>(rt, alloc, office)
-}
-
-// Whether it is the first run of the service of this serial.
-fn is_first_run(order: &Order, serial: u64) -> bool {
-    match order {
-        Order::Run(sid, 1, _, _) => sid.0 == serial,
-        _ => false,
-    }
-}
-
-#[test]
-fn close_needs_every_finish(rt: HostRuntime) -> Result<(), Fail> {
-    let alloc = rt.alloc();
-    let log = new_log(alloc)?;
-    let office = new_office(rt, alloc, 2, 2, &log)?;
-    let closed = close_at_last(&rt, alloc, office)?;
-    assert_eq!(rt; closed.steps, 2);
-    assert_eq!(rt; closed.tree.steps(), 2);
-    assert_eq!(rt; closed.backends.len(), 2);
-    let orders = log.lock(&rt);
-    assert_eq!(rt; orders.len(), 2);
-    assert!(rt; is_first_run(&orders[0], 2) && is_first_run(&orders[1], 1));
-    Ok(())
+// The acts of such a run.
+fn scan_and_die<R: Abort>(rt: &R, alloc: Global) -> Vec<Act<Global>> {
+    let scan = scan_of_two(alloc).expect(rt, "no scan");
+    let acts = [scan, Act::Started(Sid(1), 1, 500), death()];
+    Vec::from_array(alloc, acts).ok().expect(rt, "no memory")
 }

@@ -3,3 +3,7 @@
 
 #[cfg(test)]
 mod closing;
+#[cfg(test)]
+mod parts;
+#[cfg(test)]
+mod refusing;

@@ -64,19 +64,24 @@ fn act_of(load: Load, seat: u8, number: u32) -> (At, Act<Global>) {
 
 /// A tree alone takes the scan and then all acts.
 pub fn apply_all(alloc: Global, load: Load) -> Result<(), Fault> {
-    let mut tree = Tree::new(alloc);
-    let mut effect = Effect::new(alloc);
-    apply(
-        &mut tree,
-        0,
-        (At::zero(), scan_of(alloc, load)?),
-        &mut effect,
-    )?;
+    let mut tree = new_tree(alloc)?;
+    let mut effect = new_effect(alloc)?;
+    apply_rounds(alloc, &mut tree, &mut effect, load)
+}
+
+// Round by round.
+fn apply_rounds(
+    alloc: Global,
+    tree: &mut Tree<Global>,
+    effect: &mut Effect<Global>,
+    load: Load,
+) -> Result<(), Fault> {
+    apply(tree, 0, (At::zero(), scan_of(alloc, load)?), effect)?;
     for first in (0..load.count).step_by(ROUND as usize) {
         let end = load.count.min(first.saturating_add(ROUND));
         for seat in 0..load.threads {
             for number in first..end {
-                apply(&mut tree, seat, act_of(load, seat, number), &mut effect)?;
+                apply(tree, seat, act_of(load, seat, number), effect)?;
             }
         }
     }
@@ -111,6 +116,11 @@ fn new_tree(alloc: Global) -> Result<Box<Tree<Global>>, NoMemory> {
     Ok(Box::new(alloc, Tree::new(alloc))?)
 }
 
+// An effect that holds nothing yet.
+fn new_effect(alloc: Global) -> Result<Box<Effect<Global>>, NoMemory> {
+    Ok(Box::new(alloc, Effect::new(alloc))?)
+}
+
 /// A new office with so many seats, and one lane whose backend is a probe.
 pub fn new_office<R: Copy + Drop>(
     rt: R,
@@ -142,40 +152,57 @@ pub fn drive_all<B: Backend, C: Channels + Lanes, R: Wait>(
     requires before { (k : ℕ) → C.asked_before k ≡ asked_of B.asked (slice_get office.backends k) }
 {
     match office.open::<C, &R>(alloc, rt) {
-        Ok(opened) => drive_rounds(rt, alloc, opened, load),
+        Ok(opened) => drive_opened(rt, alloc, opened, load),
         Err((fault, _, _)) => Err(Fault::NotOpened(fault)),
     }
+}
+
+// Drives the office with its own seats.
+fn drive_opened<B: Backend, C: Channels + Lanes, D: Board<C>, R: Wait>(
+    rt: &R,
+    alloc: Global,
+    opened: Opened<C, D, B>,
+    load: Load,
+) -> Result<(), Fault> {
+    let mut opened = opened;
+    drive_rounds(rt, alloc, &opened.office, opened.seats.as_mut_slice(), load)
 }
 
 // Round by round.
 fn drive_rounds<B: Backend, C: Channels + Lanes, D: Board<C>, R: Wait>(
     rt: &R,
     alloc: Global,
-    opened: Opened<C, D, B>,
+    office: &Office<C, D, B>,
+    seats: &mut [Seat<C>],
     load: Load,
 ) -> Result<(), Fault> {
-    let Opened {
-        office,
-        mut seats,
-        readers: _,
-    } = opened;
-    let seats = seats.as_mut_slice();
     if let Some(seat) = seats.first_mut() {
         submit(seat, (At::zero(), scan_of(alloc, load)?))?;
     }
-    drive(rt, &office, 1)?;
+    drive(rt, office, 1)?;
     for first in (0..load.count).step_by(ROUND as usize) {
         let end = load.count.min(first.saturating_add(ROUND));
-        let mut wanted = 0u64;
-        for seat in seats.iter_mut() {
-            for number in first..end {
-                submit(seat, act_of(load, seat.actor().number(), number))?;
-                wanted = wanted.saturating_add(1);
-            }
-        }
-        drive(rt, &office, wanted)?;
+        let wanted = submit_round(seats, load, first, end)?;
+        drive(rt, office, wanted)?;
     }
     Ok(())
+}
+
+// Each seat submits the acts of a round. How many there are.
+fn submit_round<C: Channels>(
+    seats: &mut [Seat<C>],
+    load: Load,
+    first: u32,
+    end: u32,
+) -> Result<u64, Fault> {
+    let mut wanted = 0u64;
+    for seat in seats.iter_mut() {
+        for number in first..end {
+            submit(seat, act_of(load, seat.actor().number(), number))?;
+            wanted = wanted.saturating_add(1);
+        }
+    }
+    Ok(wanted)
 }
 
 // Submits an act, for which there is room.

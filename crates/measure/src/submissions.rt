@@ -29,6 +29,23 @@ pub fn four_rings(alloc: Global) -> Result<(Ring, Ring, Ring, Ring), NoMemory>
     Ok((a, b, c, d))
 }
 
+// The ends of four rings.
+fn four_ends<C: Channels>(rings: (Ring, Ring, Ring, Ring)) -> ([Seat<C>; 4], [Drain<C>; 4])
+    requires first { rings.0.ring ≡ C.seat_ring rings.0.actor }
+    requires second { rings.1.ring ≡ C.seat_ring rings.1.actor }
+    requires third { rings.2.ring ≡ C.seat_ring rings.2.actor }
+    requires fourth { rings.3.ring ≡ C.seat_ring rings.3.actor }
+{
+    let (first_seat, first_drain) = rings.0.ends::<C>();
+    let (second_seat, second_drain) = rings.1.ends::<C>();
+    let (third_seat, third_drain) = rings.2.ends::<C>();
+    let (fourth_seat, fourth_drain) = rings.3.ends::<C>();
+    (
+        [first_seat, second_seat, third_seat, fourth_seat],
+        [first_drain, second_drain, third_drain, fourth_drain],
+    )
+}
+
 /// So many threads submit, and all that they submit is taken.
 pub fn submit_and_take<C: Channels + Send + Sync, R: Threads + Wait + Sync>(
     rt: &R,
@@ -40,12 +57,7 @@ pub fn submit_and_take<C: Channels + Send + Sync, R: Threads + Wait + Sync>(
     requires third { rings.2.ring ≡ C.seat_ring rings.2.actor }
     requires fourth { rings.3.ring ≡ C.seat_ring rings.3.actor }
 {
-    let (first_seat, first_drain) = rings.0.ends::<C>();
-    let (second_seat, second_drain) = rings.1.ends::<C>();
-    let (third_seat, third_drain) = rings.2.ends::<C>();
-    let (fourth_seat, fourth_drain) = rings.3.ends::<C>();
-    let seats = [first_seat, second_seat, third_seat, fourth_seat];
-    let mut drains = [first_drain, second_drain, third_drain, fourth_drain];
+    let (seats, mut drains) = four_ends::<C>(rings);
     let wanted = thread::scope(thread::scope_env(), rt, |scope| {
         let mut wanted = 0u64;
         for seat in seats.into_iter().take(usize::from(load.threads)) {

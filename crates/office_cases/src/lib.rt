@@ -4,5 +4,8 @@
 mod offices;
 mod replaying;
 
-pub use offices::{Log, new_log, new_office, new_tree, probes, stepped_tree};
+pub use offices::{
+    Log, OpenOffice, new_log, new_office, new_tree, open_office, over_new_tree, probes,
+    stepped_tree,
+};
 pub use replaying::is_replayed;

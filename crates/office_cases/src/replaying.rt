@@ -8,7 +8,7 @@ use status_board::Board;
 use std::alloc::Global;
 use std::sync::Wait;
 use tree_cases::{input_of, is_same_reply};
-use tree_core::{Effect, Input, Tree};
+use tree_core::{Effect, Tree};
 
 // A new tree, and how many inputs of each actor it took.
 #[derive(Drop)]
@@ -19,20 +19,30 @@ struct Replay {
 }
 
 impl Replay {
-    // The next input of this actor, and its ticket.
-    fn next_input(&mut self, alloc: Global, actor: Actor) -> Option<(Input<Global>, Ticket)> {
-        let number = self.numbers.get_mut(usize::from(actor.number()))?;
-        let input = input_of(alloc, actor, *number)?;
-        *number = number.saturating_add(1);
-        let number = u64::from(*number);
-        Some((input, Ticket { actor, number }))
+    // That of a tree that has made no step.
+    fn new(alloc: Global) -> Replay {
+        Replay {
+            tree: Tree::new(alloc),
+            effect: Effect::new(alloc),
+            numbers: [0; 16],
+        }
+    }
+
+    // The number of this actor's next input, which is counted.
+    fn next_number(&mut self, actor: Actor) -> Option<u32> {
+        let count = self.numbers.get_mut(usize::from(actor.number()))?;
+        let number = *count;
+        *count = number.saturating_add(1);
+        Some(number)
     }
 
     // Makes the next step of this actor. Its ticket.
     fn make_step(&mut self, alloc: Global, actor: Actor) -> Option<Ticket> {
-        let (input, ticket) = self.next_input(alloc, actor)?;
+        let number = self.next_number(actor)?;
+        let input = input_of(alloc, actor, number)?;
         self.tree.apply_into(input, &mut self.effect).ok()?;
-        Some(ticket)
+        let number = u64::from(number).saturating_add(1);
+        Some(Ticket { actor, number })
     }
 }
 
@@ -50,6 +60,22 @@ fn gives_same<C: Channels + Lanes, D: Board<C>, B: Backend, R: Wait>(
     Some(is_same_reply(&replay.effect.reply, &recorded))
 }
 
+// Whether each of so many steps gives the reply of the records.
+fn gives_each<C: Channels + Lanes, D: Board<C>, B: Backend, R: Wait>(
+    rt: &R,
+    alloc: Global,
+    office: &Office<C, D, B>,
+    replay: &mut Replay,
+    steps: u64,
+) -> Option<bool> {
+    for step in 1..steps.saturating_add(1) {
+        if !gives_same(rt, alloc, office, replay, step)? {
+            return Some(false);
+        }
+    }
+    Some(true)
+}
+
 /// Whether a new tree that takes the inputs of so many steps, one after the other, gives the replies of the records.
 pub fn is_replayed<C: Channels + Lanes, D: Board<C>, B: Backend, R: Wait>(
     rt: &R,
@@ -57,15 +83,6 @@ pub fn is_replayed<C: Channels + Lanes, D: Board<C>, B: Backend, R: Wait>(
     office: &Office<C, D, B>,
     steps: u64,
 ) -> Option<bool> {
-    let mut replay = Replay {
-        tree: Tree::new(alloc),
-        effect: Effect::new(alloc),
-        numbers: [0; 16],
-    };
-    for step in 1..steps.saturating_add(1) {
-        if !gives_same(rt, alloc, office, &mut replay, step)? {
-            return Some(false);
-        }
-    }
-    Some(true)
+    let mut replay = Box::new(alloc, Replay::new(alloc)).ok()?;
+    gives_each(rt, alloc, office, &mut replay, steps)
 }

@@ -13,3 +13,5 @@ mod opening;
 mod refused;
 #[cfg(test)]
 mod two_seats;
+#[cfg(test)]
+mod wants;

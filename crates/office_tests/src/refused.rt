@@ -2,11 +2,12 @@
 ghost use Rattle.std.specs.Prelude.{◌≡◌, ℕ, slice_get};
 ghost use Rattle.office.specs.Names.{ring_of, lane_ring_of, asked_of};
 
+use crate::wants::wants_back;
 use channel_names::Channels;
 use inbox::Seat;
-use locked_services::DriveStop;
+use locked_services::{DriveStop, Driven};
 use office::{NewOffice, Office, OpenFault, Opened};
-use office_cases::{is_replayed, new_log, new_tree, probes, stepped_tree};
+use office_cases::{is_replayed, new_log, new_office, open_office, probes, stepped_tree};
 use order_lanes::probe::Probe;
 use order_lanes::{Backend, Lanes};
 use status_board::Board;
@@ -14,35 +15,56 @@ use std::alloc::Global;
 use std::marker::Brand;
 use std::process::Abort;
 use std::sync::Wait;
-use std::test::Fail;
 use tree_cases::{act_of, moment_of};
 use tree_core::Tree;
 
 /// A tree and the backends of its lanes.
 type Back<B> = (Box<Tree<Global>>, Vec<B>);
 
+/// The same, and why it came back.
+type Refused<B> = (OpenFault, Box<Tree<Global>>, Vec<B>);
+
 /// How many inputs a ring holds.
 const RING: u64 = 64;
 
-// A tree that has made one step, and so many backends; None where the test's own growth was refused.
-fn new_parts<R: Copy + Drop>(rt: R, alloc: Global, lanes: usize) -> Option<Back<Probe<R>>> {
+// Two backends; None where a growth was refused.
+fn new_backends<R: Copy + Drop>(rt: R, alloc: Global) -> Option<Vec<Probe<R>>> {
     let log = new_log(alloc).ok()?;
-    let backends = probes(rt, alloc, lanes, &log).ok()?;
+    probes(rt, alloc, 2, &log).ok()
+}
+
+// A tree that has made one step, and two backends; None where the test's own growth was refused.
+fn new_parts<R: Copy + Drop>(rt: R, alloc: Global) -> Option<Back<Probe<R>>> {
+    let backends = new_backends(rt, alloc)?;
     Some((stepped_tree(alloc)?, backends))
 }
 
-#[test]
-fn refused_opening_gives_all_back(rt: HostRuntime) -> Result<(), Fail> {
-    let alloc = rt.alloc();
-    let parts = match new_parts(rt, alloc, 2) {
-        Some(parts) => Some(parts),
-        None => new_parts(rt, alloc, 2),
-    };
-    let (tree, backends) = parts.ok_or("two growths were refused")?;
-    if let Some((tree, backends)) = open_or_back(&rt, alloc, tree, backends) {
-        assert!(rt; open_or_back(&rt, alloc, tree, backends).is_none());
+// The same, where at most one growth is refused.
+fn parts_at_last<R: Abort + Copy + Drop>(rt: R, alloc: Global) -> Back<Probe<R>> {
+    match new_parts(rt, alloc) {
+        Some(parts) => parts,
+        None => new_parts(rt, alloc).expect(&rt, "two growths were refused"),
     }
-    Ok(())
+}
+
+#[test]
+fn refused_opening_gives_all_back(rt: HostRuntime) {
+    let alloc = rt.alloc();
+    let (tree, backends) = parts_at_last(rt, alloc);
+    let back = open_or_back(&rt, alloc, tree, backends);
+    open_again(&rt, alloc, back);
+}
+
+// What came back makes an office the second time.
+fn open_again<B: Backend, R: Wait + Abort + Copy + Drop>(
+    rt: &R,
+    alloc: Global,
+    back: Option<Back<B>>,
+) {
+    if let Some((tree, backends)) = back {
+        let again = open_or_back(rt, alloc, tree, backends);
+        assert!(rt; again.is_none());
+    }
 }
 
 // Opens an office with two seats; what comes back, where a growth was refused.
@@ -54,7 +76,7 @@ fn open_or_back<B: Backend, R: Wait + Abort + Copy + Drop>(
 ) -> Option<Back<B>> {
     match NewOffice::new(alloc, tree, 2, backends) {
         Ok(office) => open_named::<_, Brand, _>(rt, alloc, office),
-        Err((fault, tree, backends)) => Some(all_back(rt, fault, tree, backends)),
+        Err(refused) => Some(all_back(rt, refused)),
     }
 }
 
@@ -69,43 +91,52 @@ fn open_named<B: Backend, C: Channels + Lanes, R: Wait + Abort + Copy + Drop>(
     requires lanes { (k : ℕ) → C.lane_ring k ≡ lane_ring_of (slice_get office.lane_rings k) }
     requires before { (k : ℕ) → C.asked_before k ≡ asked_of B.asked (slice_get office.backends k) }
 {
-    match office.open::<C, R>(alloc, *rt) {
+    let opened = office.open::<C, R>(alloc, *rt);
+    what_came_back(rt, opened)
+}
+
+// What came back, where the office was not opened.
+fn what_came_back<C: Channels + Lanes, D: Board<C>, B: Backend, R: Abort>(
+    rt: &R,
+    opened: Result<Opened<C, D, B>, Refused<B>>,
+) -> Option<Back<B>> {
+    match opened {
         Ok(opened) => {
-            assert_eq!(rt; opened.office.lanes(), 2);
+            wants_two_lanes(rt, &opened.office);
             None
         }
-        Err((fault, tree, backends)) => Some(all_back(rt, fault, tree, backends)),
+        Err(refused) => Some(all_back(rt, refused)),
     }
 }
 
-// The tree is the one that was handed in, and both backends are there.
-fn all_back<B: Backend, R: Abort>(
+fn wants_two_lanes<C: Channels + Lanes, D: Board<C>, B: Backend, R: Abort>(
     rt: &R,
-    fault: OpenFault,
-    tree: Box<Tree<Global>>,
-    backends: Vec<B>,
-) -> Back<B> {
-    assert_eq!(rt; fault, OpenFault::NoMemory);
-    assert_eq!(rt; (tree.steps(), backends.len()), (1, 2));
+    office: &Office<C, D, B>,
+) {
+    assert_eq!(rt; office.lanes(), 2);
+}
+
+// The tree is the one that was handed in, and both backends are there.
+fn all_back<B: Backend, R: Abort>(rt: &R, refused: Refused<B>) -> Back<B> {
+    wants_back(rt, &refused, OpenFault::NoMemory, 1, 2);
+    let (_, tree, backends) = refused;
     (tree, backends)
 }
 
 #[test]
-fn refused_step_is_made_once_there_is_memory(rt: HostRuntime) -> Result<(), Fail> {
+fn refused_step_is_made_once_there_is_memory(rt: HostRuntime) {
     let alloc = rt.alloc();
     let answer = match run_once(rt, alloc) {
         Some(answer) => Some(answer),
         None => run_once(rt, alloc),
     };
     assert_eq!(rt; answer, Some(true));
-    Ok(())
 }
 
 // Whether all inputs became steps, as in an undisturbed run; None where a growth outside the run's steps was refused.
 fn run_once<R: Wait + Copy + Drop>(rt: R, alloc: Global) -> Option<bool> {
     let log = new_log(alloc).ok()?;
-    let backends = probes(rt, alloc, 1, &log).ok()?;
-    let office = NewOffice::new(alloc, new_tree(alloc).ok()?, 1, backends).ok()?;
+    let office = new_office(rt, alloc, 1, 1, &log)?;
     run_named::<_, Brand, _>(&rt, alloc, office)
 }
 
@@ -120,34 +151,55 @@ fn run_named<B: Backend, C: Channels + Lanes, R: Wait + Copy + Drop>(
     requires lanes { (k : ℕ) → C.lane_ring k ≡ lane_ring_of (slice_get office.lane_rings k) }
     requires before { (k : ℕ) → C.asked_before k ≡ asked_of B.asked (slice_get office.backends k) }
 {
-    let Opened {
-        office,
-        mut seats,
-        readers: _,
-    } = office.open::<C, R>(alloc, *rt).ok()?;
-    let mut seat = seats.pop()?;
-    fill(alloc, &mut seat)?;
-    let made = drive_all(rt, alloc, &office, &mut seat)?;
-    let is_same = is_replayed(rt, alloc, &office, made)?;
+    let mut opened = open_office::<B, C, R>(rt, alloc, office)?;
+    let mut seat = opened.seats.pop()?;
+    run_all(rt, alloc, &opened.office, &mut seat)
+}
+
+// Fills the ring, and makes the steps.
+fn run_all<C: Channels + Lanes, D: Board<C>, B: Backend, R: Wait>(
+    rt: &R,
+    alloc: Global,
+    office: &Office<C, D, B>,
+    seat: &mut Seat<C>,
+) -> Option<bool> {
+    fill(alloc, seat)?;
+    let made = drive_all(rt, alloc, office, seat)?;
+    let is_same = is_replayed(rt, alloc, office, made)?;
     Some(is_same && made == seat.sent() && made >= RING)
 }
 
-// Submits acts of every kind, until the ring takes no more.
+// Submits the next act, of every kind in turn: whether the ring took it.
+fn submit_next<C: Channels>(alloc: Global, seat: &mut Seat<C>) -> Option<bool> {
+    let sent = seat.sent();
+    if sent > 2 * RING {
+        return None;
+    }
+    let number = sent as u32;
+    let act = act_of(alloc, number)?;
+    let ticket = seat.submit(moment_of(number), act).ok();
+    Some(ticket.is_some())
+}
+
+// Submits acts, until the ring takes no more.
 fn fill<C: Channels>(alloc: Global, seat: &mut Seat<C>) -> Option<()> {
     for _ in 0..=RING {
-        let sent = seat.sent();
-        if sent > 2 * RING {
-            return None;
-        }
-        let number = sent as u32;
-        if seat
-            .submit(moment_of(number), act_of(alloc, number)?)
-            .is_err()
-        {
+        if !submit_next(alloc, seat)? {
             return Some(());
         }
     }
     Some(())
+}
+
+// Makes a step, and counts it: why it stopped; None where there are other steps than were counted.
+fn drive_one<C: Channels + Lanes, D: Board<C>, B: Backend, R: Wait>(
+    rt: &R,
+    office: &Office<C, D, B>,
+    made: &mut u64,
+) -> Option<DriveStop> {
+    let Driven { steps, stop } = office.drive(rt, 1);
+    *made = made.saturating_add(steps);
+    (office.steps(rt) as u64 == *made).then_some(stop)
 }
 
 // Makes step by step. How many were made, where a refused one held one input at most, and was none.
@@ -159,21 +211,16 @@ fn drive_all<C: Channels + Lanes, D: Board<C>, B: Backend, R: Wait>(
 ) -> Option<u64> {
     let mut made = 0u64;
     for _ in 0..4 * RING {
-        let driven = office.drive(rt, 1);
-        made = made.saturating_add(driven.steps);
-        if office.steps(rt) as u64 != made {
-            return Some(0);
-        }
-        match driven.stop {
-            DriveStop::Count => {}
-            DriveStop::NoMemory => {
+        match drive_one(rt, office, &mut made) {
+            Some(DriveStop::Count) => {}
+            Some(DriveStop::NoMemory) => {
                 fill(alloc, seat)?;
                 if seat.sent() > made.saturating_add(RING + 1) {
                     return Some(0);
                 }
             }
-            DriveStop::Idle => return Some(made),
-            DriveStop::Blocked(_) | DriveStop::RunFull => return Some(0),
+            Some(DriveStop::Idle) => return Some(made),
+            None | Some(DriveStop::Blocked(_) | DriveStop::RunFull) => return Some(0),
         }
     }
     Some(0)

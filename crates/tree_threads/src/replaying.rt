@@ -3,10 +3,10 @@ use crate::stepping::Note;
 use s6_events::Actor;
 use std::alloc::Global;
 use tree_cases::{input_of, is_same_reply};
-use tree_core::Tree;
+use tree_core::{Effect, Input, Reply, Tree};
 
 // An actor's notes, and how many of them were replayed.
-#[derive(Drop)]
+#[derive(Clone, Copy)]
 struct Noted<'a> {
     actor: Actor,
     notes: &'a [Note],
@@ -21,41 +21,68 @@ fn next_at<'a>(noted: &Noted<'a>, step: u64) -> Option<&'a Note> {
         .filter(|note| note.step == step)
 }
 
-// Whether the step is that of the actor's next input, and is answered as was noted.
-fn replay_one(
-    alloc: Global,
-    tree: &mut Tree<Global>,
-    noted: &mut Noted<'_>,
-    step: u64,
-) -> Option<bool> {
-    let Some(note) = next_at(noted, step) else {
-        return Some(false);
-    };
-    let input = input_of(alloc, noted.actor, noted.replayed)?;
-    noted.replayed = noted.replayed.saturating_add(1);
-    let effect = tree.apply(input).ok()?;
-    Some(is_same_reply(&effect.reply, &note.reply))
+// Whether there is an effect, and its reply is this one.
+fn has_reply(effect: Option<Effect<Global>>, reply: &Reply<Global>) -> bool {
+    match &effect {
+        Some(effect) => is_same_reply(&effect.reply, reply),
+        None => false,
+    }
 }
 
-/// Whether each step of a tree that takes the inputs in the order of the notes is answered as was noted.
-pub fn is_replayed(alloc: Global, first: &[Note], second: &[Note]) -> Option<bool> {
-    let mut tree = Tree::new(alloc);
+// Whether there is an input, and the tree answers it so.
+fn answers(tree: &mut Tree<Global>, input: Option<Input<Global>>, reply: &Reply<Global>) -> bool {
+    match input {
+        Some(input) => has_reply(tree.apply(input).ok(), reply),
+        None => false,
+    }
+}
+
+// Whether the step is that of the actor's next input, and is answered as was noted.
+fn replay_one(alloc: Global, tree: &mut Tree<Global>, noted: &mut Noted<'_>, step: u64) -> bool {
+    let Some(note) = next_at(noted, step) else {
+        return false;
+    };
+    let number = noted.replayed;
+    noted.replayed = number.saturating_add(1);
+    answers(tree, input_of(alloc, noted.actor, number), &note.reply)
+}
+
+// Whether each step is that of one of the two, and is answered as was noted.
+fn replay_all(
+    alloc: Global,
+    tree: &mut Tree<Global>,
+    first: &mut Noted<'_>,
+    second: &mut Noted<'_>,
+) -> bool {
+    for step in 1..2_001 {
+        let replayed = replay_one(alloc, tree, first, step)
+            || replay_one(alloc, tree, second, step);
+        if !replayed {
+            return false;
+        }
+    }
+    true
+}
+
+/// Whether each step of a tree that takes the inputs in the order of the notes is answered as was noted. The tree is to be new.
+pub fn is_replayed(
+    alloc: Global,
+    tree: &mut Tree<Global>,
+    first: &[Note],
+    second: &[Note],
+) -> bool {
+    let (Some(one), Some(other)) = (Actor::new(0), Actor::new(1)) else {
+        return false;
+    };
     let mut first = Noted {
-        actor: Actor::new(0)?,
+        actor: one,
         notes: first,
         replayed: 0,
     };
     let mut second = Noted {
-        actor: Actor::new(1)?,
+        actor: other,
         notes: second,
         replayed: 0,
     };
-    for step in 1..2_001 {
-        let replayed = replay_one(alloc, &mut tree, &mut first, step)?
-            || replay_one(alloc, &mut tree, &mut second, step)?;
-        if !replayed {
-            return Some(false);
-        }
-    }
-    Some(true)
+    replay_all(alloc, tree, &mut first, &mut second)
 }

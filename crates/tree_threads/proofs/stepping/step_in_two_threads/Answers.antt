@@ -7,8 +7,8 @@ use Rattle.tree_core.proofs.Crosses.{closure_send, tree_send}
 use Rattle.tree_threads.proofs.stepping.step_in_two_threads.Goals as goal
 
 -- the lock and the allocator may go to the other thread
-pub join-first-requires-send-F : goal.join-first-requires-send-F
-join-first-requires-send-F g c κs within =
+pub join-requires-send-F : goal.join-requires-send-F
+join-requires-send-F g c κs within =
     param_send 1 _ (arg_send _ no _ (closure_send _ (_ ∷ _ ∷ _ ∷ []) (
       shr_send _ _ _ (param_sync 0 _ c.type_bounds.sync-R),
       (shr_send _ _ _ (mutex.the_sync _ tree_send), (global.the_send, tt)),

@@ -1,5 +1,5 @@
 use Rattle.std.proofs.Common.{[]}
-use Rattle.channel_tests.proofs.lanes.refused_growth_loses_nothing.Given as goal
+use Rattle.channel_tests.proofs.lanes.ask_one.Given as goal
 
 -- the ring that was just opened is the only one
 abbrev pub ghosts-ask_twice : goal.ghosts-ask_twice
