@@ -1,7 +1,8 @@
 //! Counts in /proc of the server.
 use std::alloc::Global;
 use std::rt::Files;
-use std::{fs, io};
+use std::time::{Clock, Duration};
+use std::{fs, io, thread};
 
 /// What a process has.
 #[derive(Clone, Copy, Debug, PartialEq, Eq)]
@@ -9,6 +10,13 @@ pub struct Census {
     pub descriptors: usize,
     pub threads: usize,
     pub zombies: usize,
+}
+
+impl Census {
+    /// Whether nothing of it is more than of the other, and it has no zombie.
+    pub fn is_within(&self, other: &Census) -> bool {
+        self.descriptors <= other.descriptors && self.threads <= other.threads && self.zombies == 0
+    }
 }
 
 /// What the process of this number has.
@@ -20,6 +28,36 @@ pub fn count<R: Files>(rt: &R, alloc: Global, process: u32) -> io::Result<Census
         threads: count_entries(rt, alloc, threads.as_str())?,
         zombies: count_zombies(rt, alloc, process)?,
     })
+}
+
+/// What the process has once that stays the same.
+pub fn count_at_rest<R: Files + Clock>(rt: &R, alloc: Global, process: u32) -> io::Result<Census> {
+    let mut last = count(rt, alloc, process)?;
+    for _ in 0..100u32 {
+        thread::sleep(rt, Duration::from_millis(300));
+        let next = count(rt, alloc, process)?;
+        if next == last && next.zombies == 0 {
+            break;
+        }
+        last = next;
+    }
+    Ok(last)
+}
+
+/// Whether the process comes to no more than this in time.
+pub fn returns_to<R: Files + Clock>(
+    rt: &R,
+    alloc: Global,
+    process: u32,
+    before: &Census,
+) -> io::Result<bool> {
+    for _ in 0..100u32 {
+        if count(rt, alloc, process)?.is_within(before) {
+            return Ok(true);
+        }
+        thread::sleep(rt, Duration::from_millis(100));
+    }
+    Ok(false)
 }
 
 fn count_entries<R: Files>(rt: &R, alloc: Global, path: &str) -> io::Result<usize> {

@@ -1,10 +1,12 @@
 //! Connections that clients don't make: half lines, too many, one that never reads, and noise.
+use crate::census::{count_at_rest, returns_to};
 use crate::stage::Stage;
 use std::alloc::Global;
 use std::io::{self, Read, Write};
 use std::net::{Net, Shutdown};
 use std::os::unix::net::UnixStream;
 use std::process::Processes;
+use std::rt::Files;
 use std::time::{Clock, Duration};
 
 /// A connection to the server. A read or a write on it fails after 20 seconds.
@@ -53,15 +55,19 @@ pub fn ends(stream: &UnixStream) -> bool {
     false
 }
 
-/// Tries connections.
-pub fn try_connections<R: Net + Processes + Clock, W: Write>(
+/// Tries connections to the server, whose process number this is.
+pub fn try_connections<R: Net + Files + Processes + Clock, W: Write>(
     rt: &R,
     stage: &Stage,
+    server: u32,
     output: &mut W,
 ) -> io::Result<()> {
+    let before = count_at_rest(rt, stage.alloc, server)?;
     try_requests(rt, stage, output)?;
     try_half_line(rt, stage, output)?;
     try_twelve(rt, stage, output)?;
+    let has_left = returns_to(rt, stage.alloc, server, &before)?;
+    write!(output, "all have left: {has_left}\n")?;
     try_deaf(rt, stage, output)?;
     try_noise(rt, stage, output)?;
     stage.tell(rt, "svstat -o up,wantedup web", output)
@@ -154,12 +160,11 @@ fn count_refused_waits(alloc: Global, streams: &[UnixStream]) -> io::Result<usiz
 }
 
 // A client that asks and never reads: others are answered meanwhile, and in the end it is closed.
-fn try_deaf<R: Net + Processes + Clock, W: Write>(
+fn try_deaf<R: Net + Processes, W: Write>(
     rt: &R,
     stage: &Stage,
     output: &mut W,
 ) -> io::Result<()> {
-    let is_free = stage.comes_to(rt, "svstat -o up web", "0 true")?;
     let stream = connect(rt, stage)?;
     let mut writer = &stream;
     for _ in 0..5_000u32 {
@@ -173,10 +178,7 @@ fn try_deaf<R: Net + Processes + Clock, W: Write>(
             break;
         }
     }
-    write!(
-        output,
-        "a client that never reads is closed: {is_free} {is_closed}\n"
-    )
+    write!(output, "a client that never reads is closed: {is_closed}\n")
 }
 
 // Bytes that mean nothing.

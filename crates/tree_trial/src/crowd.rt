@@ -1,5 +1,5 @@
 //! Services that die again and again, and what is left of them.
-use crate::census::{Census, count};
+use crate::census::{count_at_rest, returns_to};
 use crate::connections::{ask, connect};
 use crate::stage::Stage;
 use std::io::{self, Write};
@@ -15,14 +15,14 @@ const SERVICES: u32 = 40;
 /// How many deaths there are to be.
 const DEATHS: usize = 200;
 
-/// Tries many deaths: no zombie is left, and descriptors and threads are as before.
+/// Tries many deaths: no zombie is left, and no more descriptors and threads than before.
 pub fn try_crowd<R: Net + Files + Processes + Clock, W: Write>(
     rt: &R,
     stage: &Stage,
     server: u32,
     output: &mut W,
 ) -> io::Result<()> {
-    let before = settled(rt, stage, server)?;
+    let before = count_at_rest(rt, stage.alloc, server)?;
     for number in 0..SERVICES {
         let name = format!(in stage.alloc; "dies{number}")?;
         stage.write_program(rt, name.as_str(), "run", "exit 0")?;
@@ -37,41 +37,11 @@ pub fn try_crowd<R: Net + Files + Processes + Clock, W: Write>(
     stage.tell(rt, "svscanctl -an", output)?;
     let is_gone = stage.comes_to(rt, "svc -u dies0", "1 svc: refused Ended")?;
     write!(output, "all gone: {is_gone}\n")?;
-    let is_as_before = returns_to(rt, stage, server, &before)?;
+    let is_as_before = returns_to(rt, stage.alloc, server, &before)?;
     write!(
         output,
         "no zombie, descriptors and threads as before: {is_as_before}\n"
     )
-}
-
-// The census once it stays the same.
-fn settled<R: Files + Clock>(rt: &R, stage: &Stage, server: u32) -> io::Result<Census> {
-    let mut last = count(rt, stage.alloc, server)?;
-    for _ in 0..100u32 {
-        thread::sleep(rt, Duration::from_millis(300));
-        let next = count(rt, stage.alloc, server)?;
-        if next == last && next.zombies == 0 {
-            break;
-        }
-        last = next;
-    }
-    Ok(last)
-}
-
-// Whether the census comes to this one in time.
-fn returns_to<R: Files + Clock>(
-    rt: &R,
-    stage: &Stage,
-    server: u32,
-    before: &Census,
-) -> io::Result<bool> {
-    for _ in 0..100u32 {
-        if count(rt, stage.alloc, server)? == *before {
-            return Ok(true);
-        }
-        thread::sleep(rt, Duration::from_millis(100));
-    }
-    Ok(false)
 }
 
 // Waits until all deaths have come. Whether they did in time.

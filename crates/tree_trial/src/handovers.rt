@@ -11,16 +11,16 @@ use std::time::Clock;
 /// How many steps a run has.
 const STEPS: &str = "200";
 
-/// How many clients ask at the same time.
-const CLIENTS: u32 = 8;
+/// How many clients ask at the same time. There is room for four more that have ended, or wait: on the last seat none may wait.
+const CLIENTS: u32 = 6;
 
 /// How many waiters each of them makes at once, and then cancels.
 const BATCH: u32 = 50;
 
 /// How often they do.
-const ROUNDS: u32 = 15;
+const ROUNDS: u32 = 20;
 
-/// Tries a tree whose runs have 200 steps, with 12,000 requests of eight clients.
+/// Tries a tree whose runs have 200 steps, with 12,000 requests of six clients.
 pub fn try_handovers<R: Net + Files + Processes<Started = SystemProcess> + Clock, W: Write>(
     rt: &R,
     stage: &Stage,
@@ -28,10 +28,12 @@ pub fn try_handovers<R: Net + Files + Processes<Started = SystemProcess> + Clock
 ) -> io::Result<()> {
     stage.make_folder(rt)?;
     stage.write_program(rt, "web", "run", "exec sleep 100")?;
+    stage.write_program(rt, "broken", "finish", "exit 0")?;
+    stage.write_file(rt, "broken", "run", "#!/bin/sh\n")?;
     let mut server = stage.start_server_with(rt, STEPS)?;
     let mut done = try_runs(rt, stage, output);
     if done.is_err() {
-        let _ = stage.told(rt, "svscanctl -t");
+        let _ = stage.outcome(rt, "svscanctl -t");
     } else {
         done = stage.tell(rt, "svscanctl -t", output);
     }
@@ -39,8 +41,7 @@ pub fn try_handovers<R: Net + Files + Processes<Started = SystemProcess> + Clock
     let _ = server.kill();
     let _ = server.wait();
     done?;
-    let is_many = count_handovers(stage, &mut server)? >= 50;
-    write!(output, "50 handovers and more: {is_many}\n")?;
+    tell_errors(stage, &mut server, output)?;
     write!(output, "svscan: {status}\n")?;
     let told = stage.check_record(rt)?;
     write!(
@@ -48,6 +49,29 @@ pub fn try_handovers<R: Net + Files + Processes<Started = SystemProcess> + Clock
         "the record of all runs is legal: {}\n",
         is_legal(told.as_str())
     )
+}
+
+// What the server, which has ended, told on its standard error.
+fn tell_errors<W: Write>(
+    stage: &Stage,
+    server: &mut Child<SystemProcess>,
+    output: &mut W,
+) -> io::Result<()> {
+    let mut text = Vec::new(stage.alloc);
+    if let Some(errors) = server.stderr.as_mut() {
+        errors.read_to_end(&mut text)?;
+    }
+    let is_many = count_lines(text.as_slice(), b"svscan: handover") >= 50;
+    write!(output, "50 handovers and more: {is_many}\n")?;
+    let is_told = count_lines(text.as_slice(), b"/broken/run can't be started") > 0;
+    write!(output, "a run that isn't executable is told: {is_told}\n")
+}
+
+// How many lines end so.
+fn count_lines(text: &[u8], end: &[u8]) -> usize {
+    text.split(|byte| *byte == b'\n')
+        .filter(|line| line.ends_with(end))
+        .count()
 }
 
 // Whether a check found the machine's replies to 12,000 inputs and more.
@@ -58,7 +82,7 @@ fn is_legal(told: &str) -> bool {
     count.parse::<u64>().is_ok_and(|inputs| inputs >= 12_000)
 }
 
-// A waiter stands from the first run on, a client leaves after half a line, and eight clients ask.
+// A waiter stands from the first run on, a client leaves after half a line, and six clients ask.
 fn try_runs<R: Net + Processes, W: Write>(rt: &R, stage: &Stage, output: &mut W) -> io::Result<()> {
     stage.tell(rt, "svwait web", output)?;
     let waiting = connect(rt, stage)?;
@@ -108,14 +132,23 @@ fn ask_all(stage: &Stage, clients: &[UnixStream]) -> io::Result<u32> {
         let mut writer = client;
         writer.write_all(requests.as_slice())?;
     }
+    let mut waiters = Vec::new(stage.alloc);
     for client in clients {
-        count = count.saturating_add(cancel_all(stage, client)?);
+        waiters.push(cancel_all(stage, client)?)?;
     }
-    for client in clients {
-        for _ in 0..BATCH {
-            if read_reply(stage.alloc, client)?.as_slice() == b"done\n\n".as_slice() {
-                count = count.saturating_add(1);
-            }
+    for (client, waiters) in clients.iter().zip(waiters.iter()) {
+        count = count.saturating_add(*waiters);
+        count = count.saturating_add(count_done(stage, client, *waiters)?);
+    }
+    Ok(count)
+}
+
+// How many of so many replies say that it is done.
+fn count_done(stage: &Stage, client: &UnixStream, replies: u32) -> io::Result<u32> {
+    let mut count = 0u32;
+    for _ in 0..replies {
+        if read_reply(stage.alloc, client)?.as_slice() == b"done\n\n".as_slice() {
+            count = count.saturating_add(1);
         }
     }
     Ok(count)
@@ -150,18 +183,4 @@ fn cancel_of(stage: &Stage, reply: &[u8]) -> io::Result<Option<Vec<u8>>> {
     cancel.extend_from_slice(id)?;
     cancel.extend_from_slice(b"\n")?;
     Ok(Some(cancel))
-}
-
-// How many handovers the server told of, which has ended.
-fn count_handovers(stage: &Stage, server: &mut Child<SystemProcess>) -> io::Result<usize> {
-    let mut text = Vec::new(stage.alloc);
-    if let Some(errors) = server.stderr.as_mut() {
-        errors.read_to_end(&mut text)?;
-    }
-    let lines = text.as_slice().split(|byte| *byte == b'\n');
-    Ok(
-        lines
-            .filter(|line| line.ends_with(b"svscan: handover"))
-            .count(),
-    )
 }

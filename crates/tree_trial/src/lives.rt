@@ -41,7 +41,7 @@ fn try_failure<R: Processes + Clock, W: Write>(
     output: &mut W,
 ) -> io::Result<()> {
     let starter = stage.starter("fails")?;
-    let told = stage.told(rt, starter.as_str())?;
+    let told = stage.outcome(rt, starter.as_str())?;
     write!(output, "a permanent failure: {}\n", told.as_str())?;
     stage.tell(rt, "permafailon fails 60 1 1", output)?;
     stage.tell(rt, "permafailon fails 60 1 2", output)
@@ -49,12 +49,12 @@ fn try_failure<R: Processes + Clock, W: Write>(
 
 // A daemon that was ready is killed, and is ready again.
 fn try_restart<R: Processes, W: Write>(rt: &R, stage: &Stage, output: &mut W) -> io::Result<()> {
-    let told = stage.told(rt, "svstat -o pid three")?;
+    let told = stage.outcome(rt, "svstat -o pid three")?;
     let Some((_, pid)) = told.as_str().split_once(' ') else {
         return Err(io::Error::from(io::ErrorKind::InvalidData));
     };
     let words = format!(in stage.alloc; "svlisten -R three -- kill -9 {pid}")?;
-    let told = stage.told(rt, words.as_str())?;
+    let told = stage.outcome(rt, words.as_str())?;
     write!(output, "killed, and ready again: {}\n", told.as_str())?;
     stage.tell(rt, "svstat -o up,ready three", output)
 }

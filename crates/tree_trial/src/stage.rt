@@ -185,7 +185,7 @@ impl Stage {
     }
 
     /// Runs a client with these words, the socket's path behind the first: its status, and what it wrote.
-    pub fn told<R: Processes>(&self, rt: &R, words: &str) -> io::Result<String> {
+    pub fn outcome<R: Processes>(&self, rt: &R, words: &str) -> io::Result<String> {
         let mut command = Command::new(self.alloc, self.program.as_str())?;
         let mut is_first = true;
         for word in words.split(' ') {
@@ -239,7 +239,7 @@ impl Stage {
         words: &str,
         output: &mut W,
     ) -> io::Result<()> {
-        let told = self.told(rt, words)?;
+        let told = self.outcome(rt, words)?;
         write!(output, "{words}: {}\n", told.as_str())
     }
 
@@ -251,7 +251,7 @@ impl Stage {
         wanted: &str,
     ) -> io::Result<bool> {
         for _ in 0..200u32 {
-            if self.told(rt, words)?.as_str() == wanted {
+            if self.outcome(rt, words)?.as_str() == wanted {
                 return Ok(true);
             }
             thread::sleep(rt, Duration::from_millis(100));

@@ -70,7 +70,7 @@ fn try_cases<R: Net + Files + Processes<Started = SystemProcess> + Clock, W: Wri
     let id = server.id();
     let mut done = try_lives(rt, stage, output);
     if done.is_ok() {
-        done = try_connections(rt, stage, output);
+        done = try_connections(rt, stage, id, output);
     }
     if done.is_ok() {
         done = try_crowd(rt, stage, id, output);
@@ -79,7 +79,7 @@ fn try_cases<R: Net + Files + Processes<Started = SystemProcess> + Clock, W: Wri
         done = try_end(rt, stage, &mut server, output);
     }
     if done.is_err() {
-        let _ = stage.told(rt, "svscanctl -t");
+        let _ = stage.outcome(rt, "svscanctl -t");
         stage.await_end(rt, &mut server);
         let _ = server.kill();
         let _ = server.wait();
