@@ -160,11 +160,7 @@ fn count_refused_waits(alloc: Global, streams: &[UnixStream]) -> io::Result<usiz
 }
 
 // A client that asks and never reads: others are answered meanwhile, and in the end it is closed.
-fn try_deaf<R: Net + Processes, W: Write>(
-    rt: &R,
-    stage: &Stage,
-    output: &mut W,
-) -> io::Result<()> {
+fn try_deaf<R: Net + Processes, W: Write>(rt: &R, stage: &Stage, output: &mut W) -> io::Result<()> {
     let stream = connect(rt, stage)?;
     let mut writer = &stream;
     for _ in 0..5_000u32 {
