@@ -29,14 +29,14 @@ impl Mailbox {
         &self.stream
     }
 
-    /// Posts a text, which is written behind all that was posted before. It waits for no reader. At `Full` and at `NoMemory` the
-    /// connection is ended, since its texts could not be whole any more.
+    /// Posts a text, which is written behind all that was posted before. It waits for no reader. `Full` and `NoMemory` end the connection
+    /// at once, since its texts could not be whole any more. `Closed` leaves it alone: what was posted before is still written.
     pub fn post<R: Wait>(&self, rt: &R, text: &[u8]) -> Result<(), PostFault> {
         let posted = self.outbox.lock(rt).post(text);
-        if posted.is_err() {
-            self.end(rt);
+        match posted {
+            Err(fault) if fault.ends_connection() => self.end(rt),
+            _ => self.changed.notify_all(),
         }
-        self.changed.notify_all();
         posted
     }
 

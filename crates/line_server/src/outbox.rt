@@ -1,6 +1,7 @@
 //! What waits to be written to a connection, in order and up to a limit, at which `mailbox.rt` ends the connection.
 ghost use Rattle.std.specs.Prelude.{◌≡◌, ◌++◌, ◌+◌, ◌<◌, ◌≤◌, [], Err, length, OnOk, OnErr, true, false};
 ghost use Rattle.line_server.specs.Outbox.{outbox_limit};
+ghost use Rattle.line_server.specs.Endings.{ends_connection};
 ghost use Rattle.line_server.specs.declared.outbox.PostFault.TheVariants.{Full, Closed};
 
 use std::alloc::{AllocError, Allocator};
@@ -18,6 +19,19 @@ pub enum PostFault {
     Closed = 2,
     /// A growth was refused.
     NoMemory = 3,
+}
+
+impl PostFault {
+    /// Whether the connection has to end: a text is missing that its reader waits for. Where the mailbox was closed before, what waits in
+    /// it is whole, and is still written.
+    pub fn ends_connection(self) -> bool
+        ensures { result ≡ ends_connection self }
+    {
+        match self {
+            PostFault::Full | PostFault::NoMemory => true,
+            PostFault::Closed => false,
+        }
+    }
 }
 
 // By hand, since `?` from a derive does not say which fault it makes.

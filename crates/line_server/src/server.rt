@@ -45,6 +45,8 @@ pub trait Answers {
 pub struct Server<W: Answers> {
     alloc: Global,
     listener: UnixListener,
+    // The listener once more, to end it by: at the end there may be no descriptor to make one.
+    waker: UnixStream,
     seats: Mutex<Seats>,
     // Where a seat became free, or all is ending.
     changed: Condvar,
@@ -52,15 +54,26 @@ pub struct Server<W: Answers> {
 }
 
 impl<W: Answers> Server<W> {
-    /// Over a listener from which nothing was accepted, with free seats.
-    pub fn new(alloc: Global, listener: UnixListener, seats: Seats, answers: W) -> Server<W> {
-        Server {
+    /// Over a listener from which nothing was accepted, with free seats. It takes one descriptor more; where the system has none that is an
+    /// error, and the listener is closed.
+    pub fn new(
+        alloc: Global,
+        listener: UnixListener,
+        seats: Seats,
+        answers: W,
+    ) -> io::Result<Server<W>>
+    where
+        W: Drop,
+    {
+        let waker = UnixStream::from(OwnedFd::from(listener.try_clone()?));
+        Ok(Server {
             alloc,
             listener,
+            waker,
             seats: Mutex::new(seats),
             changed: Condvar::new(),
             answers,
-        }
+        })
     }
 
     /// Who answers.
@@ -116,9 +129,7 @@ impl<W: Answers> Server<W> {
     pub fn end<R: Wait>(&self, rt: &R) {
         self.seats.lock(rt).end_all(rt);
         self.changed.notify_all();
-        if let Ok(other) = self.listener.try_clone() {
-            let _ = UnixStream::from(OwnedFd::from(other)).shutdown(Shutdown::Both);
-        }
+        let _ = self.waker.shutdown(Shutdown::Both);
     }
 }
 
