@@ -25,6 +25,11 @@ def quiet(*words):
     return subprocess.run(words, stdout=subprocess.DEVNULL, stderr=subprocess.DEVNULL).returncode
 
 
+def number(*words):
+    """The number that a program prints. One that fails, or prints none, ends the figures."""
+    return int(subprocess.run(words, capture_output=True, text=True, check=True).stdout)
+
+
 class Tree:
     """A tree of s6_tree."""
 
@@ -51,8 +56,8 @@ class Tree:
             assert quiet(self.program, "svwait", self.socket, "-U", *names[first:first + 16]) == 0
 
     def pid(self, name):
-        out = subprocess.run([self.program, "svstat", self.socket, "-o", "pid", name], capture_output=True, text=True).stdout
-        return int(out or -1)
+        """Its process number, or -1 where it isn't up."""
+        return number(self.program, "svstat", self.socket, "-o", "pid", name)
 
     def down(self, name):
         assert quiet(self.program, "svc", self.socket, "-d", name) == 0
@@ -98,8 +103,7 @@ class S6:
         assert quiet("s6-svwait", "-a", "-U", *[self.path("s%03d" % n) for n in range(self.count)]) == 0
 
     def pid(self, name):
-        out = subprocess.run(["s6-svstat", "-o", "pid", self.path(name)], capture_output=True, text=True).stdout
-        return int(out or -1)
+        return number("s6-svstat", "-o", "pid", self.path(name))
 
     def down(self, name):
         assert quiet("s6-svc", "-d", "-wD", self.path(name)) == 0
@@ -129,8 +133,15 @@ def seconds(action):
 def restart(tree):
     """Milliseconds from the SIGKILL of a ready daemon to another process number in its status."""
     old = tree.pid("s000")
+    if old <= 1:
+        sys.exit("s000 isn't up: nothing is killed")
+    # The file stands for this very process. A number that was given to another one since is found out by asking again.
+    daemon = os.pidfd_open(old)
+    if tree.pid("s000") != old:
+        sys.exit("s000 was started again: nothing is killed")
     start = time.monotonic()
-    os.kill(old, signal.SIGKILL)
+    signal.pidfd_send_signal(daemon, signal.SIGKILL)
+    os.close(daemon)
     while True:
         new = tree.pid("s000")
         if new > 0 and new != old:

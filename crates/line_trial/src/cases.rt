@@ -1,6 +1,7 @@
 //! The cases of the trial.
 use crate::client::{connect, converse, is_answered, read_bytes};
 use crate::echo::Echo;
+use crate::half_close::reads_late;
 use line_server::{SEAT_COUNT, Seats, Server, serve};
 use std::alloc::Global;
 use std::io::Write;
@@ -21,7 +22,7 @@ pub fn try_all<R: Net + Files + Threads + Wait + Clock + Sync, W: Write + Drop>(
 ) -> io::Result<()> {
     let before = descriptors(rt, alloc)?;
     let listener = UnixListener::bind(rt, path)?;
-    let server = Server::new(alloc, listener, Seats::new(alloc)?, Echo::new());
+    let server = Server::new(alloc, listener, Seats::new(alloc)?, Echo::new())?;
     let told = serve_while(rt, alloc, path, &server)?;
     out.write_all(told.as_bytes())?;
     drop(server);
@@ -78,10 +79,11 @@ fn try_cases<R: Net + Wait + Clock>(
     let half = half_a_line(rt, alloc, path, server)?;
     let long = long_lines(rt, alloc, path)?;
     let full = full_house(rt, alloc, path)?;
+    let late = half_closed(rt, alloc, path, server)?;
     let slow = never_reads(rt, alloc, path, server)?;
     let noise = garbage(rt, alloc, path)?;
     Ok(format!(in alloc;
-        "lines in pieces are answered in order: {pieces}\nhalf a line is not answered: {half}\na line of 8192 bytes is answered, a longer one refused: {long}\na twelfth connection is busy, and a free seat is taken again: {full}\none that never reads is closed, and stops nobody: {slow}\n100000 bytes of garbage do no harm: {noise}\n"
+        "lines in pieces are answered in order: {pieces}\nhalf a line is not answered: {half}\na line of 8192 bytes is answered, a longer one refused: {long}\na twelfth connection is busy, and a free seat is taken again: {full}\none that half-closes and reads late gets each answer: {late}\none that never reads is closed, and stops nobody: {slow}\n100000 bytes of garbage do no harm: {noise}\n"
     )?)
 }
 
@@ -158,6 +160,18 @@ fn full_house<R: Net + Clock>(rt: &R, alloc: Global, path: &str) -> io::Result<b
     drop(streams.pop());
     let is_taken = take_free_seat(rt, alloc, path)?.is_some();
     Ok(is_busy && is_taken)
+}
+
+fn half_closed<R: Net + Wait + Clock>(
+    rt: &R,
+    alloc: Global,
+    path: &str,
+    server: &Server<Echo>,
+) -> io::Result<bool> {
+    match take_free_seat(rt, alloc, path)? {
+        Some(client) => reads_late(rt, alloc, server, &client),
+        None => Ok(false),
+    }
 }
 
 fn never_reads<R: Net + Wait + Clock>(

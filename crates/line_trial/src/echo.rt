@@ -12,6 +12,8 @@ pub struct Counts {
     pub floods: u32,
     /// How many connections have ended.
     pub ended: u32,
+    /// The seat on which the last line came.
+    pub last_seat: usize,
 }
 
 /// Echoes lines.
@@ -30,6 +32,7 @@ impl Echo {
                 long_lines: 0,
                 floods: 0,
                 ended: 0,
+                last_seat: 0,
             }),
             changed: Condvar::new(),
         }
@@ -40,13 +43,37 @@ impl Echo {
         *self.counts.lock(rt)
     }
 
-    fn note<R: Wait>(&self, rt: &R, lines: u32, long_lines: u32, floods: u32, ended: u32) {
+    fn note<R: Wait>(&self, rt: &R, long_lines: u32, floods: u32, ended: u32) {
         let mut counts = self.counts.lock(rt);
-        counts.lines = counts.lines.saturating_add(lines);
         counts.long_lines = counts.long_lines.saturating_add(long_lines);
         counts.floods = counts.floods.saturating_add(floods);
         counts.ended = counts.ended.saturating_add(ended);
         self.changed.notify_all();
+    }
+
+    // Notes a line, and on which seat it came.
+    fn note_line<R: Wait>(&self, rt: &R, seat: usize) {
+        let mut counts = self.counts.lock(rt);
+        counts.lines = counts.lines.saturating_add(1);
+        counts.last_seat = seat;
+        self.changed.notify_all();
+    }
+
+    /// Waits until so many lines came, but at most so long. The seat on which the last one came, or None where they didn't come.
+    pub fn wait_for_lines<R: Wait + Clock>(
+        &self,
+        rt: &R,
+        lines: u32,
+        time: Duration,
+    ) -> Option<usize> {
+        let counts = self.counts.lock(rt);
+        let (counts, _late) = self
+            .changed
+            .wait_timeout_while(rt, counts, time, |known| known.lines < lines);
+        if counts.lines < lines {
+            return None;
+        }
+        Some(counts.last_seat)
     }
 
     /// Waits until more floods came than so many, but at most so long. Whether they came.
@@ -72,17 +99,11 @@ fn flood<R: Wait>(rt: &R, mailbox: &Mailbox) -> bool {
 }
 
 impl Answers for Echo {
-    fn answer<R: Wait + Clock>(
-        &self,
-        rt: &R,
-        _seat: usize,
-        line: &[u8],
-        mailbox: &Mailbox,
-    ) -> Next {
-        self.note(rt, 1, 0, 0, 0);
+    fn answer<R: Wait + Clock>(&self, rt: &R, seat: usize, line: &[u8], mailbox: &Mailbox) -> Next {
+        self.note_line(rt, seat);
         if line == b"flood".as_slice() {
             let is_full = flood(rt, mailbox);
-            self.note(rt, 0, 0, u32::from(is_full), 0);
+            self.note(rt, 0, u32::from(is_full), 0);
             return Next::Close;
         }
         let _ = mailbox.post(rt, b"echo ");
@@ -92,11 +113,11 @@ impl Answers for Echo {
     }
 
     fn refuse_long_line<R: Wait>(&self, rt: &R, _seat: usize, mailbox: &Mailbox) {
-        self.note(rt, 0, 1, 0, 0);
+        self.note(rt, 1, 0, 0);
         let _ = mailbox.post(rt, b"too long\n\n");
     }
 
     fn leave<R: Wait>(&self, rt: &R, _seat: usize) {
-        self.note(rt, 0, 0, 0, 1);
+        self.note(rt, 0, 0, 1);
     }
 }

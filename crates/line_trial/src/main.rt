@@ -4,6 +4,7 @@
 mod cases;
 mod client;
 mod echo;
+mod half_close;
 
 use cases::try_all;
 use std::process::ExitCode;

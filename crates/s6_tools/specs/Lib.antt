@@ -1,5 +1,6 @@
 pub mod Answers
 pub mod Endings
+pub mod FaultLines
 pub mod Requests
 pub mod StatusLine
 pub mod Targets

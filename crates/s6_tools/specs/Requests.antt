@@ -1,5 +1,5 @@
 -- A request of a client.
-use Rattle.std.specs.Prelude.{ℕ, List, codes}
+use Rattle.std.specs.Prelude.{ℕ, List, [], ◌∷◌, ◌++◌, codes}
 use Rattle.std.specs.List.{join_with_byte}
 use Rattle.std.specs.declared.alloc.Global.{Global}
 use Rattle.s6_script.specs.Spelling.{act_words}
@@ -18,3 +18,7 @@ abbrev pub scan_request_of : ScanLetter → List ℕ
 scan_request_of letter.Scan = codes "scanctl a"
 scan_request_of letter.Nuke = request_of (Scanctl Nuke)
 scan_request_of letter.Terminate = request_of (Scanctl Terminate)
+
+-- what is sent of a request: its text and a newline
+abbrev pub request_line : List ℕ → List ℕ
+request_line request = request ++ 10 ∷ []

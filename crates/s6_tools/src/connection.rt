@@ -1,5 +1,6 @@
 //! A tool's connection to the server of a tree.
 use crate::answer::{Answer, read_answer};
+use crate::request::set_request_line;
 use crate::tool_fault::ToolFault;
 use std::alloc::Global;
 use std::io::{BufRead, BufReader, Write};
@@ -10,6 +11,7 @@ use std::os::unix::net::UnixStream;
 #[derive(Drop)]
 pub struct Connection {
     reader: BufReader<UnixStream>,
+    // The line that was read last; while a request is sent, its line.
     line: Vec<u8>,
 }
 
@@ -23,12 +25,12 @@ impl Connection {
         })
     }
 
-    /// Sends a request, and reads its reply. A refusal, and a server without a seat, are faults.
+    /// Sends a request, by one write, and reads its reply. A refusal, and a server without a seat, are faults. At `NoMemory` nothing may
+    /// have been sent.
     pub fn ask(&mut self, request: &[u8]) -> Result<Answer, ToolFault> {
+        set_request_line(&mut self.line, request)?;
         let mut writer = self.reader.get_ref();
-        let sent = writer
-            .write_all(request)
-            .and_then(|()| writer.write_all(b"\n"));
+        let sent = writer.write_all(self.line.as_slice());
         let answer = self.answer();
         match answer {
             Ok(Answer::Busy) | Ok(Answer::Refused(_)) => {}

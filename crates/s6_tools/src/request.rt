@@ -1,15 +1,25 @@
 //! The requests of the tools. Each is a line of a script without its moment and its actor, so a request says just the act that it
 //! is in a script.
-ghost use Rattle.std.specs.Prelude.{◌≡◌, ◌++◌, ◌∷◌, [], IfOk, false};
+ghost use Rattle.std.specs.Prelude.{◌≡◌, ◌++◌, ◌∷◌, [], IfOk, OnOk, false};
 ghost use Rattle.std.specs.List.{join_with_byte};
 ghost use Rattle.tree_core.specs.declared.input.Act.TheVariants.{Svc, Status, Permafailon, Wait, Subscribe, Send, MakeDir};
-ghost use Rattle.s6_tools.specs.Requests.{request_of, scan_request_of};
+ghost use Rattle.s6_tools.specs.Requests.{request_of, request_line, scan_request_of};
 
 use s6_events::Name;
 use s6_script::{push_named, push_permafailon, push_send, push_subscribe, push_svc, push_wait};
 use std::alloc::{AllocError, Global};
 use svc_commands::{PermafailCommand, ScanLetter, SvcCommand, WaitCommand};
 use tree_core::{Message, Target};
+
+/// Makes a text the line of a request, with its newline: what a tool sends by one write. What the text held is gone. Where memory is
+/// refused nothing may be sent.
+pub fn set_request_line(line: &mut Vec<u8>, request: &[u8]) -> Result<(), AllocError>
+    ensures { OnOk result (line.new.items ≡ request_line request.now) }
+{
+    line.clear();
+    line.extend_from_slice(request)?;
+    line.extend_from_slice(b"\n")
+}
 
 /// The request of `svc`.
 pub fn svc_request(alloc: Global, command: &SvcCommand) -> Result<Vec<u8>, AllocError>

@@ -1,4 +1,7 @@
 //! Which client is meant, and running it.
+ghost use Rattle.std.specs.Prelude.{◌≡◌};
+ghost use Rattle.s6_tools.specs.FaultLines.{name_of};
+
 use crate::ending::tell_fault;
 use crate::event_tools::{run_ftrig_notify, run_ftrig_wait, run_mkfifodir};
 use crate::help_texts::help_of;
@@ -48,7 +51,9 @@ const ALL: [Tool; 9] = [
 
 impl Tool {
     /// Its name, as the first word of the program.
-    pub fn name(self) -> &'static str {
+    pub fn name(self) -> &'static str
+        ensures { result.now ≡ name_of self }
+    {
         match self {
             Tool::Svc => "svc",
             Tool::Svstat => "svstat",
@@ -68,8 +73,8 @@ pub fn tool_named(name: &str) -> Option<Tool> {
     ALL.iter().copied().find(|tool| tool.name() == name)
 }
 
-/// Runs a client: the words are those behind its name, the path of the socket first, or `--help` alone. Answers its exit status; where it isn't that of
-/// a result, a line on `errors` says why.
+/// Runs a client: the words are those behind its name, the path of the socket first, or `--help` alone. Answers its exit status. Where
+/// that isn't one of a result, a line on `errors` says why. Each line that it writes is one write.
 pub fn run_client<R: Net + Processes, W: Write, E: Write>(
     rt: &R,
     alloc: Global,

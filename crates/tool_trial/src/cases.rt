@@ -1,9 +1,10 @@
 //! The cases of the trial.
+use crate::counted::CountedText;
 use crate::table::TableServer;
+use crate::whole_requests::come_whole;
 use line_server::{Seats, Server, serve};
 use s6_tools::{run_client, tool_named};
 use std::alloc::Global;
-use std::io;
 use std::io::Write;
 use std::net::Net;
 use std::os::unix::net::UnixListener;
@@ -12,6 +13,7 @@ use std::rt::Files;
 use std::sync::Wait;
 use std::thread::{self, Scope, Threads};
 use std::time::Clock;
+use std::{fs, io};
 
 /// The words of each case; the socket's path stands behind the first.
 const CASES: [&str; 29] = [
@@ -54,12 +56,44 @@ pub fn try_all<R: Net + Files + Processes + Threads + Wait + Clock + Sync, W: Wr
     mut out: W,
 ) -> io::Result<()> {
     let listener = UnixListener::bind(rt, path)?;
-    let server = Server::new(alloc, listener, Seats::new(alloc)?, TableServer::new());
-    let told = serve_while(rt, alloc, path, &server)?;
-    out.write_all(told.as_slice())?;
-    let alone = told_by(rt, alloc, path, "svc -u web")?;
-    out.write_all(b"without a server: ")?;
-    out.write_all(alone.as_slice())
+    let server = Server::new(alloc, listener, Seats::new(alloc)?, TableServer::new())?;
+    let mut told = Told::new(alloc);
+    serve_while(rt, alloc, path, &server, &mut told)?;
+    told.text.extend_from_slice(b"without a server: ")?;
+    try_one(rt, alloc, path, "svc -u web", &mut told)?;
+    out.write_all(told.text.as_slice())?;
+    let pieces = told.pieces;
+    let line = format!(in alloc; "lines that were written in pieces: {pieces}\n")?;
+    out.write_all(line.as_bytes())?;
+    fs::remove_file(rt, path)?;
+    let whole = come_whole(rt, alloc, path)?;
+    let line = format!(in alloc; "each request comes whole: {whole}\n")?;
+    out.write_all(line.as_bytes())
+}
+
+// What came of the cases.
+struct Told {
+    // Each case, its status, and what it wrote to standard output and standard error.
+    text: Vec<u8>,
+    // How often what it wrote to one of them took more than one write.
+    pieces: u64,
+}
+
+impl Told {
+    fn new(alloc: Global) -> Told {
+        Told {
+            text: Vec::new(alloc),
+            pieces: 0,
+        }
+    }
+
+    fn add(&mut self, written: &CountedText) -> io::Result<()> {
+        if !written.is_one_write() {
+            self.pieces = self.pieces.saturating_add(1);
+        }
+        self.text.extend_from_slice(written.as_slice())?;
+        Ok(())
+    }
 }
 
 // The cases, while the server runs.
@@ -68,14 +102,15 @@ fn serve_while<R: Net + Processes + Threads + Wait + Clock + Sync>(
     alloc: Global,
     path: &str,
     server: &Server<TableServer>,
-) -> io::Result<Vec<u8>> {
+    told: &mut Told,
+) -> io::Result<()> {
     thread::scope(thread::scope_env(), rt, |scope| {
         if !start_server(scope, rt, server) {
             return Err(io::Error::from(io::ErrorKind::OutOfMemory));
         }
-        let told = try_cases(rt, alloc, path);
+        let done = try_cases(rt, alloc, path, told);
         server.end(rt);
-        told
+        done
     })
 }
 
@@ -89,22 +124,25 @@ fn start_server<'s, E, R: Threads + Wait + Clock + Sync>(
         .is_ok()
 }
 
-fn try_cases<R: Net + Processes>(rt: &R, alloc: Global, path: &str) -> io::Result<Vec<u8>> {
-    let mut all = Vec::new(alloc);
+fn try_cases<R: Net + Processes>(
+    rt: &R,
+    alloc: Global,
+    path: &str,
+    told: &mut Told,
+) -> io::Result<()> {
     for case in CASES.iter() {
-        let told = told_by(rt, alloc, path, case)?;
-        all.extend_from_slice(told.as_slice())?;
+        try_one(rt, alloc, path, case, told)?;
     }
-    Ok(all)
+    Ok(())
 }
 
-// A case, its status, and what it wrote to standard output and standard error.
-fn told_by<'a, R: Net + Processes>(
+fn try_one<'a, R: Net + Processes>(
     rt: &R,
     alloc: Global,
     path: &'a str,
     case: &'a str,
-) -> io::Result<Vec<u8>> {
+    told: &mut Told,
+) -> io::Result<()> {
     let mut words = Vec::new(alloc);
     for word in case.split(' ') {
         words.push(word)?;
@@ -116,13 +154,10 @@ fn told_by<'a, R: Net + Processes>(
         return Err(io::Error::from(io::ErrorKind::InvalidData));
     };
     *first = path;
-    let mut output = Vec::new(alloc);
-    let mut errors = Vec::new(alloc);
+    let mut output = CountedText::new(alloc);
+    let mut errors = CountedText::new(alloc);
     let status = run_client(rt, alloc, tool, words.as_slice(), &mut output, &mut errors);
-    let mut told = Vec::new(alloc);
-    told.extend_from_slice(case.as_bytes())?;
-    write!(&mut told, ": {status}\n")?;
-    told.extend_from_slice(output.as_slice())?;
-    told.extend_from_slice(errors.as_slice())?;
-    Ok(told)
+    write!(&mut told.text, "{case}: {status}\n")?;
+    told.add(&output)?;
+    told.add(&errors)
 }

@@ -2,7 +2,9 @@
 #![tactic(auto)]
 
 mod cases;
+mod counted;
 mod table;
+mod whole_requests;
 
 use cases::try_all;
 use std::process::ExitCode;

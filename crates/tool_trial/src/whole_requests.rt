@@ -1,0 +1,104 @@
+//! Whether requests come whole: a server that reads as soon as there is a byte finds each with its newline.
+use s6_tools::{Tool, run_client};
+use std::alloc::Global;
+use std::io::{self, ErrorKind, Read, Write};
+use std::net::Net;
+use std::os::unix::net::{UnixListener, UnixStream};
+use std::process::Processes;
+use std::rt::Files;
+use std::sync::Wait;
+use std::thread::{self, Scope, Threads};
+use std::time::{Clock, Duration, Instant};
+
+/// The letters of one `svscanctl`: a request for each.
+const LETTERS: &str = "-nnnnnnnnnnnnnnnnnnnnnnnnnnnnnnnnnnnnnnnn";
+
+/// How many they are.
+const REQUEST_COUNT: u32 = 40;
+
+/// How long a connection or a request is awaited.
+const PATIENCE: Duration = Duration::from_secs(20);
+
+/// Whether each request of a tool that sends many comes by one read, to a server on this path.
+pub fn come_whole<R: Net + Files + Processes + Threads + Wait + Clock + Sync>(
+    rt: &R,
+    alloc: Global,
+    path: &str,
+) -> io::Result<bool> {
+    let listener = UnixListener::bind(rt, path)?;
+    listener.set_nonblocking(true)?;
+    thread::scope(thread::scope_env(), rt, |scope| {
+        if !start_tool(scope, rt, alloc, path) {
+            return Err(io::Error::from(ErrorKind::OutOfMemory));
+        }
+        match accept_soon(rt, &listener)? {
+            Some(stream) => read_requests(rt, &stream),
+            None => Ok(false),
+        }
+    })
+}
+
+fn start_tool<'s, E, R: Net + Processes + Threads + Wait + Clock + Sync>(
+    scope: &Scope<'s, E>,
+    rt: &'s R,
+    alloc: Global,
+    path: &'s str,
+) -> bool {
+    thread::Builder::new()
+        .spawn_scoped(scope, move || send_letters(rt, alloc, path))
+        .is_ok()
+}
+
+fn send_letters<R: Net + Processes>(rt: &R, alloc: Global, path: &str) {
+    let words = [path, LETTERS];
+    let mut output = Vec::new(alloc);
+    let mut errors = Vec::new(alloc);
+    let _ = run_client(rt, alloc, Tool::Svscanctl, &words, &mut output, &mut errors);
+}
+
+// The connection of the tool, or None where none comes.
+fn accept_soon<R: Clock>(rt: &R, listener: &UnixListener) -> io::Result<Option<UnixStream>> {
+    for _ in 0..20_000u32 {
+        match listener.accept() {
+            Ok((stream, _)) => return Ok(Some(stream)),
+            Err(error) if error.kind() == ErrorKind::WouldBlock => {
+                thread::sleep(rt, Duration::from_millis(1));
+            }
+            Err(error) => return Err(error),
+        }
+    }
+    Ok(None)
+}
+
+// Answers the requests, up to one that comes in pieces. Whether none does.
+fn read_requests<R: Clock>(rt: &R, stream: &UnixStream) -> io::Result<bool> {
+    stream.set_nonblocking(true)?;
+    let mut writer = stream;
+    let mut bytes = [0u8; 1024];
+    for _ in 0..REQUEST_COUNT {
+        let count = read_soon(rt, stream, &mut bytes)?;
+        if !bytes[..count].ends_with(b"\n") {
+            return Ok(false);
+        }
+        writer.write_all(b"done\n\n")?;
+    }
+    Ok(true)
+}
+
+// Reads as soon as there is a byte, and tries again at once while there is none. The number of bytes; 0 where none comes.
+fn read_soon<R: Clock>(rt: &R, stream: &UnixStream, bytes: &mut [u8; 1024]) -> io::Result<usize> {
+    let mut reader = stream;
+    let start = Instant::now(rt)?;
+    for _ in 0..u64::MAX {
+        match reader.read(bytes) {
+            Ok(count) => return Ok(count),
+            Err(error) if error.kind() == ErrorKind::WouldBlock => {
+                if start.elapsed(rt)? > PATIENCE {
+                    break;
+                }
+            }
+            Err(error) => return Err(error),
+        }
+    }
+    Ok(0)
+}
