@@ -1,18 +1,18 @@
-//! The clock of a run.
+//! The clock of a tree.
 use s6_events::At;
 use std::time::{Clock, Instant};
 
-/// Milliseconds since a run began.
+/// Milliseconds since the server began, through all its runs.
 #[derive(Clone, Copy)]
-pub struct RunClock {
+pub struct ServerClock {
     start: Instant,
 }
 
-impl RunClock {
+impl ServerClock {
     /// A clock that begins now; None where the system has no clock.
-    pub fn start<R: Clock>(rt: &R) -> Option<RunClock> {
+    pub fn start<R: Clock>(rt: &R) -> Option<ServerClock> {
         match Instant::now(rt) {
-            Ok(start) => Some(RunClock { start }),
+            Ok(start) => Some(ServerClock { start }),
             Err(_) => None,
         }
     }
@@ -24,9 +24,9 @@ impl RunClock {
             Err(_) => 0,
         }
     }
+}
 
-    /// The present moment. The clock of a tree never goes back, so a later step is no harm.
-    pub fn now<R: Clock>(&self, rt: &R) -> At {
-        At::new(self.millis(rt)).unwrap_or(At::zero())
-    }
+/// The moment of so many milliseconds. The clock of a tree never goes back, so one that is no moment does no harm as 0.
+pub fn moment_of(millis: u64) -> At {
+    At::new(millis).unwrap_or(At::zero())
 }
