@@ -40,17 +40,26 @@ pub fn read_listing<R: Files + Copy + Drop, E: Write>(
 fn listing_of(alloc: Global, entries: Vec<Entry>) -> io::Result<Listing<Global>>
     ensures fits { IfOk result (λ listing. FitsLine (scan_at last_moment listing)) }
 {
-    let (Some(actor), Some(at)) = (Actor::new(0), At::new(LAST_MOMENT)) else {
+    let Some(actor) = Actor::new(0) else {
         return Err(ErrorKind::InvalidData.into());
     };
-    let act = PlainAct::Scan(entries);
-    let scan = PlainInput { actor, at, act };
-    match write_input(alloc, &scan, &mut io::sink()) {
+    let Some(at) = At::new(LAST_MOMENT) else {
+        return Err(ErrorKind::InvalidData.into());
+    };
+    let scan = PlainInput {
+        actor,
+        at,
+        act: PlainAct::Scan(entries),
+    };
+    let mut nowhere = io::sink();
+    let spelt = write_input(alloc, &scan, &mut nowhere);
+    match spelt {
         Ok(()) => {}
         Err(SpellFault::NoMemory) => return Err(ErrorKind::OutOfMemory.into()),
         Err(_) => return Err(ErrorKind::InvalidData.into()),
     }
-    match scan.act {
+    let PlainInput { act, .. } = scan;
+    match act {
         PlainAct::Scan(entries) => Ok(Listing::new(entries)),
         _ => Err(ErrorKind::InvalidData.into()),
     }

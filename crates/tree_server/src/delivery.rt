@@ -56,12 +56,7 @@ fn deliver_next<C: Channels + Lanes, D: Board<C>, B: Backend, R: Wait, E: Write>
         Place::Lane(_) => {}
         Place::Client(seat) => answer_client(rt, server, state, seat, &effect.reply),
     }
-    tell_others(
-        rt,
-        server,
-        state.lasting.connections.as_slice(),
-        &effect,
-    );
+    tell_others(rt, server, state.lasting.connections.as_slice(), &effect);
     if let Place::Client(seat) = place_of(actor) {
         finish_step(rt, server, state, seat);
     }

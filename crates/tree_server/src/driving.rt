@@ -220,12 +220,8 @@ fn note_steps<C: Channels + Lanes, D: Board<C>, B: Backend, R: Wait>(
 
 // Whether a connection that has left has more that stands, and none of it under way.
 fn has_more_to_end<C: Channels>(state: &DriverState<C>) -> bool {
-    state
-        .lasting
-        .connections
-        .as_slice()
-        .iter()
-        .any(|connection| connection.is_leaving && matches!(connection.purpose, Purpose::None))
+    state.lasting.connections.as_slice().iter().any(|connection| connection.is_leaving
+        && matches!(connection.purpose, Purpose::None))
 }
 
 // How many milliseconds it waits at most: until a timer or a deadline is due, where a tick may be handed in then.
@@ -233,11 +229,7 @@ fn until_due<C: Channels>(state: &DriverState<C>, is_open: bool, now: u64) -> Op
     if !is_open {
         return None;
     }
-    state
-        .lasting
-        .plans
-        .due
-        .map(|due| due.saturating_sub(now))
+    state.lasting.plans.due.map(|due| due.saturating_sub(now))
 }
 
 // How many milliseconds it waits at most where something was refused.
@@ -251,7 +243,9 @@ fn retry_time<C: Channels>(state: &DriverState<C>, is_open: bool, now: u64) -> u
 pub fn wait_for_bell<R: Wait + Clock>(rt: &R, shared: &Shared, time: Option<u64>) {
     match time {
         Some(millis) => {
-            let _ = shared.driver.wait_at_most(rt, Duration::from_millis(millis));
+            let _ = shared
+                .driver
+                .wait_at_most(rt, Duration::from_millis(millis));
         }
         None => shared.driver.wait(rt),
     }

@@ -132,9 +132,7 @@ fn run_named<
     requires before { (k : ℕ) → C.asked_before k ≡ asked_of B.asked (slice_get office.backends k) }
 {
     match office.open::<C, R>(server.answers().alloc, *rt) {
-        Ok(opened) => run_opened(
-            rt, server, opened, lasting, handover, recorder, errors, log,
-        ),
+        Ok(opened) => run_opened(rt, server, opened, lasting, handover, recorder, errors, log),
         Err((fault, tree, backends)) => wait_or_end(rt, server, fault, tree, backends, lasting),
     }
 }

@@ -33,9 +33,7 @@ pub fn service_lanes<R: Wait + Copy + Drop>(
     for _ in 0..LANE_COUNT {
         let worker = ProcessBackend::new(rt, alloc, keeper, root, notes)?;
         let link = Arc::new(alloc, LaneLink::new(alloc, worker.bell()?))?;
-        lanes
-            .backends
-            .push(LinkedBackend::new(rt, alloc, &link)?)?;
+        lanes.backends.push(LinkedBackend::new(rt, alloc, &link)?)?;
         lanes.links.push(link)?;
         lanes.workers.push(worker)?;
     }

@@ -95,19 +95,12 @@ where
 {
     Builder::new()
         .stack_size(LANE_STACK)
-        .spawn_scoped(scope, move || {
-            carry_out(rt, shared, link, worker)
-        })
+        .spawn_scoped(scope, move || { carry_out(rt, shared, link, worker) })
         .is_ok()
 }
 
 // Carries out the orders of a lane to the end of the tree.
-fn carry_out<K: Backend, R: Wait + Clock>(
-    rt: &R,
-    shared: &Shared,
-    link: &LaneLink,
-    worker: K,
-) {
+fn carry_out<K: Backend, R: Wait + Clock>(rt: &R, shared: &Shared, link: &LaneLink, worker: K) {
     let mut worker = worker;
     serve_lane(rt, link, &shared.driver, &mut worker);
 }
