@@ -72,6 +72,7 @@ pub fn try_all<R: Net + Files + Processes + Threads + Wait + Clock + Sync, W: Wr
 }
 
 // What came of the cases.
+#[derive(Drop)]
 struct Told {
     // Each case, its status, and what it wrote to standard output and standard error.
     text: Vec<u8>,

@@ -16,8 +16,8 @@ const LETTERS: &str = "-nnnnnnnnnnnnnnnnnnnnnnnnnnnnnnnnnnnnnnnn";
 /// How many they are.
 const REQUEST_COUNT: u32 = 40;
 
-/// How long a connection or a request is awaited.
-const PATIENCE: Duration = Duration::from_secs(20);
+/// How long a request is awaited, in seconds.
+const PATIENCE: u64 = 20;
 
 /// Whether each request of a tool that sends many comes by one read, to a server on this path.
 pub fn come_whole<R: Net + Files + Processes + Threads + Wait + Clock + Sync>(
@@ -93,7 +93,7 @@ fn read_soon<R: Clock>(rt: &R, stream: &UnixStream, bytes: &mut [u8; 1024]) -> i
         match reader.read(bytes) {
             Ok(count) => return Ok(count),
             Err(error) if error.kind() == ErrorKind::WouldBlock => {
-                if start.elapsed(rt)? > PATIENCE {
+                if start.elapsed(rt)?.as_secs() >= PATIENCE {
                     break;
                 }
             }
