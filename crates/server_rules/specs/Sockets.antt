@@ -1,5 +1,5 @@
 -- When a socket's file may be replaced, and when it may be removed.
-use Rattle.std.specs.Prelude.{◌≡◌, ◌×◌, ℕ, Bool, true, ◌==◌, ◌&&◌}
+use Rattle.std.specs.Prelude.{Bool, ◌==◌, ◌&&◌}
 use Rattle.server_rules.specs.declared.socket_rules.FileIdentity.{FileIdentity}
 
 -- two files are one where device and inode are the same

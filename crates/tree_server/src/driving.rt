@@ -3,6 +3,7 @@ use crate::delivery::deliver_all;
 use crate::driver_state::{DriverState, Purpose, SCANNER};
 use crate::lanes::{Carrying, carry_all, hand_in_reports};
 use crate::posting::refuse_call;
+use crate::scan_desk::Found;
 use crate::serving::begin_all;
 use crate::shared::Shared;
 use channel_names::Channels;
@@ -161,14 +162,32 @@ fn hand_in_found<C: Channels, R: Wait>(
     state: &mut DriverState<C>,
     now: u64,
 ) {
-    let answer = match server.answers().scans.take_found(rt) {
-        None => return,
-        Some(Ok(listing)) if state.submit_scan(now, listing) => return,
-        Some(Ok(_)) => OwnAnswer::Full,
-        Some(Err(answer)) => answer,
+    let Some(found) = server.answers().scans.take_found(rt) else {
+        return;
+    };
+    let Some(answer) = refusal_of(state, now, found) else {
+        return;
     };
     for seat in &state.lasting.plans.end_scan() {
         refuse_call(rt, server, *seat, answer);
+    }
+}
+
+// Why there is no scan; None where the listing was handed in.
+fn refusal_of<C: Channels>(
+    state: &mut DriverState<C>,
+    now: u64,
+    found: Found,
+) -> Option<OwnAnswer> {
+    match found {
+        Err(answer) => Some(answer),
+        Ok(listing) => {
+            if state.submit_scan(now, listing) {
+                None
+            } else {
+                Some(OwnAnswer::Full)
+            }
+        }
     }
 }
 
