@@ -2,15 +2,32 @@
 #![tactic(auto)]
 
 use std::process::ExitCode;
-use tree_front::{Standard, run_program};
-use tree_server::HANDOVER;
+use tree_front::{Begun, BegunTree, Standard, begin_program, end_program};
+use tree_server::{HANDOVER, run_tree};
 
 fn main(rt: HostRuntime) -> ExitCode {
+    let alloc = rt.alloc();
     let standard = Standard {
         input: rt.stdin(),
         output: rt.stdout(),
         errors: rt.stderr(),
         notes_output: rt.stderr(),
     };
-    ExitCode::from(run_program(rt, rt.alloc(), standard, HANDOVER))
+    let BegunTree {
+        place,
+        lanes,
+        keeper,
+        notes,
+    } = match begin_program(rt, alloc, standard) {
+        Begun::Done(status) => return ExitCode::from(status),
+        Begun::Tree(tree) => tree,
+    };
+    let done = run_tree(
+        &rt,
+        alloc,
+        lanes,
+        place.options(HANDOVER),
+        &notes,
+    );
+    ExitCode::from(end_program(&rt, keeper, &notes, done))
 }

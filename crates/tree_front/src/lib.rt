@@ -7,4 +7,5 @@ mod front;
 mod help_text;
 mod program;
 
-pub use program::{Standard, run_program};
+pub use front::TreePlace;
+pub use program::{Begun, BegunTree, Standard, begin_program, end_program};

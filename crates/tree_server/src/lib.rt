@@ -24,9 +24,9 @@ mod service_lanes;
 mod serving;
 mod shared;
 mod socket;
-mod svscan;
 mod threads;
 
-pub use fault::refuse_usage;
+pub use fault::{ServeFault, refuse_usage, tell_serve_fault};
 pub use options::{HANDOVER, ServeOptions};
-pub use svscan::run_svscan;
+pub use serve::run_tree;
+pub use service_lanes::{ServiceLanes, TreeLanes, service_lanes};

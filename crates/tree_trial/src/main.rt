@@ -17,8 +17,8 @@ mod trial;
 use std::env;
 use std::env::Env;
 use std::process::ExitCode;
-use tree_front::{Standard, run_program};
-use tree_server::HANDOVER;
+use tree_front::{Begun, BegunTree, Standard, begin_program, end_program};
+use tree_server::{HANDOVER, run_tree};
 use trial::try_all;
 
 // After how many steps the next run goes on.
@@ -39,8 +39,24 @@ fn main(rt: HostRuntime) -> ExitCode {
     let standard = Standard {
         input: rt.stdin(),
         output: rt.stdout(),
-        errors,
+        errors: rt.stderr(),
         notes_output: rt.stderr(),
     };
-    ExitCode::from(run_program(rt, alloc, standard, handover(&(&rt, alloc))))
+    let BegunTree {
+        place,
+        lanes,
+        keeper,
+        notes,
+    } = match begin_program(rt, alloc, standard) {
+        Begun::Done(status) => return ExitCode::from(status),
+        Begun::Tree(tree) => tree,
+    };
+    let done = run_tree(
+        &rt,
+        alloc,
+        lanes,
+        place.options(handover(&(&rt, alloc))),
+        &notes,
+    );
+    ExitCode::from(end_program(&rt, keeper, &notes, done))
 }
