@@ -1,7 +1,7 @@
 -- Backends may go to another thread, and a link may be shared.
 use denote.RattleType.{RattleType}
 use denote.Struct.Declared.{shape}
-use denote.Param.Send.{IsSend, recorded_send, struct_send, sendable}
+use denote.Param.Send.{IsSend, IsSync, recorded_send, struct_send, sendable}
 use Rattle.std.proofs.Crossing.{crosses}
 use Rattle.std.proofs.string.String.TheSendSync as string
 use Rattle.std.specs.contracts.rt.LibcRuntime as LibcRuntime
