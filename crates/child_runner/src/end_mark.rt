@@ -1,6 +1,6 @@
 //! The mark behind the last byte that a child wrote.
-ghost use Rattle.std.specs.Prelude.{◌≡◌, ◌≤◌, ◌<◌, ◌-◌, length, drop, IfSome};
-ghost use Rattle.memchr.specs.Find.{FindsNeedle};
+ghost use Rattle.std.specs.Prelude.{◌≡◌, ◌≤◌, IsTrue, length, drop, true, false};
+ghost use Rattle.memchr.specs.Find.{OccursAt};
 ghost use Rattle.child_runner.specs.EndMark.{end_mark, BeginsMark};
 
 use memchr::{memmem, memrchr};
@@ -18,6 +18,14 @@ pub(crate) struct Telling {
     pub is_last: bool,
 }
 
+// Whether these bytes begin the mark, and are less than all of it.
+#[tactic(auto, using(crate::proofs::Marks::begins))]
+fn begins_mark(bytes: &[u8]) -> bool
+    ensures { IsTrue result → BeginsMark bytes.now }
+{
+    bytes.len() < END_MARK.len() && END_MARK.starts_with(bytes)
+}
+
 // How many of these bytes can't belong to a mark that is still to be read to its end.
 fn before_mark(bytes: &[u8]) -> usize
     ensures within { result ≤ length bytes.now }
@@ -26,8 +34,7 @@ fn before_mark(bytes: &[u8]) -> usize
     let Some(place) = memrchr(END_MARK[0], bytes) else {
         return bytes.len();
     };
-    let rest = &bytes[place..];
-    if rest.len() < END_MARK.len() && END_MARK.starts_with(rest) {
+    if begins_mark(&bytes[place..]) {
         return place;
     }
     bytes.len()
@@ -37,6 +44,9 @@ fn before_mark(bytes: &[u8]) -> usize
 /// back, until more was read.
 pub(crate) fn telling_of(bytes: &[u8], is_ending: bool) -> Telling
     ensures within { result.count ≤ length bytes.now }
+    ensures last { result.is_last ≡ true → OccursAt bytes.now end_mark result.count }
+    ensures ended { result.is_last ≡ true → is_ending ≡ true }
+    ensures held { result.is_last ≡ false → BeginsMark (drop result.count bytes.now) }
 {
     if is_ending {
         if let Some(count) = memmem::find(bytes, &END_MARK) {

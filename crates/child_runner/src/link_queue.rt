@@ -1,5 +1,5 @@
 //! What is on its way between a run and the thread of a lane: a queue up to a limit.
-ghost use Rattle.std.specs.Prelude.{◌≡◌, ◌≤◌, ◌<◌, ◌++◌, ◌∷◌, [], Err, length, OnOk, OnErr, IfSome, IfNone};
+ghost use Rattle.std.specs.Prelude.{◌≡◌, ◌↔◌, IsTrue, ◌≤◌, ◌<◌, ◌++◌, ◌∷◌, [], Err, length, OnOk, OnErr, IfSome, IfNone};
 ghost use Rattle.std.specs.VecDeque.{deque_len, deque_capacity};
 ghost use Rattle.order_lanes.specs.declared.backend.AskFault.TheVariants.{Busy};
 
@@ -27,13 +27,10 @@ impl<T: Drop> LinkQueue<T> {
     }
 
     /// Whether there is no place for one more.
-    pub fn is_full(&self) -> bool {
+    pub fn is_full(&self) -> bool
+        ensures { IsTrue result ↔ (self.now.limit ≤ deque_len self.now.items) }
+    {
         self.items.len() >= self.limit
-    }
-
-    /// Whether there is nothing in it.
-    pub fn is_empty(&self) -> bool {
-        self.items.is_empty()
     }
 
     /// Makes room for one more: `Busy` where it is full, `NoMemory` where a growth was refused.
