@@ -6,7 +6,7 @@ use std::net::Net;
 use std::os::unix::net::{UnixListener, UnixStream};
 use std::process::Processes;
 use std::rt::Files;
-use std::sync::Wait;
+use std::sync::{Mutex, Wait};
 use std::thread::{self, Scope, Threads};
 use std::time::{Clock, Duration, Instant};
 
@@ -27,26 +27,15 @@ pub fn come_whole<R: Net + Files + Processes + Threads + Wait + Clock + Sync>(
 ) -> io::Result<bool> {
     let listener = UnixListener::bind(rt, path)?;
     listener.set_nonblocking(true)?;
+    let are_whole = Mutex::new(false);
     thread::scope(thread::scope_env(), rt, |scope| {
-        if !start_tool(scope, rt, alloc, path) {
+        if !start_server(scope, rt, &listener, &are_whole) {
             return Err(io::Error::from(ErrorKind::OutOfMemory));
         }
-        match accept_soon(rt, &listener)? {
-            Some(stream) => read_requests(rt, &stream),
-            None => Ok(false),
-        }
-    })
-}
-
-fn start_tool<'s, E, R: Net + Processes + Threads + Wait + Clock + Sync>(
-    scope: &Scope<'s, E>,
-    rt: &'s R,
-    alloc: Global,
-    path: &'s str,
-) -> bool {
-    thread::Builder::new()
-        .spawn_scoped(scope, move || send_letters(rt, alloc, path))
-        .is_ok()
+        send_letters(rt, alloc, path);
+        Ok(())
+    })?;
+    Ok(*are_whole.lock(rt))
 }
 
 fn send_letters<R: Net + Processes>(rt: &R, alloc: Global, path: &str) {
@@ -54,6 +43,25 @@ fn send_letters<R: Net + Processes>(rt: &R, alloc: Global, path: &str) {
     let mut output = Vec::new(alloc);
     let mut errors = Vec::new(alloc);
     let _ = run_client(rt, alloc, Tool::Svscanctl, &words, &mut output, &mut errors);
+}
+
+fn start_server<'s, E, R: Threads + Wait + Clock + Sync>(
+    scope: &Scope<'s, E>,
+    rt: &'s R,
+    listener: &'s UnixListener,
+    are_whole: &'s Mutex<bool>,
+) -> bool {
+    thread::Builder::new()
+        .spawn_scoped(scope, move || serve_tool(rt, listener, are_whole))
+        .is_ok()
+}
+
+fn serve_tool<R: Wait + Clock>(rt: &R, listener: &UnixListener, are_whole: &Mutex<bool>) {
+    if let Ok(Some(stream)) = accept_soon(rt, listener) {
+        if let Ok(true) = read_requests(rt, &stream) {
+            *are_whole.lock(rt) = true;
+        }
+    }
 }
 
 // The connection of the tool, or None where none comes.
@@ -74,10 +82,8 @@ fn accept_soon<R: Clock>(rt: &R, listener: &UnixListener) -> io::Result<Option<U
 fn read_requests<R: Clock>(rt: &R, stream: &UnixStream) -> io::Result<bool> {
     stream.set_nonblocking(true)?;
     let mut writer = stream;
-    let mut bytes = [0u8; 1024];
     for _ in 0..REQUEST_COUNT {
-        let count = read_soon(rt, stream, &mut bytes)?;
-        if !bytes[..count].ends_with(b"\n") {
+        if !reads_whole(rt, stream)? {
             return Ok(false);
         }
         writer.write_all(b"done\n\n")?;
@@ -85,13 +91,14 @@ fn read_requests<R: Clock>(rt: &R, stream: &UnixStream) -> io::Result<bool> {
     Ok(true)
 }
 
-// Reads as soon as there is a byte, and tries again at once while there is none. The number of bytes; 0 where none comes.
-fn read_soon<R: Clock>(rt: &R, stream: &UnixStream, bytes: &mut [u8; 1024]) -> io::Result<usize> {
+// Reads once, as soon as there is a byte: tries again at once while there is none. Whether a newline ends what was read.
+fn reads_whole<R: Clock>(rt: &R, stream: &UnixStream) -> io::Result<bool> {
     let mut reader = stream;
+    let mut bytes = [0u8; 1024];
     let start = Instant::now(rt)?;
     for _ in 0..u64::MAX {
-        match reader.read(bytes) {
-            Ok(count) => return Ok(count),
+        match reader.read(&mut bytes) {
+            Ok(count) => return Ok(bytes[..count].ends_with(b"\n")),
             Err(error) if error.kind() == ErrorKind::WouldBlock => {
                 if start.elapsed(rt)?.as_secs() >= PATIENCE {
                     break;
@@ -100,5 +107,5 @@ fn read_soon<R: Clock>(rt: &R, stream: &UnixStream, bytes: &mut [u8; 1024]) -> i
             Err(error) => return Err(error),
         }
     }
-    Ok(0)
+    Ok(false)
 }
