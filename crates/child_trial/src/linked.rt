@@ -1,6 +1,7 @@
 //! A lane whose backend is served by a thread, and refuses orders for a while.
 use crate::stage::{name_of, no_memory, write_program};
-use child_runner::{Bell, LaneLink, LinkedBackend, serve_lane};
+use child_runner::{Bell, Keeper, LaneLink, LinkedBackend, ProcessBackend, serve_lane};
+use error_notes::Notes;
 use order_lanes::{AskFault, Backend, Report};
 use s6_events::{Exit, Order, Sid};
 use std::alloc::Global;
@@ -52,7 +53,7 @@ fn serve_gated<B: Backend, R: Wait + Clock>(
     serve_lane(rt, link, driver, &mut gated);
 }
 
-fn start_lane<'s, E, B: Backend + Send, R: Threads + Wait + Clock + Sync>(
+fn start_lane<'s, E, B: Backend + Send + 's, R: Threads + Wait + Clock + Sync>(
     scope: &Scope<'s, E>,
     rt: &'s R,
     link: &'s LaneLink,
@@ -141,6 +142,23 @@ pub fn write_services<R: Files>(rt: &R, alloc: Global, root: &str) -> io::Result
     let later = "sleep 0.3; echo >&3; exec sleep 60";
     write_program(rt, alloc, root, "later/run", later, 0o755)?;
     write_program(rt, alloc, root, "linked/run", "exec sleep 60", 0o755)
+}
+
+/// The backend of a lane, and its bell.
+pub fn lane_of<R: Copy + Drop>(
+    rt: R,
+    alloc: Global,
+    keeper: &Keeper<R>,
+    root: &str,
+    notes: &Arc<Notes, Global>,
+) -> io::Result<(ProcessBackend<R>, Arc<Bell, Global>)> {
+    let Ok(backend) = ProcessBackend::new(rt, alloc, keeper, root, notes) else {
+        return Err(no_memory());
+    };
+    match backend.bell() {
+        Ok(bell) => Ok((backend, bell)),
+        Err(_) => Err(no_memory()),
+    }
 }
 
 /// Orders to a lane that is busy, in order, and reports meanwhile.

@@ -12,8 +12,8 @@ const CROWD: u32 = 1000;
 /// How many seconds the thread that writes may take.
 const PATIENCE: u64 = 30;
 
-/// The starts that failed were noted, each by a line.
-pub fn try_starts<R: Wait>(
+// The starts that failed were noted, each by a line.
+fn try_starts<R: Wait>(
     rt: &R,
     alloc: Global,
     notes: &Notes,
@@ -37,8 +37,8 @@ pub fn try_starts<R: Wait>(
     )
 }
 
-/// More notes than have room: the last line tells how many were lost.
-pub fn try_loss<R: Wait>(rt: &R, alloc: Global, output: &mut impl Write) -> io::Result<()> {
+// More notes than have room: the last line tells how many were lost.
+fn try_loss<R: Wait>(rt: &R, alloc: Global, output: &mut impl Write) -> io::Result<()> {
     let notes = Notes::new(alloc);
     let note = [b'n'; 99];
     let mut writer = NoteWriter::new(rt, &notes);
@@ -53,8 +53,8 @@ pub fn try_loss<R: Wait>(rt: &R, alloc: Global, output: &mut impl Write) -> io::
     writeln!(output, "a crowd of notes: the lost ones told {is_told}")
 }
 
-/// A thread writes to a pipe; a line that came in parts is whole.
-pub fn try_thread<R: Threads + Wait + Clock + Copy + Send + Sync + Drop + 'static>(
+// A thread writes to a pipe; a line that came in parts is whole.
+fn try_thread<R: Threads + Wait + Clock + Copy + Send + Sync + Drop + 'static>(
     rt: &R,
     alloc: Global,
     pipe: (PipeReader, PipeWriter),
@@ -74,6 +74,19 @@ pub fn try_thread<R: Threads + Wait + Clock + Copy + Send + Sync + Drop + 'stati
     writeln!(
         output,
         "a thread of notes: written {is_written}, both lines {}",
-        text.as_slice() == b"one\ntwo\n"
+        text.as_slice() == b"one\ntwo\n".as_slice()
     )
+}
+
+/// What was noted, notes that are lost, and a thread that writes to a pipe.
+pub fn try_all<R: Threads + Wait + Clock + Copy + Send + Sync + Drop + 'static>(
+    rt: &R,
+    alloc: Global,
+    notes: &Notes,
+    pipe: (PipeReader, PipeWriter),
+    output: &mut impl Write,
+) -> io::Result<()> {
+    try_starts(rt, alloc, notes, output)?;
+    try_loss(rt, alloc, output)?;
+    try_thread(rt, alloc, pipe, output)
 }
