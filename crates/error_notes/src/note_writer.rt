@@ -10,14 +10,14 @@ use std::fmt::Display;
 use std::io::{self, Write};
 use std::sync::Wait;
 
-/// Posts what is written to it, a note for each line: a line is posted once its newline was written. A record that is logged by it is
-/// one line. It never fails and waits for no reader. A line for which memory is refused, or of more than 65,536 bytes, is lost and
-/// counted; what was written behind the last newline is dropped with the writer.
+/// Posts what is written to it: the whole lines of one write are one note, so that nothing comes between them. A line is posted once its
+/// newline was written. A record that is logged by it is one line. It never fails and waits for no reader. Lines for which memory is
+/// refused, or of more than 65,536 bytes, are lost and counted; what was written behind the last newline is dropped with the writer.
 #[derive(Drop)]
 pub struct NoteWriter<'a, R> {
     rt: &'a R,
     notes: &'a Notes,
-    // The line that has no newline yet, and whether some of it was lost.
+    // What was written and isn't posted yet, and whether some of it was lost.
     line: Vec<u8>,
     is_torn: bool,
 }
@@ -33,7 +33,7 @@ impl<'a, R: Wait> NoteWriter<'a, R> {
         }
     }
 
-    // Adds a part of a line.
+    // Adds to what is to be posted.
     fn add(&mut self, part: &[u8]) {
         let fits = part.len() <= NOTES_LIMIT.saturating_sub(self.line.len());
         if !fits || self.line.extend_from_slice(part).is_err() {
@@ -41,8 +41,8 @@ impl<'a, R: Wait> NoteWriter<'a, R> {
         }
     }
 
-    // Posts the line, or counts it as lost.
-    fn post_line(&mut self) {
+    // Posts the lines, or counts them as one note that was lost.
+    fn post_lines(&mut self) {
         if self.is_torn {
             self.notes.lose(self.rt);
         } else {
@@ -55,11 +55,13 @@ impl<'a, R: Wait> NoteWriter<'a, R> {
 
 impl<'a, R: Wait> Write for NoteWriter<'a, R> {
     fn write(&mut self, bytes: &[u8]) -> io::Result<usize> {
-        for part in bytes.split_inclusive(|byte| *byte == b'\n') {
-            self.add(part);
-            if part.last() == Some(&b'\n') {
-                self.post_line();
+        match bytes.iter().rposition(|byte| *byte == b'\n') {
+            Some(last) => {
+                self.add(&bytes[..=last]);
+                self.post_lines();
+                self.add(&bytes[last + 1..]);
             }
+            None => self.add(bytes),
         }
         Ok(bytes.len())
     }

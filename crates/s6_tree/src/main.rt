@@ -22,12 +22,6 @@ fn main(rt: HostRuntime) -> ExitCode {
         Begun::Done(status) => return ExitCode::from(status),
         Begun::Tree(tree) => tree,
     };
-    let done = run_tree(
-        &rt,
-        alloc,
-        lanes,
-        place.options(HANDOVER),
-        &notes,
-    );
+    let done = run_tree(&rt, alloc, lanes, place.options(HANDOVER), &notes);
     ExitCode::from(end_program(&rt, keeper, &notes, done))
 }

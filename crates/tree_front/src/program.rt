@@ -65,11 +65,7 @@ pub fn begin_program<
     I: Read + Drop,
     W: Write + Drop,
     E: Write + Send + Drop + 'static,
->(
-    rt: R,
-    alloc: Global,
-    standard: Standard<I, W, E>,
-) -> Begun<R> {
+>(rt: R, alloc: Global, standard: Standard<I, W, E>) -> Begun<R> {
     open_standard(&rt);
     let Standard {
         input,
@@ -79,14 +75,7 @@ pub fn begin_program<
     } = standard;
     match run_words(&rt, alloc, &mut output, &mut errors) {
         Asked::Done(status) => Begun::Done(status),
-        Asked::Replay => Begun::Done(run_tool(
-            &rt,
-            alloc,
-            alloc,
-            input,
-            output,
-            &mut errors,
-        )),
+        Asked::Replay => Begun::Done(run_tool(&rt, alloc, alloc, input, output, &mut errors)),
         Asked::Tree(place) => match begin_tree(rt, alloc, place, notes_output) {
             Ok(tree) => Begun::Tree(tree),
             Err(fault) => Begun::Done(tell_serve_fault(fault, &mut errors)),
@@ -96,14 +85,17 @@ pub fn begin_program<
 
 // All that a tree needs before it runs.
 fn begin_tree<
-    R: Processes<Started = SystemProcess> + Threads + Wait + Clock + Copy + Sync + Send + Drop + 'static,
+    R: Processes<Started = SystemProcess>
+        + Threads
+        + Wait
+        + Clock
+        + Copy
+        + Sync
+        + Send
+        + Drop
+        + 'static,
     N: Write + Send + Drop + 'static,
->(
-    rt: R,
-    alloc: Global,
-    place: TreePlace,
-    notes_output: N,
-) -> Result<BegunTree<R>, ServeFault> {
+>(rt: R, alloc: Global, place: TreePlace, notes_output: N) -> Result<BegunTree<R>, ServeFault> {
     if !has_shell(&rt, alloc) {
         return Err(ServeFault::Shell);
     }
