@@ -1,3 +1,4 @@
 pub mod Crosses
 pub mod Kept
+pub mod Marks
 pub mod Names

@@ -1,2 +1,4 @@
 pub mod Roll
 pub mod CommandLine
+pub mod EndMark
+pub mod Ending

@@ -3,24 +3,23 @@ ghost use Rattle.std.specs.Prelude.{◌≡◌, ◌++◌, ◌∷◌, [], OnOk, On
 
 use crate::bell::Bell;
 use crate::commands::{
-    directory_of, finish_command, is_executable, is_read, kill_command, path_of, run_command,
+    directory_of, finish_command, is_executable, is_read, path_of, run_command, text_of,
 };
-use crate::keeper::Keeper;
+use crate::keeper::{Keeper, SIGKILL};
 use crate::process::{Pipe, ServiceProcess};
 use crate::roll::Roll;
 use crate::roster::Roster;
+use crate::shell::{Sending, signal_child};
 use crate::start::{Program, Start, is_last};
+use error_notes::Notes;
 use order_lanes::{AskFault, Backend, Report};
-use s6_events::{Name, NoMemory, Order};
-use std::alloc::Global;
-use std::io::{self, Eprint, ErrorKind};
+use s6_events::{Name, NoMemory, Order, Sid};
+use std::alloc::{AllocError, Global};
+use std::io;
 use std::marker::Model;
 use std::process::{Child, Command, Processes, Stdio, SystemProcess};
 use std::rt::Files;
 use std::sync::{Arc, Wait};
-
-/// The number of SIGKILL.
-const SIGKILL: u8 = 9;
 
 /// A backend whose services are processes. A service's directory is the root, a slash and its name; its programs run there. Page
 /// `s6-supervise`.
@@ -31,7 +30,10 @@ pub struct ProcessBackend<R> {
     root: String,
     roster: Arc<Roster, Global>,
     bell: Arc<Bell, Global>,
+    notes: Arc<Notes, Global>,
     processes: Vec<Arc<ServiceProcess, Global>>,
+    // The services of which it was told that they can be sent no signals.
+    deaf: Vec<Sid>,
     turn: usize,
     roll: Roll,
 }
@@ -44,29 +46,30 @@ impl<R> Model for ProcessBackend<R> {
     ghost view = { λ b. b.roll };
 }
 
-// Whether a program can't be started now nor later, since there is none or it may not be run.
-fn is_lasting(error: &io::Error) -> bool {
-    matches!(
-        error.kind(),
-        ErrorKind::NotFound | ErrorKind::PermissionDenied
-    )
+// What is told of a service that can't be sent signals.
+fn deaf_text(alloc: Global, root: &str, name: &Name) -> Result<String, AllocError> {
+    let name = text_of(name);
+    format!(in alloc; "svscan: {root}/{name} can't be signalled: no shell\n")
 }
 
 /// A command, and what has to be there that it can be started.
 #[derive(Drop)]
 struct Launch {
+    name: Name,
     command: Command,
     path: String,
     is_read: bool,
 }
 
 impl<R: Drop> ProcessBackend<R> {
-    /// A backend whose children's threads this keeper starts. The services lie under `root`.
+    /// A backend whose children's threads this keeper starts. The services lie under `root`. Starts that fail, and signals that can't be
+    /// sent for want of a shell, are told on `notes`.
     pub fn new(
         rt: R,
         alloc: Global,
         keeper: &Keeper<R>,
         root: &str,
+        notes: &Arc<Notes, Global>,
     ) -> Result<ProcessBackend<R>, NoMemory>
         ensures { IfOk result (λ b. b ≡ record { asked = []; given = [] }) }
     {
@@ -78,7 +81,9 @@ impl<R: Drop> ProcessBackend<R> {
             root: String::from_str(alloc, root)?,
             roster,
             bell,
+            notes: Arc::try_clone(notes)?,
             processes: Vec::new(alloc),
+            deaf: Vec::new(alloc),
             turn: 0,
             roll: Roll::new(alloc),
         })
@@ -90,7 +95,7 @@ impl<R: Drop> ProcessBackend<R> {
     }
 }
 
-impl<R: Processes<Started = SystemProcess> + Files + Wait + Eprint + Drop> ProcessBackend<R> {
+impl<R: Processes<Started = SystemProcess> + Files + Wait + Drop> ProcessBackend<R> {
     // Starts what the launch says, or reports that it can't be started.
     fn start(&mut self, order: &Order, start: &Start, launch: Launch) -> Result<(), AskFault>
         ensures added { OnOk result
@@ -116,7 +121,7 @@ impl<R: Processes<Started = SystemProcess> + Files + Wait + Eprint + Drop> Proce
     {
         let bell = Arc::try_clone(&self.bell)?;
         let number = self.roster.take_number(&self.rt);
-        let process = Arc::new(self.alloc, ServiceProcess::new(number, start, bell))?;
+        let process = Arc::new(self.alloc, ServiceProcess::new(number, start, &launch.name, bell))?;
         self.processes.reserve(1)?;
         self.roster.enter(&self.rt, &process)?;
         if let Err(refused) = self.roll.start(order) {
@@ -128,7 +133,7 @@ impl<R: Processes<Started = SystemProcess> + Files + Wait + Eprint + Drop> Proce
         Ok(())
     }
 
-    // One that can't be started is told on standard error too, since nobody else is there to tell of it.
+    // One that can't be started is noted too, since nobody else is there to tell of it.
     fn run(&self, process: &ServiceProcess, mut launch: Launch) {
         match self.spawn(&mut launch) {
             Some((child, pipe)) => {
@@ -136,7 +141,7 @@ impl<R: Processes<Started = SystemProcess> + Files + Wait + Eprint + Drop> Proce
                 self.roster.begin(&self.rt, process.number);
             }
             None => {
-                let _ = eprintln!(self.rt; "svscan: {} can't be started", launch.path);
+                self.note(&format!(in self.alloc; "svscan: {} can't be started\n", launch.path));
                 process.fail(&self.rt);
                 self.roster.leave(&self.rt, process.number);
             }
@@ -159,14 +164,20 @@ impl<R: Processes<Started = SystemProcess> + Files + Wait + Eprint + Drop> Proce
         Some((child, pipe))
     }
 
-    // The process number of a child that still lives.
-    fn pid_of(&self, start: &Start) -> Option<u32> {
-        for process in self.processes.as_slice() {
-            if process.start == *start {
-                return process.pid(&self.rt);
-            }
+    // Posts a note, if there was memory for it.
+    fn note(&self, note: &Result<String, AllocError>) {
+        match note {
+            Ok(note) => self.notes.post(&self.rt, note.as_bytes()),
+            Err(_) => self.notes.lose(&self.rt),
         }
-        None
+    }
+
+    // Where the child of a start stands, if its end wasn't told yet.
+    fn place_of(&self, start: &Start) -> Option<usize> {
+        self.processes
+            .as_slice()
+            .iter()
+            .position(|process| process.start == *start)
     }
 
     // Sends a child a signal, if it still lives.
@@ -175,8 +186,8 @@ impl<R: Processes<Started = SystemProcess> + Files + Wait + Eprint + Drop> Proce
             (self.new ≡ record self.old { asked = self.old.asked ++ order.now ∷ [] }) }
         ensures same { OnErr result (self.new ≡ self.old) }
     {
-        if let Some(pid) = self.pid_of(start) {
-            self.send(pid, signal)?;
+        if let Some(place) = self.place_of(start) {
+            self.send(place, signal)?;
         }
         match self.roll.note(order) {
             Ok(()) => Ok(()),
@@ -184,25 +195,41 @@ impl<R: Processes<Started = SystemProcess> + Files + Wait + Eprint + Drop> Proce
         }
     }
 
-    // Has a shell send a process a signal. `Busy` where the system has no room now for the shell.
-    fn send(&self, pid: u32, signal: u8) -> Result<(), AskFault> {
-        let Ok(mut command) = kill_command(self.alloc, pid, signal) else {
-            return Err(AskFault::NoMemory);
+    // Has a shell send the child at this place a signal. `Busy` where the system has no room now for the shell.
+    fn send(&mut self, place: usize, signal: u8) -> Result<(), AskFault>
+        ensures { self.new ≡ self.old }
+    {
+        let Some(process) = self.processes.get(place) else {
+            return Ok(());
         };
-        match command.spawn(&self.rt) {
-            Ok(mut shell) => {
-                let _ = shell.wait();
-                Ok(())
-            }
-            Err(error) if is_lasting(&error) => Ok(()),
-            Err(_) => Err(AskFault::Busy),
+        let sending = signal_child(&self.rt, self.alloc, process, signal)?;
+        if sending == Sending::NoShell {
+            self.tell_deaf(place);
         }
+        Ok(())
+    }
+
+    // Tells once of each service that it can be sent no signals.
+    fn tell_deaf(&mut self, place: usize)
+        ensures { self.new ≡ self.old }
+    {
+        let Some(process) = self.processes.get(place) else {
+            return;
+        };
+        let sid = process.start.sid;
+        if self.deaf.contains(&sid) {
+            return;
+        }
+        let text = deaf_text(self.alloc, self.root.as_str(), &process.name);
+        self.note(&text);
+        let _ = self.deaf.push(sid);
     }
 
     // How `run` is started.
     fn launch_of_run(&self, name: &Name, fd: Option<u8>) -> Result<Launch, NoMemory> {
         let directory = directory_of(self.alloc, self.root.as_str(), name)?;
         Ok(Launch {
+            name: *name,
             command: run_command(self.alloc, directory.as_str(), name, fd)?,
             path: path_of(self.alloc, directory.as_str(), &Program::Run)?,
             is_read: is_read(fd),
@@ -213,6 +240,7 @@ impl<R: Processes<Started = SystemProcess> + Files + Wait + Eprint + Drop> Proce
     fn launch_of_finish(&self, name: &Name, code: u16, signal: u8) -> Result<Launch, NoMemory> {
         let directory = directory_of(self.alloc, self.root.as_str(), name)?;
         Ok(Launch {
+            name: *name,
             command: finish_command(self.alloc, directory.as_str(), name, code, signal)?,
             path: path_of(self.alloc, directory.as_str(), &Program::Finish)?,
             is_read: false,
@@ -273,7 +301,7 @@ impl<R: Processes<Started = SystemProcess> + Files + Wait + Eprint + Drop> Proce
     }
 }
 
-impl<R: Processes<Started = SystemProcess> + Files + Wait + Eprint + Drop> Backend
+impl<R: Processes<Started = SystemProcess> + Files + Wait + Drop> Backend
     for ProcessBackend<R> {
     ghost asked = { λ b. b.asked };
 

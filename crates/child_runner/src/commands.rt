@@ -11,7 +11,7 @@ use std::rt::Files;
 use std::{fs, str};
 
 // A name has only ASCII letters.
-fn text_of(name: &Name) -> &str
+pub(crate) fn text_of(name: &Name) -> &str
     ensures { result.now ≡ name.now }
 {
     match str::from_utf8(name.as_bytes()) {
@@ -112,6 +112,18 @@ pub(crate) fn kill_command(alloc: Global, pid: u32, signal: u8) -> Result<Comman
         .arg("-c")?
         .arg(script.as_str())?
         .stdin(Stdio::null())
+        .stderr(Stdio::null());
+    Ok(command)
+}
+
+/// A shell that asks whether it may send itself signals.
+pub(crate) fn probe_command(alloc: Global) -> Result<Command, NoMemory> {
+    let mut command = Command::new(alloc, "/bin/sh")?;
+    command
+        .arg("-c")?
+        .arg("kill -0 $$")?
+        .stdin(Stdio::null())
+        .stdout(Stdio::null())
         .stderr(Stdio::null());
     Ok(command)
 }

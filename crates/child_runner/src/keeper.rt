@@ -1,11 +1,10 @@
 //! Who starts the threads of children, and joins them.
 ghost use Rattle.std.specs.Prelude.{◌≡◌};
 
-use crate::commands::kill_command;
 use crate::process::ServiceProcess;
 use crate::roster::Roster;
+use crate::shell::signal_child;
 use crate::watching::{STACK, give_back, watch};
-use s6_events::NoMemory;
 use std::alloc::{AllocError, AllocFailed, Global};
 use std::process::Processes;
 use std::sync::{Arc, Wait};
@@ -13,6 +12,9 @@ use std::thread;
 use std::thread::{Builder, JoinHandle, Scope, Threads};
 use std::time::Clock;
 use thiserror::Error;
+
+/// The number of SIGKILL.
+pub(crate) const SIGKILL: u8 = 9;
 
 /// Why there is no keeper.
 #[derive(Clone, Copy, Debug, PartialEq, Eq, Error)]
@@ -68,7 +70,7 @@ impl<R: Threads + Wait + Clock + Copy + Send + Sync + Drop + 'static> Keeper<R> 
 
 impl<R: Processes + Threads + Wait + Drop> Keeper<R> {
     /// Ends it, once its backends are given up: kills the children that still live, waits for them, and joins all threads. Until
-    /// then a backend answers Busy. Where memory for a signal is refused, it waits until that child ends by itself.
+    /// then a backend answers Busy. Where a signal can't be sent, it waits until that child ends by itself.
     pub fn end(self) {
         let Keeper {
             rt,
@@ -81,23 +83,16 @@ impl<R: Processes + Threads + Wait + Drop> Keeper<R> {
             let Some(process) = roster.give_one_up(&rt) else {
                 break;
             };
-            let _ = stop(&rt, alloc, &process);
+            stop(&rt, alloc, &process);
         }
         thread.join(&rt);
     }
 }
 
 // Kills a child, and wakes the thread that reads its descriptor, which another program may keep open.
-fn stop<R: Processes + Wait>(
-    rt: &R,
-    alloc: Global,
-    process: &ServiceProcess,
-) -> Result<(), NoMemory> {
-    if let Some(pid) = process.pid(rt) {
-        let _ = kill_command(alloc, pid, 9)?.status(rt);
-    }
-    process.write_last_byte(rt);
-    Ok(())
+fn stop<R: Processes + Wait>(rt: &R, alloc: Global, process: &ServiceProcess) {
+    let _ = signal_child(rt, alloc, process, SIGKILL);
+    process.write_end_mark(rt);
 }
 
 fn keep<R: Threads + Wait + Clock + Copy + Send + Sync + Drop + 'static>(

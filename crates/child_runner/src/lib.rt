@@ -4,14 +4,26 @@
 mod backend;
 mod bell;
 mod commands;
+mod end_mark;
 mod keeper;
+mod lane_link;
+mod lane_thread;
+mod line_limit;
+mod link_queue;
+mod linked_backend;
 mod process;
 mod progress;
 mod roll;
 mod roster;
+mod shell;
+mod signals;
 mod start;
 mod watching;
 
 pub use backend::ProcessBackend;
 pub use bell::Bell;
 pub use keeper::{Keeper, KeeperFault};
+pub use lane_link::{LaneLink, ORDER_LIMIT, REPORT_LIMIT};
+pub use lane_thread::serve_lane;
+pub use linked_backend::LinkedBackend;
+pub use shell::has_shell;

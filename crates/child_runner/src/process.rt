@@ -1,9 +1,10 @@
 //! A child, as its backend and its threads share it.
 use crate::bell::Bell;
+use crate::end_mark::END_MARK;
 use crate::progress::Progress;
 use crate::start::Start;
 use order_lanes::Report;
-use s6_events::Exit;
+use s6_events::{Exit, Name};
 use std::alloc::Global;
 use std::io::{PipeReader, PipeWriter, Write};
 use std::process::{Child, SystemProcess};
@@ -12,10 +13,6 @@ use std::time::{Clock, Duration};
 
 /// How many milliseconds an end waits at most until all was read that the child wrote.
 const LAST_WORDS: u64 = 1000;
-
-/// What is written to a child's pipe once it has ended, behind all that the child wrote, so that nobody reads on for another program that
-/// keeps the descriptor open. Of a child that has ended nothing is heard behind such a byte of its own.
-pub(crate) const LAST_BYTE: u8 = 0;
 
 /// The pipe by which a child is read: the end that is read, and one more of those that are written to.
 #[derive(Drop)]
@@ -36,20 +33,22 @@ pub(crate) struct Running {
 pub(crate) struct ServiceProcess {
     pub number: u64,
     pub start: Start,
+    pub name: Name,
     bell: Arc<Bell, Global>,
     progress: Mutex<Progress>,
     changed: Condvar,
     running: Mutex<Option<Running>>,
-    // Where its last byte is written, once.
+    // Where the mark of its end is written, once.
     writer: Mutex<Option<PipeWriter>>,
 }
 
 impl ServiceProcess {
     /// A child that is about to start.
-    pub fn new(number: u64, start: &Start, bell: Arc<Bell, Global>) -> ServiceProcess {
+    pub fn new(number: u64, start: &Start, name: &Name, bell: Arc<Bell, Global>) -> ServiceProcess {
         ServiceProcess {
             number,
             start: start.copied(),
+            name: *name,
             bell,
             progress: Mutex::new(Progress::new()),
             changed: Condvar::new(),
@@ -85,25 +84,33 @@ impl ServiceProcess {
         self.running.lock(rt).take()
     }
 
-    /// Its process number, where a signal to it can reach no other.
-    pub fn pid<R: Wait>(&self, rt: &R) -> Option<u32> {
-        self.progress.lock(rt).pid()
+    /// Its process number, where a signal may be sent to it; `end_signal` has to follow then. It waits for a shell that is under way.
+    pub fn begin_signal<R: Wait>(&self, rt: &R) -> Option<u32> {
+        let progress = self.progress.lock(rt);
+        let mut progress = self
+            .changed
+            .wait_while(rt, progress, |known| known.is_shell_out());
+        progress.begin_signal()
     }
 
-    /// Waits until bytes can be taken in, or are wanted no more: how many, at least one.
-    pub fn await_room<R: Wait>(&self, rt: &R) -> usize {
+    /// The shell that sent it a signal has ended.
+    pub fn end_signal<R: Wait>(&self, rt: &R) {
+        self.progress.lock(rt).end_signal();
+        self.changed.notify_all();
+        self.bell.ring(rt);
+    }
+
+    /// It wrote these bytes, at most 64. It waits until they can be taken in, or are wanted no more.
+    pub fn write<R: Wait>(&self, rt: &R, bytes: &[u8]) {
+        let count = bytes.len();
         let progress = self.progress.lock(rt);
-        let progress = self.changed.wait_while(
+        let mut progress = self.changed.wait_while(
             rt,
             progress,
-            |known| known.room() == 0 && !known.is_over(),
+            |known| !known.has_room(count) && !known.is_over(),
         );
-        progress.room().max(1)
-    }
-
-    /// It wrote these bytes.
-    pub fn write<R: Wait>(&self, rt: &R, bytes: &[u8]) {
-        self.progress.lock(rt).write(bytes);
+        progress.write(bytes);
+        drop(progress);
         self.bell.ring(rt);
     }
 
@@ -119,10 +126,11 @@ impl ServiceProcess {
         self.changed.notify_all();
     }
 
-    /// It ended so, and was waited for. The end is told once all was read that it wrote, or after a second.
+    /// It ended so, and was waited for: no signal begins from now on. The end is told once all was read that it wrote, or after a second,
+    /// and not before a shell has ended that is under way.
     pub fn end<R: Wait + Clock>(&self, rt: &R, exit: Exit) {
         self.progress.lock(rt).begin_to_end();
-        self.write_last_byte(rt);
+        self.write_end_mark(rt);
         let time = Duration::from_millis(LAST_WORDS);
         let progress = self.progress.lock(rt);
         let (mut progress, _late) = self
@@ -140,10 +148,10 @@ impl ServiceProcess {
     }
 
     /// Wakes whoever reads what it writes, once that was read which it wrote before.
-    pub fn write_last_byte<R: Wait>(&self, rt: &R) {
+    pub fn write_end_mark<R: Wait>(&self, rt: &R) {
         let writer = self.writer.lock(rt).take();
         if let Some(mut writer) = writer {
-            let _ = writer.write_all(&[LAST_BYTE]);
+            let _ = writer.write_all(&END_MARK);
         }
     }
 

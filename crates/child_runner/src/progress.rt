@@ -1,4 +1,8 @@
 //! What is known of a child, and what of it is still to be reported.
+ghost use Rattle.std.specs.Prelude.{◌≡◌, IsTrue, IfSome, false};
+ghost use Rattle.child_runner.specs.Ending.{is_end};
+
+use crate::signals::Signals;
 use crate::start::{Program, Start};
 use arrayvec::ArrayVec;
 use order_lanes::Report;
@@ -20,16 +24,14 @@ enum Stage {
 #[derive(Drop)]
 pub(crate) struct Progress {
     stage: Stage,
-    // The process number, while the system can't give it to another.
-    pid: Option<u32>,
+    // Whether it may be sent signals, and whether it was waited for.
+    signals: Signals,
     // What it wrote and nobody was told yet.
     written: ArrayVec<u8, 64>,
     // Whether it is still read.
     is_read: bool,
     // Whether it wrote its first newline, after which nothing is told of what it writes.
     is_heard: bool,
-    // Whether it was waited for.
-    is_ending: bool,
     exit: Option<Exit>,
     is_given_up: bool,
 }
@@ -39,11 +41,10 @@ impl Progress {
     pub fn new() -> Progress {
         Progress {
             stage: Stage::Starting,
-            pid: None,
+            signals: Signals::new(),
             written: ArrayVec::new(),
             is_read: false,
             is_heard: false,
-            is_ending: false,
             exit: None,
             is_given_up: false,
         }
@@ -61,23 +62,32 @@ impl Progress {
             Program::Run => Stage::Fresh(pid),
             Program::Finish => Stage::Living,
         };
-        self.pid = Some(pid);
+        self.signals.begin(pid);
     }
 
-    /// Its process number, where a signal to it can reach no other.
-    pub fn pid(&self) -> Option<u32> {
-        self.pid
+    /// Its process number, where it may be sent a signal now. A shell is under way from then on, until `end_signal`.
+    pub fn begin_signal(&mut self) -> Option<u32> {
+        self.signals.begin_signal()
+    }
+
+    /// The shell that sent it a signal has ended.
+    pub fn end_signal(&mut self) {
+        self.signals.end_signal();
+    }
+
+    /// Whether a shell is under way that sends it a signal.
+    pub fn is_shell_out(&self) -> bool {
+        self.signals.is_shell_out
     }
 
     /// It was waited for, so its number may be another's from now on.
     pub fn begin_to_end(&mut self) {
-        self.pid = None;
-        self.is_ending = true;
+        self.signals.reap();
     }
 
     /// Whether it was waited for.
     pub fn is_ending(&self) -> bool {
-        self.is_ending
+        self.signals.is_reaped
     }
 
     /// Nothing more is read.
@@ -111,9 +121,9 @@ impl Progress {
         self.is_given_up || self.exit.is_some()
     }
 
-    /// How many more bytes can wait to be told.
-    pub fn room(&self) -> usize {
-        64usize.saturating_sub(self.written.len())
+    /// Whether so many more bytes can wait to be told.
+    pub fn has_room(&self, count: usize) -> bool {
+        count <= 64usize.saturating_sub(self.written.len())
     }
 
     /// It wrote these bytes, for which there is room.
@@ -123,8 +133,10 @@ impl Progress {
         }
     }
 
-    /// The next thing to tell, in order: its start, what it wrote, its end.
-    pub fn next_report(&mut self, start: &Start) -> Option<Report> {
+    /// The next thing to tell, in order: its start, what it wrote, and its end, once no shell is under way.
+    pub fn next_report(&mut self, start: &Start) -> Option<Report>
+        ensures { IfSome result (λ r. IsTrue (is_end r) → self.old.signals.is_shell_out ≡ false) }
+    {
         match self.stage {
             Stage::Starting => None,
             Stage::Failed => Some(Report::StartFailed(start.sid, start.generation)),
@@ -136,14 +148,26 @@ impl Progress {
         }
     }
 
-    fn later_report(&mut self, start: &Start) -> Option<Report> {
+    fn later_report(&mut self, start: &Start) -> Option<Report>
+        ensures { IfSome result (λ r. IsTrue (is_end r) → self.old.signals.is_shell_out ≡ false) }
+    {
         if self.written.is_empty() {
-            let exit = self.exit?;
-            return Some(start.end(exit));
+            return self.end_report(start);
         }
         let mut bytes = ArrayVec::new();
         let _ = bytes.try_extend_from_slice(self.written.as_slice());
         self.written.clear();
         Some(Report::Notify(start.sid, start.generation, bytes))
+    }
+
+    // Its end: not while a shell is under way, which would send the signal to a number that the tree holds for free.
+    fn end_report(&self, start: &Start) -> Option<Report>
+        ensures { IfSome result (λ _. self.now.signals.is_shell_out ≡ false) }
+    {
+        if self.signals.is_shell_out {
+            return None;
+        }
+        let exit = self.exit?;
+        Some(start.end(exit))
     }
 }

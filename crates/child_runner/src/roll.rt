@@ -104,6 +104,18 @@ impl Roll {
         Ok(())
     }
 
+    /// An order was asked.
+    pub fn enter(&mut self, order: &Order) -> Result<(), NoMemory>
+        ensures added { OnOk result
+            (self.new ≡ record self.old { asked = self.old.asked ++ order.now ∷ [] }) }
+        ensures same { OnErr result (self.new ≡ self.old) }
+    {
+        match order {
+            Order::Run(..) | Order::Finish(..) => self.start(order),
+            Order::Signal(..) | Order::KillFinish(..) => self.note(order),
+        }
+    }
+
     /// Lets a report through if its start lives.
     pub fn pass(&mut self, report: Report) -> Option<Report>
         ensures given { IfSome result (λ r. IsOfAsked self.old.asked r

@@ -1,7 +1,9 @@
 //! The threads of one child: one waits for it, and one more reads what it writes.
-ghost use Rattle.std.specs.Prelude.{◌<◌, length, IfSome};
+ghost use Rattle.std.specs.Prelude.{◌≤◌, length};
 
-use crate::process::{LAST_BYTE, Running, ServiceProcess};
+use crate::end_mark::{Telling, telling_of};
+use crate::line_limit::LineLimit;
+use crate::process::{Running, ServiceProcess};
 use crate::roster::Roster;
 use arrayvec::ArrayVec;
 use s6_events::Exit;
@@ -89,74 +91,99 @@ fn exit_of(status: io::Result<ExitStatus>) -> Exit {
     Exit::Killed(u8::try_from(signal).unwrap_or(0))
 }
 
-/// How many bytes are read at once.
+/// How many bytes are read and not told yet, at most: as many as a report holds.
 const PART: usize = 64;
+
+/// What a child's reader knows.
+#[derive(Drop)]
+struct Hearing {
+    // What was read and not told yet.
+    heard: ArrayVec<u8, PART>,
+    limit: LineLimit,
+    // Whether the first newline was told, after which nothing is told any more.
+    is_told: bool,
+}
 
 // Tells what the child writes up to its first newline, and reads on until it has ended: a daemon that still writes would die of a closed
 // end.
 fn listen<R: Wait + Drop>(rt: R, process: Arc<ServiceProcess, Global>, mut reader: PipeReader) {
-    let mut is_told = false;
+    let mut hearing = Hearing {
+        heard: ArrayVec::new(),
+        limit: LineLimit::new(),
+        is_told: false,
+    };
     for _ in 0..u64::MAX {
-        let room = if is_told {
-            PART
-        } else {
-            process.await_room(&rt)
-        };
-        if process.is_over(&rt) {
-            break;
-        }
-        let Some(part) = read_part(&mut reader, room) else {
-            break;
-        };
-        let last = last_place(&rt, &process, part.as_slice());
-        if !is_told {
-            let end = last.unwrap_or(part.len());
-            is_told = tell(&rt, &process, &part.as_slice()[..end]);
-        }
-        if last.is_some() {
+        let is_at_end = !read_more(&mut reader, &mut hearing.heard);
+        if process.is_over(&rt) || hear(&rt, &process, &mut hearing, is_at_end) {
             break;
         }
     }
     process.stop_reading(&rt);
 }
 
-// Where the last byte stands among these of a child that has ended; None where it is still to come.
-fn last_place<R: Wait>(rt: &R, process: &ServiceProcess, bytes: &[u8]) -> Option<usize>
-    ensures { IfSome result (λ place. place < length bytes.now) }
-{
-    if !process.is_ending(rt) {
-        return None;
+// Reads what there is room for. False at the end.
+fn read_more(reader: &mut PipeReader, heard: &mut ArrayVec<u8, PART>) -> bool {
+    let mut bytes = [0u8; PART];
+    let room = PART.saturating_sub(heard.len()).min(PART);
+    match reader.read(&mut bytes[..room]) {
+        Ok(0) => false,
+        Ok(count) => {
+            let _ = heard.try_extend_from_slice(&bytes[..count]);
+            true
+        }
+        Err(e) => e.kind() == io::ErrorKind::Interrupted,
     }
-    bytes.iter().position(|byte| *byte == LAST_BYTE)
 }
 
-// At most so many bytes; None at the end.
-fn read_part(reader: &mut PipeReader, room: usize) -> Option<ArrayVec<u8, PART>> {
-    let mut bytes = [0u8; PART];
-    let mut part = ArrayVec::new();
-    let room = room.min(PART);
-    match reader.read(&mut bytes[..room]) {
-        Ok(0) => None,
-        Ok(count) => {
-            let _ = part.try_extend_from_slice(&bytes[..count]);
-            Some(part)
-        }
-        Err(e) if e.kind() == io::ErrorKind::Interrupted => Some(part),
-        Err(_) => None,
+// Tells what may be told of what was read. Whether nothing more is to be heard.
+fn hear<R: Wait>(
+    rt: &R,
+    process: &ServiceProcess,
+    hearing: &mut Hearing,
+    is_at_end: bool,
+) -> bool {
+    let mut telling = telling_of(hearing.heard.as_slice(), process.is_ending(rt));
+    if is_at_end && !telling.is_last {
+        telling = Telling {
+            count: hearing.heard.len(),
+            is_last: true,
+        };
     }
+    tell(rt, process, hearing, telling.count);
+    telling.is_last
+}
+
+// Tells so many bytes, and keeps the others.
+fn tell<R: Wait>(rt: &R, process: &ServiceProcess, hearing: &mut Hearing, count: usize)
+    requires { count ≤ length hearing.old.heard.items }
+{
+    let (told, kept) = hearing.heard.as_slice().split_at(count);
+    let mut rest = ArrayVec::new();
+    let _ = rest.try_extend_from_slice(kept);
+    if !hearing.is_told {
+        hearing.is_told = tell_line(rt, process, &mut hearing.limit, told);
+    }
+    hearing.heard = rest;
 }
 
 // Tells these bytes, but nothing after a newline. Whether there was one.
-fn tell<R: Wait>(rt: &R, process: &ServiceProcess, bytes: &[u8]) -> bool {
-    match bytes.iter().position(|byte| *byte == b'\n') {
-        Some(place) => {
-            process.write(rt, &bytes[..=place]);
-            process.stop_hearing(rt);
-            true
-        }
-        None => {
+fn tell_line<R: Wait>(
+    rt: &R,
+    process: &ServiceProcess,
+    limit: &mut LineLimit,
+    bytes: &[u8],
+) -> bool {
+    let Some(place) = bytes.iter().position(|byte| *byte == b'\n') else {
+        if !bytes.is_empty() && limit.admit(bytes.len()) {
             process.write(rt, bytes);
-            false
         }
+        return false;
+    };
+    if limit.admit(place) {
+        process.write(rt, &bytes[..=place]);
+    } else {
+        process.write(rt, b"\n");
     }
+    process.stop_hearing(rt);
+    true
 }

@@ -3,7 +3,7 @@ use crate::stage::{Stage, name_of, write_exit};
 use arrayvec::ArrayVec;
 use order_lanes::Report;
 use s6_events::{Order, Sid};
-use std::io::{self, Eprint, Write};
+use std::io::{self, Write};
 use std::process::{Processes, SystemProcess};
 use std::rt::Files;
 use std::sync::Wait;
@@ -152,7 +152,7 @@ fn is_time(when: When, report: &Report) -> bool {
     }
 }
 
-impl<R: Processes<Started = SystemProcess> + Files + Wait + Clock + Eprint + Drop> Stage<R> {
+impl<R: Processes<Started = SystemProcess> + Files + Wait + Clock + Drop> Stage<R> {
     // Prints the reports of a service until its last one, and signals it once in between.
     fn follow(
         &mut self,

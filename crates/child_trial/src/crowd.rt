@@ -3,7 +3,7 @@ use crate::census::{count_children, count_descriptors, status_field};
 use crate::stage::Stage;
 use order_lanes::Report;
 use std::alloc::AllocError;
-use std::io::{self, Eprint, Write};
+use std::io::{self, Write};
 use std::process::{Processes, SystemProcess};
 use std::rt::Files;
 use std::sync::Wait;
@@ -55,7 +55,7 @@ fn count(times: &mut Vec<u32>, sid: u64) {
     }
 }
 
-impl<R: Processes<Started = SystemProcess> + Files + Wait + Clock + Eprint + Drop> Stage<R> {
+impl<R: Processes<Started = SystemProcess> + Files + Wait + Clock + Drop> Stage<R> {
     /// Takes in so many reports, or fewer where none come.
     pub fn tally(&mut self, tally: &mut Tally, reports: u64) {
         for _ in 0..reports {

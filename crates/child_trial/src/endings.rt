@@ -3,12 +3,13 @@ use crate::census::count_descriptors;
 use crate::crowd::write_left;
 use crate::stage::Stage;
 use child_runner::Keeper;
+use error_notes::Notes;
 use order_lanes::Report;
 use std::alloc::Global;
-use std::io::{self, Eprint, Write};
+use std::io::{self, Write};
 use std::process::{Processes, SystemProcess};
 use std::rt::Files;
-use std::sync::Wait;
+use std::sync::{Arc, Wait};
 use std::thread::Threads;
 use std::time::{Clock, Instant};
 
@@ -27,7 +28,7 @@ fn is_death_of(report: &Report, service: u64) -> bool {
     }
 }
 
-impl<R: Processes<Started = SystemProcess> + Files + Wait + Clock + Eprint + Drop> Stage<R> {
+impl<R: Processes<Started = SystemProcess> + Files + Wait + Clock + Drop> Stage<R> {
     // Starts one service. Whether the backend heard of it.
     fn hears_start(&mut self, sid: u64) -> io::Result<bool> {
         self.write("four", "run", "exec sleep 60", 0o755)?;
@@ -59,16 +60,17 @@ impl<R: Processes<Started = SystemProcess> + Files + Wait + Clock + Eprint + Dro
 }
 
 // Services of four backends that share a keeper: each hears of its own alone.
-fn try_four<R: Processes<Started = SystemProcess> + Files + Wait + Clock + Eprint + Copy + Drop>(
+fn try_four<R: Processes<Started = SystemProcess> + Files + Wait + Clock + Copy + Drop>(
     rt: &R,
     alloc: Global,
     keeper: &Keeper<R>,
     root: &str,
+    notes: &Arc<Notes, Global>,
     output: &mut impl Write,
 ) -> io::Result<()> {
     let mut stages = Vec::new(alloc);
     for _ in 0..4 {
-        stages.push(Stage::new(*rt, alloc, keeper, root)?)?;
+        stages.push(Stage::new(*rt, alloc, keeper, root, notes)?)?;
     }
     let mut heard = 0u32;
     for (place, stage) in stages.iter_mut().enumerate() {
@@ -88,7 +90,7 @@ fn try_four<R: Processes<Started = SystemProcess> + Files + Wait + Clock + Eprin
 }
 
 // Every trial of one backend.
-fn try_stage<R: Processes<Started = SystemProcess> + Files + Wait + Clock + Eprint + Drop>(
+fn try_stage<R: Processes<Started = SystemProcess> + Files + Wait + Clock + Drop>(
     stage: &mut Stage<R>,
     output: &mut impl Write,
 ) -> io::Result<()> {
@@ -97,6 +99,9 @@ fn try_stage<R: Processes<Started = SystemProcess> + Files + Wait + Clock + Epri
     stage.try_finish(output)?;
     stage.try_long_line(output)?;
     stage.try_deaf(output)?;
+    stage.try_ended(output)?;
+    stage.try_zeros(output)?;
+    stage.try_junk(output)?;
     stage.try_crowd(output)?;
     stage.try_heirs(output)?;
     stage.try_leavers(output)
@@ -107,9 +112,16 @@ const PATIENCE: u64 = 8;
 
 // Services that still live when the keeper ends, and one whose descriptor a grandchild keeps open.
 fn try_end<
-    R: Processes<Started = SystemProcess> + Files + Threads + Wait + Clock + Eprint + Copy + Drop,
->(rt: &R, alloc: Global, keeper: Keeper<R>, root: &str, output: &mut impl Write) -> io::Result<()> {
-    let mut stage = Stage::new(*rt, alloc, &keeper, root)?;
+    R: Processes<Started = SystemProcess> + Files + Threads + Wait + Clock + Copy + Drop,
+>(
+    rt: &R,
+    alloc: Global,
+    keeper: Keeper<R>,
+    root: &str,
+    notes: &Arc<Notes, Global>,
+    output: &mut impl Write,
+) -> io::Result<()> {
+    let mut stage = Stage::new(*rt, alloc, &keeper, root, notes)?;
     let crowd = stage.start_crowd(3, Some(3));
     let leaver = stage.start_leaver();
     let begin = Instant::now(rt);
@@ -126,24 +138,25 @@ fn try_end<
 
 /// All trials. The keepers are ended in between, and nothing is left over.
 pub fn try_all<
-    R: Processes<Started = SystemProcess> + Files + Threads + Wait + Clock + Eprint + Copy + Drop,
+    R: Processes<Started = SystemProcess> + Files + Threads + Wait + Clock + Copy + Drop,
 >(
     rt: &R,
     alloc: Global,
     keepers: (Keeper<R>, Keeper<R>),
     root: &str,
+    notes: &Arc<Notes, Global>,
     parent: u32,
     output: &mut impl Write,
 ) -> io::Result<()> {
     let (keeper, other) = keepers;
     let before = count_descriptors(rt, alloc)?;
-    let mut stage = Stage::new(*rt, alloc, &keeper, root)?;
+    let mut stage = Stage::new(*rt, alloc, &keeper, root, notes)?;
     let tried = try_stage(&mut stage, output);
-    let shared = try_four(rt, alloc, &keeper, root, output);
+    let shared = try_four(rt, alloc, &keeper, root, notes, output);
     keeper.end();
     tried?;
     shared?;
     write_left(rt, alloc, output, before, parent)?;
-    try_end(rt, alloc, other, root, output)?;
+    try_end(rt, alloc, other, root, notes, output)?;
     write_left(rt, alloc, output, before, parent)
 }

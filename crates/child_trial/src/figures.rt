@@ -3,12 +3,13 @@ use crate::census::{count_descriptors, status_field};
 use crate::crowd::Tally;
 use crate::stage::Stage;
 use child_runner::Keeper;
+use error_notes::Notes;
 use order_lanes::Report;
 use std::alloc::Global;
-use std::io::{self, Eprint, Write};
+use std::io::{self, Write};
 use std::process::{Command, Processes, SystemProcess};
 use std::rt::Files;
-use std::sync::Wait;
+use std::sync::{Arc, Wait};
 use std::thread::Threads;
 use std::time::{Clock, Instant, SystemTime, UNIX_EPOCH};
 
@@ -60,7 +61,7 @@ fn micros_since<R: Clock>(rt: &R, moment: u128) -> io::Result<u128> {
     Ok(now.saturating_sub(moment))
 }
 
-impl<R: Processes<Started = SystemProcess> + Files + Wait + Clock + Eprint + Drop> Stage<R> {
+impl<R: Processes<Started = SystemProcess> + Files + Wait + Clock + Drop> Stage<R> {
     // From the order to Started, from the newline to Notify, and from the signal to Death.
     fn measure(&mut self) -> io::Result<Times> {
         let mut times = Times {
@@ -109,7 +110,7 @@ impl<R: Processes<Started = SystemProcess> + Files + Wait + Clock + Eprint + Dro
 }
 
 // Measures with one backend.
-fn measure_all<R: Processes<Started = SystemProcess> + Files + Wait + Clock + Eprint + Drop>(
+fn measure_all<R: Processes<Started = SystemProcess> + Files + Wait + Clock + Drop>(
     stage: &mut Stage<R>,
     output: &mut impl Write,
 ) -> io::Result<()> {
@@ -129,9 +130,16 @@ fn measure_all<R: Processes<Started = SystemProcess> + Files + Wait + Clock + Ep
 
 /// Prints all figures, and ends the keeper.
 pub fn print_all<
-    R: Processes<Started = SystemProcess> + Files + Threads + Wait + Clock + Eprint + Copy + Drop,
->(rt: &R, alloc: Global, keeper: Keeper<R>, root: &str, output: &mut impl Write) -> io::Result<()> {
-    let done = match Stage::new(*rt, alloc, &keeper, root) {
+    R: Processes<Started = SystemProcess> + Files + Threads + Wait + Clock + Copy + Drop,
+>(
+    rt: &R,
+    alloc: Global,
+    keeper: Keeper<R>,
+    root: &str,
+    notes: &Arc<Notes, Global>,
+    output: &mut impl Write,
+) -> io::Result<()> {
+    let done = match Stage::new(*rt, alloc, &keeper, root, notes) {
         Ok(mut stage) => measure_all(&mut stage, output),
         Err(refused) => Err(refused),
     };

@@ -6,11 +6,16 @@ mod census;
 mod crowd;
 mod endings;
 mod figures;
+mod last_words;
+mod linked;
+mod noted;
 mod stage;
 
-use child_runner::Keeper;
+use child_runner::{Keeper, has_shell};
+use error_notes::Notes;
 use std::io::{self, Write};
 use std::process::ExitCode;
+use std::sync::Arc;
 use std::{env, fs, process};
 
 // The folder of the services: a new one for each run, since two runs may go on at once.
@@ -23,28 +28,47 @@ fn root_of(rt: &HostRuntime) -> io::Result<String> {
 fn main(rt: HostRuntime) -> io::Result<ExitCode> {
     let alloc = rt.alloc();
     let root = root_of(&rt)?;
+    let root = root.as_str();
     let wants_figures = env::args(&rt)?.count() > 1;
-    let (Ok(keeper), Ok(other)) = (Keeper::start(rt, alloc), Keeper::start(rt, alloc)) else {
+    let notes = Arc::new(alloc, Notes::new(alloc))?;
+    let (Ok(keeper), Ok(other), Ok(lanes)) = (
+        Keeper::start(rt, alloc),
+        Keeper::start(rt, alloc),
+        Keeper::start(rt, alloc),
+    ) else {
         return Ok(ExitCode::from(111));
     };
-    fs::create_dir_all(&rt, root.as_str())?;
+    fs::create_dir_all(&rt, root)?;
     let mut output = rt.stdout();
-    let parent = process::id(rt.process());
     let done = if wants_figures {
         other.end();
-        figures::print_all(&rt, alloc, keeper, root.as_str(), &mut output)
+        lanes.end();
+        figures::print_all(&rt, alloc, keeper, root, &notes, &mut output)
     } else {
-        endings::try_all(
+        writeln!(output, "a shell: {}", has_shell(&rt, alloc))?;
+        let parent = process::id(rt.process());
+        let tried = endings::try_all(
             &rt,
             alloc,
             (keeper, other),
-            root.as_str(),
+            root,
+            &notes,
             parent,
             &mut output,
-        )
+        );
+        linked::write_services(&rt, alloc, root)?;
+        let linked = match linked::lane_of(rt, alloc, &lanes, root, &notes) {
+            Ok((backend, bell)) => linked::try_link(&rt, alloc, backend, bell, &mut output),
+            Err(error) => Err(error),
+        };
+        lanes.end();
+        tried.and(linked)
     };
-    fs::remove_dir_all(&rt, root.as_str())?;
+    fs::remove_dir_all(&rt, root)?;
     done?;
+    if !wants_figures {
+        noted::try_all(&rt, alloc, &notes, io::pipe(&rt)?, &mut output)?;
+    }
     output.flush()?;
     Ok(ExitCode::SUCCESS)
 }

@@ -1,10 +1,11 @@
 //! One backend, its services, and what it reports.
 use child_runner::{Bell, Keeper, ProcessBackend};
+use error_notes::Notes;
 use order_lanes::{Backend, Report};
 use s6_events::{Exit, Name, Order, Sid};
 use std::alloc::Global;
 use std::fs::Permissions;
-use std::io::{Eprint, ErrorKind};
+use std::io::ErrorKind;
 use std::os::unix::fs::PermissionsExt;
 use std::process::{Processes, SystemProcess};
 use std::rt::Files;
@@ -30,6 +31,24 @@ pub fn no_memory() -> io::Error {
     io::Error::from(ErrorKind::OutOfMemory)
 }
 
+/// Writes a script under the root, with its folder.
+pub fn write_program<R: Files>(
+    rt: &R,
+    alloc: Global,
+    root: &str,
+    file: &str,
+    script: &str,
+    mode: u32,
+) -> io::Result<()> {
+    let folder = file.split('/').next().unwrap_or(".");
+    let folder = format!(in alloc; "{root}/{folder}")?;
+    fs::create_dir_all(&(rt, alloc), folder.as_str())?;
+    let path = format!(in alloc; "{root}/{file}")?;
+    let text = format!(in alloc; "#!/bin/sh\n{script}\n")?;
+    fs::write(rt, path.as_str(), text.as_str())?;
+    fs::set_permissions(rt, path.as_str(), Permissions::from_mode(mode))
+}
+
 /// The name of these letters.
 pub fn name_of(text: &str) -> io::Result<Name> {
     match Name::new(text.as_bytes()) {
@@ -39,8 +58,14 @@ pub fn name_of(text: &str) -> io::Result<Name> {
 }
 
 impl<R: Copy + Drop> Stage<R> {
-    pub fn new(rt: R, alloc: Global, keeper: &Keeper<R>, root: &str) -> io::Result<Stage<R>> {
-        let Ok(backend) = ProcessBackend::new(rt, alloc, keeper, root) else {
+    pub fn new(
+        rt: R,
+        alloc: Global,
+        keeper: &Keeper<R>,
+        root: &str,
+        notes: &Arc<Notes, Global>,
+    ) -> io::Result<Stage<R>> {
+        let Ok(backend) = ProcessBackend::new(rt, alloc, keeper, root, notes) else {
             return Err(no_memory());
         };
         let Ok(bell) = backend.bell() else {
@@ -56,16 +81,17 @@ impl<R: Copy + Drop> Stage<R> {
     }
 }
 
-impl<R: Processes<Started = SystemProcess> + Files + Wait + Clock + Eprint + Drop> Stage<R> {
+impl<R: Processes<Started = SystemProcess> + Files + Wait + Clock + Drop> Stage<R> {
     /// Writes a program of a service, with this mode.
     pub fn write(&self, service: &str, program: &str, script: &str, mode: u32) -> io::Result<()> {
+        let file = format!(in self.alloc; "{service}/{program}")?;
         let root = self.root.as_str();
-        let folder = format!(in self.alloc; "{root}/{service}")?;
-        fs::create_dir_all(&(&self.rt, self.alloc), folder.as_str())?;
-        let path = format!(in self.alloc; "{root}/{service}/{program}")?;
-        let text = format!(in self.alloc; "#!/bin/sh\n{script}\n")?;
-        fs::write(&self.rt, path.as_str(), text.as_str())?;
-        fs::set_permissions(&self.rt, path.as_str(), Permissions::from_mode(mode))
+        write_program(&self.rt, self.alloc, root, file.as_str(), script, mode)
+    }
+
+    /// Waits for so many milliseconds, and takes no report.
+    pub fn pause(&self, millis: u64) {
+        std::thread::sleep(&self.rt, Duration::from_millis(millis));
     }
 
     /// Asks an order. Whether it was taken.

@@ -3,5 +3,7 @@ pub mod Files
 pub mod Places
 pub mod Plans
 pub mod Requests
+pub mod Scanning
+pub mod Sockets
 pub mod Standing
 pub mod Status

@@ -36,6 +36,16 @@ ending_of (Cancel id) = ending.Waiter id
 ending_of (Unsubscribe id) = ending.Subscription id
 ending_of act = ending.Nothing
 
+-- the waiter that this ends
+abbrev pub waiters_ended : Ending → List WaitId
+waiters_ended (ending.Waiter id) = id ∷ []
+waiters_ended e = []
+
+-- the subscription that this ends
+abbrev pub subscriptions_ended : Ending → List SubId
+subscriptions_ended (ending.Subscription id) = id ∷ []
+subscriptions_ended e = []
+
 -- the waiters that still stand once this has ended
 abbrev pub waiters_left : Ending → List WaitId → List WaitId
 waiters_left (ending.Waiter id) waiters = filter (λ w. not (w == id)) waiters

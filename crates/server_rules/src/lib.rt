@@ -1,7 +1,8 @@
 //! What the server of a tree decides, with no thread of its own: what a line asks for, whose an actor is, when a tick or a scan is wanted,
-//! what stands of a connection, which rows may be told, and what a scan directory says.
+//! what stands of a connection, which rows may be told, what a scan directory says, and which socket is whose.
 #![tactic(auto)]
 
+mod full_services;
 mod listing;
 mod own_answer;
 mod places;
@@ -9,13 +10,16 @@ mod plans;
 mod requests;
 mod row_cache;
 mod service_files;
+mod socket_rules;
 mod standing;
 mod status;
 
+pub use full_services::FullServices;
 pub use listing::read_listing;
 pub use own_answer::OwnAnswer;
 pub use places::{Place, client_actor, place_of};
 pub use plans::{Askers, Plans, Wanted};
 pub use requests::{Request, read_request};
 pub use row_cache::{RowCache, STATUS_AGE};
+pub use socket_rules::{FileIdentity, says_abandoned};
 pub use standing::{Ending, Standing};

@@ -15,7 +15,7 @@ pub enum OwnAnswer {
     Busy,
     /// A growth was refused.
     NoMemory,
-    /// The scan directory could not be read.
+    /// The scan directory could not be read, or a line of a script can't say what is in it.
     Directory,
 }
 

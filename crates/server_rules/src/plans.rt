@@ -1,11 +1,12 @@
 //! What is planned for actor 0: scans that clients asked for, and ticks.
-ghost use Rattle.std.specs.Prelude.{◌≡◌};
-ghost use Rattle.server_rules.specs.Plans.{is_called, wanted_at, is_nearer};
+ghost use Rattle.std.specs.Prelude.{◌≡◌, [], true, false};
+ghost use Rattle.server_rules.specs.Plans.{is_called, wanted_at};
 
 use arrayvec::ArrayVec;
 use line_server::SEAT_COUNT;
+use std::mem;
 
-/// The places of clients that asked for a scan. Each waits for its own, so it stands there once.
+/// The seats of clients that asked for a scan. Each waits for its own, so it stands there once.
 pub type Askers = ArrayVec<usize, SEAT_COUNT>;
 
 /// What is wanted of actor 0 at a moment.
@@ -19,23 +20,19 @@ pub enum Wanted {
     Tick,
     /// A scan, for the clients that ask.
     Scan,
-    /// Nothing more: the run ends.
-    End,
 }
 
 /// What is planned.
 #[derive(Drop)]
 pub struct Plans {
-    /// The moment to which a timer or a deadline is set.
+    /// The moment to which a timer or a deadline is set, in milliseconds.
     pub due: Option<u64>,
     /// Who waits for a scan that isn't begun.
     pub askers: Askers,
-    /// The number of the input of actor 0 that is a scan for clients, until it is answered.
-    pub scan: Option<u64>,
+    /// Whether a scan is under way: the directory is read, or the scan is handed in and not answered.
+    pub is_scanning: bool,
     /// The clients for which it is.
     pub served: Askers,
-    /// Whether the run ends.
-    pub is_over: bool,
 }
 
 impl Plans {
@@ -44,26 +41,22 @@ impl Plans {
         Plans {
             due: None,
             askers: ArrayVec::new(),
-            scan: None,
+            is_scanning: false,
             served: ArrayVec::new(),
-            is_over: false,
         }
     }
 
-    /// Whether somebody waits for more than a moment. While a scan is under way, the next one waits.
+    /// Whether a client waits for a scan to begin. While one is under way, the next one waits.
     pub fn is_called(&self) -> bool
         ensures { result ≡ is_called self.now }
     {
-        self.is_over || (!self.askers.is_empty() && self.scan.is_none())
+        !self.askers.is_empty() && !self.is_scanning
     }
 
-    /// What is wanted at this moment.
+    /// What is wanted at this moment, in milliseconds.
     pub fn wanted(&self, now: u64) -> Wanted
         ensures { result ≡ wanted_at self.now now }
     {
-        if self.is_over {
-            return Wanted::End;
-        }
         if self.is_called() {
             return Wanted::Scan;
         }
@@ -74,14 +67,25 @@ impl Plans {
         }
     }
 
-    /// Whether this moment comes before the one that is planned.
-    pub fn is_nearer(&self, due: Option<u64>) -> bool
-        ensures { result ≡ is_nearer self.now.due due }
+    /// A scan begins, for all who ask.
+    pub fn begin_scan(&mut self)
+        ensures served { self.new.served.items ≡ self.old.askers.items }
+        ensures askers { self.new.askers.items ≡ [] }
+        ensures under_way { self.new.is_scanning ≡ true }
+        ensures due { self.new.due ≡ self.old.due }
     {
-        match (self.due, due) {
-            (_, None) => false,
-            (None, Some(_)) => true,
-            (Some(before), Some(after)) => after < before,
-        }
+        self.served = mem::replace(&mut self.askers, ArrayVec::new());
+        self.is_scanning = true;
+    }
+
+    /// The scan is over: the clients for which it was. The next one may begin.
+    pub fn end_scan(&mut self) -> Askers
+        ensures served { result.items ≡ self.old.served.items }
+        ensures none { self.new.served.items ≡ [] }
+        ensures over { self.new.is_scanning ≡ false }
+        ensures askers { self.new.askers.items ≡ self.old.askers.items }
+    {
+        self.is_scanning = false;
+        mem::replace(&mut self.served, ArrayVec::new())
     }
 }

@@ -1,7 +1,7 @@
 //! What stands of a connection: the waiters and the subscriptions that it made.
 ghost use Rattle.std.specs.Prelude.{◌≡◌, ◌++◌, ◌==◌, [], filter, not, OnOk, OnErr, IsTrue, IsFalse};
 ghost use Rattle.std.specs.List.{Contains};
-ghost use Rattle.server_rules.specs.Standing.{waiters_of, subscriptions_of, Ends, ending_of, waiters_left, subscriptions_left};
+ghost use Rattle.server_rules.specs.Standing.{waiters_of, subscriptions_of, Ends, ending_of, waiters_ended, subscriptions_ended, waiters_left, subscriptions_left};
 
 use s6_events::{SubId, WaitId};
 use std::alloc::{AllocError, Global};
@@ -116,6 +116,22 @@ impl Standing {
         ensures no { IsFalse result → Contains self.now.waiters.items id → ⊥ }
     {
         self.waiters.as_slice().contains(&id)
+    }
+
+    /// What this ends stands again, since its end could not be handed in. There is room: `take_last` took it out.
+    pub fn restore(&mut self, ending: &Ending) -> Result<(), AllocError>
+        ensures waiters { OnOk result
+            (self.new.waiters.items ≡ self.old.waiters.items ++ waiters_ended ending.now) }
+        ensures subscriptions { OnOk result
+            (self.new.subscriptions.items
+            ≡ self.old.subscriptions.items ++ subscriptions_ended ending.now) }
+    {
+        match ending {
+            Ending::Waiter(id) => self.waiters.push(*id)?,
+            Ending::Subscription(id) => self.subscriptions.push(*id)?,
+            Ending::Nothing => {}
+        }
+        Ok(())
     }
 
     /// The act that ends what was made last, of the waiters first; None where nothing stands.

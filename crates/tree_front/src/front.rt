@@ -1,7 +1,8 @@
 //! What the words ask for: a client that is run here, or a tree or a replay that the program runs.
 use crate::asked::{Program, program_named};
 use crate::help_text::SVSCAN_HELP;
-use s6_tools::{Tool, run_client};
+use arrayvec::ArrayVec;
+use s6_tools::run_client;
 use std::alloc::Global;
 use std::env::Env;
 use std::io::Write;
@@ -48,7 +49,7 @@ pub enum Asked {
 }
 
 /// Does what the command line asks for, with these outputs, but for a tree and a replay, which its caller runs. Where it was not done one
-/// line on `errors` says why. Words for which there is no memory are left to the replay, which needs none for them.
+/// line on `errors` says why. Without memory for its words a replay is done all the same, since it needs none for them.
 pub fn run_words<R: Env + Net + Processes, W: Write, E: Write>(
     rt: &R,
     alloc: Global,
@@ -56,14 +57,14 @@ pub fn run_words<R: Env + Net + Processes, W: Write, E: Write>(
     errors: &mut E,
 ) -> Asked {
     let Ok(words) = words_of(rt, alloc) else {
-        return Asked::Replay;
+        return refuse_words(rt, alloc, errors);
     };
     match program_of(words.as_slice()) {
         Program::Other => Asked::Replay,
         Program::Svscan => read_place(words, output, errors),
         Program::Client(tool) => match borrowed(alloc, words.as_slice()) {
             Ok(all) => Asked::Done(run_client(rt, alloc, tool, all.as_slice(), output, errors)),
-            Err(_) => Asked::Done(tell_no_memory(tool, errors)),
+            Err(_) => Asked::Done(tell_no_memory(tool.name(), errors)),
         },
     }
 }
@@ -84,6 +85,24 @@ fn program_of(words: &[String]) -> Program {
     }
 }
 
+// What comes of words for which there is no memory, by the first of them alone, if there is memory for that.
+fn refuse_words<R: Env, E: Write>(rt: &R, alloc: Global, errors: &mut E) -> Asked {
+    match first_word(rt, alloc) {
+        Ok(Some(word)) => match program_named(word.as_str()) {
+            Program::Other => Asked::Replay,
+            Program::Svscan => Asked::Done(tell_no_memory("svscan", errors)),
+            Program::Client(tool) => Asked::Done(tell_no_memory(tool.name(), errors)),
+        },
+        Ok(None) => Asked::Replay,
+        Err(_) => Asked::Done(tell_no_memory("s6_tree", errors)),
+    }
+}
+
+// The word behind the name of the program.
+fn first_word<R: Env>(rt: &R, alloc: Global) -> io::Result<Option<String>> {
+    Ok(env::args(&(rt, alloc))?.nth(1))
+}
+
 // The words behind the name of the program and that of the tool.
 fn borrowed(alloc: Global, words: &[String]) -> io::Result<Vec<&str>> {
     let mut all = Vec::new(alloc);
@@ -93,9 +112,12 @@ fn borrowed(alloc: Global, words: &[String]) -> io::Result<Vec<&str>> {
     Ok(all)
 }
 
-fn tell_no_memory<E: Write>(tool: Tool, errors: &mut E) -> u8 {
-    let _ = errors.write_all(tool.name().as_bytes());
-    let _ = errors.write_all(b": no memory\n");
+// One write, so that the line is whole.
+fn tell_no_memory<E: Write>(program: &str, errors: &mut E) -> u8 {
+    let mut line = ArrayVec::<u8, 64>::new();
+    let _ = line.try_extend_from_slice(program.as_bytes());
+    let _ = line.try_extend_from_slice(b": no memory\n");
+    let _ = errors.write_all(line.as_slice());
     SYSTEM_STATUS
 }
 

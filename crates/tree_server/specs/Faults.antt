@@ -4,6 +4,7 @@ use Rattle.tree_server.specs.declared.fault.ServeFault.{ServeFault}
 use Rattle.tree_server.specs.declared.fault.ServeFault.TheVariants as fault
 
 abbrev pub fault_text : ServeFault → List ℕ
+fault_text fault.Shell = codes "svscan: no shell\n"
 fault_text fault.Socket = codes "svscan: socket\n"
 fault_text fault.Directory = codes "svscan: directory\n"
 fault_text fault.NoMemory = codes "svscan: no memory\n"

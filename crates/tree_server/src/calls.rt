@@ -11,6 +11,8 @@ use tree_core::Act;
 pub enum Call {
     /// The status of a service.
     Status(Name),
+    /// A scan of the directory.
+    Scan,
     /// A step with this act.
     Step(Act<Global>),
     /// The end of all that stands of the connection.
@@ -23,8 +25,6 @@ struct Turn {
     asked: Option<Call>,
     /// Whether what was asked is begun, and not answered.
     is_begun: bool,
-    /// How many scans were answered.
-    scans: u64,
     /// Whether a connection is there, and has asked for something.
     is_here: bool,
     is_over: bool,
@@ -50,7 +50,6 @@ impl Caller {
             turn: Mutex::new(Turn {
                 asked: None,
                 is_begun: false,
-                scans: 0,
                 is_here: false,
                 is_over: false,
             }),
@@ -91,27 +90,6 @@ impl Caller {
     /// The call is answered.
     pub fn finish<R: Wait>(&self, rt: &R) {
         self.turn.lock(rt).is_begun = false;
-        self.changed.notify_all();
-    }
-
-    /// How many scans were answered.
-    pub fn scans<R: Wait>(&self, rt: &R) -> u64 {
-        self.turn.lock(rt).scans
-    }
-
-    /// Waits until more scans than so many were answered, or the tree has ended.
-    pub fn await_scan<R: Wait>(&self, rt: &R, before: u64) {
-        let mut turn = self.turn.lock(rt);
-        turn.is_here = true;
-        let _turn = self
-            .changed
-            .wait_while(rt, turn, |turn| turn.scans <= before && !turn.is_over);
-    }
-
-    /// A scan that it asked for was answered.
-    pub fn finish_scan<R: Wait>(&self, rt: &R) {
-        let mut turn = self.turn.lock(rt);
-        turn.scans = turn.scans.saturating_add(1);
         self.changed.notify_all();
     }
 

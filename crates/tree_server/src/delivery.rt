@@ -1,30 +1,32 @@
 //! Handing out what steps gave.
 use crate::driver_state::{Connection, DriverState, Purpose};
 use crate::posting::{finish_call, match_lines, post, release_lines, reply_lines};
-use crate::serving::{answer_status, end_next};
+use crate::serving::answer_status;
 use crate::shared::Shared;
 use channel_names::Channels;
 use line_server::Server;
 use office::Office;
-use order_lanes::{Backend, Lanes, lane_of};
-use s6_events::{NoMemory, Order};
+use order_lanes::{Backend, Lanes};
+use s6_events::NoMemory;
 use server_rules::{Ending, Place, place_of};
 use status_board::Board;
 use std::alloc::Global;
+use std::io::Write;
 use std::mem;
 use std::sync::Wait;
-use std::time::Clock;
 use tree_core::{Effect, Match, Release, Reply};
 
-/// Hands out what all steps gave. False where a growth was refused: the next call begins with the step for which it was.
-pub fn deliver_all<C: Channels + Lanes, D: Board<C>, B: Backend, R: Wait + Clock>(
+/// Hands out what all steps gave; what a scan found no room for is told on `errors`. False where a growth was refused: the next call
+/// begins with the step for which it was.
+pub fn deliver_all<C: Channels + Lanes, D: Board<C>, B: Backend, R: Wait, E: Write>(
     rt: &R,
     server: &Server<Shared>,
     office: &Office<C, D, B>,
     state: &mut DriverState<C>,
+    errors: &mut E,
 ) -> bool {
     for _ in 0..u64::MAX {
-        match deliver_next(rt, server, office, state) {
+        match deliver_next(rt, server, office, state, errors) {
             Ok(true) => {}
             Ok(false) => break,
             Err(_) => return false,
@@ -33,12 +35,13 @@ pub fn deliver_all<C: Channels + Lanes, D: Board<C>, B: Backend, R: Wait + Clock
     true
 }
 
-// Hands out what the next step gave, if one more is made. Whether one was. At `NoMemory` nothing was handed out.
-fn deliver_next<C: Channels + Lanes, D: Board<C>, B: Backend, R: Wait + Clock>(
+// Hands out the next step's result. False where there is no such step. At `NoMemory` nothing was handed out.
+fn deliver_next<C: Channels + Lanes, D: Board<C>, B: Backend, R: Wait, E: Write>(
     rt: &R,
     server: &Server<Shared>,
     office: &Office<C, D, B>,
     state: &mut DriverState<C>,
+    errors: &mut E,
 ) -> Result<bool, NoMemory> {
     let number = state.steps.saturating_add(1);
     let Some(actor) = office.actor(rt, number) else {
@@ -48,72 +51,86 @@ fn deliver_next<C: Channels + Lanes, D: Board<C>, B: Backend, R: Wait + Clock>(
         return Ok(false);
     };
     state.steps = number;
-    hand_out(rt, server, state, place_of(actor), &effect);
+    match place_of(actor) {
+        Place::Scanner => answer_scanner(rt, server, state, &effect.reply, errors),
+        Place::Lane(_) => {}
+        Place::Client(seat) => answer_client(rt, server, state, seat, &effect.reply),
+    }
+    tell_others(rt, server, state.lasting.connections.as_slice(), &effect);
+    if let Place::Client(seat) = place_of(actor) {
+        finish_step(rt, server, state, seat);
+    }
     Ok(true)
 }
 
-// What a step of this place's actor gave goes to whoever is to have it.
-fn hand_out<C: Channels, R: Wait + Clock>(
+// A step of actor 0. The reply to a scan goes to the clients that asked for it, and what it found no room for is told.
+fn answer_scanner<C: Channels, R: Wait, E: Write>(
     rt: &R,
     server: &Server<Shared>,
     state: &mut DriverState<C>,
-    place: Place,
-    effect: &Effect<Global>,
+    reply: &Reply<Global>,
+    errors: &mut E,
 ) {
-    match place {
-        Place::Scanner => {
-            state.scans_and_ticks = state.scans_and_ticks.saturating_add(1);
-            if mem::replace(&mut state.awaits_scan, false) {
-                server.answers().driver.ring(rt);
-            }
-            answer_askers(rt, server, state.scans_and_ticks, &effect.reply);
-            tell_others(rt, server, state.connections.as_slice(), effect);
-        }
-        Place::Lane(_) => tell_others(rt, server, state.connections.as_slice(), effect),
-        Place::Client(seat) => answer_client(rt, server, state, seat, effect),
+    state.scans_and_ticks = state.scans_and_ticks.saturating_add(1);
+    if state.scan != Some(state.scans_and_ticks) {
+        return;
     }
-    ring_lanes(rt, server.answers(), effect.orders.as_slice());
-}
-
-// The reply to a scan goes to the clients that asked for it.
-fn answer_askers<R: Wait>(rt: &R, server: &Server<Shared>, number: u64, reply: &Reply<Global>) {
-    let shared = server.answers();
-    let askers = shared.agenda.take_served(rt, number);
-    for seat in &askers {
-        post(rt, server, *seat, &reply_lines(shared.alloc, reply));
-        if let Some(caller) = shared.callers.get(*seat) {
-            caller.finish_scan(rt);
+    state.scan = None;
+    state.lasting.awaits_first = false;
+    if let Reply::Scanned(report) = reply {
+        if let Ok(lines) = state.lasting.full.lines_of(report.listed()) {
+            let _ = errors.write_all(lines.as_slice());
         }
+    }
+    for seat in &state.lasting.plans.end_scan() {
+        post(
+            rt,
+            server,
+            *seat,
+            &reply_lines(server.answers().alloc, reply),
+        );
+        finish_call(rt, server, *seat);
     }
 }
 
-// The reply goes to the connection on this seat, before the matches and releases of its step, and then it may ask on.
-fn answer_client<C: Channels, R: Wait + Clock>(
+// The reply goes to the connection on this seat, before the matches and releases of its step.
+fn answer_client<C: Channels, R: Wait>(
     rt: &R,
     server: &Server<Shared>,
     state: &mut DriverState<C>,
     seat: usize,
-    effect: &Effect<Global>,
+    reply: &Reply<Global>,
 ) {
-    let Some(connection) = state.connections.get_mut(seat) else {
+    let Some(connection) = state.lasting.connections.get_mut(seat) else {
         return;
     };
-    let purpose = mem::replace(&mut connection.purpose, Purpose::None);
-    if let Purpose::Request(ending) = &purpose {
-        // There is room: it was made before the request was handed in.
-        let _ = connection.standing.note(&effect.reply);
-        let text = reply_lines(server.answers().alloc, &effect.reply);
-        post(rt, server, seat, &text);
-        if matches!(effect.reply, Reply::Done) {
-            forget(&mut state.connections, ending);
-        }
+    let Purpose::Request(ending) = connection.purpose else {
+        return;
+    };
+    // There is room: it was made before the request was handed in.
+    let _ = connection.standing.note(reply);
+    let text = reply_lines(server.answers().alloc, reply);
+    post(rt, server, seat, &text);
+    if matches!(reply, Reply::Done) {
+        forget(&mut state.lasting.connections, &ending);
     }
-    tell_others(rt, server, state.connections.as_slice(), effect);
-    match purpose {
+}
+
+// What was asked is answered, and the connection may ask on.
+fn finish_step<C: Channels, R: Wait>(
+    rt: &R,
+    server: &Server<Shared>,
+    state: &mut DriverState<C>,
+    seat: usize,
+) {
+    let Some(connection) = state.lasting.connections.get_mut(seat) else {
+        return;
+    };
+    match mem::replace(&mut connection.purpose, Purpose::None) {
         Purpose::Request(_) => finish_call(rt, server, seat),
         Purpose::Status(name) => answer_status(rt, server, state, seat, &name),
-        Purpose::End => end_next(rt, server, state, seat),
-        Purpose::None => {}
+        // The next one is ended when connections are looked at again.
+        Purpose::End | Purpose::None => {}
     }
 }
 
@@ -168,24 +185,4 @@ fn tell_release<R: Wait>(
             );
         }
     }
-}
-
-// Rings for the lanes that have orders.
-fn ring_lanes<R: Wait>(rt: &R, shared: &Shared, orders: &[Order]) {
-    let count = shared.lanes.len();
-    if count == 0 {
-        return;
-    }
-    for order in orders {
-        if let Some(bell) = shared.lanes.get(lane_of(order, count)) {
-            bell.ring(rt);
-        }
-    }
-}
-
-/// Whether a step of a connection's actor is under way.
-pub fn has_step_to_come(connections: &[Connection]) -> bool {
-    connections
-        .iter()
-        .any(|connection| !matches!(connection.purpose, Purpose::None))
 }

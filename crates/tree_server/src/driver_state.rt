@@ -1,14 +1,31 @@
-//! What the thread that drives has of a run.
+//! What the thread that drives has, of a run and from the first run to the last.
+use crate::clock::moment_of;
 use channel_names::Channels;
-use inbox::{Seat, Ticket};
+use inbox::Seat;
 use line_server::SEAT_COUNT;
-use s6_events::{At, Name, NoMemory};
-use server_rules::{Ending, Standing};
+use order_lanes::Report;
+use s6_events::{Name, NoMemory};
+use server_rules::{Ending, FullServices, Plans, Standing};
 use status_board::BoardReader;
 use std::alloc::Global;
-use tree_core::Act;
+use tree_core::{Act, Listing};
 
-/// What the next step of a connection's actor is for.
+/// How many lanes there are.
+pub const LANE_COUNT: usize = 4;
+
+/// The actor of scans and ticks.
+pub const SCANNER: usize = 0;
+
+/// The actor of the first lane.
+pub const FIRST_LANE: usize = 1;
+
+/// The actor of the first connection.
+pub const FIRST_CLIENT: usize = 5;
+
+/// How many actors there are: one for scans and ticks, one for each lane, and one for each connection.
+pub const ACTOR_COUNT: usize = 16;
+
+/// What the step under way of a connection's actor is for.
 #[derive(Clone, Copy)]
 pub enum Purpose {
     /// There is none.
@@ -17,7 +34,7 @@ pub enum Purpose {
     Request(Ending),
     /// The ages in the status of this service, which goes to the connection.
     Status(Name),
-    /// The end of what stands of the connection.
+    /// The end of something that stands of a connection that has left.
     End,
 }
 
@@ -26,92 +43,134 @@ pub enum Purpose {
 pub struct Connection {
     pub purpose: Purpose,
     pub standing: Standing,
+    /// Whether it has ended, and what stands of it is to be ended.
+    pub is_leaving: bool,
 }
 
-/// Nobody is connected on any seat. `NoMemory` where a growth was refused.
-pub fn no_connections(alloc: Global) -> Result<Vec<Connection>, NoMemory> {
-    let mut connections = Vec::with_capacity(alloc, SEAT_COUNT)?;
-    for _ in 0..SEAT_COUNT {
-        connections.push(Connection {
-            purpose: Purpose::None,
-            standing: Standing::new(alloc),
-        })?;
+/// What goes on from one run to the next, beside the tree and its backends.
+#[derive(Drop)]
+pub struct Lasting {
+    /// By their seats.
+    pub connections: Vec<Connection>,
+    pub plans: Plans,
+    /// What is scanned first, before anything else is handed in.
+    pub first: Option<Listing<Global>>,
+    /// Whether the first scan isn't answered yet: nothing is begun for connections before.
+    pub awaits_first: bool,
+    /// The reports that no seat took yet, by lane.
+    pub kept: Vec<Option<Report>>,
+    pub full: FullServices,
+    /// The clock of the tree, in milliseconds: the greatest moment of what was handed in, once all of that was done.
+    pub now: u64,
+    /// The greatest moment of what was handed in.
+    pub handed_in: u64,
+}
+
+impl Lasting {
+    /// Of a tree to which nothing was handed in. `NoMemory` where a growth was refused.
+    pub fn new(alloc: Global, first: Listing<Global>) -> Result<Lasting, NoMemory> {
+        let mut connections = Vec::with_capacity(alloc, SEAT_COUNT)?;
+        for _ in 0..SEAT_COUNT {
+            connections.push(Connection {
+                purpose: Purpose::None,
+                standing: Standing::new(alloc),
+                is_leaving: false,
+            })?;
+        }
+        let mut kept = Vec::with_capacity(alloc, LANE_COUNT)?;
+        for _ in 0..LANE_COUNT {
+            kept.push(None)?;
+        }
+        Ok(Lasting {
+            connections,
+            plans: Plans::new(),
+            first: Some(first),
+            awaits_first: true,
+            kept,
+            full: FullServices::new(alloc),
+            now: 0,
+            handed_in: 0,
+        })
     }
-    Ok(connections)
 }
 
 /// What the thread that drives has of a run.
 #[derive(Drop)]
 pub struct DriverState<C: Channels> {
-    /// Where the steps of connections are handed in, by their seats.
+    /// Where inputs are handed in, by their actors.
     pub seats: Vec<Seat<C>>,
     pub reader: BoardReader<C>,
-    pub connections: Vec<Connection>,
+    pub lasting: Lasting,
     /// How many steps of the run were handed out.
     pub steps: u64,
     /// How many of those were inputs of actor 0.
     pub scans_and_ticks: u64,
-    /// The moment of the last step, in milliseconds.
-    pub last_step: u64,
+    /// The number of the input of actor 0 that is a scan, until it is answered.
+    pub scan: Option<u64>,
     /// Whether the board shows the last step. It doesn't while there is no memory to show it.
     pub is_shown: bool,
-    /// Whether nothing is begun for connections yet, since the first scan is still to be made.
-    pub awaits_scan: bool,
-}
-
-/// Hands in an act. Where the ring is full, or has taken as many inputs as it ever may, the act comes back.
-pub fn hand_in<C: Channels>(
-    seat: &mut Seat<C>,
-    at: At,
-    act: Act<Global>,
-) -> Result<Ticket, Act<Global>> {
-    if seat.sent() >= i64::MAX as u64 {
-        return Err(act);
-    }
-    match seat.submit(at, act) {
-        Ok(ticket) => Ok(ticket),
-        Err((act, _full)) => Err(act),
-    }
+    /// Whether a lane took no order when it was last asked.
+    pub is_lane_busy: bool,
 }
 
 impl<C: Channels> DriverState<C> {
     /// Of a run in which no step was made.
-    pub fn new(
-        seats: Vec<Seat<C>>,
-        reader: BoardReader<C>,
-        connections: Vec<Connection>,
-        last_step: u64,
-        awaits_scan: bool,
-    ) -> DriverState<C> {
+    pub fn new(seats: Vec<Seat<C>>, reader: BoardReader<C>, lasting: Lasting) -> DriverState<C> {
         DriverState {
             seats,
             reader,
-            connections,
+            lasting,
             steps: 0,
             scans_and_ticks: 0,
-            last_step,
+            scan: None,
             is_shown: true,
-            awaits_scan,
+            is_lane_busy: false,
         }
     }
 
-    /// The moment of the last step, in milliseconds, if the board shows it.
-    pub fn shown_step(&self) -> Option<u64> {
-        self.is_shown.then_some(self.last_step)
+    /// The clock of the tree, in milliseconds, if the board shows the last step.
+    pub fn shown_moment(&self) -> Option<u64> {
+        self.is_shown.then_some(self.lasting.now)
+    }
+
+    /// Hands in an act of this actor. Where its ring is full, or has taken as many inputs as it ever may, the act comes back.
+    pub fn hand_in(&mut self, actor: usize, now: u64, act: Act<Global>) -> Result<(), Act<Global>> {
+        let Some(seat) = self.seats.get_mut(actor) else {
+            return Err(act);
+        };
+        if seat.sent() >= i64::MAX as u64 {
+            return Err(act);
+        }
+        match seat.submit(moment_of(now), act) {
+            Ok(_ticket) => {
+                self.lasting.handed_in = self.lasting.handed_in.max(now);
+                Ok(())
+            }
+            Err((act, _full)) => Err(act),
+        }
     }
 
     /// Hands in an act of a connection's actor. Whether it was taken, and its step is to come.
-    pub fn submit(&mut self, seat: usize, at: At, act: Act<Global>, purpose: Purpose) -> bool {
-        let (Some(end), Some(connection)) = (
-            self.seats.get_mut(seat),
-            self.connections.get_mut(seat),
-        ) else {
-            return false;
-        };
-        if hand_in(end, at, act).is_err() {
+    pub fn submit(&mut self, seat: usize, now: u64, act: Act<Global>, purpose: Purpose) -> bool {
+        if self.hand_in(FIRST_CLIENT + seat, now, act).is_err() {
             return false;
         }
-        connection.purpose = purpose;
+        if let Some(connection) = self.lasting.connections.get_mut(seat) {
+            connection.purpose = purpose;
+        }
         true
+    }
+
+    /// Hands in a scan. Whether it was taken.
+    pub fn submit_scan(&mut self, now: u64, listing: Listing<Global>) -> bool {
+        let Some(seat) = self.seats.get(SCANNER) else {
+            return false;
+        };
+        let number = seat.sent().saturating_add(1);
+        let is_taken = self.hand_in(SCANNER, now, Act::Scan(listing)).is_ok();
+        if is_taken {
+            self.scan = Some(number);
+        }
+        is_taken
     }
 }

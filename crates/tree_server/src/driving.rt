@@ -1,6 +1,9 @@
 //! The thread that drives a run.
 use crate::delivery::deliver_all;
-use crate::driver_state::DriverState;
+use crate::driver_state::{DriverState, Purpose, SCANNER};
+use crate::lanes::{Carrying, carry_all, hand_in_reports};
+use crate::posting::refuse_call;
+use crate::scan_desk::Found;
 use crate::serving::begin_all;
 use crate::shared::Shared;
 use channel_names::Channels;
@@ -8,108 +11,216 @@ use line_server::Server;
 use locked_services::{DriveStop, Driven};
 use office::Office;
 use order_lanes::{Backend, Lanes};
+use server_rules::{OwnAnswer, Wanted};
 use status_board::Board;
+use std::io::Write;
 use std::sync::Wait;
 use std::time::{Clock, Duration};
+use tree_core::Act;
 
 /// How many steps are made before what they gave is handed out.
 const STEPS: u64 = 64;
 
-/// How long it waits for memory, in milliseconds.
-pub const MEMORY_WAIT: u64 = 100;
+/// How many steps more a run may have while a lane that takes no order is waited for at its end. What then is in the rings has room too.
+const SPARE_STEPS: u64 = 1_024;
+
+/// How long it waits where a lane or the system refused something, in milliseconds; a lane rings before, if it can.
+pub const RETRY_WAIT: u64 = 100;
 
 /// Why a run is driven no more.
 #[derive(Clone, Copy, PartialEq, Eq, Debug)]
 pub enum RunEnd {
     /// The tree has ended.
     Ended,
-    /// The run has so many steps that the next one is to begin.
+    /// The run has so many steps that the next one is to begin, and nothing is left to be done in it.
     Handover,
-    /// A thread of the run could not be started.
-    Thread,
     /// The run takes no step more.
     Full,
 }
 
-// What the driver does next.
-#[derive(Clone, Copy, PartialEq, Eq)]
+/// Why no step was made, when all were that could be.
+#[derive(Clone, Copy, PartialEq, Eq, Debug)]
+pub enum Halt {
+    /// No input is left.
+    Idle,
+    /// This lane has no room for the orders of a step.
+    Blocked(usize),
+    /// There is no memory for a step, or for what it gave.
+    NoMemory,
+    /// The run takes no step more.
+    Full,
+}
+
+/// What is done after a pass over all that was to be done.
+#[derive(Clone, Copy, PartialEq, Eq, Debug)]
 pub enum After {
-    /// It waits for its bell.
-    Wait,
-    /// It waits for memory.
-    WaitForMemory,
-    /// It waits until this lane has carried orders.
-    WaitForLane(usize),
+    /// There is more to do at once.
+    GoOn,
+    /// It waits for its bell, but at most so many milliseconds where a number is given.
+    Wait(Option<u64>),
     /// It drives no more.
     Stop(RunEnd),
 }
 
-/// Makes the steps of all that is asked and handed in, and hands out what they gave, until the tree has ended or the run has so many
-/// steps.
-pub fn drive_run<C: Channels + Lanes, D: Board<C>, B: Backend, R: Wait + Clock>(
+/// Hands in all that is asked, read, reported and due, makes the steps, hands out what they gave, and lets the lanes carry, until the
+/// tree has ended or the run has `handover` steps and nothing is left to be done.
+pub fn drive_run<C: Channels + Lanes, D: Board<C>, B: Backend, R: Wait + Clock, E: Write>(
     rt: &R,
     server: &Server<Shared>,
     office: &Office<C, D, B>,
     state: &mut DriverState<C>,
     handover: u64,
+    errors: &mut E,
 ) -> RunEnd {
-    let shared = server.answers();
     for _ in rt.forever() {
-        if shared.agenda.is_over(rt) {
-            break;
-        }
-        if !state.awaits_scan {
-            begin_all(rt, server, state);
-        }
-        let after = drive_some(rt, server, office, state, handover);
-        shared.agenda.set_due(rt, office.next_due(rt));
-        match after {
+        match drive_once(rt, server, office, state, handover, errors) {
+            After::GoOn => {}
+            After::Wait(time) => wait_for_bell(rt, server.answers(), time),
             After::Stop(end) => return end,
-            After::WaitForMemory => {
-                let time = Duration::from_millis(MEMORY_WAIT);
-                let _ = shared.driver.wait_at_most(rt, time);
-            }
-            // A lane rings once it has carried.
-            After::WaitForLane(_) => shared.driver.wait(rt),
-            After::Wait => {
-                if office.ended(rt) {
-                    return RunEnd::Ended;
-                }
-                shared.driver.wait(rt);
+        }
+    }
+    RunEnd::Full
+}
+
+fn drive_once<C: Channels + Lanes, D: Board<C>, B: Backend, R: Wait + Clock, E: Write>(
+    rt: &R,
+    server: &Server<Shared>,
+    office: &Office<C, D, B>,
+    state: &mut DriverState<C>,
+    handover: u64,
+    errors: &mut E,
+) -> After {
+    let now = server.answers().clock.millis(rt);
+    let is_open = takes_inputs(state, handover);
+    let mut is_full = false;
+    if is_open {
+        hand_in_all(rt, server, state, now);
+        is_full = hand_in_reports(rt, office, state, now);
+    }
+    let halt = drive_some(rt, server, office, state, errors);
+    let carrying = carry_all(rt, office);
+    state.is_lane_busy = carrying.has_busy();
+    if halt == Halt::Idle {
+        state.lasting.plans.due = office.next_due(rt);
+    }
+    let has_more = is_open && (is_full || has_more_to_end(state));
+    match halt {
+        Halt::Full => After::Stop(RunEnd::Full),
+        Halt::Idle if office.ended(rt) => After::Stop(RunEnd::Ended),
+        Halt::Idle if carrying.is_done() && state.steps >= handover => {
+            After::Stop(RunEnd::Handover)
+        }
+        Halt::Idle if carrying.has_more || has_more => After::GoOn,
+        Halt::Blocked(lane) if !carrying.is_busy_at(lane) => After::GoOn,
+        Halt::Idle if carrying.is_done() => After::Wait(until_due(state, is_open, now)),
+        _ => After::Wait(Some(retry_time(state, is_open, now))),
+    }
+}
+
+// Once a run has so many steps nothing more is handed in, unless a lane has to be waited for, and then as far as the run has room.
+fn takes_inputs<C: Channels>(state: &DriverState<C>, handover: u64) -> bool {
+    state.steps < handover
+        || (state.is_lane_busy && state.steps < handover.saturating_add(SPARE_STEPS))
+}
+
+// Hands in scans, ticks, and what connections ask. The first scan goes before all else.
+fn hand_in_all<C: Channels, R: Wait>(
+    rt: &R,
+    server: &Server<Shared>,
+    state: &mut DriverState<C>,
+    now: u64,
+) {
+    if let Some(first) = state.lasting.first.take() {
+        state.lasting.plans.begin_scan();
+        let _ = state.submit_scan(now, first);
+    }
+    if state.lasting.awaits_first {
+        return;
+    }
+    begin_all(rt, server, state, now);
+    hand_in_found(rt, server, state, now);
+    if state.lasting.plans.is_called() {
+        state.lasting.plans.begin_scan();
+        server.answers().scans.ask(rt);
+    }
+    hand_in_due(state, now);
+}
+
+/// Hands in a tick, if one is wanted at this moment, in milliseconds.
+pub fn hand_in_due<C: Channels>(state: &mut DriverState<C>, now: u64) {
+    if state.lasting.plans.wanted(now) == Wanted::Tick {
+        // Where the ring is full, the steps to come say what is due after them.
+        state.lasting.plans.due = None;
+        let _ = state.hand_in(SCANNER, now, Act::Tick);
+    }
+}
+
+// Hands in a listing that was read, or tells those that asked for a scan why there is none.
+fn hand_in_found<C: Channels, R: Wait>(
+    rt: &R,
+    server: &Server<Shared>,
+    state: &mut DriverState<C>,
+    now: u64,
+) {
+    let Some(found) = server.answers().scans.take_found(rt) else {
+        return;
+    };
+    let Some(answer) = refusal_of(state, now, found) else {
+        return;
+    };
+    for seat in &state.lasting.plans.end_scan() {
+        refuse_call(rt, server, *seat, answer);
+    }
+}
+
+// Why there is no scan; None where the listing was handed in.
+fn refusal_of<C: Channels>(
+    state: &mut DriverState<C>,
+    now: u64,
+    found: Found,
+) -> Option<OwnAnswer> {
+    match found {
+        Err(answer) => Some(answer),
+        Ok(listing) => {
+            if state.submit_scan(now, listing) {
+                None
+            } else {
+                Some(OwnAnswer::Full)
             }
         }
     }
-    RunEnd::Thread
 }
 
-/// Drives until no input is there, or the run has so many steps.
-pub fn drive_some<C: Channels + Lanes, D: Board<C>, B: Backend, R: Wait + Clock>(
+/// Makes all steps that can be made, and hands out what they gave.
+pub fn drive_some<C: Channels + Lanes, D: Board<C>, B: Backend, R: Wait, E: Write>(
     rt: &R,
     server: &Server<Shared>,
     office: &Office<C, D, B>,
     state: &mut DriverState<C>,
-    handover: u64,
-) -> After {
+    errors: &mut E,
+) -> Halt {
     for _ in rt.forever() {
         let driven = office.drive(rt, STEPS);
         note_steps(rt, server.answers(), office, state, driven);
-        if !deliver_all(rt, server, office, state) {
-            return After::WaitForMemory;
+        if driven.stop == DriveStop::Idle {
+            state.lasting.now = state.lasting.handed_in;
+        }
+        if !deliver_all(rt, server, office, state, errors) {
+            return Halt::NoMemory;
         }
         match driven.stop {
-            DriveStop::NoMemory => return After::WaitForMemory,
-            DriveStop::RunFull => return After::Stop(RunEnd::Full),
-            _ if state.steps >= handover => return After::Stop(RunEnd::Handover),
             DriveStop::Count => {}
-            DriveStop::Idle => return After::Wait,
-            DriveStop::Blocked(lane) => return After::WaitForLane(lane),
+            DriveStop::Idle => return Halt::Idle,
+            DriveStop::Blocked(lane) => return Halt::Blocked(lane),
+            DriveStop::NoMemory => return Halt::NoMemory,
+            DriveStop::RunFull => return Halt::Full,
         }
     }
-    After::Wait
+    Halt::Idle
 }
 
 // What a drive changes of what statuses are told from.
-fn note_steps<C: Channels + Lanes, D: Board<C>, B: Backend, R: Wait + Clock>(
+fn note_steps<C: Channels + Lanes, D: Board<C>, B: Backend, R: Wait>(
     rt: &R,
     shared: &Shared,
     office: &Office<C, D, B>,
@@ -122,7 +233,39 @@ fn note_steps<C: Channels + Lanes, D: Board<C>, B: Backend, R: Wait + Clock>(
     }
     shared.rows.invalidate(rt);
     if driven.steps > 0 {
-        state.last_step = shared.clock.millis(rt);
         state.reader.learn(office.tell(rt));
+    }
+}
+
+// Whether a connection that has left has more that stands, and none of it under way.
+fn has_more_to_end<C: Channels>(state: &DriverState<C>) -> bool {
+    state.lasting.connections.as_slice().iter().any(|connection| connection.is_leaving
+        && matches!(connection.purpose, Purpose::None))
+}
+
+// How many milliseconds it waits at most: until a timer or a deadline is due, where a tick may be handed in then.
+fn until_due<C: Channels>(state: &DriverState<C>, is_open: bool, now: u64) -> Option<u64> {
+    if !is_open {
+        return None;
+    }
+    state.lasting.plans.due.map(|due| due.saturating_sub(now))
+}
+
+// How many milliseconds it waits at most where something was refused.
+fn retry_time<C: Channels>(state: &DriverState<C>, is_open: bool, now: u64) -> u64 {
+    until_due(state, is_open, now)
+        .unwrap_or(RETRY_WAIT)
+        .min(RETRY_WAIT)
+}
+
+/// Waits for the driver's bell, but at most so many milliseconds where a number is given.
+pub fn wait_for_bell<R: Wait + Clock>(rt: &R, shared: &Shared, time: Option<u64>) {
+    match time {
+        Some(millis) => {
+            let _ = shared
+                .driver
+                .wait_at_most(rt, Duration::from_millis(millis));
+        }
+        None => shared.driver.wait(rt),
     }
 }

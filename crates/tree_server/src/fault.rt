@@ -13,9 +13,11 @@ const USAGE_STATUS: u8 = 100;
 /// Why a tree did not run to its end.
 #[derive(Clone, Copy, Debug, PartialEq, Eq)]
 pub enum ServeFault {
+    /// No shell can be run, by which signals are sent.
+    Shell,
     /// The socket could not be made, or a server answers there.
     Socket,
-    /// The scan directory could not be read.
+    /// The scan directory could not be read, or a line of a script can't say what is in it.
     Directory,
     /// A growth was refused.
     NoMemory,
@@ -29,7 +31,7 @@ pub enum ServeFault {
     Lanes,
     /// The run could not be closed.
     Close,
-    /// The record could not be made, or a run was not written into it.
+    /// The record could not be made, or is used by another server, or a run was not written into it.
     Record,
 }
 
@@ -38,6 +40,7 @@ fn text_of(fault: ServeFault) -> &'static [u8]
     ensures { result.now ≡ fault_text fault }
 {
     match fault {
+        ServeFault::Shell => b"svscan: no shell\n",
         ServeFault::Socket => b"svscan: socket\n",
         ServeFault::Directory => b"svscan: directory\n",
         ServeFault::NoMemory => b"svscan: no memory\n",

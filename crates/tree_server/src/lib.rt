@@ -1,32 +1,32 @@
-//! A tree that runs: one thread drives a run of it, one gives it scans and ticks, and each lane has one; each connection of its socket
-//! has one from the first run to the last.
+//! A tree that runs. Its threads live from its first run to its last: one drives all runs, each lane has one, one reads the scan directory,
+//! one accepts connections, and each connection has two.
 #![tactic(auto)]
 
-mod agenda;
 mod calls;
+mod clock;
 mod connecting;
 mod delivery;
 mod driver_state;
 mod driving;
+mod ending;
 mod fault;
-mod lane_service;
+mod lanes;
 mod options;
 mod outcome;
 mod posting;
 mod recorder;
-mod run;
+mod refusing;
+mod runs;
+mod scan_desk;
 mod scanning;
-mod seat_room;
 mod serve;
 mod service_lanes;
 mod serving;
 mod shared;
-mod slot;
 mod socket;
 mod threads;
-mod time;
 
 pub use fault::{ServeFault, refuse_usage, tell_serve_fault};
 pub use options::{HANDOVER, ServeOptions};
 pub use serve::run_tree;
-pub use service_lanes::{LANE_COUNT, ServiceLanes};
+pub use service_lanes::{ServiceLanes, TreeLanes, service_lanes};

@@ -1,28 +1,28 @@
-//! How a run came to its end.
-use crate::driving::RunEnd;
+//! How a tree came to its end.
+use crate::fault::ServeFault;
 use std::sync::{Mutex, Wait};
 
-/// How a run came to its end, as the thread that drives it notes it.
+/// How a tree came to its end, as the thread that drives it notes it.
 #[derive(Drop)]
 pub struct Outcome {
-    end: Mutex<RunEnd>,
+    end: Mutex<Result<(), ServeFault>>,
 }
 
 impl Outcome {
     /// Nothing was noted: a thread could not be started.
     pub fn new() -> Outcome {
         Outcome {
-            end: Mutex::new(RunEnd::Thread),
+            end: Mutex::new(Err(ServeFault::Thread)),
         }
     }
 
-    /// Notes why the run is driven no more.
-    pub fn note<R: Wait>(&self, rt: &R, end: RunEnd) {
+    /// Notes why the tree is driven no more.
+    pub fn note<R: Wait>(&self, rt: &R, end: Result<(), ServeFault>) {
         *self.end.lock(rt) = end;
     }
 
-    /// Why the run is driven no more.
-    pub fn get<R: Wait>(&self, rt: &R) -> RunEnd {
+    /// Why the tree is driven no more.
+    pub fn get<R: Wait>(&self, rt: &R) -> Result<(), ServeFault> {
         *self.end.lock(rt)
     }
 }

@@ -40,6 +40,12 @@ pub fn finish_call<R: Wait>(rt: &R, server: &Server<Shared>, seat: usize) {
     }
 }
 
+/// Answers what the connection on this seat asked by an answer of the server's own.
+pub fn refuse_call<R: Wait>(rt: &R, server: &Server<Shared>, seat: usize, answer: OwnAnswer) {
+    post_own(rt, server, seat, answer);
+    finish_call(rt, server, seat);
+}
+
 /// A reply, and the empty line behind it.
 pub fn reply_lines(alloc: Global, reply: &Reply<Global>) -> Result<Vec<u8>, AllocError> {
     let mut text = Vec::new(alloc);

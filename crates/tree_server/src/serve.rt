@@ -1,308 +1,202 @@
 //! A tree that runs, from its first scan to its end.
-ghost use Rattle.std.specs.Prelude.{◌≡◌, ℕ, slice_get};
-ghost use Rattle.office.specs.Names.{ring_of, lane_ring_of, asked_of};
-
-use crate::agenda::Agenda;
 use crate::calls::new_callers;
+use crate::clock::ServerClock;
 use crate::connecting::{end_connections, start_listener};
-use crate::driver_state::no_connections;
-use crate::driving::MEMORY_WAIT;
 use crate::fault::ServeFault;
 use crate::options::ServeOptions;
+use crate::outcome::Outcome;
 use crate::recorder::{Recorder, create_recorder};
-use crate::run::{AfterRun, Carryover, run};
-use crate::seat_room::{ACTOR_COUNT, SeatRoom};
+use crate::scan_desk::ScanDesk;
+use crate::scanning::attend;
+use crate::service_lanes::TreeLanes;
 use crate::shared::Shared;
-use crate::socket::listen;
-use crate::time::RunClock;
-use channel_names::Channels;
-use child_runner::Bell;
+use crate::socket::{SocketFile, listen};
+use crate::threads::{DriverParts, start_driver, start_lane};
+use child_runner::{Bell, LaneLink};
+use error_notes::{NoteWriter, Notes};
 use line_server::{Seats, Server};
-use log::{Log, info};
-use office::{NewOffice, OpenFault};
-use order_lanes::{Backend, Lanes};
+use order_lanes::Backend;
 use server_rules::{RowCache, read_listing};
 use std::alloc::Global;
-use std::io::{self, ErrorKind, Write};
-use std::marker::Brand;
+use std::fs::File;
+use std::io::{self, BufWriter, ErrorKind, Write};
 use std::net::Net;
 use std::os::unix::net::UnixListener;
 use std::rt::Files;
 use std::sync::{Arc, Wait};
-use std::thread::Threads;
-use std::time::{Clock, Duration};
-use std::{fs, thread};
-use tree_core::{Listing, Tree};
+use std::thread;
+use std::thread::{Scope, Threads};
+use std::time::Clock;
+use tree_core::Listing;
 
-/// Runs a tree of the services of a directory, and serves clients on a socket, until it has ended. There is a backend for each lane,
-/// one to four, each with its bell. What the services' directories have for faults is told on `errors`, and each new run by `log`.
-/// Page `s6-svscan`.
+/// What is there before a tree is served.
+#[derive(Drop)]
+struct Parts {
+    shared: Shared,
+    seats: Seats,
+    first: Listing<Global>,
+    recorder: Recorder<BufWriter<File>>,
+}
+
+/// Runs a tree of the services of a directory, and serves clients on a socket, until it has ended. Its threads live from its first run to
+/// its last. What the services' directories have for faults is noted, and each new run. Page `s6-svscan`.
 pub fn run_tree<
     B: Backend + Send,
-    R: Net + Files + Threads + Wait + Clock + Copy + Sync + Send + Drop,
-    E: Write,
-    L: Log,
+    K: Backend + Send,
+    R: Net + Files<File = File> + Threads + Wait + Clock + Copy + Sync + Send + Drop,
 >(
     rt: &R,
     alloc: Global,
-    backends: Vec<B>,
-    bells: Vec<Arc<Bell, Global>>,
+    lanes: TreeLanes<B, K>,
     options: ServeOptions<'_>,
-    errors: &mut E,
-    log: &L,
+    notes: &Notes,
 ) -> Result<(), ServeFault> {
-    let Ok(listener) = listen(rt, options.socket) else {
+    let Ok((listener, file)) = listen(rt, alloc, options.socket) else {
         return Err(ServeFault::Socket);
     };
-    let done = match prepare(rt, alloc, bells, listener, options.directory, errors) {
-        Ok((server, first)) => {
-            record_and_serve(rt, alloc, &server, backends, first, options, errors, log)
+    match prepare(rt, alloc, options, notes) {
+        Ok(parts) => serve(rt, listener, file, parts, lanes, options, notes),
+        Err(fault) => {
+            file.remove(rt, options.socket);
+            Err(fault)
         }
-        Err(fault) => Err(fault),
-    };
-    let _ = fs::remove_file(rt, options.socket);
-    done
+    }
 }
 
-// The server, and the first listing.
-fn prepare<R: Files + Clock + Copy + Drop, E: Write>(
+// All that is needed before a service is started.
+fn prepare<R: Files<File = File> + Wait + Clock + Copy + Drop>(
     rt: &R,
     alloc: Global,
-    bells: Vec<Arc<Bell, Global>>,
-    listener: UnixListener,
-    directory: &str,
-    errors: &mut E,
-) -> Result<(Server<Shared>, Listing<Global>), ServeFault> {
-    let Some(clock) = RunClock::start(rt) else {
+    options: ServeOptions<'_>,
+    notes: &Notes,
+) -> Result<Parts, ServeFault> {
+    let Some(clock) = ServerClock::start(rt) else {
         return Err(ServeFault::Clock);
     };
-    let first = match read_listing(rt, alloc, directory, errors) {
+    let recorder = match create_recorder(rt, alloc, options.record) {
+        Ok(recorder) => recorder,
+        Err(error) => return Err(fault_of(&error, ServeFault::Record)),
+    };
+    let mut errors = NoteWriter::new(rt, notes);
+    let first = match read_listing(rt, alloc, options.directory, &mut errors) {
         Ok(listing) => listing,
-        Err(error) => return Err(fault_of(&error)),
+        Err(error) => return Err(fault_of(&error, ServeFault::Directory)),
     };
-    let (Ok(callers), Ok(rows)) = (new_callers(alloc), RowCache::new(alloc)) else {
-        return Err(ServeFault::NoMemory);
-    };
-    let Ok(seats) = Seats::new(alloc) else {
+    let (Ok(callers), Ok(rows), Ok(seats)) = (
+        new_callers(alloc),
+        RowCache::new(alloc),
+        Seats::new(alloc),
+    ) else {
         return Err(ServeFault::NoMemory);
     };
     let shared = Shared {
         alloc,
         clock,
         callers,
-        agenda: Agenda::new(),
+        scans: ScanDesk::new(),
         rows,
         driver: Bell::new(),
-        lanes: bells,
     };
-    Ok((Server::new(alloc, listener, seats, shared), first))
-}
-
-fn fault_of(error: &io::Error) -> ServeFault {
-    match error.kind() {
-        ErrorKind::OutOfMemory => ServeFault::NoMemory,
-        _ => ServeFault::Directory,
-    }
-}
-
-// Makes the record empty, and serves.
-fn record_and_serve<
-    B: Backend + Send,
-    R: Files + Threads + Wait + Clock + Copy + Sync + Send + Drop,
-    E: Write,
-    L: Log,
->(
-    rt: &R,
-    alloc: Global,
-    server: &Server<Shared>,
-    backends: Vec<B>,
-    first: Listing<Global>,
-    options: ServeOptions<'_>,
-    errors: &mut E,
-    log: &L,
-) -> Result<(), ServeFault> {
-    let mut recorder = create_recorder(rt, alloc, options.record)?;
-    serve(
-        rt,
-        alloc,
-        server,
-        backends,
+    Ok(Parts {
+        shared,
+        seats,
         first,
-        options,
-        errors,
-        &mut recorder,
-        log,
-    )
-}
-
-// Serves connections in threads of their own, and runs the tree in this one.
-fn serve<
-    B: Backend + Send,
-    R: Files + Threads + Wait + Clock + Copy + Sync + Send + Drop,
-    E: Write,
-    W: Write + Drop,
-    L: Log,
->(
-    rt: &R,
-    alloc: Global,
-    server: &Server<Shared>,
-    backends: Vec<B>,
-    first: Listing<Global>,
-    options: ServeOptions<'_>,
-    errors: &mut E,
-    recorder: &mut Recorder<W>,
-    log: &L,
-) -> Result<(), ServeFault> {
-    thread::scope(thread::scope_env(), rt, |scope| {
-        let done = if start_listener(scope, rt, server) {
-            run_all(
-                rt, alloc, server, backends, first, options, errors, recorder, log,
-            )
-        } else {
-            Err(ServeFault::Thread)
-        };
-        end_connections(rt, server);
-        done
+        recorder,
     })
 }
 
-// One run after the other, until the tree has ended.
-fn run_all<
+fn fault_of(error: &io::Error, fault: ServeFault) -> ServeFault {
+    match error.kind() {
+        ErrorKind::OutOfMemory => ServeFault::NoMemory,
+        _ => fault,
+    }
+}
+
+// Serves the tree in threads, and reads its scan directory in this one.
+fn serve<
     B: Backend + Send,
+    K: Backend + Send,
     R: Files + Threads + Wait + Clock + Copy + Sync + Send + Drop,
-    E: Write,
-    W: Write + Drop,
-    L: Log,
 >(
     rt: &R,
-    alloc: Global,
-    server: &Server<Shared>,
-    backends: Vec<B>,
-    first: Listing<Global>,
+    listener: UnixListener,
+    file: SocketFile,
+    parts: Parts,
+    lanes: TreeLanes<B, K>,
     options: ServeOptions<'_>,
-    errors: &mut E,
-    recorder: &mut Recorder<W>,
-    log: &L,
+    notes: &Notes,
 ) -> Result<(), ServeFault> {
-    let (Ok(connections), Ok(tree)) = (no_connections(alloc), Box::new(alloc, Tree::new(alloc)))
-    else {
-        return Err(ServeFault::NoMemory);
+    let Parts {
+        shared,
+        seats,
+        first,
+        recorder,
+    } = parts;
+    let Ok(server) = Server::new(shared.alloc, listener, seats, shared) else {
+        return Err(ServeFault::Socket);
     };
-    let carryover = Carryover {
-        first: Some(first),
-        reports: Vec::new(alloc),
-        connections,
-        last_step: 0,
+    let TreeLanes {
+        backends,
+        links,
+        workers,
+    } = lanes;
+    let driver = DriverParts {
+        backends,
+        first,
+        recorder,
+        handover: options.handover,
     };
-    let mut next = AfterRun::Next(tree, backends, carryover);
-    let mut is_first = true;
-    for _ in rt.forever() {
-        match next {
-            AfterRun::Over(done) => return done,
-            AfterRun::Next(tree, backends, carryover) => {
-                if !is_first {
-                    info!(log; "svscan: handover");
-                }
-                is_first = false;
-                next = run_once(
-                    rt, alloc, server, tree, backends, carryover, options, errors, recorder,
-                );
-            }
+    let outcome = Outcome::new();
+    let mut errors = NoteWriter::new(rt, notes);
+    thread::scope(thread::scope_env(), rt, |scope| {
+        if start_all(
+            scope,
+            rt,
+            &server,
+            links.as_slice(),
+            workers,
+            driver,
+            &outcome,
+            notes,
+        ) {
+            attend(rt, server.answers(), options.directory, &mut errors);
         }
-    }
-    Ok(())
+        // While the listener is open its file is known.
+        file.remove(rt, options.socket);
+        end_all(rt, &server, links.as_slice());
+    });
+    outcome.get(rt)
 }
 
-// Makes a new office of the tree, once there is memory; for its first run it has to be there.
-fn run_once<
-    B: Backend + Send,
-    R: Files + Threads + Wait + Clock + Copy + Sync + Send + Drop,
-    E: Write,
-    W: Write + Drop,
->(
-    rt: &R,
-    alloc: Global,
-    server: &Server<Shared>,
-    tree: Box<Tree<Global>>,
-    backends: Vec<B>,
-    carryover: Carryover,
-    options: ServeOptions<'_>,
-    errors: &mut E,
-    recorder: &mut Recorder<W>,
-) -> AfterRun<B> {
-    match NewOffice::new(alloc, tree, ACTOR_COUNT, backends) {
-        Ok(office) => run_named::<B, Brand, R, E, W>(
-            rt, alloc, server, office, carryover, options, errors, recorder,
-        ),
-        Err((fault, tree, backends)) => wait_or_end(rt, fault, tree, backends, carryover),
-    }
-}
-
-// Where memory lacks between two runs, the next one is tried again a little later.
-fn wait_or_end<B: Drop, R: Clock>(
-    rt: &R,
-    fault: OpenFault,
-    tree: Box<Tree<Global>>,
-    backends: Vec<B>,
-    carryover: Carryover,
-) -> AfterRun<B> {
-    match fault {
-        OpenFault::Actors | OpenFault::Lanes => AfterRun::Over(Err(ServeFault::Lanes)),
-        OpenFault::NoMemory | OpenFault::Board if carryover.first.is_some() => {
-            AfterRun::Over(Err(ServeFault::NoMemory))
-        }
-        OpenFault::NoMemory | OpenFault::Board => {
-            thread::sleep(rt, Duration::from_millis(MEMORY_WAIT));
-            AfterRun::Next(tree, backends, carryover)
-        }
-    }
-}
-
-// The office is opened, in a run that names its rings and its board.
-fn run_named<
-    B: Backend + Send,
-    C: Channels + Lanes + Send + Sync,
-    R: Files + Threads + Wait + Clock + Copy + Sync + Send + Drop,
-    E: Write,
-    W: Write + Drop,
->(
-    rt: &R,
-    alloc: Global,
-    server: &Server<Shared>,
-    office: NewOffice<B>,
-    carryover: Carryover,
-    options: ServeOptions<'_>,
-    errors: &mut E,
-    recorder: &mut Recorder<W>,
-) -> AfterRun<B>
-    requires seats { (k : ℕ) → C.seat_ring k ≡ ring_of (slice_get office.rings k) }
-    requires board { C.board ≡ office.board }
-    requires lanes { (k : ℕ) → C.lane_ring k ≡ lane_ring_of (slice_get office.lane_rings k) }
-    requires before { (k : ℕ) → C.asked_before k ≡ asked_of B.asked (slice_get office.backends k) }
+// Starts all threads of a tree but this one. Whether they run.
+fn start_all<'s, S, B, K, W, R>(
+    scope: &Scope<'s, S>,
+    rt: &'s R,
+    server: &'s Server<Shared>,
+    links: &'s [Arc<LaneLink, Global>],
+    workers: Vec<K>,
+    driver: DriverParts<B, W>,
+    outcome: &'s Outcome,
+    notes: &'s Notes,
+) -> bool
+where
+    B: Backend + Send + 's,
+    K: Backend + Send + 's,
+    W: Write + Send + Drop + 's,
+    R: Threads + Wait + Clock + Copy + Sync + Drop,
 {
-    let Some(room) = seat_room::<C, R>(rt, alloc, carryover.first.is_some()) else {
-        return AfterRun::Over(Err(ServeFault::NoMemory));
-    };
-    match office.open::<C, R>(alloc, *rt) {
-        Ok(opened) => run(
-            rt, server, opened, room, carryover, options, errors, recorder,
-        ),
-        Err((fault, tree, backends)) => wait_or_end(rt, fault, tree, backends, carryover),
-    }
-}
-
-// Room for the seats, once there is memory; for the first run it has to be there.
-fn seat_room<C: Channels, R: Wait + Clock>(
-    rt: &R,
-    alloc: Global,
-    is_first: bool,
-) -> Option<SeatRoom<C>> {
-    for _ in rt.forever() {
-        match SeatRoom::new(alloc) {
-            Ok(room) => return Some(room),
-            Err(_) if is_first => return None,
-            Err(_) => thread::sleep(rt, Duration::from_millis(MEMORY_WAIT)),
+    for (link, worker) in links.iter().zip(workers) {
+        if !start_lane(scope, rt, server.answers(), link, worker) {
+            return false;
         }
     }
-    None
+    start_listener(scope, rt, server) && start_driver(scope, rt, server, driver, outcome, notes)
+}
+
+// Ends all threads of a tree but this one, once the one that drives has ended.
+fn end_all<R: Wait + Clock>(rt: &R, server: &Server<Shared>, links: &[Arc<LaneLink, Global>]) {
+    for link in links {
+        link.end(rt);
+    }
+    end_connections(rt, server);
 }

@@ -1,41 +1,41 @@
-//! The backends of the lanes.
-use child_runner::{Bell, Keeper, ProcessBackend};
+//! The lanes of a tree: what its runs hand orders to, and who carries them out.
+use crate::driver_state::LANE_COUNT;
+use child_runner::{Keeper, LaneLink, LinkedBackend, ProcessBackend};
+use error_notes::Notes;
 use s6_events::NoMemory;
 use std::alloc::Global;
-use std::sync::Arc;
+use std::sync::{Arc, Wait};
 
-/// How many lanes there are.
-pub const LANE_COUNT: usize = 4;
-
-/// A backend for each lane, and its bell.
+/// For each lane the backend that runs of the tree ask, the worker behind it, and the link between them.
 #[derive(Drop)]
-pub struct ServiceLanes<R: Drop> {
-    pub backends: Vec<ProcessBackend<R>>,
-    pub bells: Vec<Arc<Bell, Global>>,
+pub struct TreeLanes<B, K> {
+    pub backends: Vec<B>,
+    pub links: Vec<Arc<LaneLink, Global>>,
+    pub workers: Vec<K>,
 }
 
-impl<R: Copy + Drop> ServiceLanes<R> {
-    /// Backends whose services lie under `root`, and whose children's threads this keeper starts.
-    pub fn new(
-        rt: R,
-        alloc: Global,
-        keeper: &Keeper<R>,
-        root: &str,
-    ) -> Result<ServiceLanes<R>, NoMemory> {
-        let mut lanes = ServiceLanes {
-            backends: Vec::new(alloc),
-            bells: Vec::new(alloc),
-        };
-        for _ in 0..LANE_COUNT {
-            let backend = ProcessBackend::new(rt, alloc, keeper, root)?;
-            lanes.bells.push(backend.bell()?)?;
-            lanes.backends.push(backend)?;
-        }
-        Ok(lanes)
-    }
+/// The lanes of services that are processes.
+pub type ServiceLanes<R> = TreeLanes<LinkedBackend<R>, ProcessBackend<R>>;
 
-    /// The backends, and the bells in the same order.
-    pub fn into_parts(self) -> (Vec<ProcessBackend<R>>, Vec<Arc<Bell, Global>>) {
-        (self.backends, self.bells)
+/// Lanes whose services lie under `root`, and whose children's threads this keeper starts. What can't be started or signalled is noted.
+pub fn service_lanes<R: Wait + Copy + Drop>(
+    rt: R,
+    alloc: Global,
+    keeper: &Keeper<R>,
+    root: &str,
+    notes: &Arc<Notes, Global>,
+) -> Result<ServiceLanes<R>, NoMemory> {
+    let mut lanes = TreeLanes {
+        backends: Vec::new(alloc),
+        links: Vec::new(alloc),
+        workers: Vec::new(alloc),
+    };
+    for _ in 0..LANE_COUNT {
+        let worker = ProcessBackend::new(rt, alloc, keeper, root, notes)?;
+        let link = Arc::new(alloc, LaneLink::new(alloc, worker.bell()?))?;
+        lanes.backends.push(LinkedBackend::new(rt, alloc, &link)?)?;
+        lanes.links.push(link)?;
+        lanes.workers.push(worker)?;
     }
+    Ok(lanes)
 }

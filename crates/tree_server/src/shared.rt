@@ -1,28 +1,26 @@
 //! What the threads of a running tree share, from its first run to its last.
-use crate::agenda::Agenda;
 use crate::calls::{Call, Caller};
-use crate::time::RunClock;
+use crate::clock::ServerClock;
+use crate::scan_desk::ScanDesk;
 use child_runner::Bell;
 use line_server::{Answers, Mailbox, Next};
 use s6_events::{At, Name};
 use server_rules::{OwnAnswer, Request, RowCache, client_actor, read_request};
 use std::alloc::Global;
-use std::sync::{Arc, Wait};
+use std::sync::Wait;
 use std::time::Clock;
 
 /// What the threads of a running tree share, from its first run to its last.
 #[derive(Drop)]
 pub struct Shared {
     pub alloc: Global,
-    pub clock: RunClock,
+    pub clock: ServerClock,
     /// What each connection asks, by its seat.
     pub callers: Vec<Caller>,
-    pub agenda: Agenda,
+    pub scans: ScanDesk,
     pub rows: RowCache,
-    /// Rings where something was asked or handed in, and where a lane carried orders.
+    /// Rings where something was asked or read, and where a lane has a report, or room for orders again.
     pub driver: Bell,
-    /// Ring where a lane has orders, or its backend a report.
-    pub lanes: Vec<Arc<Bell, Global>>,
 }
 
 impl Answers for Shared {
@@ -34,7 +32,7 @@ impl Answers for Shared {
         match read_request(self.alloc, At::zero(), actor, line) {
             Request::Status(name) => self.answer_status(rt, caller, name, mailbox),
             Request::Step(act) => self.call(rt, caller, Call::Step(act)),
-            Request::Scan => self.call_scan(rt, caller, seat),
+            Request::Scan => self.call(rt, caller, Call::Scan),
             Request::Refused(answer) => {
                 let _ = mailbox.post(rt, answer.text());
             }
@@ -80,12 +78,5 @@ impl Shared {
         caller.ask(rt, call);
         self.driver.ring(rt);
         caller.await_answer(rt);
-    }
-
-    // The scan is made by another thread, and its reply is posted by the one that drives.
-    fn call_scan<R: Wait>(&self, rt: &R, caller: &Caller, seat: usize) {
-        let before = caller.scans(rt);
-        self.agenda.ask_scan(rt, seat);
-        caller.await_scan(rt, before);
     }
 }

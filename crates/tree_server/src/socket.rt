@@ -1,36 +1,142 @@
-//! The socket of a tree.
+//! The socket of a tree: one server alone listens on it, and none but its owner can connect, at any moment.
+use server_rules::{FileIdentity, says_abandoned};
+use std::alloc::Global;
+use std::fs::{self, DirBuilder, File, Permissions};
+use std::io::{self, ErrorKind};
 use std::net::Net;
-use std::os::unix::fs::{FileTypeExt, PermissionsExt};
+use std::os::unix::fs::{DirBuilderExt, FileTypeExt, MetadataExt, PermissionsExt};
 use std::os::unix::net::{UnixListener, UnixStream};
 use std::rt::Files;
-use std::{fs, io};
 
-/// A listener on this path, for its owner alone. The socket of a server that is gone is replaced; where one answers, or where another
-/// file is, that is an error.
-pub fn listen<R: Net + Files>(rt: &R, path: &str) -> io::Result<UnixListener> {
-    let listener = match UnixListener::bind(rt, path) {
-        Ok(listener) => listener,
-        Err(error) => {
-            if error.kind() != io::ErrorKind::AddrInUse || !is_abandoned(rt, path) {
-                return Err(error);
-            }
-            fs::remove_file(rt, path)?;
-            UnixListener::bind(rt, path)?
-        }
-    };
-    if let Err(error) = fs::set_permissions(rt, path, fs::Permissions::from_mode(0o600)) {
-        let _ = fs::remove_file(rt, path);
-        return Err(error);
-    }
-    Ok(listener)
+/// The rights of a socket: its owner's alone.
+const SOCKET_MODE: u32 = 0o600;
+
+/// The rights of the folder in which it is made.
+const FOLDER_MODE: u32 = 0o700;
+
+/// How often the folder is made anew where the server that had it before has just removed it.
+const TRIES: u32 = 100;
+
+/// The file of a socket that a server has made.
+#[derive(Clone, Copy, Debug)]
+pub struct SocketFile {
+    identity: FileIdentity,
 }
 
-// Whether a socket of this path has no server any more.
-fn is_abandoned<R: Net + Files>(rt: &R, path: &str) -> bool {
-    match fs::symlink_metadata(rt, path) {
-        Ok(metadata) => {
-            metadata.file_type().is_socket() && UnixStream::connect(rt, path).is_err()
+impl SocketFile {
+    /// Removes the file at this path if it is still this one. Call it while the listener is open: until then the system gives its number
+    /// to no other file.
+    pub fn remove<R: Files>(&self, rt: &R, path: &str) {
+        if let Ok(found) = fs::symlink_metadata(rt, path) {
+            if self.identity.is_that_of(&FileIdentity::of(&found)) {
+                let _ = fs::remove_file(rt, path);
+            }
         }
-        Err(_) => false,
+    }
+}
+
+/// A listener on this path, and its file. It is made in a folder beside it, PATH.new, and renamed into place once it listens; the folder
+/// is locked meanwhile, and gone afterwards. An abandoned socket is replaced. Where a server lives, or starts at the same time, or
+/// another file is, that is an error, and the file is left as it is.
+pub fn listen<R: Net + Files<File = File>>(
+    rt: &R,
+    alloc: Global,
+    path: &str,
+) -> io::Result<(UnixListener, SocketFile)> {
+    let folder = format!(in alloc; "{path}.new")?;
+    let made = format!(in alloc; "{path}.new/s")?;
+    let lock = lock_folder(rt, folder.as_str())?;
+    let placed = place(rt, folder.as_str(), made.as_str(), path);
+    if placed.is_err() {
+        let _ = fs::remove_file(rt, made.as_str());
+    }
+    let _ = fs::remove_dir(rt, folder.as_str());
+    drop(lock);
+    placed
+}
+
+// The folder, made if it isn't there, and locked. Its lock ends with the process at the latest, so one that was left behind is taken over.
+fn lock_folder<R: Files<File = File>>(rt: &R, folder: &str) -> io::Result<File> {
+    for _ in 0..TRIES {
+        match DirBuilder::new().mode(FOLDER_MODE).create(rt, folder) {
+            Err(error) if error.kind() != ErrorKind::AlreadyExists => return Err(error),
+            _ => {}
+        }
+        if let Some(lock) = try_lock(rt, folder)? {
+            return Ok(lock);
+        }
+    }
+    Err(ErrorKind::AddrInUse.into())
+}
+
+// Locks the folder; None where it is not there any more. An error where another server has it, or it is no folder of one's own.
+fn try_lock<R: Files<File = File>>(rt: &R, folder: &str) -> io::Result<Option<File>> {
+    let found = match fs::symlink_metadata(rt, folder) {
+        Ok(found) => found,
+        Err(error) if error.kind() == ErrorKind::NotFound => return Ok(None),
+        Err(error) => return Err(error),
+    };
+    if !found.is_dir() || found.mode() & 0o777 != FOLDER_MODE {
+        return Err(ErrorKind::AddrInUse.into());
+    }
+    let lock = match File::open(rt, folder) {
+        Ok(lock) => lock,
+        Err(error) if error.kind() == ErrorKind::NotFound => return Ok(None),
+        Err(error) => return Err(error),
+    };
+    if lock.try_lock().is_err() {
+        return Err(ErrorKind::AddrInUse.into());
+    }
+    let locked = FileIdentity::of(&lock.metadata()?);
+    match fs::symlink_metadata(rt, folder) {
+        Ok(now) if locked.is_that_of(&FileIdentity::of(&now)) => Ok(Some(lock)),
+        _ => Ok(None),
+    }
+}
+
+// Makes the socket in the folder, and renames it into place.
+fn place<R: Net + Files>(
+    rt: &R,
+    folder: &str,
+    made: &str,
+    path: &str,
+) -> io::Result<(UnixListener, SocketFile)> {
+    check_replaceable(rt, path)?;
+    let listener = bind(rt, made)?;
+    let found = fs::symlink_metadata(rt, made)?;
+    if fs::symlink_metadata(rt, folder)?.uid() != found.uid() {
+        return Err(ErrorKind::PermissionDenied.into());
+    }
+    fs::set_permissions(rt, made, Permissions::from_mode(SOCKET_MODE))?;
+    fs::rename(rt, made, path)?;
+    let identity = FileIdentity::of(&found);
+    Ok((listener, SocketFile { identity }))
+}
+
+// A listener in the folder, in place of one that was left there.
+fn bind<R: Net + Files>(rt: &R, made: &str) -> io::Result<UnixListener> {
+    match UnixListener::bind(rt, made) {
+        Err(error) if error.kind() == ErrorKind::AddrInUse => {
+            fs::remove_file(rt, made)?;
+            UnixListener::bind(rt, made)
+        }
+        done => done,
+    }
+}
+
+// An error unless nothing is at this path, or an abandoned socket.
+fn check_replaceable<R: Net + Files>(rt: &R, path: &str) -> io::Result<()> {
+    let found = match fs::symlink_metadata(rt, path) {
+        Ok(found) => found,
+        Err(error) if error.kind() == ErrorKind::NotFound => return Ok(()),
+        Err(error) => return Err(error),
+    };
+    if !found.file_type().is_socket() {
+        return Err(ErrorKind::AddrInUse.into());
+    }
+    match UnixStream::connect(rt, path) {
+        Ok(_living) => Err(ErrorKind::AddrInUse.into()),
+        Err(error) if says_abandoned(error.kind()) => Ok(()),
+        Err(error) => Err(error),
     }
 }

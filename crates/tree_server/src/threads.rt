@@ -1,22 +1,16 @@
-//! The threads of one run.
-use crate::driver_state::DriverState;
-use crate::driving::{RunEnd, drive_run};
-use crate::lane_service::{LaneSeat, serve_lane};
+//! The threads of a tree, from its first run to its last.
 use crate::outcome::Outcome;
-use crate::scanning::attend;
+use crate::recorder::Recorder;
+use crate::runs::run_all;
 use crate::shared::Shared;
-use crate::slot::Slot;
-use channel_names::Channels;
-use inbox::Seat;
+use child_runner::{LaneLink, serve_lane};
+use error_notes::{NoteWriter, Notes};
 use line_server::Server;
-use office::Office;
-use order_lanes::{Backend, Lanes};
-use status_board::Board;
+use order_lanes::Backend;
 use std::alloc::Global;
 use std::io::Write;
-use std::rt::Files;
 use std::sync::Wait;
-use std::thread::{self, Builder, Scope, Threads};
+use std::thread::{Builder, Scope, Threads};
 use std::time::Clock;
 use tree_core::Listing;
 
@@ -26,149 +20,87 @@ const DRIVER_STACK: usize = 8 * 1024 * 1024;
 /// The stack of the thread of a lane, in bytes.
 const LANE_STACK: usize = 1024 * 1024;
 
-/// What the threads of a run work with.
+/// What the thread that drives takes over.
 #[derive(Drop)]
-pub struct ThreadSlots<C: Channels> {
-    pub driver: Slot<DriverState<C>>,
-    /// By the lanes' numbers.
-    pub lanes: Vec<Slot<LaneSeat<C>>>,
+pub struct DriverParts<B: Drop, W: Write + Drop> {
+    pub backends: Vec<B>,
+    pub first: Listing<Global>,
+    pub recorder: Recorder<W>,
+    pub handover: u64,
 }
 
-/// Starts the threads of a run, does what actor 0 does in this one, and waits for the end of all of them. Afterwards each slot has in
-/// it again what its thread worked with.
-pub fn run_threads<
-    C: Channels + Lanes + Send + Sync,
-    D: Board<C> + Send,
-    B: Backend + Send,
-    R: Files + Threads + Wait + Clock + Copy + Sync + Drop,
-    E: Write,
->(
-    rt: &R,
-    server: &Server<Shared>,
-    office: &Office<C, D, B>,
-    slots: &ThreadSlots<C>,
-    scanner: &mut Seat<C>,
-    first: Option<Listing<Global>>,
-    handover: u64,
-    directory: &str,
-    errors: &mut E,
-) -> RunEnd {
-    let outcome = Outcome::new();
-    server.answers().agenda.begin(rt);
-    thread::scope(thread::scope_env(), rt, |scope| {
-        if start_all(scope, rt, server, office, slots, &outcome, handover) {
-            attend(rt, server, scanner, first, directory, errors);
-        } else {
-            end_run(rt, server);
-        }
-    });
-    outcome.get(rt)
-}
-
-// Ends the threads of a run.
-fn end_run<R: Wait>(rt: &R, server: &Server<Shared>) {
-    let shared = server.answers();
-    shared.agenda.end(rt);
-    shared.driver.ring(rt);
-    for bell in &shared.lanes {
-        bell.ring(rt);
-    }
-}
-
-// Starts all threads of a run but this one. Whether they run.
-fn start_all<'s, S, C, D, B, R>(
+/// Starts the thread that drives the tree. Whether it runs.
+pub fn start_driver<'s, S, B, W, R>(
     scope: &Scope<'s, S>,
     rt: &'s R,
     server: &'s Server<Shared>,
-    office: &'s Office<C, D, B>,
-    slots: &'s ThreadSlots<C>,
+    parts: DriverParts<B, W>,
     outcome: &'s Outcome,
-    handover: u64,
+    notes: &'s Notes,
 ) -> bool
 where
-    C: Channels + Lanes + Send + Sync,
-    D: Board<C> + Send,
-    B: Backend + Send,
-    R: Threads + Wait + Clock + Sync,
-{
-    if !start_driver(scope, rt, server, office, &slots.driver, outcome, handover) {
-        return false;
-    }
-    for (lane, slot) in slots.lanes.iter().enumerate() {
-        if !start_lane(scope, rt, server.answers(), office, lane, slot) {
-            return false;
-        }
-    }
-    true
-}
-
-fn start_driver<'s, S, C, D, B, R>(
-    scope: &Scope<'s, S>,
-    rt: &'s R,
-    server: &'s Server<Shared>,
-    office: &'s Office<C, D, B>,
-    slot: &'s Slot<DriverState<C>>,
-    outcome: &'s Outcome,
-    handover: u64,
-) -> bool
-where
-    C: Channels + Lanes + Send + Sync,
-    D: Board<C> + Send,
-    B: Backend + Send,
-    R: Threads + Wait + Clock + Sync,
+    B: Backend + Send + 's,
+    W: Write + Send + Drop + 's,
+    R: Threads + Wait + Clock + Copy + Sync + Drop,
 {
     Builder::new()
         .stack_size(DRIVER_STACK)
         .spawn_scoped(scope, move || {
-            drive_and_end(rt, server, office, slot, outcome, handover)
+            drive_all(rt, server, parts, outcome, notes)
         })
         .is_ok()
 }
 
-fn drive_and_end<C: Channels + Lanes, D: Board<C>, B: Backend, R: Wait + Clock>(
+// Drives the tree to its end, and then ends the thread that reads the scan directory.
+fn drive_all<B: Backend, W: Write + Drop, R: Wait + Clock + Copy + Drop>(
     rt: &R,
     server: &Server<Shared>,
-    office: &Office<C, D, B>,
-    slot: &Slot<DriverState<C>>,
+    parts: DriverParts<B, W>,
     outcome: &Outcome,
-    handover: u64,
+    notes: &Notes,
 ) {
-    if let Some(mut state) = slot.take(rt) {
-        outcome.note(rt, drive_run(rt, server, office, &mut state, handover));
-        slot.put(rt, state);
-    }
-    end_run(rt, server);
+    let DriverParts {
+        backends,
+        first,
+        mut recorder,
+        handover,
+    } = parts;
+    let log = NoteWriter::new(rt, notes);
+    let mut errors = NoteWriter::new(rt, notes);
+    let done = run_all(
+        rt,
+        server,
+        backends,
+        first,
+        handover,
+        &mut recorder,
+        &mut errors,
+        &log,
+    );
+    outcome.note(rt, done);
+    server.answers().scans.end(rt);
 }
 
-fn start_lane<'s, S, C, D, B, R>(
+/// Starts the thread of a lane. Whether it runs.
+pub fn start_lane<'s, S, K, R>(
     scope: &Scope<'s, S>,
     rt: &'s R,
     shared: &'s Shared,
-    office: &'s Office<C, D, B>,
-    lane: usize,
-    slot: &'s Slot<LaneSeat<C>>,
+    link: &'s LaneLink,
+    worker: K,
 ) -> bool
 where
-    C: Channels + Lanes + Send + Sync,
-    D: Board<C> + Send,
-    B: Backend + Send,
+    K: Backend + Send + 's,
     R: Threads + Wait + Clock + Sync,
 {
     Builder::new()
         .stack_size(LANE_STACK)
-        .spawn_scoped(scope, move || serve_slot(rt, shared, office, lane, slot))
+        .spawn_scoped(scope, move || { carry_out(rt, shared, link, worker) })
         .is_ok()
 }
 
-fn serve_slot<C: Channels + Lanes, D: Board<C>, B: Backend, R: Wait + Clock>(
-    rt: &R,
-    shared: &Shared,
-    office: &Office<C, D, B>,
-    lane: usize,
-    slot: &Slot<LaneSeat<C>>,
-) {
-    if let Some(mut lane_seat) = slot.take(rt) {
-        serve_lane(rt, shared, office, lane, &mut lane_seat);
-        slot.put(rt, lane_seat);
-    }
+// Carries out the orders of a lane to the end of the tree.
+fn carry_out<K: Backend, R: Wait + Clock>(rt: &R, shared: &Shared, link: &LaneLink, worker: K) {
+    let mut worker = worker;
+    serve_lane(rt, link, &shared.driver, &mut worker);
 }

@@ -68,6 +68,7 @@ pub fn try_connections<R: Net + Files + Processes + Clock, W: Write>(
     try_twelve(rt, stage, output)?;
     let has_left = returns_to(rt, stage.alloc, server, &before)?;
     write!(output, "all have left: {has_left}\n")?;
+    try_half_close(rt, stage, output)?;
     try_deaf(rt, stage, output)?;
     try_noise(rt, stage, output)?;
     stage.tell(rt, "svstat -o up,wantedup web", output)
@@ -157,6 +158,36 @@ fn count_refused_waits(alloc: Global, streams: &[UnixStream]) -> io::Result<usiz
         }
     }
     Ok(refused)
+}
+
+// A client that asks for 12,000 rows, ends its half, and reads late, while another one sends what it has subscribed to.
+fn try_half_close<R: Net + Processes, W: Write>(
+    rt: &R,
+    stage: &Stage,
+    output: &mut W,
+) -> io::Result<()> {
+    let _ = stage.outcome(rt, "mkfifodir half")?;
+    let stream = connect(rt, stage)?;
+    let mut requests = Vec::new(stage.alloc);
+    requests.extend_from_slice(b"subscribe dir half repeat .\n")?;
+    for _ in 0..12_000u32 {
+        requests.extend_from_slice(b"status web\n")?;
+    }
+    let mut writer = &stream;
+    writer.write_all(requests.as_slice())?;
+    stream.shutdown(Shutdown::Write)?;
+    for _ in 0..20u32 {
+        let _ = stage.outcome(rt, "ftrig-notify half a")?;
+    }
+    let mut text = Vec::new(stage.alloc);
+    let mut reader = &stream;
+    let _ = reader.read_to_end(&mut text);
+    let rows = text
+        .as_slice()
+        .split(|byte| *byte == b'\n')
+        .filter(|line| line.starts_with(b"row "))
+        .count();
+    write!(output, "rows behind a half-close: {rows}\n")
 }
 
 // A client that asks and never reads: others are answered meanwhile, and in the end it is closed.

@@ -8,17 +8,17 @@ mod crowd;
 mod endings;
 mod handovers;
 mod lives;
+mod records;
+mod scans;
 mod stage;
+mod starts;
 mod trial;
 
-use child_runner::Keeper;
-use log::sink::Console;
-use replay_tool::run_tool;
 use std::env;
 use std::env::Env;
 use std::process::ExitCode;
-use tree_front::{Asked, run_words};
-use tree_server::{HANDOVER, ServeFault, ServiceLanes, run_tree, tell_serve_fault};
+use tree_front::{Begun, BegunTree, Standard, begin_program, end_program};
+use tree_server::{HANDOVER, run_tree};
 use trial::try_all;
 
 // After how many steps the next run goes on.
@@ -36,36 +36,27 @@ fn main(rt: HostRuntime) -> ExitCode {
     if !has_words {
         return ExitCode::from(try_all(&rt, alloc, rt.process(), rt.stdout(), &mut errors));
     }
-    let place = match run_words(&rt, alloc, &mut rt.stdout(), &mut errors) {
-        Asked::Done(status) => return ExitCode::from(status),
-        Asked::Replay => {
-            let status = run_tool(&rt, alloc, alloc, rt.stdin(), rt.stdout(), &mut errors);
-            return ExitCode::from(status);
-        }
-        Asked::Tree(place) => place,
+    let standard = Standard {
+        input: rt.stdin(),
+        output: rt.stdout(),
+        errors: rt.stderr(),
+        notes_output: rt.stderr(),
     };
-    let options = place.options(handover(&(&rt, alloc)));
-    let Ok(keeper) = Keeper::start(rt, alloc) else {
-        return ExitCode::from(tell_serve_fault(ServeFault::Thread, &mut errors));
+    let BegunTree {
+        place,
+        lanes,
+        keeper,
+        notes,
+    } = match begin_program(rt, alloc, standard) {
+        Begun::Done(status) => return ExitCode::from(status),
+        Begun::Tree(tree) => tree,
     };
-    let done = match ServiceLanes::new(rt, alloc, &keeper, options.directory) {
-        Ok(lanes) => {
-            let (backends, bells) = lanes.into_parts();
-            run_tree(
-                &rt,
-                alloc,
-                backends,
-                bells,
-                options,
-                &mut errors,
-                &Console(rt),
-            )
-        }
-        Err(_) => Err(ServeFault::NoMemory),
-    };
-    keeper.end();
-    match done {
-        Ok(()) => ExitCode::SUCCESS,
-        Err(fault) => ExitCode::from(tell_serve_fault(fault, &mut errors)),
-    }
+    let done = run_tree(
+        &rt,
+        alloc,
+        lanes,
+        place.options(handover(&(&rt, alloc))),
+        &notes,
+    );
+    ExitCode::from(end_program(&rt, keeper, &notes, done))
 }

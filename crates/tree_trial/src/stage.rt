@@ -54,6 +54,29 @@ impl Stage {
         self.socket.as_str()
     }
 
+    /// The path of the record.
+    pub fn record(&self) -> &str {
+        self.record.as_str()
+    }
+
+    /// The path of the scan directory.
+    pub fn services(&self) -> &str {
+        self.services.as_str()
+    }
+
+    /// A stage in a folder of this one.
+    pub fn within(&self, name: &str) -> io::Result<Stage> {
+        let root = format!(in self.alloc; "{}/{name}", self.root.as_str())?;
+        Stage::new(self.alloc, self.program.clone()?, root)
+    }
+
+    /// The same folder and record with another socket.
+    pub fn with_socket(&self, name: &str) -> io::Result<Stage> {
+        let mut other = Stage::new(self.alloc, self.program.clone()?, self.root.clone()?)?;
+        other.socket = format!(in self.alloc; "{}/{name}", self.root.as_str())?;
+        Ok(other)
+    }
+
     /// Makes the scan directory.
     pub fn make_folder<R: Files>(&self, rt: &R) -> io::Result<()> {
         fs::create_dir_all(&(rt, self.alloc), self.services.as_str())
@@ -132,6 +155,74 @@ impl Stage {
         self.await_answer(rt, command.spawn(rt)?)
     }
 
+    /// Starts a server, and doesn't wait for it. What it writes goes nowhere.
+    pub fn spawn_server<R: Processes<Started = SystemProcess>>(
+        &self,
+        rt: &R,
+    ) -> io::Result<Child<SystemProcess>> {
+        let mut command = self.server_command()?;
+        command.stderr(Stdio::null());
+        command.spawn(rt)
+    }
+
+    /// Starts a server behind these commands of a shell, and waits until it answers.
+    pub fn start_in_shell<R: Net + Processes<Started = SystemProcess> + Clock>(
+        &self,
+        rt: &R,
+        before: &str,
+    ) -> io::Result<Child<SystemProcess>> {
+        let mut command = self.shell_command(before)?;
+        self.await_answer(rt, command.spawn(rt)?)
+    }
+
+    /// The same of a server that records its runs.
+    pub fn start_recorded_in_shell<R: Net + Processes<Started = SystemProcess> + Clock>(
+        &self,
+        rt: &R,
+        before: &str,
+    ) -> io::Result<Child<SystemProcess>> {
+        let mut command = self.shell_command(before)?;
+        command.arg(self.record.as_str())?.stderr(Stdio::null());
+        self.await_answer(rt, command.spawn(rt)?)
+    }
+
+    /// Starts a server whose standard error is a pipe that nobody reads yet, and waits until it answers.
+    pub fn start_unread<R: Net + Processes<Started = SystemProcess> + Clock>(
+        &self,
+        rt: &R,
+    ) -> io::Result<Child<SystemProcess>> {
+        let mut command = self.server_command()?;
+        command.stderr(Stdio::piped());
+        self.await_answer(rt, command.spawn(rt)?)
+    }
+
+    // The server, behind these commands of a shell.
+    fn shell_command(&self, before: &str) -> io::Result<Command> {
+        let script = format!(in self.alloc; "{before}; exec \"$0\" \"$@\"")?;
+        let mut command = Command::new(self.alloc, "/bin/sh")?;
+        command
+            .arg("-c")?
+            .arg(script.as_str())?
+            .arg(self.program.as_str())?
+            .arg("svscan")?
+            .arg(self.services.as_str())?
+            .arg(self.socket.as_str())?;
+        command.stdin(Stdio::null()).stdout(Stdio::null());
+        Ok(command)
+    }
+
+    /// Runs commands of a shell, in which `$0` is this word.
+    pub fn run_shell<R: Processes>(&self, rt: &R, script: &str, word: &str) -> io::Result<()> {
+        let mut command = Command::new(self.alloc, "/bin/sh")?;
+        command.arg("-c")?.arg(script)?.arg(word)?;
+        let status = command.status(rt)?;
+        if status.success() {
+            Ok(())
+        } else {
+            Err(io::Error::from(ErrorKind::Other))
+        }
+    }
+
     fn server_command(&self) -> io::Result<Command> {
         let mut command = Command::new(self.alloc, self.program.as_str())?;
         command
@@ -207,7 +298,14 @@ impl Stage {
         self.outcome_of(rt, &mut command)
     }
 
-    /// What comes of a server that is refused its socket: its status, and what it wrote.
+    /// What comes of a server that is refused its record: its status, and what it wrote.
+    pub fn start_recorded_refused<R: Processes>(&self, rt: &R) -> io::Result<String> {
+        let mut command = self.server_command()?;
+        command.arg(self.record.as_str())?;
+        self.outcome_of(rt, &mut command)
+    }
+
+    /// What comes of a server that is refused its start: its status, and what it wrote.
     pub fn start_refused<R: Processes>(&self, rt: &R) -> io::Result<String> {
         let mut command = self.server_command()?;
         self.outcome_of(rt, &mut command)

@@ -4,7 +4,10 @@ use crate::crowd::try_crowd;
 use crate::endings::try_end;
 use crate::handovers::try_handovers;
 use crate::lives::try_lives;
+use crate::records::try_records;
+use crate::scans::try_scans;
 use crate::stage::Stage;
+use crate::starts::try_starts;
 use std::alloc::Global;
 use std::env::Env;
 use std::io::{self, Write};
@@ -43,20 +46,27 @@ fn try_in_folder<R: Env + Net + Files + Processes<Started = SystemProcess> + Clo
     let temp = env::temp_dir(&(rt, alloc))?;
     let number = process::id(this);
     let root = format!(in alloc; "{}/tree-trial-{number}", temp.as_path().display())?;
-    let short = Stage::new(
-        alloc,
-        program.clone()?,
-        format!(in alloc; "{}/short", root.as_str())?,
-    )?;
     let stage = Stage::new(alloc, program, root)?;
     stage.make_folder(rt)?;
     let mut done = try_cases(rt, &stage, output);
     if done.is_ok() {
-        done = try_handovers(rt, &short, output);
+        done = try_others(rt, &stage, output);
     }
     fs::remove_dir_all(&(rt, alloc), stage.root())?;
     done?;
     output.flush()
+}
+
+// The cases that have servers of their own, each in a folder of its own.
+fn try_others<R: Net + Files + Processes<Started = SystemProcess> + Clock, W: Write>(
+    rt: &R,
+    stage: &Stage,
+    output: &mut W,
+) -> io::Result<()> {
+    try_handovers(rt, &stage.within("short")?, output)?;
+    try_starts(rt, &stage.within("starts")?, output)?;
+    try_records(rt, &stage.within("records")?, output)?;
+    try_scans(rt, &stage.within("scans")?, output)
 }
 
 // Starts the server, tries the cases, and ends it.

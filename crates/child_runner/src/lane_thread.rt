@@ -1,0 +1,139 @@
+//! The thread of a lane.
+ghost use Rattle.std.specs.Prelude.{◌≡◌, ◌++◌, ◌∷◌, [], IfSome, IfNone};
+
+use crate::bell::Bell;
+use crate::lane_link::LaneLink;
+use order_lanes::{Backend, Report};
+use s6_events::Order;
+use std::sync::Wait;
+use std::time::{Clock, Duration};
+
+/// How many orders are carried out before reports are looked for.
+const ORDERS: usize = 16;
+
+/// How long it waits where an order or a report was refused, in milliseconds.
+const RETRY: u64 = 20;
+
+/// What the thread of a lane holds: an order that the backend refused, and a report for which there was no place.
+#[derive(Drop)]
+struct Held {
+    order: Option<Order>,
+    report: Option<Report>,
+}
+
+/// What came of some orders.
+#[derive(Clone, Copy, PartialEq, Eq, Debug)]
+enum Carrying {
+    /// There may be more.
+    More,
+    /// There was none left.
+    Idle,
+    /// The backend refused one, which is held.
+    Refused,
+}
+
+/// Serves a lane until the link's `end`: asks `backend` the orders that are sent by a `LinkedBackend`, in order, and sends its reports
+/// back. An order that is refused is held, and asked again after at most 20 ms, or when the bell rings; reports go on meanwhile. `driver`
+/// rings when a report has come back, and when there is room again where orders had none. It waits on the link's bell, and never on a
+/// reader.
+pub fn serve_lane<B: Backend, R: Wait + Clock>(
+    rt: &R,
+    link: &LaneLink,
+    driver: &Bell,
+    backend: &mut B,
+) {
+    let mut held = Held {
+        order: None,
+        report: None,
+    };
+    for _ in rt.forever() {
+        if link.is_over(rt) {
+            break;
+        }
+        let carrying = carry_some(rt, link, driver, backend, &mut held.order);
+        let are_kept = give_reports(rt, link, driver, backend, &mut held.report);
+        match carrying {
+            Carrying::More => {}
+            Carrying::Idle if !are_kept => link.wait_for_work(rt, None),
+            _ => link.wait_for_work(rt, Some(Duration::from_millis(RETRY))),
+        }
+    }
+}
+
+// Asks the backend some orders, the one that is held first.
+fn carry_some<B: Backend, R: Wait>(
+    rt: &R,
+    link: &LaneLink,
+    driver: &Bell,
+    backend: &mut B,
+    held: &mut Option<Order>,
+) -> Carrying {
+    for _ in 0..ORDERS {
+        let Some(order) = next_order(rt, link, driver, held) else {
+            return Carrying::Idle;
+        };
+        *held = ask_one(backend, order);
+        if held.is_some() {
+            return Carrying::Refused;
+        }
+    }
+    Carrying::More
+}
+
+// The order that is held, or else the next one of the link.
+fn next_order<R: Wait>(
+    rt: &R,
+    link: &LaneLink,
+    driver: &Bell,
+    held: &mut Option<Order>,
+) -> Option<Order> {
+    if held.is_some() {
+        return held.take();
+    }
+    let (order, was_full) = link.take_order(rt)?;
+    if was_full {
+        driver.ring(rt);
+    }
+    Some(order)
+}
+
+// Asks the backend an order, which comes back where it is refused.
+fn ask_one<B: Backend>(backend: &mut B, order: Order) -> Option<Order>
+    ensures asked { IfNone result (B.asked backend.new ≡ B.asked backend.old ++ order ∷ []) }
+    ensures back { IfSome result (λ o. (o ≡ order) × (B.asked backend.new ≡ B.asked backend.old)) }
+    ensures given { B.given backend.new ≡ B.given backend.old }
+{
+    match backend.ask(order) {
+        Ok(()) => None,
+        Err((order, _)) => Some(order),
+    }
+}
+
+// Sends the backend's reports back while there is a place for them. Whether one is kept, since there was none.
+fn give_reports<B: Backend, R: Wait>(
+    rt: &R,
+    link: &LaneLink,
+    driver: &Bell,
+    backend: &mut B,
+    kept: &mut Option<Report>,
+) -> bool {
+    for _ in 0..u64::MAX {
+        let Some(report) = next_report(backend, kept) else {
+            return false;
+        };
+        if let Err(report) = link.give(rt, report) {
+            *kept = Some(report);
+            return true;
+        }
+        driver.ring(rt);
+    }
+    false
+}
+
+// The report that is kept, or else the backend's next.
+fn next_report<B: Backend>(backend: &mut B, kept: &mut Option<Report>) -> Option<Report> {
+    if kept.is_some() {
+        return kept.take();
+    }
+    backend.report()
+}

@@ -1,0 +1,33 @@
+//! How much is told of a line that doesn't end.
+ghost use Rattle.std.specs.Prelude.{◌≡◌, ◌+◌, ◌≤◌, ◌<◌, true, false};
+
+/// The most bytes that are told of a child before its first newline. Of those beyond only the newline is told.
+pub(crate) const LINE_LIMIT: usize = 1_024;
+
+/// How many more bytes may be told before a newline.
+#[derive(Drop)]
+pub(crate) struct LineLimit {
+    left: usize,
+}
+
+impl LineLimit {
+    /// Nothing was told.
+    pub fn new() -> LineLimit
+        ensures { result.left ≡ 1024 }
+    {
+        LineLimit { left: LINE_LIMIT }
+    }
+
+    /// Whether a part of so many bytes may be told. Once one doesn't fit, none that has a byte is told any more.
+    pub fn admit(&mut self, count: usize) -> bool
+        ensures told { result ≡ true → self.new.left + count ≡ self.old.left }
+        ensures silent { result ≡ false → (self.old.left < count) × (self.new.left ≡ 0) }
+    {
+        if count > self.left {
+            self.left = 0;
+            return false;
+        }
+        self.left -= count;
+        true
+    }
+}

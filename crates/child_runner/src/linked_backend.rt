@@ -1,0 +1,60 @@
+//! The backend that a run has of a lane whose own backend is served by a thread.
+ghost use Rattle.std.specs.Prelude.{◌≡◌, [], IfOk};
+
+use crate::lane_link::LaneLink;
+use crate::roll::Roll;
+use order_lanes::{AskFault, Backend, Report};
+use s6_events::{NoMemory, Order};
+use std::alloc::Global;
+use std::marker::Model;
+use std::sync::{Arc, Wait};
+
+/// A backend that sends its orders to the thread of its lane, by `serve_lane`, and gives the reports that come back.
+#[derive(Drop)]
+pub struct LinkedBackend<R> {
+    rt: R,
+    link: Arc<LaneLink, Global>,
+    roll: Roll,
+}
+
+impl<R> Model for LinkedBackend<R> {
+    ghost use Rattle.child_runner.specs.Roll.{RollView};
+
+    ghost Value = { RollView };
+
+    ghost view = { λ b. b.roll };
+}
+
+impl<R: Wait + Drop> LinkedBackend<R> {
+    /// A backend over this link, which was asked nothing yet. A link has one at a time.
+    pub fn new(rt: R, alloc: Global, link: &Arc<LaneLink, Global>) -> Result<LinkedBackend<R>, NoMemory>
+        ensures { IfOk result (λ b. b ≡ record { asked = []; given = [] }) }
+    {
+        Ok(LinkedBackend {
+            rt,
+            link: Arc::try_clone(link)?,
+            roll: Roll::new(alloc),
+        })
+    }
+}
+
+impl<R: Wait + Drop> Backend for LinkedBackend<R> {
+    ghost asked = { λ b. b.asked };
+
+    ghost given = { λ b. b.given };
+
+    /// Sends the order to the lane's thread. `Busy` while 1,024 orders are on their way, `NoMemory` where a growth was refused; then it
+    /// wasn't sent.
+    fn ask(&mut self, order: Order) -> Result<(), (Order, AskFault)> {
+        match self.link.send(&self.rt, &mut self.roll, &order) {
+            Ok(()) => Ok(()),
+            Err(fault) => Err((order, fault)),
+        }
+    }
+
+    /// The next report that came back, of an order that was asked here; a report of another never leaves.
+    fn report(&mut self) -> Option<Report> {
+        let report = self.link.take_report(&self.rt)?;
+        self.roll.pass(report)
+    }
+}

@@ -1,0 +1,77 @@
+//! The shell that sends signals.
+use crate::commands::{kill_command, probe_command};
+use crate::process::ServiceProcess;
+use order_lanes::AskFault;
+use std::alloc::Global;
+use std::io::{self, ErrorKind};
+use std::process::{ExitStatus, Processes};
+use std::sync::Wait;
+
+/// What became of a signal.
+#[derive(Clone, Copy, PartialEq, Eq, Debug)]
+pub(crate) enum Sending {
+    /// The shell has ended, or the child can be sent no signal any more.
+    Done,
+    /// There is no shell that could be run.
+    NoShell,
+}
+
+/// Whether signals can be sent here: whether `/bin/sh` can be run, and its `kill` ends with 0. False also where memory is refused, or the
+/// system has no room for a process.
+pub fn has_shell<R: Processes>(rt: &R, alloc: Global) -> bool {
+    let Ok(mut command) = probe_command(alloc) else {
+        return false;
+    };
+    match command.status(rt) {
+        Ok(status) => status.success(),
+        Err(_) => false,
+    }
+}
+
+/// Has a shell send a child a signal, if it wasn't waited for yet, and waits for the shell. `Busy` where the system has no room now for
+/// the shell, `NoMemory` where a growth was refused: then no signal was sent.
+pub(crate) fn signal_child<R: Processes + Wait>(
+    rt: &R,
+    alloc: Global,
+    process: &ServiceProcess,
+    signal: u8,
+) -> Result<Sending, AskFault> {
+    let Some(pid) = process.begin_signal(rt) else {
+        return Ok(Sending::Done);
+    };
+    let sent = run_kill(rt, alloc, pid, signal);
+    process.end_signal(rt);
+    sent
+}
+
+fn run_kill<R: Processes>(
+    rt: &R,
+    alloc: Global,
+    pid: u32,
+    signal: u8,
+) -> Result<Sending, AskFault> {
+    let Ok(mut command) = kill_command(alloc, pid, signal) else {
+        return Err(AskFault::NoMemory);
+    };
+    match command.spawn(rt) {
+        Ok(mut shell) => Ok(sending_of(shell.wait())),
+        Err(error) if is_lasting(&error) => Ok(Sending::NoShell),
+        Err(_) => Err(AskFault::Busy),
+    }
+}
+
+// Whether a program can't be started now nor later, since there is none or it may not be run.
+fn is_lasting(error: &io::Error) -> bool {
+    matches!(
+        error.kind(),
+        ErrorKind::NotFound | ErrorKind::PermissionDenied
+    )
+}
+
+// A shell that can't run `kill` ends with 126 or 127.
+fn sending_of(ended: io::Result<ExitStatus>) -> Sending {
+    match ended {
+        Ok(status) if matches!(status.code(), Some(126 | 127)) => Sending::NoShell,
+        _ => Sending::Done,
+    }
+}

@@ -1,0 +1,70 @@
+//! When a signal may be sent to a child's process number.
+ghost use Rattle.std.specs.Prelude.{◌≡◌, ◌↔◌, IsTrue, Some, None, IfSome, IfNone, true, false};
+
+/// What the reaping of a child and the signals to it agree on. It lies under one lock, which nobody holds while a shell runs: only the
+/// mark stands meanwhile. A signal begins only where the child wasn't reaped and no other shell is under way; its end is told only once
+/// none is under way.
+///
+/// `Child::wait` reaps inside the system's call, which blocks, so the reaping itself can't lie under the lock; the kit has no wait that
+/// leaves the child unreaped, and no descriptor of a process. So there is a moment, from the reaping in the system to the mark here, in
+/// which a signal can still begin, and a shell that began before may send it then. It would reach a stranger only if the system gave the
+/// number to a new process in that very moment.
+#[derive(Drop)]
+pub(crate) struct Signals {
+    // The process number of the child, once it lives.
+    pub pid: Option<u32>,
+    // Whether a shell is under way that sends it a signal.
+    pub is_shell_out: bool,
+    // Whether it was waited for, so that its number may be another's.
+    pub is_reaped: bool,
+}
+
+impl Signals {
+    /// Of a child that is about to start.
+    pub fn new() -> Signals
+        ensures { result ≡ record { pid = None; is_shell_out = false; is_reaped = false } }
+    {
+        Signals {
+            pid: None,
+            is_shell_out: false,
+            is_reaped: false,
+        }
+    }
+
+    /// It lives, under this number.
+    pub fn begin(&mut self, pid: u32)
+        ensures { self.new ≡ record self.old { pid = Some pid } }
+    {
+        self.pid = Some(pid);
+    }
+
+    /// A shell is to send it a signal: its number, where it may be sent one now. `end_signal` has to follow.
+    pub fn begin_signal(&mut self) -> Option<u32>
+        ensures living { IfSome result (λ _. self.old.is_reaped ≡ false) }
+        ensures alone { IfSome result (λ _. self.old.is_shell_out ≡ false) }
+        ensures begun { IfSome result (λ pid. (self.old.pid ≡ Some pid)
+            × (self.new ≡ record self.old { is_shell_out = true })) }
+        ensures none { IfNone result (self.new ≡ self.old) }
+    {
+        if self.is_reaped || self.is_shell_out {
+            return None;
+        }
+        let pid = self.pid?;
+        self.is_shell_out = true;
+        Some(pid)
+    }
+
+    /// The shell has ended.
+    pub fn end_signal(&mut self)
+        ensures { self.new ≡ record self.old { is_shell_out = false } }
+    {
+        self.is_shell_out = false;
+    }
+
+    /// It was waited for: no signal begins from now on.
+    pub fn reap(&mut self)
+        ensures { self.new ≡ record self.old { is_reaped = true } }
+    {
+        self.is_reaped = true;
+    }
+}

@@ -1,0 +1,76 @@
+//! Where notes are posted, and the thread that writes them waits.
+use crate::note_list::NoteList;
+use std::alloc::Global;
+use std::sync::{Condvar, Mutex, Wait};
+use std::time::{Clock, Duration};
+
+/// The lines for standard error that are still to be written. Anybody may post, and nobody who posts waits for whoever reads standard
+/// error: one thread writes, by `write_notes`, and holds no lock meanwhile.
+#[derive(Drop)]
+pub struct Notes {
+    pub(crate) alloc: Global,
+    list: Mutex<NoteList<Global>>,
+    changed: Condvar,
+    is_written: Mutex<bool>,
+    written: Condvar,
+}
+
+impl Notes {
+    /// Nothing was posted yet. It takes no memory before the first note.
+    pub fn new(alloc: Global) -> Notes {
+        Notes {
+            alloc,
+            list: Mutex::new(NoteList::new(alloc)),
+            changed: Condvar::new(),
+            is_written: Mutex::new(false),
+            written: Condvar::new(),
+        }
+    }
+
+    /// Posts a note: one or more whole lines, each with its newline. It is written behind all that were posted before, whole or not at
+    /// all. Where it doesn't fit, where memory is refused, or once the list was closed, it is lost, and counted.
+    pub fn post<R: Wait>(&self, rt: &R, note: &[u8]) {
+        let _ = self.list.lock(rt).post(note);
+        self.changed.notify_all();
+    }
+
+    /// Counts a note that could not even be made.
+    pub fn lose<R: Wait>(&self, rt: &R) {
+        self.list.lock(rt).lose();
+        self.changed.notify_all();
+    }
+
+    /// Nothing more is posted. What waits is still written.
+    pub fn close<R: Wait>(&self, rt: &R) {
+        self.list.lock(rt).close();
+        self.changed.notify_all();
+    }
+
+    /// Waits until all was written that was posted before `close`, but at most so long. Whether it was.
+    pub fn await_written<R: Wait + Clock>(&self, rt: &R, time: Duration) -> bool {
+        let is_written = self.is_written.lock(rt);
+        let (is_written, _late) = self
+            .written
+            .wait_timeout_while(rt, is_written, time, |is_written| !*is_written);
+        *is_written
+    }
+
+    /// Waits until there is something to tell, and moves the notes into the text: how many were lost. None once there is nothing, and
+    /// never will be.
+    pub(crate) fn wait_for_notes<R: Wait>(&self, rt: &R, text: &mut Vec<u8>) -> Option<u64> {
+        let list = self.list.lock(rt);
+        let mut list = self
+            .changed
+            .wait_while(rt, list, |list| list.is_open() && list.is_empty());
+        if list.is_empty() {
+            return None;
+        }
+        Some(list.take_all(text))
+    }
+
+    /// All was written.
+    pub(crate) fn finish<R: Wait>(&self, rt: &R) {
+        *self.is_written.lock(rt) = true;
+        self.written.notify_all();
+    }
+}

@@ -1,0 +1,50 @@
+//! The services for which a scan had no room, so that each is told once as long as that lasts.
+use s6_events::Name;
+use std::alloc::{AllocError, Global};
+use std::{mem, str};
+use tree_core::Listed;
+
+/// The services for which the last scan had no room, past the limit of the tree.
+#[derive(Drop)]
+pub struct FullServices {
+    alloc: Global,
+    names: Vec<Name>,
+}
+
+impl FullServices {
+    /// There was room for all.
+    pub fn new(alloc: Global) -> FullServices {
+        FullServices {
+            alloc,
+            names: Vec::new(alloc),
+        }
+    }
+
+    // Whether the last scan had no room for it either.
+    fn was_full(&self, name: &Name) -> bool {
+        self.names.as_slice().contains(name)
+    }
+
+    /// Takes in what a scan found: a line `svscan: NAME full` for each service for which it had no room, and the scan before had. Where
+    /// memory for them is refused, they are new at the next scan once more.
+    pub fn lines_of(&mut self, listed: &[Listed]) -> Result<Vec<u8>, AllocError> {
+        let mut lines = Vec::new(self.alloc);
+        let mut names = Vec::new(self.alloc);
+        for one in listed {
+            if let Listed::Full(name) = one {
+                if !self.was_full(name) {
+                    push_full(&mut lines, name)?;
+                }
+                names.push(*name)?;
+            }
+        }
+        let _before = mem::replace(&mut self.names, names);
+        Ok(lines)
+    }
+}
+
+fn push_full(lines: &mut Vec<u8>, name: &Name) -> Result<(), AllocError> {
+    lines.extend_from_slice(b"svscan: ")?;
+    lines.extend_from_slice(name.as_bytes())?;
+    lines.extend_from_slice(b" full\n")
+}

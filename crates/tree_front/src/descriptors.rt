@@ -1,0 +1,26 @@
+//! The standard descriptors of a program that was started without some of them.
+use std::fs::{File, OpenOptions};
+use std::os::fd::{AsRawFd, IntoRawFd};
+use std::rt::Files;
+
+/// The last of the standard descriptors.
+const LAST_STANDARD: i32 = 2;
+
+/// Opens `/dev/null` for each of the descriptors 0, 1 and 2 that is closed, so that nothing that is opened later takes its place: an
+/// error line would go to a client, or a client's bytes to the record. The system gives the least number that is free.
+pub fn open_standard<R: Files<File = File>>(rt: &R) {
+    for _ in 0..=LAST_STANDARD {
+        let opened = OpenOptions::new()
+            .read(true)
+            .write(true)
+            .open(rt, "/dev/null");
+        let Ok(file) = opened else {
+            return;
+        };
+        if file.as_raw_fd() > LAST_STANDARD {
+            return;
+        }
+        // It stays open to the end of the program.
+        let _kept = file.into_raw_fd();
+    }
+}

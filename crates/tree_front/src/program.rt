@@ -1,0 +1,146 @@
+//! The program: what its words ask for is done, but for a tree, which is begun and ended here, and run by its caller.
+use crate::descriptors::open_standard;
+use crate::front::{Asked, TreePlace, run_words};
+use child_runner::{Keeper, has_shell};
+use error_notes::{NoteWriter, Notes, start_notes};
+use replay_tool::run_tool;
+use std::alloc::Global;
+use std::env::Env;
+use std::fs::File;
+use std::io::{Read, Write};
+use std::net::Net;
+use std::process::{Processes, SystemProcess};
+use std::rt::Files;
+use std::sync::{Arc, Wait};
+use std::thread::Threads;
+use std::time::{Clock, Duration};
+use tree_server::{ServeFault, ServiceLanes, service_lanes, tell_serve_fault};
+
+/// How long a program that ends waits for whoever reads its standard error, in milliseconds.
+const LAST_NOTES_WAIT: u64 = 1000;
+
+/// What a program reads and writes.
+#[derive(Drop)]
+pub struct Standard<I: Read + Drop, W: Write + Drop, E: Write + Drop> {
+    pub input: I,
+    pub output: W,
+    pub errors: E,
+    /// Standard error once more, for the thread that writes the notes of a tree.
+    pub notes_output: E,
+}
+
+/// A tree that is to run: where, by which lanes, who keeps its children, and where lines for standard error are noted.
+#[derive(Drop)]
+pub struct BegunTree<R: Drop> {
+    pub place: TreePlace,
+    pub lanes: ServiceLanes<R>,
+    pub keeper: Keeper<R>,
+    pub notes: Arc<Notes, Global>,
+}
+
+/// What the words of a command line came to.
+#[derive(Drop)]
+pub enum Begun<R: Drop> {
+    /// It was done, and ends with this status.
+    Done(u8),
+    /// A tree is to run.
+    Tree(BegunTree<R>),
+}
+
+/// Does what the words of the command line ask for; a tree is only begun. Descriptors 0, 1 and 2 that are closed are `/dev/null` before
+/// anything else is opened.
+pub fn begin_program<
+    R: Env
+        + Net
+        + Files<File = File>
+        + Processes<Started = SystemProcess>
+        + Threads
+        + Wait
+        + Clock
+        + Copy
+        + Sync
+        + Send
+        + Drop
+        + 'static,
+    I: Read + Drop,
+    W: Write + Drop,
+    E: Write + Send + Drop + 'static,
+>(
+    rt: R,
+    alloc: Global,
+    standard: Standard<I, W, E>,
+) -> Begun<R> {
+    open_standard(&rt);
+    let Standard {
+        input,
+        mut output,
+        mut errors,
+        notes_output,
+    } = standard;
+    match run_words(&rt, alloc, &mut output, &mut errors) {
+        Asked::Done(status) => Begun::Done(status),
+        Asked::Replay => Begun::Done(run_tool(
+            &rt,
+            alloc,
+            alloc,
+            input,
+            output,
+            &mut errors,
+        )),
+        Asked::Tree(place) => match begin_tree(rt, alloc, place, notes_output) {
+            Ok(tree) => Begun::Tree(tree),
+            Err(fault) => Begun::Done(tell_serve_fault(fault, &mut errors)),
+        },
+    }
+}
+
+// All that a tree needs before it runs.
+fn begin_tree<
+    R: Processes<Started = SystemProcess> + Threads + Wait + Clock + Copy + Sync + Send + Drop + 'static,
+    N: Write + Send + Drop + 'static,
+>(
+    rt: R,
+    alloc: Global,
+    place: TreePlace,
+    notes_output: N,
+) -> Result<BegunTree<R>, ServeFault> {
+    if !has_shell(&rt, alloc) {
+        return Err(ServeFault::Shell);
+    }
+    let Some(notes) = start_notes(rt, alloc, notes_output) else {
+        return Err(ServeFault::Thread);
+    };
+    let Ok(keeper) = Keeper::start(rt, alloc) else {
+        return Err(ServeFault::Thread);
+    };
+    let root = place.directory.as_str();
+    match service_lanes(rt, alloc, &keeper, root, &notes) {
+        Ok(lanes) => Ok(BegunTree {
+            place,
+            lanes,
+            keeper,
+            notes,
+        }),
+        Err(_) => {
+            keeper.end();
+            Err(ServeFault::NoMemory)
+        }
+    }
+}
+
+/// Ends a tree that was run: kills what still lives of its services, and tells why it did not run to its end. The exit status.
+pub fn end_program<R: Processes + Threads + Wait + Clock + Drop>(
+    rt: &R,
+    keeper: Keeper<R>,
+    notes: &Notes,
+    done: Result<(), ServeFault>,
+) -> u8 {
+    keeper.end();
+    let status = match done {
+        Ok(()) => 0,
+        Err(fault) => tell_serve_fault(fault, &mut NoteWriter::new(rt, notes)),
+    };
+    notes.close(rt);
+    let _ = notes.await_written(rt, Duration::from_millis(LAST_NOTES_WAIT));
+    status
+}
