@@ -1,5 +1,5 @@
 -- Where the mark of an end may begin: only at the last zero byte.
-use Rattle.std.proofs.Common.{◌≡◌, ◌≤◌, ◌<◌, ℕ, zero, suc, ◌+◌, ◌-◌, Bool, true, false, not, ◌==◌, List, length, take, drop, codes, slice_index, eqb, IsTrue}
+use Rattle.std.proofs.Common.{◌≡◌, ◌≤◌, ◌<◌, ℕ, zero, suc, ◌+◌, ◌-◌, Bool, not, ◌==◌, List, length, take, drop, codes, slice_index, eqb, IsTrue}
 use Rattle.std.proofs.Common.{refl, sym, ap, subst, ◌∙◌, arith, ⊎_elim}
 use Rattle.std.specs.List.{AllPass}
 use Rattle.std.specs.Cmp.Lexicographic.{pointwise}
@@ -59,22 +59,22 @@ same_place : (bytes : List ℕ) (place : ℕ) → NoneAfter (Passes (is_byte 0) 
 same_place bytes place at k below b =
     let zero : slice_index bytes place ≡ 0 = eqb-true (slice_index bytes place) 0 at.1 in
     ⊎_elim
-      (λ after. absurd (at.0.after k (omega arith) below (zero_at bytes k below b)))
-      (λ le. ⊎_elim
-        (λ before. absurd (no_zero (place - k) (omega arith) (within bytes k place (omega arith) at.0.high b)
-          (sym (at_of bytes k place (omega arith) at.0.high b) ∙ zero)))
-        (λ ge. omega arith)
-        (cases_lt k place))
-      (cases_lt place k)
+    (λ after. absurd (at.0.after k (omega arith) below (zero_at bytes k below b)))
+    (λ le. ⊎_elim
+    (λ before. absurd (no_zero (place - k) (omega arith) (within bytes k place (omega arith) at.0.high b)
+    (sym (at_of bytes k place (omega arith) at.0.high b) ∙ zero)))
+    (λ ge. omega arith)
+    (cases_lt k place))
+    (cases_lt place k)
 
 pub first_some : (bytes : List ℕ) (place : ℕ) → NoneAfter (Passes (is_byte 0) bytes) 0 (length bytes) place × Passes (is_byte 0) bytes place
     → (k : ℕ) → k ≤ length bytes → BeginsMark (drop k bytes) → place ≤ k
 first_some bytes place at k low b =
     let high = at.0.high in
     ⊎_elim
-      (λ below. let same = same_place bytes place at k below b in omega (arith, same))
-      (λ ge. omega (arith, high))
-      (cases_lt k (length bytes))
+    (λ below. let same = same_place bytes place at k below b in omega (arith, same))
+    (λ ge. omega (arith, high))
+    (cases_lt k (length bytes))
 
 pub first_end : (bytes : List ℕ) (place : ℕ) → NoneAfter (Passes (is_byte 0) bytes) 0 (length bytes) place × Passes (is_byte 0) bytes place
     → (BeginsMark (drop place bytes) → ⊥)

@@ -138,12 +138,7 @@ fn read_more(reader: &mut PipeReader, heard: &mut ArrayVec<u8, PART>) -> bool {
 }
 
 // Tells what may be told of what was read. Whether nothing more is to be heard.
-fn hear<R: Wait>(
-    rt: &R,
-    process: &ServiceProcess,
-    hearing: &mut Hearing,
-    is_at_end: bool,
-) -> bool {
+fn hear<R: Wait>(rt: &R, process: &ServiceProcess, hearing: &mut Hearing, is_at_end: bool) -> bool {
     let mut telling = telling_of(hearing.heard.as_slice(), process.is_mark_due(rt));
     if is_at_end && !telling.is_last {
         telling = Telling {

@@ -17,4 +17,4 @@ returns-clause-first c =
     let bytes = c.args.bytes.now in
     let place = c.in-Some.place in
     first_end bytes place (subst (λ r. IsLastByte (is_byte 0) bytes r) c.in-Some.is c.memrchr.ensures)
-      (λ b. false≢true (sym c.if-begins_mark.false ∙ c.begins_mark.ensures.1 (rest_begins bytes place b)))
+    (λ b. false≢true (sym c.if-begins_mark.false ∙ c.begins_mark.ensures.1 (rest_begins bytes place b)))
