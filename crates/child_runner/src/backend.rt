@@ -121,7 +121,10 @@ impl<R: Processes<Started = SystemProcess> + Files + Wait + Drop> ProcessBackend
     {
         let bell = Arc::try_clone(&self.bell)?;
         let number = self.roster.take_number(&self.rt);
-        let process = Arc::new(self.alloc, ServiceProcess::new(number, start, &launch.name, bell))?;
+        let process = Arc::new(
+            self.alloc,
+            ServiceProcess::new(number, start, &launch.name, bell),
+        )?;
         self.processes.reserve(1)?;
         self.roster.enter(&self.rt, &process)?;
         if let Err(refused) = self.roll.start(order) {
@@ -301,8 +304,7 @@ impl<R: Processes<Started = SystemProcess> + Files + Wait + Drop> ProcessBackend
     }
 }
 
-impl<R: Processes<Started = SystemProcess> + Files + Wait + Drop> Backend
-    for ProcessBackend<R> {
+impl<R: Processes<Started = SystemProcess> + Files + Wait + Drop> Backend for ProcessBackend<R> {
     ghost asked = { λ b. b.asked };
 
     ghost given = { λ b. b.given };

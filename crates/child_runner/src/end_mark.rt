@@ -1,5 +1,5 @@
 //! The mark behind the last byte that a child wrote.
-ghost use Rattle.std.specs.Prelude.{◌≡◌, ◌≤◌, IsTrue, length, drop, true, false};
+ghost use Rattle.std.specs.Prelude.{◌≡◌, ◌≤◌, ◌↔◌, ℕ, IsTrue, length, drop, true, false};
 ghost use Rattle.memchr.specs.Find.{OccursAt};
 ghost use Rattle.child_runner.specs.EndMark.{end_mark, BeginsMark};
 
@@ -21,7 +21,7 @@ pub(crate) struct Telling {
 // Whether these bytes begin the mark, and are less than all of it.
 #[tactic(auto, using(crate::proofs::Marks::begins))]
 fn begins_mark(bytes: &[u8]) -> bool
-    ensures { IsTrue result → BeginsMark bytes.now }
+    ensures { IsTrue result ↔ BeginsMark bytes.now }
 {
     bytes.len() < END_MARK.len() && END_MARK.starts_with(bytes)
 }
@@ -30,6 +30,7 @@ fn begins_mark(bytes: &[u8]) -> bool
 fn before_mark(bytes: &[u8]) -> usize
     ensures within { result ≤ length bytes.now }
     ensures held { BeginsMark (drop result bytes.now) }
+    ensures first { (k : ℕ) → k ≤ length bytes.now → BeginsMark (drop k bytes.now) → result ≤ k }
 {
     let Some(place) = memrchr(END_MARK[0], bytes) else {
         return bytes.len();
@@ -40,15 +41,17 @@ fn before_mark(bytes: &[u8]) -> usize
     bytes.len()
 }
 
-/// How much of what was read may be told: all before the mark, of a child that was waited for. A beginning of the mark at the end is held
+/// How much of what was read may be told: all before the mark, where it is due, which is once the child was waited for. A beginning of the mark at the end is held
 /// back, until more was read.
-pub(crate) fn telling_of(bytes: &[u8], is_ending: bool) -> Telling
+pub(crate) fn telling_of(bytes: &[u8], is_due: bool) -> Telling
     ensures within { result.count ≤ length bytes.now }
     ensures last { result.is_last ≡ true → OccursAt bytes.now end_mark result.count }
-    ensures ended { result.is_last ≡ true → is_ending ≡ true }
+    ensures ended { result.is_last ≡ true → is_due ≡ true }
     ensures held { result.is_last ≡ false → BeginsMark (drop result.count bytes.now) }
+    ensures first { result.is_last ≡ false
+        → (k : ℕ) → k ≤ length bytes.now → BeginsMark (drop k bytes.now) → result.count ≤ k }
 {
-    if is_ending {
+    if is_due {
         if let Some(count) = memmem::find(bytes, &END_MARK) {
             return Telling {
                 count,

@@ -27,11 +27,7 @@ pub struct LaneLink {
 }
 
 // Adds an order for the lane's thread, which from then on counts as asked.
-fn add_order(
-    orders: &mut LinkQueue<Order>,
-    roll: &mut Roll,
-    order: &Order,
-) -> Result<(), AskFault>
+fn add_order(orders: &mut LinkQueue<Order>, roll: &mut Roll, order: &Order) -> Result<(), AskFault>
     ensures queued { OnOk result (orders.new.items.items ≡ orders.old.items.items ++ order.now ∷ []) }
     ensures asked { OnOk result
         (roll.new ≡ record roll.old { asked = roll.old.asked ++ order.now ∷ [] }) }

@@ -27,7 +27,11 @@ impl<R> Model for LinkedBackend<R> {
 
 impl<R: Wait + Drop> LinkedBackend<R> {
     /// A backend over this link, which was asked nothing yet. A link has one at a time.
-    pub fn new(rt: R, alloc: Global, link: &Arc<LaneLink, Global>) -> Result<LinkedBackend<R>, NoMemory>
+    pub fn new(
+        rt: R,
+        alloc: Global,
+        link: &Arc<LaneLink, Global>,
+    ) -> Result<LinkedBackend<R>, NoMemory>
         ensures { IfOk result (λ b. b ≡ record { asked = []; given = [] }) }
     {
         Ok(LinkedBackend {

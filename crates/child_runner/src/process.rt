@@ -21,13 +21,6 @@ pub(crate) struct Pipe {
     pub writer: PipeWriter,
 }
 
-/// What the thread of a child takes over.
-#[derive(Drop)]
-pub(crate) struct Running {
-    pub child: Child<SystemProcess>,
-    pub reader: Option<PipeReader>,
-}
-
 /// A child: what is known of it, and what its thread is to take over.
 #[derive(Drop)]
 pub(crate) struct ServiceProcess {
@@ -37,7 +30,10 @@ pub(crate) struct ServiceProcess {
     bell: Arc<Bell, Global>,
     progress: Mutex<Progress>,
     changed: Condvar,
-    running: Mutex<Option<Running>>,
+    // What its thread takes over.
+    child: Mutex<Option<Child<SystemProcess>>>,
+    // What the thread that reads takes over.
+    reader: Mutex<Option<PipeReader>>,
     // Where the mark of its end is written, once.
     writer: Mutex<Option<PipeWriter>>,
 }
@@ -52,7 +48,8 @@ impl ServiceProcess {
             bell,
             progress: Mutex::new(Progress::new()),
             changed: Condvar::new(),
-            running: Mutex::new(None),
+            child: Mutex::new(None),
+            reader: Mutex::new(None),
             writer: Mutex::new(None),
         }
     }
@@ -68,20 +65,22 @@ impl ServiceProcess {
         self.progress
             .lock(rt)
             .begin(&self.start.program, child.id(), pipe.is_some());
-        let reader = match pipe {
-            Some(Pipe { reader, writer }) => {
-                *self.writer.lock(rt) = Some(writer);
-                Some(reader)
-            }
-            None => None,
-        };
-        *self.running.lock(rt) = Some(Running { child, reader });
+        if let Some(Pipe { reader, writer }) = pipe {
+            *self.reader.lock(rt) = Some(reader);
+            *self.writer.lock(rt) = Some(writer);
+        }
+        *self.child.lock(rt) = Some(child);
         self.bell.ring(rt);
     }
 
     /// What its thread takes over, once.
-    pub fn take_running<R: Wait>(&self, rt: &R) -> Option<Running> {
-        self.running.lock(rt).take()
+    pub fn take_child<R: Wait>(&self, rt: &R) -> Option<Child<SystemProcess>> {
+        self.child.lock(rt).take()
+    }
+
+    /// What the thread that reads takes over, once.
+    pub fn take_reader<R: Wait>(&self, rt: &R) -> Option<PipeReader> {
+        self.reader.lock(rt).take()
     }
 
     /// Its process number, where a signal may be sent to it; `end_signal` has to follow then. It waits for a shell that is under way.
@@ -114,8 +113,13 @@ impl ServiceProcess {
         self.bell.ring(rt);
     }
 
-    /// Nothing more is read.
+    /// Nothing more is read. The ends that lie here are closed, and the one that is written to first: a pipe that nobody reads may not be
+    /// written to.
     pub fn stop_reading<R: Wait>(&self, rt: &R) {
+        let writer = self.writer.lock(rt).take();
+        drop(writer);
+        let reader = self.reader.lock(rt).take();
+        drop(reader);
         self.progress.lock(rt).stop_reading();
         self.changed.notify_all();
     }
@@ -142,9 +146,14 @@ impl ServiceProcess {
         self.bell.ring(rt);
     }
 
-    /// Whether it was waited for.
-    pub fn is_ending<R: Wait>(&self, rt: &R) -> bool {
-        self.progress.lock(rt).is_ending()
+    /// Whether the mark behind its last byte counts by now.
+    pub fn is_mark_due<R: Wait>(&self, rt: &R) -> bool {
+        self.progress.lock(rt).is_mark_due()
+    }
+
+    /// Whether it is still read.
+    pub fn is_read<R: Wait>(&self, rt: &R) -> bool {
+        self.progress.lock(rt).is_read()
     }
 
     /// Wakes whoever reads what it writes, once that was read which it wrote before.
@@ -160,11 +169,6 @@ impl ServiceProcess {
         let is_new = self.progress.lock(rt).give_up();
         self.changed.notify_all();
         is_new
-    }
-
-    /// Whether what it writes is wanted no more: its end can be told, or nobody listens.
-    pub fn is_over<R: Wait>(&self, rt: &R) -> bool {
-        self.progress.lock(rt).is_over()
     }
 
     /// The next thing to tell.

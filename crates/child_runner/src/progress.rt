@@ -85,9 +85,14 @@ impl Progress {
         self.signals.reap();
     }
 
-    /// Whether it was waited for.
-    pub fn is_ending(&self) -> bool {
-        self.signals.is_reaped
+    /// Whether the mark behind its last byte counts: it was waited for, or nobody listens.
+    pub fn is_mark_due(&self) -> bool {
+        self.signals.is_reaped || self.is_given_up
+    }
+
+    /// Whether it is still read.
+    pub fn is_read(&self) -> bool {
+        self.is_read
     }
 
     /// Nothing more is read.

@@ -3,7 +3,7 @@ ghost use Rattle.std.specs.Prelude.{◌≤◌, length};
 
 use crate::end_mark::{Telling, telling_of};
 use crate::line_limit::LineLimit;
-use crate::process::{Running, ServiceProcess};
+use crate::process::ServiceProcess;
 use crate::roster::Roster;
 use arrayvec::ArrayVec;
 use s6_events::Exit;
@@ -11,7 +11,7 @@ use std::alloc::Global;
 use std::io;
 use std::io::{PipeReader, Read};
 use std::os::unix::process::ExitStatusExt;
-use std::process::ExitStatus;
+use std::process::{Child, ExitStatus, SystemProcess};
 use std::sync::{Arc, Wait};
 use std::thread::{Builder, JoinHandle, Threads};
 use std::time::Clock;
@@ -25,8 +25,8 @@ pub(crate) fn watch<R: Threads + Wait + Clock + Copy + Send + Drop + 'static>(
     roster: &Roster,
     process: Arc<ServiceProcess, Global>,
 ) {
-    if let Some(running) = process.take_running(&rt) {
-        let listener = await_end(rt, &process, running);
+    if let Some(child) = process.take_child(&rt) {
+        let listener = await_end(rt, &process, child);
         if let Some(listener) = listener {
             listener.join(&rt);
         }
@@ -38,12 +38,11 @@ pub(crate) fn watch<R: Threads + Wait + Clock + Copy + Send + Drop + 'static>(
 fn await_end<R: Threads + Wait + Clock + Copy + Send + Drop + 'static>(
     rt: R,
     process: &Arc<ServiceProcess, Global>,
-    running: Running,
+    mut child: Child<SystemProcess>,
 ) -> Option<JoinHandle<()>> {
-    let Running { mut child, reader } = running;
     let mut listener = None;
-    if let Some(reader) = reader {
-        listener = start_listening(rt, process, reader);
+    if process.is_read(&rt) {
+        listener = start_listening(rt, process);
         if listener.is_none() {
             process.stop_reading(&rt);
             let _ = child.kill();
@@ -58,20 +57,17 @@ fn await_end<R: Threads + Wait + Clock + Copy + Send + Drop + 'static>(
 fn start_listening<R: Threads + Wait + Clock + Copy + Send + Drop + 'static>(
     rt: R,
     process: &Arc<ServiceProcess, Global>,
-    reader: PipeReader,
 ) -> Option<JoinHandle<()>> {
     let theirs = Arc::try_clone(process).ok()?;
     Builder::new()
         .stack_size(STACK)
-        .spawn(&rt, move || listen(rt, theirs, reader))
+        .spawn(&rt, move || listen(rt, theirs))
         .ok()
 }
 
 /// Kills a child that can have no thread, and tells how it ended.
 pub(crate) fn give_back<R: Wait + Clock>(rt: &R, process: &ServiceProcess) {
-    if let Some(running) = process.take_running(rt) {
-        let Running { mut child, reader } = running;
-        drop(reader);
+    if let Some(mut child) = process.take_child(rt) {
         process.stop_reading(rt);
         let _ = child.kill();
         let status = child.wait();
@@ -104,21 +100,27 @@ struct Hearing {
     is_told: bool,
 }
 
-// Tells what the child writes up to its first newline, and reads on until it has ended: a daemon that still writes would die of a closed
-// end.
-fn listen<R: Wait + Drop>(rt: R, process: Arc<ServiceProcess, Global>, mut reader: PipeReader) {
+// Tells what the child writes up to its first newline, and reads on until the mark of its end: a daemon that still writes would die of a
+// closed end, and so would this program of the mark.
+fn listen<R: Wait + Drop>(rt: R, process: Arc<ServiceProcess, Global>) {
+    if let Some(mut reader) = process.take_reader(&rt) {
+        listen_to(&rt, &process, &mut reader);
+        process.stop_reading(&rt);
+    }
+}
+
+fn listen_to<R: Wait>(rt: &R, process: &ServiceProcess, reader: &mut PipeReader) {
     let mut hearing = Hearing {
         heard: ArrayVec::new(),
         limit: LineLimit::new(),
         is_told: false,
     };
     for _ in 0..u64::MAX {
-        let is_at_end = !read_more(&mut reader, &mut hearing.heard);
-        if process.is_over(&rt) || hear(&rt, &process, &mut hearing, is_at_end) {
+        let is_at_end = !read_more(reader, &mut hearing.heard);
+        if hear(rt, process, &mut hearing, is_at_end) {
             break;
         }
     }
-    process.stop_reading(&rt);
 }
 
 // Reads what there is room for. False at the end.
@@ -136,13 +138,8 @@ fn read_more(reader: &mut PipeReader, heard: &mut ArrayVec<u8, PART>) -> bool {
 }
 
 // Tells what may be told of what was read. Whether nothing more is to be heard.
-fn hear<R: Wait>(
-    rt: &R,
-    process: &ServiceProcess,
-    hearing: &mut Hearing,
-    is_at_end: bool,
-) -> bool {
-    let mut telling = telling_of(hearing.heard.as_slice(), process.is_ending(rt));
+fn hear<R: Wait>(rt: &R, process: &ServiceProcess, hearing: &mut Hearing, is_at_end: bool) -> bool {
+    let mut telling = telling_of(hearing.heard.as_slice(), process.is_mark_due(rt));
     if is_at_end && !telling.is_last {
         telling = Telling {
             count: hearing.heard.len(),

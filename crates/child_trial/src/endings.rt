@@ -111,9 +111,7 @@ fn try_stage<R: Processes<Started = SystemProcess> + Files + Wait + Clock + Drop
 const PATIENCE: u64 = 8;
 
 // Services that still live when the keeper ends, and one whose descriptor a grandchild keeps open.
-fn try_end<
-    R: Processes<Started = SystemProcess> + Files + Threads + Wait + Clock + Copy + Drop,
->(
+fn try_end<R: Processes<Started = SystemProcess> + Files + Threads + Wait + Clock + Copy + Drop>(
     rt: &R,
     alloc: Global,
     keeper: Keeper<R>,

@@ -76,7 +76,11 @@ struct Outcome {
 }
 
 // The next report, for which the driver's bell rings.
-fn next_report<B: Backend, R: Wait + Clock>(rt: &R, driver: &Bell, linked: &mut B) -> Option<Report> {
+fn next_report<B: Backend, R: Wait + Clock>(
+    rt: &R,
+    driver: &Bell,
+    linked: &mut B,
+) -> Option<Report> {
     for _ in 0..1000u32 {
         if let Some(report) = linked.report() {
             return Some(report);
@@ -91,7 +95,10 @@ fn next_report<B: Backend, R: Wait + Clock>(rt: &R, driver: &Bell, linked: &mut 
 // Asks that a service be started and killed: killed before it was started, it would live on.
 fn ask_both<B: Backend>(linked: &mut B, sid: u64) -> io::Result<u32> {
     let mut taken = 0u32;
-    if linked.ask(Order::Run(Sid(sid), 1, name_of("linked")?, None)).is_ok() {
+    if linked
+        .ask(Order::Run(Sid(sid), 1, name_of("linked")?, None))
+        .is_ok()
+    {
         taken = taken.saturating_add(1);
     }
     if linked.ask(Order::Signal(Sid(sid), 1, 9)).is_ok() {

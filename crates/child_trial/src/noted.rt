@@ -49,7 +49,9 @@ fn try_loss<R: Wait>(rt: &R, alloc: Global, output: &mut impl Write) -> io::Resu
     notes.close(rt);
     let mut text = Vec::new(alloc);
     write_notes(rt, &notes, &mut text);
-    let is_told = text.as_slice().ends_with(b"n\nsvscan: 345 notes were lost\n");
+    let is_told = text
+        .as_slice()
+        .ends_with(b"n\nsvscan: 345 notes were lost\n");
     writeln!(output, "a crowd of notes: the lost ones told {is_told}")
 }
 
