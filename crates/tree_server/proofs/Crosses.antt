@@ -1,7 +1,7 @@
 -- What the threads of a running tree share may be shared, and what they take over may go to them.
 use denote.RattleType.{RattleType}
 use denote.Struct.Declared.{shape}
-use denote.Struct.Field.{bool-field}
+use denote.Struct.Field.{u64-field, bool-field}
 use denote.Param.Send.{IsSend, IsSync, recorded_send, struct_send, sendable}
 use Rattle.std.proofs.Crossing.{crosses}
 use Rattle.std.proofs.option.Option.TheSendSync as option
@@ -15,8 +15,13 @@ use Rattle.tree_server.specs.contracts.calls.Call as Call
 use Rattle.tree_server.specs.contracts.calls.Caller as Caller
 use Rattle.tree_server.specs.contracts.calls.Turn as Turn
 use Rattle.tree_server.specs.contracts.outcome.Outcome as Outcome
+use Rattle.tree_server.specs.contracts.recorder.Recorder as Recorder
 use Rattle.tree_server.specs.contracts.scan_desk.ScanDesk as ScanDesk
 use Rattle.tree_server.specs.contracts.shared.Shared as Shared
+use Rattle.tree_server.specs.contracts.threads.DriverParts as DriverParts
+
+number_send : IsSend u64-field.row
+number_send = search sendable
 
 flag_send : IsSend bool-field.row
 flag_send = search sendable
@@ -49,3 +54,26 @@ shared_sync = search (caller_sync, desk_sync, bell_sync, row_cache.the_sync, cro
 
 pub server_sync : IsSync (Server.the_row Shared.the_row)
 server_sync = search (shared_sync, server.the_sync, crosses, sendable) depth 60 fits 20000
+
+recorder_send : (W : RattleType) → IsSend W → IsSend (Recorder.the_row W)
+recorder_send W w =
+    let T = Recorder.the_type W in
+    recorded_send _ _ _ T.to_one (struct_send (shape T) (
+      search (crosses, sendable) depth 60 fits 20000,
+      (
+        search (w, option.the_field_send, crosses, sendable) depth 60 fits 20000,
+        (flag_send, (number_send, (search (crosses, sendable) depth 60 fits 20000, tt))),
+      ),
+    ))
+
+pub parts_send : (B W : RattleType) → IsSend B → IsSend W → IsSend (DriverParts.the_row B W)
+parts_send B W b w =
+    let r = recorder_send W w in
+    let T = DriverParts.the_type B W in
+    recorded_send _ _ _ T.to_one (struct_send (shape T) (
+      search (b, crosses, sendable) depth 60 fits 20000,
+      (
+        search (crosses, sendable) depth 60 fits 20000,
+        (search (r, sendable) depth 60 fits 20000, (number_send, tt)),
+      ),
+    ))

@@ -30,7 +30,7 @@ pub enum RecordFault {
 
 /// Where the runs of a tree are recorded, if anywhere: all of them are one script, with the reply to each input.
 #[derive(Drop)]
-pub struct Recorder<W: Write + Drop> {
+pub struct Recorder<W> {
     alloc: Global,
     writer: Option<W>,
     is_begun: bool,

@@ -22,7 +22,7 @@ const LANE_STACK: usize = 1024 * 1024;
 
 /// What the thread that drives takes over.
 #[derive(Drop)]
-pub struct DriverParts<B: Drop, W: Write + Drop> {
+pub struct DriverParts<B, W> {
     pub backends: Vec<B>,
     pub first: Listing<Global>,
     pub recorder: Recorder<W>,

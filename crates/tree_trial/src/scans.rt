@@ -7,7 +7,7 @@ use std::rt::Files;
 use std::time::Clock;
 
 /// How often a directory of strange names is scanned: what is told of them has more bytes than a pipe and the list of notes.
-const SCANS: u32 = 40;
+const SCANS: u32 = 6;
 
 /// Tries scans of directories that are no good.
 pub fn try_scans<R: Net + Files + Processes<Started = SystemProcess> + Clock, W: Write>(
@@ -57,13 +57,13 @@ fn try_names<R: Files + Processes + Clock, W: Write>(
     stage.tell(rt, "svscanctl -a", output)?;
     stage.run_shell(
         rt,
-        "cd \"$0\" && i=0 && while [ $i -lt 257 ]; do mkdir s$i && : >s$i/run && : >s$i/down && i=$((i+1)); done",
+        "cd \"$0\" && mkdir $(seq -f s%g 257) && for s in s*; do : >$s/run; : >$s/down; done",
         stage.services(),
     )?;
     stage.tell(rt, "svscanctl -aa", output)?;
     stage.run_shell(
         rt,
-        "cd \"$0\" && i=1000 && while [ $i -lt 2200 ]; do mkdir long-$i-234567890123456789012345678901234567890123456789012 && i=$((i+1)); done",
+        "cd \"$0\" && mkdir $(seq -f long-%g-234567890123456789012345678901234567890123456789012 1000 2199)",
         stage.services(),
     )?;
     stage.tell(rt, "svscanctl -a", output)

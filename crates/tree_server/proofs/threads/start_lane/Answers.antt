@@ -1,0 +1,18 @@
+use Rattle.std.proofs.Common.{[], ◌∷◌}
+use denote.Exit.{no}
+use denote.Param.Send.{param_send, param_sync, arg_send, shr_send}
+use Rattle.tree_core.proofs.Crosses.{closure_send}
+use Rattle.child_runner.proofs.Crosses.{link_sync}
+use Rattle.tree_server.proofs.Crosses.{shared_sync}
+use Rattle.tree_server.proofs.threads.start_lane.Goals as goal
+
+-- the backend goes with it, and all else is shared
+pub spawn_scoped-requires-send-F : goal.spawn_scoped-requires-send-F
+spawn_scoped-requires-send-F g c κs within =
+    param_send 1 _ (arg_send _ no _ (closure_send _ (_ ∷ _ ∷ _ ∷ _ ∷ []) (
+      shr_send _ _ _ (param_sync 2 _ c.type_bounds.sync-R),
+      (
+        shr_send _ _ _ shared_sync,
+        (shr_send _ _ _ link_sync, (param_send 1 _ c.type_bounds.send-K, tt)),
+      ),
+    )))
