@@ -14,7 +14,7 @@ use std::rt::Files;
 use std::sync::{Arc, Wait};
 use std::thread::Threads;
 use std::time::{Clock, Duration};
-use tree_server::{ServeFault, ServiceLanes, service_lanes, tell_serve_fault};
+use tree_server::{ServeFault, ServiceLanes, open_service_lanes, tell_serve_fault};
 
 /// How long a program that ends waits for whoever reads its standard error, in milliseconds.
 const LAST_NOTES_WAIT: u64 = 1000;
@@ -106,7 +106,7 @@ fn begin_tree<
         return Err(ServeFault::Thread);
     };
     let root = place.directory.as_str();
-    match service_lanes(rt, alloc, &keeper, root, &notes) {
+    match open_service_lanes(rt, alloc, &keeper, root, &notes) {
         Ok(lanes) => Ok(BegunTree {
             place,
             lanes,

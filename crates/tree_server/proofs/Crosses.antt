@@ -10,12 +10,11 @@ use Rattle.child_runner.proofs.bell.Bell.TheSendSync as bell
 use Rattle.child_runner.specs.contracts.bell.Bell as Bell
 use Rattle.line_server.proofs.server.Server.TheSendSync as server
 use Rattle.line_server.specs.contracts.server.Server as Server
-use Rattle.server_rules.proofs.row_cache.RowCache.TheSendSync as row_cache
+use Rattle.tree_server.proofs.recorder.Recorder.TheSendSync as recorder
 use Rattle.tree_server.specs.contracts.calls.Call as Call
 use Rattle.tree_server.specs.contracts.calls.Caller as Caller
 use Rattle.tree_server.specs.contracts.calls.Turn as Turn
 use Rattle.tree_server.specs.contracts.outcome.Outcome as Outcome
-use Rattle.tree_server.specs.contracts.recorder.Recorder as Recorder
 use Rattle.tree_server.specs.contracts.scan_desk.ScanDesk as ScanDesk
 use Rattle.tree_server.specs.contracts.shared.Shared as Shared
 use Rattle.tree_server.specs.contracts.threads.DriverParts as DriverParts
@@ -50,30 +49,18 @@ desk_sync : IsSync ScanDesk.the_row
 desk_sync = search (option.the_field_send, crosses, sendable) depth 60 fits 20000
 
 pub shared_sync : IsSync Shared.the_row
-shared_sync = search (caller_sync, desk_sync, bell_sync, row_cache.the_sync, crosses, sendable) depth 60 fits 20000
+shared_sync = search (caller_sync, crosses, sendable) depth 60 fits 20000
 
 pub server_sync : IsSync (Server.the_row Shared.the_row)
 server_sync = search (shared_sync, server.the_sync, crosses, sendable) depth 60 fits 20000
 
-recorder_send : (W : RattleType) → IsSend W → IsSend (Recorder.the_row W)
-recorder_send W w =
-    let T = Recorder.the_type W in
-    recorded_send _ _ _ T.to_one (struct_send (shape T) (
-      search (crosses, sendable) depth 60 fits 20000,
-      (
-        search (w, option.the_field_send, crosses, sendable) depth 60 fits 20000,
-        (flag_send, (number_send, (search (crosses, sendable) depth 60 fits 20000, tt))),
-      ),
-    ))
-
 pub parts_send : (B W : RattleType) → IsSend B → IsSend W → IsSend (DriverParts.the_row B W)
 parts_send B W b w =
-    let r = recorder_send W w in
     let T = DriverParts.the_type B W in
     recorded_send _ _ _ T.to_one (struct_send (shape T) (
       search (b, crosses, sendable) depth 60 fits 20000,
       (
         search (crosses, sendable) depth 60 fits 20000,
-        (search (r, sendable) depth 60 fits 20000, (number_send, tt)),
+        (search (recorder.the_field_send, w, crosses, sendable) depth 60 fits 20000, (number_send, tt)),
       ),
     ))

@@ -152,7 +152,10 @@ impl<C: Channels> DriverState<C> {
 
     /// Hands in an act of a connection's actor. Whether it was taken, and its step is to come.
     pub fn submit(&mut self, seat: usize, now: u64, act: Act<Global>, purpose: Purpose) -> bool {
-        if self.hand_in(FIRST_CLIENT + seat, now, act).is_err() {
+        if self
+            .hand_in(FIRST_CLIENT.saturating_add(seat), now, act)
+            .is_err()
+        {
             return false;
         }
         if let Some(connection) = self.lasting.connections.get_mut(seat) {

@@ -29,4 +29,4 @@ mod threads;
 pub use fault::{ServeFault, refuse_usage, tell_serve_fault};
 pub use options::{HANDOVER, ServeOptions};
 pub use serve::run_tree;
-pub use service_lanes::{ServiceLanes, TreeLanes, service_lanes};
+pub use service_lanes::{ServiceLanes, TreeLanes, open_service_lanes};

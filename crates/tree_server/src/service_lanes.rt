@@ -18,7 +18,7 @@ pub struct TreeLanes<B, K> {
 pub type ServiceLanes<R> = TreeLanes<LinkedBackend<R>, ProcessBackend<R>>;
 
 /// Lanes whose services lie under `root`, and whose children's threads this keeper starts. What can't be started or signalled is noted.
-pub fn service_lanes<R: Wait + Copy + Drop>(
+pub fn open_service_lanes<R: Wait + Copy + Drop>(
     rt: R,
     alloc: Global,
     keeper: &Keeper<R>,
