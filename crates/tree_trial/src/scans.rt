@@ -6,7 +6,7 @@ use std::process::{Child, Processes, SystemProcess};
 use std::rt::Files;
 use std::time::Clock;
 
-/// How often a directory of strange names is scanned: what is told of them has more bytes than a pipe and the list of notes.
+/// How often 1,200 directories without a `run` are scanned: what is told of them has more bytes than a pipe and the list of notes.
 const SCANS: u32 = 6;
 
 /// Tries scans of directories that are no good.
@@ -63,7 +63,7 @@ fn try_names<R: Files + Processes + Clock, W: Write>(
     stage.tell(rt, "svscanctl -aa", output)?;
     stage.run_shell(
         rt,
-        "cd \"$0\" && mkdir $(seq -f long-%g-234567890123456789012345678901234567890123456789012 1000 2199)",
+        "cd \"$0\" && mkdir $(seq -f long-%g-234567890123456789012345678901234567890123456789012 1000 2199) && for s in long*; do : >$s/run; done",
         stage.services(),
     )?;
     stage.tell(rt, "svscanctl -a", output)
@@ -75,6 +75,8 @@ fn try_unread<R: Processes + Clock, W: Write>(
     stage: &Stage,
     output: &mut W,
 ) -> io::Result<()> {
+    // Each of them is told of from now on.
+    stage.run_shell(rt, "cd \"$0\" && rm long*/run", stage.services())?;
     for _ in 0..SCANS {
         let _ = stage.outcome(rt, "svscanctl -a")?;
     }
