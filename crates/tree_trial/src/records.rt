@@ -25,6 +25,8 @@ pub fn try_records<R: Net + Files + Processes<Started = SystemProcess> + Clock, 
     // It can't grow beyond 4,096 bytes: the first run has more.
     let before = "trap '' XFSZ; ulimit -f 8; S6_TREE_HANDOVER=200; export S6_TREE_HANDOVER";
     let mut server = stage.start_recorded_in_shell(rt, before)?;
+    // The record is there once a service runs.
+    stage.tell(rt, "svwait web", output)?;
     let mode = fs::symlink_metadata(rt, stage.record())?
         .permissions()
         .mode()

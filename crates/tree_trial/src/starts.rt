@@ -40,6 +40,8 @@ fn try_bare<R: Net + Files + Processes<Started = SystemProcess> + Clock, W: Writ
     output: &mut W,
 ) -> io::Result<()> {
     let mut server = stage.start_in_shell(rt, "umask 0; exec <&- >&- 2>&-")?;
+    // What a start leaves is there once a service runs.
+    stage.tell(rt, "svwait web", output)?;
     let mode = fs::symlink_metadata(rt, stage.socket())?
         .permissions()
         .mode()
@@ -111,8 +113,10 @@ fn try_strange_socket<R: Net + Files + Processes<Started = SystemProcess> + Cloc
 ) -> io::Result<()> {
     let away = stage.with_socket("away")?;
     let mut first = stage.start_server(rt)?;
+    stage.tell(rt, "svwait web", output)?;
     fs::rename(rt, stage.socket(), away.socket())?;
     let mut second = stage.start_server(rt)?;
+    stage.tell(rt, "svwait web", output)?;
     end_server(rt, &away, &mut first, output)?;
     fs::remove_file(rt, away.socket())?;
     write!(
