@@ -26,7 +26,8 @@ impl<R> Model for LinkedBackend<R> {
 }
 
 impl<R: Wait + Drop> LinkedBackend<R> {
-    /// A backend over this link, which was asked nothing yet. A link has one at a time.
+    /// A backend over this link, which was asked nothing yet. A link has one, for as long as its lane has services: one that is made later
+    /// doesn't know of their starts, and drops their reports. `NoMemory` where a growth was refused.
     pub fn new(
         rt: R,
         alloc: Global,

@@ -113,8 +113,7 @@ impl ServiceProcess {
         self.bell.ring(rt);
     }
 
-    /// Nothing more is read. The ends that lie here are closed, and the one that is written to first: a pipe that nobody reads may not be
-    /// written to.
+    /// Nothing more is read. The ends of the pipe that still lie here are closed.
     pub fn stop_reading<R: Wait>(&self, rt: &R) {
         let writer = self.writer.lock(rt).take();
         drop(writer);

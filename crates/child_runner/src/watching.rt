@@ -101,7 +101,7 @@ struct Hearing {
 }
 
 // Tells what the child writes up to its first newline, and reads on until the mark of its end: a daemon that still writes would die of a
-// closed end, and so would this program of the mark.
+// closed end.
 fn listen<R: Wait + Drop>(rt: R, process: Arc<ServiceProcess, Global>) {
     if let Some(mut reader) = process.take_reader(&rt) {
         listen_to(&rt, &process, &mut reader);

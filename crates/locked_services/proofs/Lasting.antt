@@ -7,16 +7,16 @@ use Rattle.std.specs.declared.alloc.Global.{Global}
 use Rattle.s6_events.specs.declared.order.Order.{Order}
 use Rattle.inbox.specs.declared.submission.Submission.{Submission}
 use Rattle.inbox.specs.Ends.{DrainView}
-use Rattle.order_lanes.specs.Lane.{LaneView, sent_in}
+use Rattle.order_lanes.specs.Lane.{sent_in}
 use Rattle.order_lanes.specs.LaneOrders.{orders_of_lane, lane_of}
 use Rattle.tree_core.specs.declared.input.Input.{Input}
 use Rattle.tree_core.specs.Machine.{Machine, Outcome}
 use Rattle.tree_core.specs.Run.{after, outcome, after_all, outcomes}
 use Rattle.tree_core.specs.StandsFor.{StoredTree, StandsFor}
 use Rattle.tree_core.proofs.OneMoreInput.{after_all_more, outcomes_more}
-use Rattle.run_records.specs.Runs.{RunStep, IsLegal, end_of, inputs_of, outcomes_of}
+use Rattle.run_records.specs.Runs.{RunStep, IsLegal, end_of, inputs_of}
 use Rattle.locked_services.specs.Running.{RunningView, IsSoundRunning, orders_of}
-use Rattle.locked_services.specs.Submissions.{AreNumbered, held_by, submission_by, submissions_of, taken_from}
+use Rattle.locked_services.specs.Submissions.{AreNumbered, held_by, submissions_of, taken_from}
 use Rattle.locked_services.proofs.Submitted.{submissions_snoc}
 
 lane_snoc : (n k : ℕ) (steps : List RunStep) (s : RunStep)

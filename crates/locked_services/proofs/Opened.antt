@@ -1,9 +1,9 @@
 -- Ends of new rings, one after the other.
-use Rattle.std.proofs.Common.{◌≡◌, ℕ, zero, suc, ◌+◌, ◌⊎◌, inl, inr, ⊎_elim, List, [], ◌∷◌, ◌++◌, length, Some, slice_get, refl, sym, ap, subst, ◌∙◌, arith}
+use Rattle.std.proofs.Common.{◌≡◌, ℕ, zero, suc, ◌+◌, ◌⊎◌, ⊎_elim, List, [], ◌∷◌, ◌++◌, length, refl, sym, ap, ◌∙◌, arith}
 use Rattle.channel_names.specs.RingName.{RingName}
 use Rattle.inbox.specs.Ends.{DrainView, RingView, SeatView}
 use Rattle.locked_services.specs.Opening.{AreNamedFrom, AreUnused}
-use Rattle.locked_services.specs.Submissions.{AreNumbered, taken_from, taken_by}
+use Rattle.locked_services.specs.Submissions.{AreNumbered, taken_from}
 use Rattle.channel_names.proofs.Places.{get_last}
 
 pub numbered_snoc : (drains : List DrainView) (d : DrainView) → AreNumbered drains → d.actor ≡ length drains → AreNumbered (drains ++ d ∷ [])

@@ -1,5 +1,5 @@
 -- Shots of a run stay shots of it.
-use Rattle.std.proofs.Common.{◌≡◌, ℕ, zero, suc, ◌≤◌, ◌<◌, ◌+◌, List, [], ◌∷◌, ◌++◌, All, Bool, true, false, Some, length, take, refl, ap, sym, subst, ◌∙◌, arith}
+use Rattle.std.proofs.Common.{◌≡◌, ℕ, zero, suc, ◌+◌, List, [], ◌∷◌, ◌++◌, All, false, Some, length, take, refl, ap, sym, subst, ◌∙◌, arith}
 use Rattle.std.proofs.lemmas.List.{take-append-le, length-append}
 use Rattle.status_board.specs.declared.shot.Shot.{Shot}
 use Rattle.supervise_core.specs.declared.row.Row.{Row}

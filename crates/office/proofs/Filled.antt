@@ -1,5 +1,5 @@
 -- Lanes that are filled one after the other.
-use Rattle.std.proofs.Common.{◌≡◌, ℕ, zero, suc, ◌+◌, ◌<◌, List, [], ◌∷◌, ◌++◌, Some, drop, take, length, slice_get, refl, sym, ap, subst, ◌∙◌, arith}
+use Rattle.std.proofs.Common.{◌≡◌, ℕ, zero, suc, ◌+◌, ◌<◌, List, [], ◌∷◌, ◌++◌, Some, drop, take, length, slice_get, refl, ap, subst, ◌∙◌, arith}
 use Rattle.channel_names.specs.RingName.{RingName}
 use Rattle.order_lanes.specs.Lane.{LaneRingView, LaneView, sent_in}
 use Rattle.s6_events.specs.declared.order.Order.{Order}

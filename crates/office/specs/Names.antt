@@ -1,5 +1,5 @@
 -- The names that a run gives to the rings of a new office.
-use Rattle.std.specs.Prelude.{ℕ, List, [], Option, Some, None}
+use Rattle.std.specs.Prelude.{List, [], Option, Some, None}
 use Rattle.channel_names.specs.RingName.{RingName}
 use Rattle.channel_names.specs.Unnamed.{no_ring}
 use Rattle.inbox.specs.Ends.{RingView}

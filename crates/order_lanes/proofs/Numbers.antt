@@ -1,5 +1,5 @@
 -- A ring more.
-use Rattle.std.proofs.Common.{◌≡◌, ℕ, zero, suc, ◌⊎◌, inl, inr, ⊎_elim, List, [], ◌∷◌, ◌++◌, length, Some, slice_get, refl, sym, ap, ◌∙◌}
+use Rattle.std.proofs.Common.{◌≡◌, ◌⊎◌, ⊎_elim, List, [], ◌∷◌, ◌++◌, length, sym, ap, ◌∙◌}
 use Rattle.order_lanes.specs.Lane.{LaneRingView, AreNumbered}
 use Rattle.channel_names.proofs.Places.{get_last}
 

@@ -1,7 +1,7 @@
 //! The thread that drives a run.
 use crate::delivery::deliver_all;
 use crate::driver_state::{DriverState, Purpose, SCANNER};
-use crate::lanes::{Carrying, carry_all, hand_in_reports};
+use crate::lanes::{carry_all, hand_in_reports};
 use crate::posting::refuse_call;
 use crate::scan_desk::Found;
 use crate::serving::begin_all;

@@ -58,7 +58,8 @@ fn end_some<C: Channels + Lanes, D: Board<C>, B: Backend, R: Wait, E: Write>(
         if halt == Halt::Idle {
             state.lasting.plans.due = office.next_due(rt);
         }
-        if !is_full && !carrying.has_more {
+        // Where a step has to wait, so does what a full seat is to take.
+        if halt != Halt::Idle || (!is_full && !carrying.has_more) {
             break;
         }
     }

@@ -1,4 +1,4 @@
-use Rattle.std.proofs.Common.{◌≡◌, [], refl, sym, subst}
+use Rattle.std.proofs.Common.{◌≡◌, [], sym, subst}
 use Rattle.event_directory.specs.Hearing.{heard_moments, hits_of_moments}
 use Rattle.event_directory.proofs.Unheard.{none_heard, none_hit}
 use Rattle.event_directory.proofs.directories.is_unheard.Goals as goal

@@ -1,4 +1,4 @@
-use Rattle.std.proofs.Common.{◌≡◌, ◌≤◌, length, take, sym, arith, subst}
+use Rattle.std.proofs.Common.{◌≤◌, sym, arith, subst}
 use Rattle.std.proofs.lemmas.List.{take_all, length-take-le}
 use Rattle.s6_tools.proofs.reason.first_bytes.Goals as goal
 

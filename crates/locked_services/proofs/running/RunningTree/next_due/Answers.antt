@@ -1,4 +1,4 @@
-use Rattle.std.proofs.Common.{◌≡◌, sym, ap, subst, ◌∙◌}
+use Rattle.std.proofs.Common.{sym, ap, subst, ◌∙◌}
 use Rattle.tree_core.specs.NextDue.{next_due}
 use Rattle.tree_core.specs.StandsFor.{StandsFor, StoredTree}
 use Rattle.run_records.specs.Runs.{end_of}

@@ -1,7 +1,6 @@
-use Rattle.std.proofs.Common.{rules, ◌≡◌, List, refl, sym, ap, subst, ◌∙◌}
-use Rattle.tree_core.specs.Machine.{Machine}
+use Rattle.std.proofs.Common.{sym, ap, subst, ◌∙◌}
 use Rattle.tree_core.specs.StandsFor.{StandsFor, StoredTree}
-use Rattle.run_records.specs.Runs.{RunStep, end_of}
+use Rattle.run_records.specs.Runs.{end_of}
 use Rattle.locked_services.specs.Running.{RunningView}
 use Rattle.locked_services.specs.Shots.{shot_of}
 use Rattle.locked_services.proofs.Shown.{shot_is}

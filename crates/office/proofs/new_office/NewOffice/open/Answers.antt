@@ -1,4 +1,4 @@
-use Rattle.std.proofs.Common.{◌≡◌, ℕ, List, [], ◌∷◌, Vec, Global, slice_get, sym, ap, subst, ◌∙◌}
+use Rattle.std.proofs.Common.{List, [], ◌∷◌, Vec, Global, slice_get, sym, ap, subst, ◌∙◌}
 use Rattle.inbox.specs.Ends.{SeatView}
 use Rattle.status_board.specs.declared.shot.Shot.{Shot}
 use Rattle.tree_core.specs.StandsFor.{StandsFor, StoredTree}

@@ -1,11 +1,9 @@
-use Rattle.std.proofs.Common.{rules, ◌≡◌, ◌≤◌, ◌<◌, ◌+◌, ℕ, List, [], ◌∷◌, ◌++◌, All, map, length, Some, slice_get, slice_set, refl, sym, ap, subst, ◌∙◌, arith}
+use Rattle.std.proofs.Common.{rules, ◌≡◌, ◌≤◌, ◌+◌, ℕ, List, [], ◌∷◌, ◌++◌, map, length, Some, slice_get, slice_set, refl, sym, ap, subst, ◌∙◌}
 use Rattle.std.proofs.lemmas.List.{length-map, length-set}
 use Rattle.std.specs.declared.alloc.Global.{Global}
-use Rattle.s6_events.specs.declared.order.Order.{Order}
 use Rattle.tree_core.specs.Effect.{outcome_of}
 use Rattle.tree_core.specs.declared.input.Input.{Input}
-use Rattle.run_records.specs.declared.record.Record.{Record}
-use Rattle.run_records.specs.Runs.{RunStep, RunView, PlaceList, IsWithin, ArePlaced, step_of}
+use Rattle.run_records.specs.Runs.{RunStep, RunView, ArePlaced, step_of}
 use Rattle.run_records.proofs.Growing.{steps_snoc, part_last, within_snoc}
 use Rattle.run_records.proofs.Placing.{actor_there, placed_snoc, room_at}
 use Rattle.run_records.proofs.run.Run.add.Goals as goal

@@ -1,10 +1,10 @@
-use Rattle.std.proofs.Common.{rules, ◌≡◌, ◌≤◌, ◌<◌, ◌-◌, ◌+◌, ℕ, suc, List, map, length, Option, option_map, Some, None, slice_get, refl, sym, ap, subst, ◌∙◌, arith}
+use Rattle.std.proofs.Common.{rules, ◌≡◌, ◌≤◌, ◌<◌, ◌-◌, ℕ, List, map, length, option_map, Some, slice_get, refl, sym, ap, subst, ◌∙◌, arith}
 use Rattle.std.proofs.lemmas.Bool.Decides.{nat_tests}
 use Rattle.std.proofs.lemmas.List.{length-map}
-use Rattle.std.proofs.lemmas.Option.{slice_get_read, slice_get_within, slice_get-map}
+use Rattle.std.proofs.lemmas.Option.{slice_get_read, slice_get-map}
 use Rattle.std.specs.declared.alloc.Global.{Global}
 use Rattle.tree_core.specs.declared.reply.Reply.{Reply}
-use Rattle.run_records.specs.Runs.{RunView, RunStep, PlaceList, reply_at, steps_of, places_from, step_of}
+use Rattle.run_records.specs.Runs.{RunView, RunStep, reply_at, step_of}
 use Rattle.run_records.proofs.Placing.{actor_there, reply_found, reply_none, place_within}
 use Rattle.run_records.proofs.run.Run.reply.Goals as goal
 

@@ -1,4 +1,4 @@
-use Rattle.std.proofs.Common.{rules, ◌≡◌, ◌≤◌, ℕ, length, map, Some, slice_get, slice_set, refl, sym, subst, ◌∙◌, arith}
+use Rattle.std.proofs.Common.{rules, ◌≡◌, ◌≤◌, ℕ, map, Some, slice_get, slice_set, subst, ◌∙◌}
 use Rattle.run_records.specs.Runs.{PlaceList}
 use Rattle.run_records.proofs.Placing.{actor_there, room_set}
 use Rattle.run_records.proofs.run.Run.reserve.Goals as goal
