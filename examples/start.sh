@@ -4,10 +4,13 @@
 #
 #   examples/start.sh [SOCKET [RECORD]]
 #
-# What it did is recorded: `s6_tree replay --check < RECORD` once it has ended.
+# With S6_TREE in the environment that program is run, and nothing is proved. What the tree did is recorded:
+# `s6_tree replay --check < RECORD` once it has ended.
 cd "$(dirname "$0")/.." || exit 111
-(cd crates/s6_tree && rt run -- --version) || exit 111
-S6_TREE=$PWD/crates/s6_tree/out/s6_tree
+if [ -z "$S6_TREE" ]; then
+    python3 examples/prove.py s6_tree || exit
+    S6_TREE=$PWD/crates/s6_tree/out/s6_tree
+fi
 SOCKET=${1:-/tmp/s6_tree.socket}
 RECORD=${2:-/tmp/s6_tree.record}
 export S6_TREE

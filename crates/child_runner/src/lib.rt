@@ -26,4 +26,4 @@ pub use keeper::{Keeper, KeeperFault};
 pub use lane_link::{LaneLink, ORDER_LIMIT, REPORT_LIMIT};
 pub use lane_thread::serve_lane;
 pub use linked_backend::LinkedBackend;
-pub use shell::has_shell;
+pub use shell::ShellProbe;

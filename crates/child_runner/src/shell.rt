@@ -4,7 +4,7 @@ use crate::process::ServiceProcess;
 use order_lanes::AskFault;
 use std::alloc::Global;
 use std::io::{self, ErrorKind};
-use std::process::{ExitStatus, Processes};
+use std::process::{Child, ExitStatus, Processes, SystemProcess};
 use std::sync::Wait;
 
 /// What became of a signal.
@@ -16,15 +16,29 @@ pub(crate) enum Sending {
     NoShell,
 }
 
-/// Whether signals can be sent here: whether `/bin/sh` can be run, and its `kill` ends with 0. False also where memory is refused, or the
-/// system has no room for a process.
-pub fn has_shell<R: Processes>(rt: &R, alloc: Global) -> bool {
-    let Ok(mut command) = probe_command(alloc) else {
-        return false;
-    };
-    match command.status(rt) {
-        Ok(status) => status.success(),
-        Err(_) => false,
+/// A shell that tries whether signals can be sent here, beside whoever started it.
+#[derive(Drop)]
+pub struct ShellProbe {
+    shell: Option<Child<SystemProcess>>,
+}
+
+impl ShellProbe {
+    /// Starts the shell, if it can be started.
+    pub fn start<R: Processes<Started = SystemProcess>>(rt: &R, alloc: Global) -> ShellProbe {
+        let shell = match probe_command(alloc) {
+            Ok(mut command) => command.spawn(rt).ok(),
+            Err(_) => None,
+        };
+        ShellProbe { shell }
+    }
+
+    /// Waits for the shell. Whether signals can be sent: whether `/bin/sh` could be run, and its `kill` ended with 0. False also where
+    /// memory was refused, or the system had no room for a process.
+    pub fn has_shell(self) -> bool {
+        match self.shell {
+            Some(mut shell) => matches!(shell.wait(), Ok(status) if status.success()),
+            None => false,
+        }
     }
 }
 

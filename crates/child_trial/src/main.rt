@@ -11,7 +11,7 @@ mod linked;
 mod noted;
 mod stage;
 
-use child_runner::{Keeper, has_shell};
+use child_runner::{Keeper, ShellProbe};
 use error_notes::Notes;
 use std::io::{self, Write};
 use std::process::ExitCode;
@@ -45,7 +45,11 @@ fn main(rt: HostRuntime) -> io::Result<ExitCode> {
         lanes.end();
         figures::print_all(&rt, alloc, keeper, root, &notes, &mut output)
     } else {
-        writeln!(output, "a shell: {}", has_shell(&rt, alloc))?;
+        writeln!(
+            output,
+            "a shell: {}",
+            ShellProbe::start(&rt, alloc).has_shell()
+        )?;
         let parent = process::id(rt.process());
         let tried = endings::try_all(
             &rt,

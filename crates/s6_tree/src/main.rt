@@ -18,10 +18,11 @@ fn main(rt: HostRuntime) -> ExitCode {
         lanes,
         keeper,
         notes,
+        probe,
     } = match begin_program(rt, alloc, standard) {
         Begun::Done(status) => return ExitCode::from(status),
         Begun::Tree(tree) => tree,
     };
-    let done = run_tree(&rt, alloc, lanes, place.options(HANDOVER), &notes);
+    let done = run_tree(&rt, alloc, lanes, probe, place.options(HANDOVER), &notes);
     ExitCode::from(end_program(&rt, keeper, &notes, done))
 }

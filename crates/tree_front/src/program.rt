@@ -1,7 +1,7 @@
 //! The program: what its words ask for is done, but for a tree, which is begun and ended here, and run by its caller.
 use crate::descriptors::open_standard;
 use crate::front::{Asked, TreePlace, run_words};
-use child_runner::{Keeper, has_shell};
+use child_runner::{Keeper, ShellProbe};
 use error_notes::{NoteWriter, Notes, start_notes};
 use replay_tool::run_tool;
 use std::alloc::Global;
@@ -29,13 +29,15 @@ pub struct Standard<I: Read + Drop, W: Write + Drop, E: Write + Drop> {
     pub notes_output: E,
 }
 
-/// A tree that is to run: where, by which lanes, who keeps its children, and where lines for standard error are noted.
+/// A tree that is to run: where, by which lanes, who keeps its children, where lines for standard error are noted, and the shell that
+/// tries whether signals can be sent.
 #[derive(Drop)]
 pub struct BegunTree<R: Drop> {
     pub place: TreePlace,
     pub lanes: ServiceLanes<R>,
     pub keeper: Keeper<R>,
     pub notes: Arc<Notes, Global>,
+    pub probe: ShellProbe,
 }
 
 /// What the words of a command line came to.
@@ -96,9 +98,7 @@ fn begin_tree<
         + 'static,
     N: Write + Send + Drop + 'static,
 >(rt: R, alloc: Global, place: TreePlace, notes_output: N) -> Result<BegunTree<R>, ServeFault> {
-    if !has_shell(&rt, alloc) {
-        return Err(ServeFault::Shell);
-    }
+    let probe = ShellProbe::start(&rt, alloc);
     let Some(notes) = start_notes(rt, alloc, notes_output) else {
         return Err(ServeFault::Thread);
     };
@@ -112,6 +112,7 @@ fn begin_tree<
             lanes,
             keeper,
             notes,
+            probe,
         }),
         Err(_) => {
             keeper.end();

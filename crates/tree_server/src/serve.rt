@@ -12,7 +12,7 @@ use crate::service_lanes::TreeLanes;
 use crate::shared::Shared;
 use crate::socket::{SocketFile, listen};
 use crate::threads::{DriverParts, start_driver, start_lane};
-use child_runner::{Bell, LaneLink};
+use child_runner::{Bell, LaneLink, ShellProbe};
 use error_notes::{NoteWriter, Notes};
 use line_server::{Seats, Server};
 use order_lanes::Backend;
@@ -39,7 +39,8 @@ struct Parts {
 }
 
 /// Runs a tree of the services of a directory, and serves clients on a socket, until it has ended. Its threads live from its first run to
-/// its last. What the services' directories have for faults is noted, and each new run. Page `s6-svscan`.
+/// its last. What the services' directories have for faults is noted, and each new run. Nothing is started, and no record is touched,
+/// before the probe has found a shell. Page `s6-svscan`.
 pub fn run_tree<
     B: Backend + Send,
     K: Backend + Send,
@@ -48,13 +49,14 @@ pub fn run_tree<
     rt: &R,
     alloc: Global,
     lanes: TreeLanes<B, K>,
+    probe: ShellProbe,
     options: ServeOptions<'_>,
     notes: &Notes,
 ) -> Result<(), ServeFault> {
     let Ok((listener, file)) = listen(rt, alloc, options.socket) else {
         return Err(ServeFault::Socket);
     };
-    match prepare(rt, alloc, options, notes) {
+    match prepare(rt, alloc, probe, options, notes) {
         Ok(parts) => serve(rt, listener, file, parts, lanes, options, notes),
         Err(fault) => {
             file.remove(rt, options.socket);
@@ -67,20 +69,25 @@ pub fn run_tree<
 fn prepare<R: Files<File = File> + Wait + Clock + Copy + Drop>(
     rt: &R,
     alloc: Global,
+    probe: ShellProbe,
     options: ServeOptions<'_>,
     notes: &Notes,
 ) -> Result<Parts, ServeFault> {
     let Some(clock) = ServerClock::start(rt) else {
         return Err(ServeFault::Clock);
     };
-    let recorder = match create_recorder(rt, alloc, options.record) {
-        Ok(recorder) => recorder,
-        Err(error) => return Err(fault_of(&error, ServeFault::Record)),
-    };
     let mut errors = NoteWriter::new(rt, notes);
     let first = match read_listing(rt, alloc, options.directory, &mut errors) {
         Ok(listing) => listing,
         Err(error) => return Err(fault_of(&error, ServeFault::Directory)),
+    };
+    // The shell ran beside all that.
+    if !probe.has_shell() {
+        return Err(ServeFault::Shell);
+    }
+    let recorder = match create_recorder(rt, alloc, options.record) {
+        Ok(recorder) => recorder,
+        Err(error) => return Err(fault_of(&error, ServeFault::Record)),
     };
     let (Ok(callers), Ok(rows), Ok(seats)) = (
         new_callers(alloc),

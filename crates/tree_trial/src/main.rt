@@ -47,6 +47,7 @@ fn main(rt: HostRuntime) -> ExitCode {
         lanes,
         keeper,
         notes,
+        probe,
     } = match begin_program(rt, alloc, standard) {
         Begun::Done(status) => return ExitCode::from(status),
         Begun::Tree(tree) => tree,
@@ -55,6 +56,7 @@ fn main(rt: HostRuntime) -> ExitCode {
         &rt,
         alloc,
         lanes,
+        probe,
         place.options(handover(&(&rt, alloc))),
         &notes,
     );
