@@ -28,14 +28,15 @@ is_built() {
     [ -x "$PROGRAM" ] && [ -z "$(find crates.txt crates/*/src -newer "$PROGRAM" | head -n 1)" ]
 }
 
-# The number of the process that was built and serves on this socket: its second word is svscan, and its fourth the socket.
-server_of() {
+# The program that was built and serves on this socket: the word before `svscan` in the words of its process, whose last is the socket.
+program_of() {
     for place in /proc/[0-9]*; do
         words=$(tr '\0' '\n' 2>/dev/null <"$place/cmdline") || continue
         case $words in
-        *svscan*"$1")
-            [ "$(echo "$words" | sed -n 2p)" = svscan ] && echo "${place#/proc/}" && return
-            ;;
+        *"/program
+svscan
+"*"
+$1") echo "$words" | sed -n '/^svscan$/{x;p;q;};h' && return ;;
         esac
     done
 }
@@ -55,8 +56,8 @@ build() {
         }
         sleep 0.2
     done
-    server=$(server_of "$folder/socket")
-    [ -n "$server" ] && cp "/proc/$server/exe" "$folder/s6_tree" && mv "$folder/s6_tree" "$PROGRAM" || fail "not built"
+    built=$(program_of "$folder/socket")
+    [ -n "$built" ] && cp "$built" "$PROGRAM.new" && mv "$PROGRAM.new" "$PROGRAM" || fail "no program that was built"
     "$PROGRAM" svscanctl "$folder/socket" -t
     wait "$try"
     try=

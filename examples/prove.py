@@ -69,8 +69,9 @@ class Lane:
                 copy = os.path.join(self.place, file)
                 os.makedirs(os.path.dirname(copy), exist_ok=True)
                 shutil.copyfile(file, copy)
-        for file in ("crates.txt", "HANDLES"):
-            shutil.copyfile(file, os.path.join(self.place, file))
+        shutil.copyfile("HANDLES", os.path.join(self.place, "HANDLES"))
+        with open(os.path.join(self.place, "crates.txt"), "w") as file:
+            file.writelines(line for line in open("crates.txt") if line.split(":")[0].split(" ")[0] in names)
 
     def take(self, names):
         """Links what was proved of these crates into the copy."""
