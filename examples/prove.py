@@ -52,8 +52,8 @@ def files_of(name):
         yield from (os.path.join(folder, it) for it in sorted(files))
 
 
-def lanes_of_machine():
-    """How many checks run at the same time: one for each processor, where each finds memory."""
+def usable_processors():
+    """How many checks may run at the same time: one for each processor, where each finds memory."""
     words = dict(line.split()[:2] for line in open("/proc/meminfo"))
     return max(1, min(len(os.sched_getaffinity(0)), int(words["MemAvailable:"]) // CHECK_MEMORY))
 
@@ -112,6 +112,7 @@ class Plan:
             sys.exit("prove: no crate %s" % program)
         names = below(program, uses)
         self.program = program
+        self.processors = usable_processors()
         self.uses = {name: uses[name] for name in names}
         self.sums, self.ways = {}, {}
         kit = subprocess.run(["rt", "version"], capture_output=True).stdout
@@ -170,7 +171,7 @@ class Plan:
 
     def seconds_left(self):
         left = [it for it in self.uses if it not in self.done]
-        work = sum(SECONDS.get(it, USUAL_SECONDS) for it in left) / lanes_of_machine()
+        work = sum(SECONDS.get(it, USUAL_SECONDS) for it in left) / self.processors
         return max(work, max(self.ways[it] for it in left))
 
     def tell(self, name):
@@ -183,19 +184,28 @@ class Plan:
               file=sys.stderr, flush=True)
 
 
-def jobs_for(place, ready, free):
-    """How many processors the crate at this place of those that are ready gets: what is left by the others, and the first at least two."""
-    return max(2 if place == 0 else 1, free - (len(ready) - 1)) if free > 1 else 1
+def busy(running):
+    """How many processors are in use."""
+    return sum(check.jobs for check in running.values())
+
+
+def jobs_for(plan, name, others, running):
+    """How many processors the crate gets: what the others leave. The one that all wait for gets two at least, also where none is free; 0: it waits."""
+    free = plan.processors - busy(running)
+    if all(plan.ways[name] >= plan.ways[it] for it in running):
+        return max(min(2, plan.processors), free - others) if free > -2 else 0
+    return max(0, min(1, free))
 
 
 def begin_checks(plan, running, lanes):
-    """Begins as many checks as there are free lanes."""
+    """Begins what can be begun, the crate with the longest way first."""
     ready = plan.ready(running)
-    free = len(lanes)
-    for place, name in enumerate(ready[:free]):
-        lane = lanes.pop()
-        lane.take(plan.all_below(name))
-        running[name] = Check(name, lane, jobs_for(place, ready, free))
+    for place, name in enumerate(ready[:len(lanes)]):
+        jobs = jobs_for(plan, name, len(ready) - place - 1, running)
+        if jobs:
+            lane = lanes.pop()
+            lane.take(plan.all_below(name))
+            running[name] = Check(name, lane, jobs)
 
 
 def end_checks(plan, running, lanes):
@@ -232,7 +242,7 @@ def refuse(name):
 def prove_libraries(plan):
     """Proves all that the program stands on. The status."""
     shutil.rmtree(LANES, ignore_errors=True)
-    lanes = [Lane(number, plan.uses) for number in range(lanes_of_machine())]
+    lanes = [Lane(number, plan.uses) for number in range(plan.processors + 1)]
     running = {}
     try:
         while not plan.is_proved():
@@ -251,7 +261,7 @@ def build_program(plan):
     """Proves the program itself, and builds it in this checkout. The status."""
     with open(log_of(plan.program), "wb") as log:
         how = dict(stdout=log, stderr=log, stdin=subprocess.DEVNULL, start_new_session=True)
-        rt = subprocess.Popen(["rt", "run", "--", "--version"], cwd=os.path.join("crates", plan.program), **how)
+        rt = subprocess.Popen(["rt", "run", "--jobs", str(plan.processors), "--", "--version"], cwd=os.path.join("crates", plan.program), **how)
         try:
             status = rt.wait()
         finally:
