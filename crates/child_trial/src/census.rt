@@ -1,58 +1,36 @@
-//! Counts in /proc.
+//! Counts in /proc, by scripts: `$PPID` is this process.
 use std::alloc::Global;
-use std::rt::Files;
-use std::{fs, io};
+use std::io;
+use std::process::{Command, Processes, Stdio};
 
-/// How many descriptors this process has open, the one that looks included.
-pub fn count_descriptors<R: Files>(rt: &R, alloc: Global) -> io::Result<usize> {
-    let mut count = 0usize;
-    for entry in fs::read_dir(&(rt, alloc), "/proc/self/fd")? {
-        let _ = entry?;
-        count = count.saturating_add(1);
-    }
-    Ok(count)
+/// How many descriptors this process has open.
+pub const DESCRIPTORS: &str = "ls /proc/$PPID/fd | wc -l";
+
+/// How many threads it has.
+pub const THREADS: &str = "ls /proc/$PPID/task | wc -l";
+
+/// How many kilobytes of it are in memory.
+pub const MEMORY: &str = "sed -n 's/^VmRSS:[^0-9]*\\([0-9]*\\).*/\\1/p' /proc/$PPID/status";
+
+/// How many of its children ended and weren't waited for.
+pub const ZOMBIES: &str = "grep -l \"^[0-9]* (.*) Z $PPID \" /proc/[0-9]*/stat 2>/dev/null | wc -l";
+
+/// How many of its children live, beside this shell.
+pub const LIVING: &str =
+    "grep -l \"^[0-9]* (.*) [^Z] $PPID \" /proc/[0-9]*/stat 2>/dev/null | grep -vc \"^/proc/$$/\"";
+
+/// The number that a script writes.
+pub fn count<R: Processes>(rt: &R, alloc: Global, script: &str) -> io::Result<u64> {
+    let mut command = Command::new(alloc, "/bin/sh")?;
+    command.arg("-c")?.arg(script)?.stdin(Stdio::null());
+    let output = command.output(rt)?;
+    number_of(output.stdout.as_slice())
 }
 
-/// How many children this process has that ended and weren't waited for, and how many that live.
-pub fn count_children<R: Files>(rt: &R, alloc: Global, parent: u32) -> io::Result<(usize, usize)> {
-    let (mut zombies, mut living) = (0usize, 0usize);
-    for entry in fs::read_dir(&(rt, alloc), "/proc")? {
-        let entry = entry?;
-        if entry.file_name().parse::<u32>().is_err() {
-            continue;
-        }
-        match state_of(rt, alloc, entry.file_name(), parent) {
-            Some(true) => zombies = zombies.saturating_add(1),
-            Some(false) => living = living.saturating_add(1),
-            None => {}
-        }
+fn number_of(written: &[u8]) -> io::Result<u64> {
+    let text = std::str::from_utf8(written).unwrap_or("");
+    match text.trim().parse::<u64>() {
+        Ok(number) => Ok(number),
+        Err(_) => Err(io::Error::from(io::ErrorKind::InvalidData)),
     }
-    Ok((zombies, living))
-}
-
-// Whether the process is a zombie; None where it is no child of the parent, or has gone.
-fn state_of<R: Files>(rt: &R, alloc: Global, process: &str, parent: u32) -> Option<bool> {
-    let path = format!(in alloc; "/proc/{process}/stat").ok()?;
-    let text = fs::read_to_string(&(rt, alloc), path.as_str()).ok()?;
-    let (_, fields) = text.as_str().rsplit_once(") ")?;
-    let mut fields = fields.split(' ');
-    let state = fields.next()?;
-    let of = fields.next()?.parse::<u32>().ok()?;
-    if of == parent {
-        Some(state == "Z")
-    } else {
-        None
-    }
-}
-
-/// The number of this field of /proc/self/status.
-pub fn status_field<R: Files>(rt: &R, alloc: Global, field: &str) -> io::Result<u64> {
-    let text = fs::read_to_string(&(rt, alloc), "/proc/self/status")?;
-    for line in text.as_str().lines() {
-        if let Some(rest) = line.strip_prefix(field) {
-            let digits = rest.trim().trim_end_matches(" kB");
-            return Ok(digits.parse::<u64>().unwrap_or(0));
-        }
-    }
-    Ok(0)
 }

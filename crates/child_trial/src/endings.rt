@@ -1,12 +1,12 @@
 //! All trials, and how a keeper ends.
-use crate::census::count_descriptors;
-use crate::crowd::write_left;
+use crate::census::{DESCRIPTORS, count};
+use crate::crowd::say_left;
 use crate::stage::Stage;
-use child_runner::Keeper;
+use child_runner::{Keeper, ShellProbe};
 use error_notes::Notes;
 use order_lanes::Report;
 use std::alloc::Global;
-use std::io::{self, Write};
+use std::io;
 use std::process::{Processes, SystemProcess};
 use std::rt::Files;
 use std::sync::{Arc, Wait};
@@ -28,7 +28,7 @@ fn is_death_of(report: &Report, service: u64) -> bool {
     }
 }
 
-impl<R: Processes<Started = SystemProcess> + Files + Wait + Clock + Drop> Stage<R> {
+impl<R: Print + Processes<Started = SystemProcess> + Files + Wait + Clock + Drop> Stage<R> {
     // Starts one service. Whether the backend heard of it.
     fn hears_start(&mut self, sid: u64) -> io::Result<bool> {
         self.write("four", "run", "exec sleep 60", 0o755)?;
@@ -60,101 +60,133 @@ impl<R: Processes<Started = SystemProcess> + Files + Wait + Clock + Drop> Stage<
 }
 
 // Services of four backends that share a keeper: each hears of its own alone.
-fn try_four<R: Processes<Started = SystemProcess> + Files + Wait + Clock + Copy + Drop>(
+fn try_four<R: Print + Processes<Started = SystemProcess> + Files + Wait + Clock + Copy + Drop>(
     rt: &R,
     alloc: Global,
     keeper: &Keeper<R>,
     root: &str,
     notes: &Arc<Notes, Global>,
-    output: &mut impl Write,
 ) -> io::Result<()> {
     let mut stages = Vec::new(alloc);
     for _ in 0..4 {
         stages.push(Stage::new(*rt, alloc, keeper, root, notes)?)?;
     }
+    let heard = count_heard(stages.as_mut_slice())?;
+    println!(rt; "four backends, one keeper: {heard} of 8 reports heard")
+}
+
+// How many of the backends heard of the start of their service, and of its death.
+fn count_heard<R: Print + Processes<Started = SystemProcess> + Files + Wait + Clock + Drop>(
+    stages: &mut [Stage<R>],
+) -> io::Result<u32> {
     let mut heard = 0u32;
     for (place, stage) in stages.iter_mut().enumerate() {
-        if stage.hears_start(place as u64)? {
-            heard = heard.saturating_add(1);
-        }
+        heard = heard.saturating_add(u32::from(stage.hears_start(place as u64)?));
     }
     for (place, stage) in stages.iter_mut().enumerate() {
-        if stage.hears_death(place as u64) {
-            heard = heard.saturating_add(1);
-        }
+        heard = heard.saturating_add(u32::from(stage.hears_death(place as u64)));
     }
-    writeln!(
-        output,
-        "four backends, one keeper: {heard} of 8 reports heard"
-    )
+    Ok(heard)
 }
 
 // Every trial of one backend.
-fn try_stage<R: Processes<Started = SystemProcess> + Files + Wait + Clock + Drop>(
+fn try_stage<R: Print + Processes<Started = SystemProcess> + Files + Wait + Clock + Drop>(
     stage: &mut Stage<R>,
-    output: &mut impl Write,
 ) -> io::Result<()> {
-    stage.try_cases(output)?;
-    stage.try_failures(output)?;
-    stage.try_finish(output)?;
-    stage.try_long_line(output)?;
-    stage.try_deaf(output)?;
-    stage.try_ended(output)?;
-    stage.try_zeros(output)?;
-    stage.try_junk(output)?;
-    stage.try_crowd(output)?;
-    stage.try_heirs(output)?;
-    stage.try_leavers(output)
+    stage.try_cases()?;
+    stage.try_finish()?;
+    stage.try_long_line()?;
+    stage.try_deaf()?;
+    stage.try_ended()?;
+    stage.try_zeros()?;
+    stage.try_junk()?;
+    stage.try_crowd()?;
+    stage.try_heirs()?;
+    stage.try_leavers()
 }
 
 /// How many seconds the end of a keeper may take. A grandchild that keeps a descriptor open lives longer.
 const PATIENCE: u64 = 8;
 
 // Services that still live when the keeper ends, and one whose descriptor a grandchild keeps open.
-fn try_end<R: Processes<Started = SystemProcess> + Files + Threads + Wait + Clock + Copy + Drop>(
+fn try_end<
+    R: Print + Processes<Started = SystemProcess> + Files + Threads + Wait + Clock + Copy + Drop,
+>(
     rt: &R,
     alloc: Global,
     keeper: Keeper<R>,
     root: &str,
     notes: &Arc<Notes, Global>,
-    output: &mut impl Write,
 ) -> io::Result<()> {
     let mut stage = Stage::new(*rt, alloc, &keeper, root, notes)?;
-    let crowd = stage.start_crowd(3, Some(3));
-    let leaver = stage.start_leaver();
+    let are_asked = start_last(&mut stage);
     let begin = Instant::now(rt);
     keeper.end();
     let is_soon = begin?.elapsed(rt)?.as_secs() < PATIENCE;
-    let (are_asked, is_asked) = (crowd?, leaver?);
+    say_end(&mut stage, are_asked?, is_soon)
+}
+
+// Starts three services that stay, and one that leaves a process behind. Whether the orders were taken.
+fn start_last<R: Print + Processes<Started = SystemProcess> + Files + Wait + Clock + Drop>(
+    stage: &mut Stage<R>,
+) -> io::Result<bool> {
+    let are_asked = stage.start_crowd(3, Some(3))?;
+    Ok(stage.start_leaver()? && are_asked)
+}
+
+fn say_end<R: Print + Processes<Started = SystemProcess> + Files + Wait + Clock + Drop>(
+    stage: &mut Stage<R>,
+    are_asked: bool,
+    is_soon: bool,
+) -> io::Result<()> {
     let is_busy = !stage.run(10, "stays", None)?;
-    writeln!(
-        output,
-        "the keeper's end: asked {}, in time {is_soon}, busy afterwards {is_busy}",
-        are_asked && is_asked
+    println!(stage.rt;
+        "the keeper's end: asked {are_asked}, in time {is_soon}, busy afterwards {is_busy}"
     )
+}
+
+// Every trial of a keeper that isn't ended while its backends have services. It is ended afterwards.
+fn try_keeper<
+    R: Print + Processes<Started = SystemProcess> + Files + Threads + Wait + Clock + Copy + Drop,
+>(
+    rt: &R,
+    alloc: Global,
+    keeper: Keeper<R>,
+    root: &str,
+    notes: &Arc<Notes, Global>,
+) -> io::Result<()> {
+    let tried = try_one(rt, alloc, &keeper, root, notes);
+    let shared = try_four(rt, alloc, &keeper, root, notes);
+    keeper.end();
+    tried.and(shared)
+}
+
+fn try_one<R: Print + Processes<Started = SystemProcess> + Files + Wait + Clock + Copy + Drop>(
+    rt: &R,
+    alloc: Global,
+    keeper: &Keeper<R>,
+    root: &str,
+    notes: &Arc<Notes, Global>,
+) -> io::Result<()> {
+    let mut stage = Stage::new(*rt, alloc, keeper, root, notes)?;
+    try_stage(&mut stage)
 }
 
 /// All trials. The keepers are ended in between, and nothing is left over.
 pub fn try_all<
-    R: Processes<Started = SystemProcess> + Files + Threads + Wait + Clock + Copy + Drop,
+    R: Print + Processes<Started = SystemProcess> + Files + Threads + Wait + Clock + Copy + Drop,
 >(
     rt: &R,
     alloc: Global,
     keepers: (Keeper<R>, Keeper<R>),
     root: &str,
     notes: &Arc<Notes, Global>,
-    parent: u32,
-    output: &mut impl Write,
 ) -> io::Result<()> {
+    println!(rt; "a shell: {}", ShellProbe::start(rt, alloc).has_shell())?;
     let (keeper, other) = keepers;
-    let before = count_descriptors(rt, alloc)?;
-    let mut stage = Stage::new(*rt, alloc, &keeper, root, notes)?;
-    let tried = try_stage(&mut stage, output);
-    let shared = try_four(rt, alloc, &keeper, root, notes, output);
-    keeper.end();
-    tried?;
-    shared?;
-    write_left(rt, alloc, output, before, parent)?;
-    try_end(rt, alloc, other, root, notes, output)?;
-    write_left(rt, alloc, output, before, parent)
+    let before = count(rt, alloc, DESCRIPTORS)?;
+    try_keeper(rt, alloc, keeper, root, notes)?;
+    say_left(rt, alloc, before)?;
+    try_end(rt, alloc, other, root, notes)?;
+    say_left(rt, alloc, before)
 }

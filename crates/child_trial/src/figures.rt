@@ -1,12 +1,12 @@
 //! How long a start, an end and a readiness take, and what children cost.
-use crate::census::{count_descriptors, status_field};
+use crate::census::{DESCRIPTORS, MEMORY, THREADS, count};
 use crate::crowd::Tally;
 use crate::stage::Stage;
 use child_runner::Keeper;
 use error_notes::Notes;
 use order_lanes::Report;
 use std::alloc::Global;
-use std::io::{self, Write};
+use std::io;
 use std::process::{Command, Processes, SystemProcess};
 use std::rt::Files;
 use std::sync::{Arc, Wait};
@@ -17,12 +17,11 @@ use std::time::{Clock, Instant, SystemTime, UNIX_EPOCH};
 const TIMES: u64 = 51;
 
 // The middle one of these, in thousandths of a millisecond.
-fn write_middle(output: &mut impl Write, what: &str, micros: &mut Vec<u128>) -> io::Result<()> {
+fn say_middle(rt: &impl Print, what: &str, micros: &mut Vec<u128>) -> io::Result<()> {
     micros.sort_unstable();
     let middle = micros.get(micros.len() / 2).copied().unwrap_or(0);
     let most = micros.last().copied().unwrap_or(0);
-    writeln!(
-        output,
+    println!(rt;
         "{what}: median {middle} us, most {most} us, of {}",
         micros.len()
     )
@@ -47,6 +46,16 @@ struct Times {
     death: Vec<u128>,
 }
 
+impl Times {
+    fn new(alloc: Global) -> Times {
+        Times {
+            start: Vec::new(alloc),
+            notice: Vec::new(alloc),
+            death: Vec::new(alloc),
+        }
+    }
+}
+
 // The moment that the bytes name, in microseconds since 1970.
 fn moment_of(bytes: &[u8]) -> u128 {
     let text = std::str::from_utf8(bytes).unwrap_or("");
@@ -61,86 +70,99 @@ fn micros_since<R: Clock>(rt: &R, moment: u128) -> io::Result<u128> {
     Ok(now.saturating_sub(moment))
 }
 
-impl<R: Processes<Started = SystemProcess> + Files + Wait + Clock + Drop> Stage<R> {
+impl<R: Print + Processes<Started = SystemProcess> + Files + Wait + Clock + Drop> Stage<R> {
     // From the order to Started, from the newline to Notify, and from the signal to Death.
-    fn measure(&mut self) -> io::Result<Times> {
-        let mut times = Times {
-            start: Vec::new(self.alloc),
-            notice: Vec::new(self.alloc),
-            death: Vec::new(self.alloc),
-        };
+    fn measure(&mut self, times: &mut Times) -> io::Result<()> {
         self.write("quick", "run", "date +%s%N >&3\nexec sleep 60", 0o755)?;
         for sid in 0..TIMES {
-            let begin = Instant::now(&self.rt)?;
-            let _ = self.run(sid, "quick", Some(3))?;
-            if matches!(self.next_report(), Some(Report::Started(..))) {
-                times.start.push(begin.elapsed(&self.rt)?.as_micros())?;
-            }
-            if let Some(Report::Notify(_, _, bytes)) = self.next_report() {
-                times
-                    .notice
-                    .push(micros_since(&self.rt, moment_of(bytes.as_slice()))?)?;
-            }
-            let begin = Instant::now(&self.rt)?;
-            let _ = self.kill(sid, 9);
-            if matches!(self.next_report(), Some(Report::Death(..))) {
-                times.death.push(begin.elapsed(&self.rt)?.as_micros())?;
-            }
+            self.measure_start(sid, times)?;
+            self.measure_death(sid, times)?;
         }
-        Ok(times)
+        Ok(())
+    }
+
+    fn measure_start(&mut self, sid: u64, times: &mut Times) -> io::Result<()> {
+        let begin = Instant::now(&self.rt)?;
+        let _ = self.run(sid, "quick", Some(3))?;
+        if matches!(self.next_report(), Some(Report::Started(..))) {
+            times.start.push(begin.elapsed(&self.rt)?.as_micros())?;
+        }
+        if let Some(Report::Notify(_, _, bytes)) = self.next_report() {
+            let passed = micros_since(&self.rt, moment_of(bytes.as_slice()))?;
+            times.notice.push(passed)?;
+        }
+        Ok(())
+    }
+
+    fn measure_death(&mut self, sid: u64, times: &mut Times) -> io::Result<()> {
+        let begin = Instant::now(&self.rt)?;
+        let _ = self.kill(sid, 9);
+        if matches!(self.next_report(), Some(Report::Death(..))) {
+            times.death.push(begin.elapsed(&self.rt)?.as_micros())?;
+        }
+        Ok(())
     }
 
     // What so many children cost.
-    fn weigh(&mut self, output: &mut impl Write, crowd: u64, fd: Option<u8>) -> io::Result<()> {
+    fn weigh(&mut self, crowd: u64, fd: Option<u8>) -> io::Result<()> {
         let mut tally = Tally::new(self.alloc, crowd)?;
         let _ = self.start_crowd(crowd, fd)?;
         self.tally(&mut tally, crowd);
-        let threads = status_field(&self.rt, self.alloc, "Threads:")?;
-        let memory = status_field(&self.rt, self.alloc, "VmRSS:")?;
-        let descriptors = count_descriptors(&self.rt, self.alloc)?;
+        self.say_weight(crowd, fd.is_some())?;
         let _ = self.kill_crowd(crowd);
         self.tally(&mut tally, crowd);
-        let is_read = fd.is_some();
         let is_whole = tally.are_started() && tally.are_killed();
-        writeln!(
-            output,
-            "{crowd} children, read {is_read}: {threads} threads, {descriptors} descriptors, {memory} kB, all started and dead {is_whole}"
+        println!(self.rt; ", all started and dead {is_whole}")
+    }
+
+    fn say_weight(&self, crowd: u64, is_read: bool) -> io::Result<()> {
+        let threads = count(&self.rt, self.alloc, THREADS)?;
+        let memory = count(&self.rt, self.alloc, MEMORY)?;
+        let descriptors = count(&self.rt, self.alloc, DESCRIPTORS)?;
+        print!(self.rt;
+            "{crowd} children, read {is_read}: {threads} threads, {descriptors} descriptors, {memory} kB"
         )
     }
 }
 
 // Measures with one backend.
-fn measure_all<R: Processes<Started = SystemProcess> + Files + Wait + Clock + Drop>(
+fn measure_all<R: Print + Processes<Started = SystemProcess> + Files + Wait + Clock + Drop>(
     stage: &mut Stage<R>,
-    output: &mut impl Write,
 ) -> io::Result<()> {
     let mut plain = measure_true(&stage.rt, stage.alloc)?;
-    write_middle(output, "/bin/true", &mut plain)?;
-    let mut times = stage.measure()?;
-    write_middle(output, "order to Started", &mut times.start)?;
-    write_middle(output, "newline to Notify", &mut times.notice)?;
-    write_middle(output, "signal to Death", &mut times.death)?;
+    say_middle(&stage.rt, "/bin/true", &mut plain)?;
+    let mut times = Times::new(stage.alloc);
+    measure_each(stage, &mut times)?;
     for fd in [None, Some(3)] {
         for crowd in [1, 64, 256] {
-            stage.weigh(output, crowd, fd)?;
+            stage.weigh(crowd, fd)?;
         }
     }
     Ok(())
 }
 
+fn measure_each<R: Print + Processes<Started = SystemProcess> + Files + Wait + Clock + Drop>(
+    stage: &mut Stage<R>,
+    times: &mut Times,
+) -> io::Result<()> {
+    stage.measure(times)?;
+    say_middle(&stage.rt, "order to Started", &mut times.start)?;
+    say_middle(&stage.rt, "newline to Notify", &mut times.notice)?;
+    say_middle(&stage.rt, "signal to Death", &mut times.death)
+}
+
 /// Prints all figures, and ends the keeper.
 pub fn print_all<
-    R: Processes<Started = SystemProcess> + Files + Threads + Wait + Clock + Copy + Drop,
+    R: Print + Processes<Started = SystemProcess> + Files + Threads + Wait + Clock + Copy + Drop,
 >(
     rt: &R,
     alloc: Global,
     keeper: Keeper<R>,
     root: &str,
     notes: &Arc<Notes, Global>,
-    output: &mut impl Write,
 ) -> io::Result<()> {
     let done = match Stage::new(*rt, alloc, &keeper, root, notes) {
-        Ok(mut stage) => measure_all(&mut stage, output),
+        Ok(mut stage) => measure_all(&mut stage),
         Err(refused) => Err(refused),
     };
     keeper.end();

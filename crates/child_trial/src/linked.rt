@@ -3,9 +3,9 @@ use crate::stage::{name_of, no_memory, write_program};
 use child_runner::{Bell, Keeper, LaneLink, LinkedBackend, ProcessBackend, serve_lane};
 use error_notes::Notes;
 use order_lanes::{AskFault, Backend, Report};
-use s6_events::{Exit, Order, Sid};
+use s6_events::{Exit, Name, Order, Sid};
 use std::alloc::Global;
-use std::io::{self, Write};
+use std::io;
 use std::rt::Files;
 use std::sync::atomic::{AtomicBool, Ordering};
 use std::sync::{Arc, Wait};
@@ -92,19 +92,15 @@ fn next_report<B: Backend, R: Wait + Clock>(
     None
 }
 
+// Asks an order. How many were taken.
+fn ask_one<B: Backend>(linked: &mut B, order: Order) -> u32 {
+    u32::from(linked.ask(order).is_ok())
+}
+
 // Asks that a service be started and killed: killed before it was started, it would live on.
-fn ask_both<B: Backend>(linked: &mut B, sid: u64) -> io::Result<u32> {
-    let mut taken = 0u32;
-    if linked
-        .ask(Order::Run(Sid(sid), 1, name_of("linked")?, None))
-        .is_ok()
-    {
-        taken = taken.saturating_add(1);
-    }
-    if linked.ask(Order::Signal(Sid(sid), 1, 9)).is_ok() {
-        taken = taken.saturating_add(1);
-    }
-    Ok(taken)
+fn ask_both<B: Backend>(linked: &mut B, sid: u64, name: Name) -> u32 {
+    let started = ask_one(linked, Order::Run(Sid(sid), 1, name, None));
+    started.saturating_add(ask_one(linked, Order::Signal(Sid(sid), 1, 9)))
 }
 
 // One service tells that it is ready while the lane is busy; the others wait for the lane.
@@ -114,41 +110,46 @@ fn drive<B: Backend, R: Wait + Clock>(
     is_shut: &AtomicBool,
     linked: &mut B,
 ) -> io::Result<Outcome> {
-    let is_asked = linked
-        .ask(Order::Run(Sid(0), 1, name_of("later")?, Some(3)))
-        .is_ok();
+    let (later, name) = (name_of("later")?, name_of("linked")?);
+    let asked = ask_one(linked, Order::Run(Sid(0), 1, later, Some(3)));
     let is_started = matches!(next_report(rt, driver, linked), Some(Report::Started(..)));
     is_shut.store(true, Ordering::SeqCst);
-    let mut outcome = Outcome {
-        taken: 0,
-        is_heard: false,
-        started: 0,
-        killed: 0,
-    };
+    let mut taken = 0u32;
     for sid in 1..=CROWD {
-        outcome.taken = outcome.taken.saturating_add(ask_both(linked, sid)?);
+        taken = taken.saturating_add(ask_both(linked, sid, name));
     }
     let is_ready = matches!(next_report(rt, driver, linked), Some(Report::Notify(..)));
-    outcome.is_heard = is_asked && is_started && is_ready;
     is_shut.store(false, Ordering::SeqCst);
     let _ = linked.ask(Order::Signal(Sid(0), 1, 9));
+    let (started, killed) = count_reports(rt, driver, linked);
+    Ok(Outcome {
+        taken,
+        is_heard: asked == 1 && is_started && is_ready,
+        started,
+        killed,
+    })
+}
+
+// How many of the next reports tell of a start, and how many of a death by SIGKILL.
+fn count_reports<B: Backend, R: Wait + Clock>(rt: &R, driver: &Bell, linked: &mut B) -> (u32, u32) {
+    let (mut started, mut killed) = (0u32, 0u32);
     for _ in 0..=CROWD.saturating_mul(2) {
         match next_report(rt, driver, linked) {
-            Some(Report::Started(..)) => outcome.started = outcome.started.saturating_add(1),
-            Some(Report::Death(_, _, Exit::Killed(9))) => {
-                outcome.killed = outcome.killed.saturating_add(1);
-            }
+            Some(Report::Started(..)) => started = started.saturating_add(1),
+            Some(Report::Death(_, _, Exit::Killed(9))) => killed = killed.saturating_add(1),
             _ => {}
         }
     }
-    Ok(outcome)
+    (started, killed)
 }
 
 /// The services of the trial: one that is ready a moment after its start, and one that stays.
 pub fn write_services<R: Files>(rt: &R, alloc: Global, root: &str) -> io::Result<()> {
     let later = "sleep 0.3; echo >&3; exec sleep 60";
-    write_program(rt, alloc, root, "later/run", later, 0o755)?;
-    write_program(rt, alloc, root, "linked/run", "exec sleep 60", 0o755)
+    let folder = format!(in alloc; "{root}/later")?;
+    write_program(rt, alloc, folder.as_str(), "run", later, 0o755)?;
+    let folder = format!(in alloc; "{root}/linked")?;
+    write_program(rt, alloc, folder.as_str(), "run", "exec sleep 60", 0o755)
 }
 
 /// The backend of a lane, and its bell.
@@ -169,31 +170,38 @@ pub fn lane_of<R: Copy + Drop>(
 }
 
 /// Orders to a lane that is busy, in order, and reports meanwhile.
-pub fn try_link<B: Backend + Send, R: Threads + Wait + Clock + Copy + Sync + Drop>(
+pub fn try_link<B: Backend + Send, R: Print + Threads + Wait + Clock + Copy + Sync + Drop>(
     rt: &R,
     alloc: Global,
     backend: B,
     bell: Arc<Bell, Global>,
-    output: &mut impl Write,
 ) -> io::Result<()> {
     let link = Arc::new(alloc, LaneLink::new(alloc, bell))?;
     let Ok(mut linked) = LinkedBackend::new(*rt, alloc, &link) else {
         return Err(no_memory());
     };
+    let outcome = serve_and_drive(rt, &link, &mut linked, backend)?;
+    println!(rt;
+        "a busy lane: {} orders taken meanwhile, a report meanwhile {}, {} started, {} killed",
+        outcome.taken, outcome.is_heard, outcome.started, outcome.killed
+    )
+}
+
+// A thread serves the lane while this one drives it.
+fn serve_and_drive<B: Backend + Send, L: Backend, R: Threads + Wait + Clock + Sync>(
+    rt: &R,
+    link: &LaneLink,
+    linked: &mut L,
+    backend: B,
+) -> io::Result<Outcome> {
     let (driver, is_shut) = (Bell::new(), AtomicBool::new(false));
-    let tried = thread::scope(thread::scope_env(), rt, |scope| {
-        let tried = if start_lane(scope, rt, &link, &driver, &is_shut, backend) {
-            drive(rt, &driver, &is_shut, &mut linked)
+    thread::scope(thread::scope_env(), rt, |scope| {
+        let tried = if start_lane(scope, rt, link, &driver, &is_shut, backend) {
+            drive(rt, &driver, &is_shut, linked)
         } else {
             Err(no_memory())
         };
         link.end(rt);
         tried
-    });
-    let outcome = tried?;
-    writeln!(
-        output,
-        "a busy lane: {} orders taken meanwhile, a report meanwhile {}, {} started, {} killed",
-        outcome.taken, outcome.is_heard, outcome.started, outcome.killed
-    )
+    })
 }

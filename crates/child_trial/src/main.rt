@@ -11,12 +11,11 @@ mod linked;
 mod noted;
 mod stage;
 
-use child_runner::{Keeper, ShellProbe};
+use child_runner::Keeper;
 use error_notes::Notes;
-use std::io::{self, Write};
 use std::process::ExitCode;
 use std::sync::Arc;
-use std::{env, fs, process};
+use std::{env, fs, io, process};
 
 // The folder of the services: a new one for each run, since two runs may go on at once.
 fn root_of(rt: &HostRuntime) -> io::Result<String> {
@@ -29,8 +28,9 @@ fn main(rt: HostRuntime) -> io::Result<ExitCode> {
     let alloc = rt.alloc();
     let root = root_of(&rt)?;
     let root = root.as_str();
-    let wants_figures = env::args(&rt)?.count() > 1;
     let notes = Arc::new(alloc, Notes::new(alloc))?;
+    linked::write_services(&rt, alloc, root)?;
+    let wants_figures = env::args(&rt)?.count() > 1;
     let (Ok(keeper), Ok(other), Ok(lanes)) = (
         Keeper::start(rt, alloc),
         Keeper::start(rt, alloc),
@@ -38,41 +38,25 @@ fn main(rt: HostRuntime) -> io::Result<ExitCode> {
     ) else {
         return Ok(ExitCode::from(111));
     };
-    fs::create_dir_all(&rt, root)?;
-    let mut output = rt.stdout();
-    let done = if wants_figures {
+    let tried = if wants_figures {
         other.end();
-        lanes.end();
-        figures::print_all(&rt, alloc, keeper, root, &notes, &mut output)
+        figures::print_all(&rt, alloc, keeper, root, &notes)
     } else {
-        writeln!(
-            output,
-            "a shell: {}",
-            ShellProbe::start(&rt, alloc).has_shell()
-        )?;
-        let parent = process::id(rt.process());
-        let tried = endings::try_all(
-            &rt,
-            alloc,
-            (keeper, other),
-            root,
-            &notes,
-            parent,
-            &mut output,
-        );
-        linked::write_services(&rt, alloc, root)?;
-        let linked = match linked::lane_of(rt, alloc, &lanes, root, &notes) {
-            Ok((backend, bell)) => linked::try_link(&rt, alloc, backend, bell, &mut output),
-            Err(error) => Err(error),
-        };
-        lanes.end();
-        tried.and(linked)
+        endings::try_all(&rt, alloc, (keeper, other), root, &notes)
     };
-    fs::remove_dir_all(&rt, root)?;
-    done?;
-    if !wants_figures {
-        noted::try_all(&rt, alloc, &notes, io::pipe(&rt)?, &mut output)?;
+    if wants_figures {
+        lanes.end();
+        fs::remove_dir_all(&rt, root)?;
+        tried?;
+        return Ok(ExitCode::SUCCESS);
     }
-    output.flush()?;
+    let linked = match linked::lane_of(rt, alloc, &lanes, root, &notes) {
+        Ok((backend, bell)) => linked::try_link(&rt, alloc, backend, bell),
+        Err(error) => Err(error),
+    };
+    lanes.end();
+    fs::remove_dir_all(&rt, root)?;
+    tried.and(linked)?;
+    noted::try_all(&rt, alloc, &notes, io::pipe(&rt)?)?;
     Ok(ExitCode::SUCCESS)
 }

@@ -13,82 +13,85 @@ const CROWD: u32 = 1000;
 const PATIENCE: u64 = 30;
 
 // The starts that failed were noted, each by a line.
-fn try_starts<R: Wait>(
-    rt: &R,
-    alloc: Global,
-    notes: &Notes,
-    output: &mut impl Write,
-) -> io::Result<()> {
+fn try_starts<R: Print + Wait>(rt: &R, alloc: Global, notes: &Notes) -> io::Result<()> {
     notes.close(rt);
     notes.post(rt, b"too late\n");
     let mut text = Vec::new(alloc);
     write_notes(rt, notes, &mut text);
-    let mut lines = 0u32;
-    let mut told = 0u32;
-    for line in text.as_slice().split_inclusive(|byte| *byte == b'\n') {
-        lines = lines.saturating_add(1);
-        if line.ends_with(b" can't be started\n") {
-            told = told.saturating_add(1);
-        }
+    let (told, lines) = count_starts(text.as_slice());
+    println!(rt; "notes: {told} starts that failed, {lines} lines with the note that came too late")
+}
+
+// How many lines tell of a start that failed, and how many there are.
+fn count_starts(text: &[u8]) -> (usize, usize) {
+    let Ok(text) = std::str::from_utf8(text) else {
+        return (0, 0);
+    };
+    let mut told = 0usize;
+    for line in text.lines() {
+        told = told.saturating_add(usize::from(line.ends_with(" can't be started")));
     }
-    writeln!(
-        output,
-        "notes: {told} starts that failed, {lines} lines with the note that came too late"
-    )
+    (told, text.lines().count())
 }
 
 // More notes than have room: the last line tells how many were lost.
-fn try_loss<R: Wait>(rt: &R, alloc: Global, output: &mut impl Write) -> io::Result<()> {
+fn try_loss<R: Print + Wait>(rt: &R, alloc: Global) -> io::Result<()> {
     let notes = Notes::new(alloc);
-    let note = [b'n'; 99];
-    let mut writer = NoteWriter::new(rt, &notes);
-    for _ in 0..CROWD {
-        writer.write_all(&note)?;
-        writer.write_all(b"\n")?;
-    }
+    post_crowd(rt, &notes)?;
     notes.close(rt);
     let mut text = Vec::new(alloc);
     write_notes(rt, &notes, &mut text);
     let is_told = text
         .as_slice()
         .ends_with(b"n\nsvscan: 345 notes were lost\n");
-    writeln!(output, "a crowd of notes: the lost ones told {is_told}")
+    println!(rt; "a crowd of notes: the lost ones told {is_told}")
+}
+
+fn post_crowd<R: Wait>(rt: &R, notes: &Notes) -> io::Result<()> {
+    let note = [b'n'; 99];
+    let mut writer = NoteWriter::new(rt, notes);
+    for _ in 0..CROWD {
+        writer.write_all(&note)?;
+        writer.write_all(b"\n")?;
+    }
+    Ok(())
 }
 
 // A thread writes to a pipe; a line that came in parts is whole.
-fn try_thread<R: Threads + Wait + Clock + Copy + Send + Sync + Drop + 'static>(
+fn try_thread<R: Print + Threads + Wait + Clock + Copy + Send + Sync + Drop + 'static>(
     rt: &R,
     alloc: Global,
     pipe: (PipeReader, PipeWriter),
-    output: &mut impl Write,
 ) -> io::Result<()> {
     let (mut reader, writer) = pipe;
     let Some(notes) = start_notes(*rt, alloc, writer) else {
-        return writeln!(output, "a thread of notes: none");
+        return println!(rt; "a thread of notes: none");
     };
-    let mut lines = NoteWriter::new(rt, &notes);
-    lines.write_all(b"one\ntw")?;
-    lines.write_all(b"o\n")?;
+    post_parts(rt, &notes)?;
     notes.close(rt);
     let is_written = notes.await_written(rt, Duration::from_secs(PATIENCE));
     let mut text = Vec::new(alloc);
     reader.read_to_end(&mut text)?;
-    writeln!(
-        output,
+    println!(rt;
         "a thread of notes: written {is_written}, both lines {}",
         text.as_slice() == b"one\ntwo\n".as_slice()
     )
 }
 
+fn post_parts<R: Wait>(rt: &R, notes: &Notes) -> io::Result<()> {
+    let mut lines = NoteWriter::new(rt, notes);
+    lines.write_all(b"one\ntw")?;
+    lines.write_all(b"o\n")
+}
+
 /// What was noted, notes that are lost, and a thread that writes to a pipe.
-pub fn try_all<R: Threads + Wait + Clock + Copy + Send + Sync + Drop + 'static>(
+pub fn try_all<R: Print + Threads + Wait + Clock + Copy + Send + Sync + Drop + 'static>(
     rt: &R,
     alloc: Global,
     notes: &Notes,
     pipe: (PipeReader, PipeWriter),
-    output: &mut impl Write,
 ) -> io::Result<()> {
-    try_starts(rt, alloc, notes, output)?;
-    try_loss(rt, alloc, output)?;
-    try_thread(rt, alloc, pipe, output)
+    try_starts(rt, alloc, notes)?;
+    try_loss(rt, alloc)?;
+    try_thread(rt, alloc, pipe)
 }

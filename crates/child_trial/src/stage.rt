@@ -35,18 +35,20 @@ pub fn no_memory() -> io::Error {
 pub fn write_program<R: Files>(
     rt: &R,
     alloc: Global,
-    root: &str,
+    folder: &str,
     file: &str,
     script: &str,
     mode: u32,
 ) -> io::Result<()> {
-    let folder = file.split('/').next().unwrap_or(".");
-    let folder = format!(in alloc; "{root}/{folder}")?;
-    fs::create_dir_all(&(rt, alloc), folder.as_str())?;
-    let path = format!(in alloc; "{root}/{file}")?;
+    fs::create_dir_all(&(rt, alloc), folder)?;
+    let path = format!(in alloc; "{folder}/{file}")?;
     let text = format!(in alloc; "#!/bin/sh\n{script}\n")?;
-    fs::write(rt, path.as_str(), text.as_str())?;
-    fs::set_permissions(rt, path.as_str(), Permissions::from_mode(mode))
+    write_executable(rt, path.as_str(), text.as_str(), mode)
+}
+
+fn write_executable<R: Files>(rt: &R, path: &str, text: &str, mode: u32) -> io::Result<()> {
+    fs::write(rt, path, text)?;
+    fs::set_permissions(rt, path, Permissions::from_mode(mode))
 }
 
 /// The name of these letters.
@@ -84,9 +86,8 @@ impl<R: Copy + Drop> Stage<R> {
 impl<R: Processes<Started = SystemProcess> + Files + Wait + Clock + Drop> Stage<R> {
     /// Writes a program of a service, with this mode.
     pub fn write(&self, service: &str, program: &str, script: &str, mode: u32) -> io::Result<()> {
-        let file = format!(in self.alloc; "{service}/{program}")?;
-        let root = self.root.as_str();
-        write_program(&self.rt, self.alloc, root, file.as_str(), script, mode)
+        let folder = format!(in self.alloc; "{}/{service}", self.root.as_str())?;
+        write_program(&self.rt, self.alloc, folder.as_str(), program, script, mode)
     }
 
     /// Waits for so many milliseconds, and takes no report.
@@ -142,10 +143,10 @@ impl<R: Processes<Started = SystemProcess> + Files + Wait + Clock + Drop> Stage<
     }
 }
 
-/// How a program ended, in words.
-pub fn write_exit(output: &mut impl io::Write, exit: Exit) -> io::Result<()> {
+/// How a program ended: how, and the number.
+pub fn exit_words(exit: Exit) -> (&'static str, i64) {
     match exit {
-        Exit::Code(code) => write!(output, " code {code}"),
-        Exit::Killed(signal) => write!(output, " signal {signal}"),
+        Exit::Code(code) => ("code", i64::from(code)),
+        Exit::Killed(signal) => ("signal", i64::from(signal)),
     }
 }

@@ -1,9 +1,10 @@
 //! The cases of the trial.
-use crate::client::{connect, converse, is_answered, read_bytes};
+use crate::client::read_bytes;
 use crate::echo::Echo;
 use crate::half_close::reads_late;
+use crate::trial::{Trial, tell};
 use line_server::{SEAT_COUNT, Seats, Server, serve};
-use std::alloc::Global;
+use std::alloc::{AllocError, Global};
 use std::io::Write;
 use std::net::{Net, Shutdown};
 use std::os::unix::net::{UnixListener, UnixStream};
@@ -13,22 +14,15 @@ use std::thread::{Scope, Threads};
 use std::time::{Clock, Duration};
 use std::{fs, io, thread};
 
-/// Runs a server on this path and tries it. The outcomes are written line by line.
-pub fn try_all<R: Net + Files + Threads + Wait + Clock + Sync, W: Write + Drop>(
-    rt: &R,
-    alloc: Global,
-    path: &str,
-    mut out: W,
+/// Runs a server and tries it. The outcomes are written line by line.
+pub fn try_all<R: Net + Files + Threads + Wait + Clock + Sync>(
+    trial: &Trial<R>,
+    told: &mut Vec<u8>,
 ) -> io::Result<()> {
-    let before = descriptors(rt, alloc)?;
-    let listener = UnixListener::bind(rt, path)?;
-    let server = Server::new(alloc, listener, Seats::new(alloc)?, Echo::new())?;
-    let told = serve_while(rt, alloc, path, &server)?;
-    out.write_all(told.as_bytes())?;
-    drop(server);
-    let after = descriptors(rt, alloc)?;
-    let line = format!(in alloc; "descriptors as before: {}\n", before == after)?;
-    out.write_all(line.as_bytes())
+    let before = descriptors(&trial.rt, trial.alloc)?;
+    serve_and_try(trial, told)?;
+    let after = descriptors(&trial.rt, trial.alloc)?;
+    tell(told, "descriptors as before", Ok(before == after))
 }
 
 // How many descriptors are open.
@@ -42,20 +36,34 @@ fn descriptors<R: Files>(rt: &R, alloc: Global) -> io::Result<usize> {
     Ok(count)
 }
 
+fn new_server<R: Net + Files>(trial: &Trial<R>) -> io::Result<Server<Echo>> {
+    let seats = Seats::new(trial.alloc)?;
+    let listener = UnixListener::bind(&trial.rt, trial.path.as_str())?;
+    Ok(Server::new(trial.alloc, listener, seats, Echo::new())?)
+}
+
+// The cases beside a server, which is gone afterwards.
+fn serve_and_try<R: Net + Files + Threads + Wait + Clock + Sync>(
+    trial: &Trial<R>,
+    told: &mut Vec<u8>,
+) -> io::Result<()> {
+    let server = new_server(trial)?;
+    serve_while(trial, &server, told)
+}
+
 // The cases, while the server runs.
 fn serve_while<R: Net + Threads + Wait + Clock + Sync>(
-    rt: &R,
-    alloc: Global,
-    path: &str,
+    trial: &Trial<R>,
     server: &Server<Echo>,
-) -> io::Result<String> {
-    thread::scope(thread::scope_env(), rt, |scope| {
-        if !start_server(scope, rt, server) {
+    told: &mut Vec<u8>,
+) -> io::Result<()> {
+    thread::scope(thread::scope_env(), &trial.rt, |scope| {
+        if !start_server(scope, &trial.rt, server) {
             return Err(io::Error::from(io::ErrorKind::OutOfMemory));
         }
-        let told = try_cases(rt, alloc, path, server);
-        server.end(rt);
-        told
+        let done = try_cases(trial, server, told);
+        server.end(&trial.rt);
+        done
     })
 }
 
@@ -70,131 +78,128 @@ fn start_server<'s, E, R: Threads + Wait + Clock + Sync>(
 }
 
 fn try_cases<R: Net + Wait + Clock>(
-    rt: &R,
-    alloc: Global,
-    path: &str,
+    trial: &Trial<R>,
     server: &Server<Echo>,
-) -> io::Result<String> {
-    let pieces = in_pieces(rt, alloc, path)?;
-    let half = half_a_line(rt, alloc, path, server)?;
-    let long = long_lines(rt, alloc, path)?;
-    let full = full_house(rt, alloc, path)?;
-    let late = half_closed(rt, alloc, path, server)?;
-    let slow = never_reads(rt, alloc, path, server)?;
-    let noise = garbage(rt, alloc, path)?;
-    Ok(format!(in alloc;
-        "lines in pieces are answered in order: {pieces}\nhalf a line is not answered: {half}\na line of 8192 bytes is answered, a longer one refused: {long}\na twelfth connection is busy, and a free seat is taken again: {full}\none that half-closes and reads late gets each answer: {late}\none that never reads is closed, and stops nobody: {slow}\n100000 bytes of garbage do no harm: {noise}\n"
-    )?)
+    told: &mut Vec<u8>,
+) -> io::Result<()> {
+    tell(
+        told,
+        "lines in pieces are answered in order",
+        in_pieces(trial),
+    )?;
+    tell(
+        told,
+        "half a line is not answered",
+        half_a_line(trial, server),
+    )?;
+    tell(
+        told,
+        "a line of 8192 bytes is answered, a longer one refused",
+        long_lines(trial),
+    )?;
+    tell(
+        told,
+        "a twelfth connection is busy, and a free seat is taken again",
+        full_house(trial),
+    )?;
+    tell(
+        told,
+        "one that half-closes and reads late gets each answer",
+        half_closed(trial, server),
+    )?;
+    tell(
+        told,
+        "one that never reads is closed, and stops nobody",
+        never_reads(trial, server),
+    )?;
+    tell(told, "100000 bytes of garbage do no harm", garbage(trial))
 }
 
-fn in_pieces<R: Net>(rt: &R, alloc: Global, path: &str) -> io::Result<bool> {
-    let answer = converse(rt, alloc, path, &[b"he", b"llo\nwor", b"ld\n\n"])?;
-    Ok(answer.as_slice() == b"echo hello\n\necho world\n\necho \n\n".as_slice())
+fn in_pieces<R: Net + Clock>(trial: &Trial<R>) -> io::Result<bool> {
+    trial.is_answer(
+        &[b"he", b"llo\nwor", b"ld\n\n"],
+        b"echo hello\n\necho world\n\necho \n\n",
+    )
 }
 
-fn half_a_line<R: Net + Wait>(
-    rt: &R,
-    alloc: Global,
-    path: &str,
-    server: &Server<Echo>,
-) -> io::Result<bool> {
-    let before = server.answers().counts(rt).lines;
-    let answer = converse(rt, alloc, path, &[b"half a li"])?;
-    Ok(answer.is_empty() && server.answers().counts(rt).lines == before)
+fn half_a_line<R: Net + Wait + Clock>(trial: &Trial<R>, server: &Server<Echo>) -> io::Result<bool> {
+    let before = server.answers().counts(&trial.rt).lines;
+    let is_silent = trial.is_answer(&[b"half a li"], b"")?;
+    Ok(is_silent && server.answers().counts(&trial.rt).lines == before)
 }
 
-fn long_lines<R: Net>(rt: &R, alloc: Global, path: &str) -> io::Result<bool> {
-    let mut line = Vec::new(alloc);
-    for _ in 0..8191u32 {
-        line.push(b'a')?;
-    }
-    let longest = converse(rt, alloc, path, &[line.as_slice(), b"\n"])?;
-    let longer = converse(rt, alloc, path, &[line.as_slice(), b"b\nnext\n"])?;
-    Ok(longest.len() == 8198 && longer.as_slice() == b"too long\n\n".as_slice())
+fn long_lines<R: Net + Clock>(trial: &Trial<R>) -> io::Result<bool> {
+    let mut line = Vec::new(trial.alloc);
+    line.resize(8191, b'a')?;
+    let is_longest_answered = trial.converse(&[line.as_slice(), b"\n"])?.len() == 8198;
+    let is_longer_refused = trial.is_answer(&[line.as_slice(), b"b\nnext\n"], b"too long\n\n")?;
+    Ok(is_longest_answered && is_longer_refused)
 }
 
-// A connection that was answered once, so that it has its seat.
-fn take_seat<R: Net>(rt: &R, alloc: Global, path: &str) -> io::Result<Option<UnixStream>> {
-    let stream = connect(rt, path)?;
-    if is_answered(alloc, &stream, b"x\n", b"echo x\n\n")? {
-        Ok(Some(stream))
-    } else {
-        Ok(None)
-    }
+fn full_house<R: Net + Clock>(trial: &Trial<R>) -> io::Result<bool> {
+    let mut streams = Vec::new(trial.alloc);
+    fill_house(trial, &mut streams)
 }
 
-// The same as soon as a seat is free: the server frees one a little after its client saw the end of the connection.
-fn take_free_seat<R: Net + Clock>(
-    rt: &R,
-    alloc: Global,
-    path: &str,
-) -> io::Result<Option<UnixStream>> {
-    for _ in 0..500u32 {
-        if let Ok(Some(stream)) = take_seat(rt, alloc, path) {
-            return Ok(Some(stream));
-        }
-        thread::sleep(rt, Duration::from_millis(10));
-    }
-    Ok(None)
-}
-
-// Whether a line is answered on a connection that has its seat.
-fn is_served<R: Net + Clock>(rt: &R, alloc: Global, path: &str) -> io::Result<bool> {
-    match take_free_seat(rt, alloc, path)? {
-        Some(stream) => is_answered(alloc, &stream, b"still there\n", b"echo still there\n\n"),
-        None => Ok(false),
-    }
-}
-
-fn full_house<R: Net + Clock>(rt: &R, alloc: Global, path: &str) -> io::Result<bool> {
-    let mut streams = Vec::new(alloc);
+// Takes all seats, tries one more, and then a seat that gets free.
+fn fill_house<R: Net + Clock>(trial: &Trial<R>, streams: &mut Vec<UnixStream>) -> io::Result<bool> {
     for _ in 0..SEAT_COUNT {
-        match take_free_seat(rt, alloc, path)? {
-            Some(stream) => streams.push(stream)?,
-            None => return Ok(false),
-        }
+        let Some(stream) = trial.take_free_seat() else {
+            return Ok(false);
+        };
+        streams.push(stream)?;
     }
-    let twelfth = connect(rt, path)?;
-    let told = read_bytes(alloc, &twelfth, 100)?;
-    let is_busy = told.as_slice() == b"busy\n".as_slice();
+    let is_busy = is_told_busy(trial)?;
     drop(streams.pop());
-    let is_taken = take_free_seat(rt, alloc, path)?.is_some();
-    Ok(is_busy && is_taken)
+    Ok(trial.take_free_seat().is_some() && is_busy)
 }
 
-fn half_closed<R: Net + Wait + Clock>(
-    rt: &R,
-    alloc: Global,
-    path: &str,
-    server: &Server<Echo>,
-) -> io::Result<bool> {
-    match take_free_seat(rt, alloc, path)? {
-        Some(client) => reads_late(rt, alloc, server, &client),
+fn is_told_busy<R: Net + Clock>(trial: &Trial<R>) -> io::Result<bool> {
+    let twelfth = trial.connect()?;
+    Ok(read_bytes(trial.alloc, &twelfth, 100)?.as_slice() == b"busy\n".as_slice())
+}
+
+fn half_closed<R: Net + Wait + Clock>(trial: &Trial<R>, server: &Server<Echo>) -> io::Result<bool> {
+    match trial.take_free_seat() {
+        Some(client) => reads_late(&trial.rt, trial.alloc, server, &client),
         None => Ok(false),
     }
 }
 
-fn never_reads<R: Net + Wait + Clock>(
-    rt: &R,
-    alloc: Global,
-    path: &str,
+fn never_reads<R: Net + Wait + Clock>(trial: &Trial<R>, server: &Server<Echo>) -> io::Result<bool> {
+    match trial.take_free_seat() {
+        Some(deaf) => is_flooded(trial, server, &deaf),
+        None => Ok(false),
+    }
+}
+
+// Whether a client that never reads is flooded and closed, while another one is served.
+fn is_flooded<R: Net + Wait + Clock>(
+    trial: &Trial<R>,
     server: &Server<Echo>,
+    deaf: &UnixStream,
 ) -> io::Result<bool> {
-    let before = server.answers().counts(rt).floods;
-    let Some(deaf) = take_free_seat(rt, alloc, path)? else {
-        return Ok(false);
-    };
-    let mut writer = &deaf;
+    let before = server.answers().counts(&trial.rt).floods;
+    let mut writer = deaf;
     writer.write_all(b"flood\n")?;
-    let serves_others = is_served(rt, alloc, path)?;
+    let serves_others = trial.is_served()?;
     let is_closed = server
         .answers()
-        .wait_for_flood(rt, before, Duration::from_secs(20));
+        .wait_for_flood(&trial.rt, before, Duration::from_secs(20));
     let _ = deaf.shutdown(Shutdown::Both);
     Ok(is_closed && serves_others)
 }
 
-fn garbage<R: Net + Clock>(rt: &R, alloc: Global, path: &str) -> io::Result<bool> {
+fn garbage<R: Net + Clock>(trial: &Trial<R>) -> io::Result<bool> {
+    let bytes = garbage_bytes(trial.alloc)?;
+    match trial.take_free_seat() {
+        Some(stream) => send_garbage(trial.alloc, &stream, bytes.as_slice()),
+        None => return Ok(false),
+    }
+    trial.is_served()
+}
+
+fn garbage_bytes(alloc: Global) -> Result<Vec<u8>, AllocError> {
     let mut bytes = Vec::new(alloc);
     let mut state = 20_261_125u64;
     for _ in 0..100_000u32 {
@@ -203,12 +208,13 @@ fn garbage<R: Net + Clock>(rt: &R, alloc: Global, path: &str) -> io::Result<bool
             .wrapping_add(1_442_695_040_888_963_407);
         bytes.push(state.to_be_bytes()[0])?;
     }
-    let Some(stream) = take_free_seat(rt, alloc, path)? else {
-        return Ok(false);
-    };
-    let mut writer = &stream;
-    let _ = writer.write_all(bytes.as_slice());
+    Ok(bytes)
+}
+
+// Sends bytes that mean nothing, and reads what comes of them.
+fn send_garbage(alloc: Global, stream: &UnixStream, bytes: &[u8]) {
+    let mut writer = stream;
+    let _ = writer.write_all(bytes);
     let _ = stream.shutdown(Shutdown::Write);
-    let _ = read_bytes(alloc, &stream, 2_000_000);
-    is_served(rt, alloc, path)
+    let _ = read_bytes(alloc, stream, 2_000_000);
 }

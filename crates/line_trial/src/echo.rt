@@ -4,14 +4,11 @@ use std::sync::{Condvar, Mutex, Wait};
 use std::time::{Clock, Duration};
 
 /// What came so far.
-#[derive(Clone, Copy, Debug, PartialEq, Eq)]
+#[derive(Clone, Copy)]
 pub struct Counts {
     pub lines: u32,
-    pub long_lines: u32,
     /// How often so much was posted that the connection was closed.
     pub floods: u32,
-    /// How many connections have ended.
-    pub ended: u32,
     /// The seat on which the last line came.
     pub last_seat: usize,
 }
@@ -29,9 +26,7 @@ impl Echo {
         Echo {
             counts: Mutex::new(Counts {
                 lines: 0,
-                long_lines: 0,
                 floods: 0,
-                ended: 0,
                 last_seat: 0,
             }),
             changed: Condvar::new(),
@@ -43,11 +38,10 @@ impl Echo {
         *self.counts.lock(rt)
     }
 
-    fn note<R: Wait>(&self, rt: &R, long_lines: u32, floods: u32, ended: u32) {
+    // Notes that so much was posted that the connection is closed.
+    fn note_flood<R: Wait>(&self, rt: &R) {
         let mut counts = self.counts.lock(rt);
-        counts.long_lines = counts.long_lines.saturating_add(long_lines);
-        counts.floods = counts.floods.saturating_add(floods);
-        counts.ended = counts.ended.saturating_add(ended);
+        counts.floods = counts.floods.saturating_add(1);
         self.changed.notify_all();
     }
 
@@ -102,8 +96,9 @@ impl Answers for Echo {
     fn answer<R: Wait + Clock>(&self, rt: &R, seat: usize, line: &[u8], mailbox: &Mailbox) -> Next {
         self.note_line(rt, seat);
         if line == b"flood".as_slice() {
-            let is_full = flood(rt, mailbox);
-            self.note(rt, 0, u32::from(is_full), 0);
+            if flood(rt, mailbox) {
+                self.note_flood(rt);
+            }
             return Next::Close;
         }
         let _ = mailbox.post(rt, b"echo ");
@@ -113,11 +108,8 @@ impl Answers for Echo {
     }
 
     fn refuse_long_line<R: Wait>(&self, rt: &R, _seat: usize, mailbox: &Mailbox) {
-        self.note(rt, 1, 0, 0);
         let _ = mailbox.post(rt, b"too long\n\n");
     }
 
-    fn leave<R: Wait>(&self, rt: &R, _seat: usize) {
-        self.note(rt, 0, 0, 1);
-    }
+    fn leave<R: Wait>(&self, _rt: &R, _seat: usize) {}
 }

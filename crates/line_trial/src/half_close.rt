@@ -28,19 +28,27 @@ pub fn reads_late<R: Wait + Clock>(
     client: &UnixStream,
 ) -> io::Result<bool> {
     let before = server.answers().counts(rt).lines;
-    let lines = text_of(alloc, LINE)?;
-    let mut writer = client;
-    writer.write_all(lines.as_slice())?;
-    client.shutdown(Shutdown::Write)?;
+    send_lines(alloc, client)?;
     let all = before.saturating_add(LINE_COUNT);
     let time = Duration::from_secs(20);
     let Some(seat) = server.answers().wait_for_lines(rt, all, time) else {
         return Ok(false);
     };
     let is_refused = is_closed_for_posts(rt, server, seat);
+    Ok(reads_answers(alloc, client)? && is_refused)
+}
+
+fn send_lines(alloc: Global, client: &UnixStream) -> io::Result<()> {
+    let lines = text_of(alloc, LINE)?;
+    let mut writer = client;
+    writer.write_all(lines.as_slice())?;
+    client.shutdown(Shutdown::Write)
+}
+
+fn reads_answers(alloc: Global, client: &UnixStream) -> io::Result<bool> {
     let answers = text_of(alloc, ANSWER)?;
     let read = read_bytes(alloc, client, answers.len().saturating_add(1))?;
-    Ok(is_refused && read.as_slice() == answers.as_slice())
+    Ok(read.as_slice() == answers.as_slice())
 }
 
 // All the lines, or all their answers.

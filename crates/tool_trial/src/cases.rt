@@ -15,73 +15,69 @@ use std::thread::{self, Scope, Threads};
 use std::time::Clock;
 use std::{fs, io};
 
-/// The words of each case; the socket's path stands behind the first.
-const CASES: [&str; 29] = [
-    "svc -o web",
-    "svc -u nobody",
-    "svc -u",
-    "svstat -o up,pid web",
-    "svstat -o exitcode,readyfor,up web",
-    "svstat -o up nobody",
-    "svstat -o what web",
-    "svwait web",
-    "svwait -U web log",
-    "svwait -d -o web",
-    "svwait -D -t 5 web",
-    "svwait nobody",
-    "svwait -u -U web",
-    "svlisten web -- true",
-    "svlisten -D -t 5 web -- true",
-    "svlisten web -- ./no-such-program",
-    "svlisten web",
-    "svscanctl -an",
-    "svscanctl -nt",
-    "svscanctl -x",
-    "mkfifodir queue",
-    "mkfifodir .queue",
-    "ftrig-notify queue ab",
-    "ftrig-notify web/event a",
-    "ftrig-wait web/event u.*u",
-    "ftrig-wait queue b$",
-    "permafailon web 60 3 1-2,KILL",
-    "permafailon web 60 3 none",
-    "permafailon log 60 3 1",
-];
+/// The words of each case, a line for each; the socket's path stands behind the first.
+const CASES: &str = "svc -o web
+svc -u nobody
+svc -u
+svstat -o up,pid web
+svstat -o exitcode,readyfor,up web
+svstat -o up nobody
+svstat -o what web
+svwait web
+svwait -U web log
+svwait -d -o web
+svwait -D -t 5 web
+svwait nobody
+svwait -u -U web
+svlisten web -- true
+svlisten -D -t 5 web -- true
+svlisten web -- ./no-such-program
+svlisten web
+svscanctl -an
+svscanctl -nt
+svscanctl -x
+mkfifodir queue
+mkfifodir .queue
+ftrig-notify queue ab
+ftrig-notify web/event a
+ftrig-wait web/event u.*u
+ftrig-wait queue b$
+permafailon web 60 3 1-2,KILL
+permafailon web 60 3 none
+permafailon log 60 3 1";
 
 /// Runs a server on this path and each client beside it. The outcomes are written line by line.
-pub fn try_all<R: Net + Files + Processes + Threads + Wait + Clock + Sync, W: Write + Drop>(
+pub fn try_all<R: Net + Files + Processes + Threads + Wait + Clock + Sync>(
     rt: &R,
     alloc: Global,
     path: &str,
-    mut out: W,
+    told: &mut Told,
 ) -> io::Result<()> {
-    let listener = UnixListener::bind(rt, path)?;
-    let server = Server::new(alloc, listener, Seats::new(alloc)?, TableServer::new())?;
-    let mut told = Told::new(alloc);
-    serve_while(rt, alloc, path, &server, &mut told)?;
+    serve_and_try(rt, alloc, path, told)?;
     told.text.extend_from_slice(b"without a server: ")?;
-    try_one(rt, alloc, path, "svc -u web", &mut told)?;
-    out.write_all(told.text.as_slice())?;
+    try_one(rt, alloc, path, "svc -u web", told)?;
     let pieces = told.pieces;
-    let line = format!(in alloc; "lines that were written in pieces: {pieces}\n")?;
-    out.write_all(line.as_bytes())?;
+    writeln!(
+        &mut told.text,
+        "lines that were written in pieces: {pieces}"
+    )?;
     fs::remove_file(rt, path)?;
     let whole = come_whole(rt, alloc, path)?;
-    let line = format!(in alloc; "each request comes whole: {whole}\n")?;
-    out.write_all(line.as_bytes())
+    writeln!(&mut told.text, "each request comes whole: {whole}")
 }
 
-// What came of the cases.
+/// What came of the cases.
 #[derive(Drop)]
-struct Told {
-    // Each case, its status, and what it wrote to standard output and standard error.
-    text: Vec<u8>,
+pub struct Told {
+    /// Each case, its status, and what it wrote to standard output and standard error.
+    pub text: Vec<u8>,
     // How often what it wrote to one of them took more than one write.
     pieces: u64,
 }
 
 impl Told {
-    fn new(alloc: Global) -> Told {
+    /// Nothing was tried.
+    pub fn new(alloc: Global) -> Told {
         Told {
             text: Vec::new(alloc),
             pieces: 0,
@@ -95,6 +91,27 @@ impl Told {
         self.text.extend_from_slice(written.as_slice())?;
         Ok(())
     }
+}
+
+fn new_server<R: Net + Files>(
+    rt: &R,
+    alloc: Global,
+    path: &str,
+) -> io::Result<Server<TableServer>> {
+    let seats = Seats::new(alloc)?;
+    let listener = UnixListener::bind(rt, path)?;
+    Ok(Server::new(alloc, listener, seats, TableServer::new())?)
+}
+
+// The cases beside a server, which is gone afterwards.
+fn serve_and_try<R: Net + Files + Processes + Threads + Wait + Clock + Sync>(
+    rt: &R,
+    alloc: Global,
+    path: &str,
+    told: &mut Told,
+) -> io::Result<()> {
+    let server = new_server(rt, alloc, path)?;
+    serve_while(rt, alloc, path, &server, told)
 }
 
 // The cases, while the server runs.
@@ -131,34 +148,44 @@ fn try_cases<R: Net + Processes>(
     path: &str,
     told: &mut Told,
 ) -> io::Result<()> {
-    for case in CASES.iter() {
+    for case in CASES.lines() {
         try_one(rt, alloc, path, case, told)?;
     }
     Ok(())
 }
 
-fn try_one<'a, R: Net + Processes>(
+fn try_one<R: Net + Processes>(
     rt: &R,
     alloc: Global,
-    path: &'a str,
-    case: &'a str,
+    path: &str,
+    case: &str,
     told: &mut Told,
 ) -> io::Result<()> {
-    let mut words = Vec::new(alloc);
-    for word in case.split(' ') {
-        words.push(word)?;
-    }
-    let Some(first) = words.get_mut(0) else {
-        return Err(io::Error::from(io::ErrorKind::InvalidData));
-    };
-    let Some(tool) = tool_named(first) else {
-        return Err(io::Error::from(io::ErrorKind::InvalidData));
-    };
-    *first = path;
     let mut output = CountedText::new(alloc);
     let mut errors = CountedText::new(alloc);
-    let status = run_client(rt, alloc, tool, words.as_slice(), &mut output, &mut errors);
-    write!(&mut told.text, "{case}: {status}\n")?;
+    let status = run_case(rt, alloc, path, case, &mut output, &mut errors)?;
+    writeln!(&mut told.text, "{case}: {status}")?;
     told.add(&output)?;
     told.add(&errors)
+}
+
+// Runs the client of a case. Its status.
+fn run_case<R: Net + Processes>(
+    rt: &R,
+    alloc: Global,
+    path: &str,
+    case: &str,
+    output: &mut CountedText,
+    errors: &mut CountedText,
+) -> io::Result<u8> {
+    let (name, others) = case.split_once(' ').unwrap_or((case, ""));
+    let Some(tool) = tool_named(name) else {
+        return Err(io::Error::from(io::ErrorKind::InvalidData));
+    };
+    let mut words = Vec::new(alloc);
+    words.push(path)?;
+    for word in others.split(' ') {
+        words.push(word)?;
+    }
+    Ok(run_client(rt, alloc, tool, words.as_slice(), output, errors))
 }

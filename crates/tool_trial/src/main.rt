@@ -6,18 +6,23 @@ mod counted;
 mod table;
 mod whole_requests;
 
-use cases::try_all;
-use std::process::ExitCode;
+use cases::{Told, try_all};
+use std::io::Write;
 use std::{env, fs, io, process};
 
-fn main(rt: HostRuntime) -> io::Result<ExitCode> {
-    let alloc = rt.alloc();
-    let temp = env::temp_dir(&rt)?;
+// The path of the socket: a new one for each run, since two runs may go on at once.
+fn path_of(rt: &HostRuntime) -> io::Result<String> {
+    let temp = env::temp_dir(rt)?;
     let number = process::id(rt.process());
-    let path = format!(in alloc; "{}/tool-trial-{number}", temp.as_path().display())?;
+    Ok(format!(in rt.alloc(); "{}/tool-trial-{number}", temp.as_path().display())?)
+}
+
+fn main(rt: HostRuntime) -> io::Result<()> {
+    let path = path_of(&rt)?;
+    let mut told = Told::new(rt.alloc());
     let _ = fs::remove_file(&rt, path.as_str());
-    let outcome = try_all(&rt, alloc, path.as_str(), rt.stdout());
+    let outcome = try_all(&rt, rt.alloc(), path.as_str(), &mut told);
     let _ = fs::remove_file(&rt, path.as_str());
-    outcome?;
-    Ok(ExitCode::SUCCESS)
+    rt.stdout().write_all(told.text.as_slice())?;
+    outcome
 }

@@ -3,30 +3,37 @@ use line_server::{Answers, Mailbox, Next};
 use std::sync::Wait;
 use std::time::Clock;
 
-/// The requests, each with the lines that answer it.
-const TABLE: [(&[u8], &[u8]); 18] = [
-    (b"svc web uO", b"done\n\n"),
-    (b"svc nobody u", b"refused NoService\n\n"),
-    (
-        b"status web",
-        b"row 1 web true true true false false 7 -1 -1 1 -1\n\n",
-    ),
-    (b"status nobody", b"refused NoService\n\n"),
-    (b"wait u a 0 web", b"wait 1\n\nr 1 held\n\n"),
-    (b"wait U a 0 web log", b"wait 2\n\nr 2 failed\n\n"),
-    (b"wait d o 0 web", b"wait 3\n\nr 3 gone\n\n"),
-    (b"wait D a 5 web", b"wait 4\n\nr 4 timedout\n\n"),
-    (b"wait u a 0 nobody", b"refused NoService\n\n"),
-    (b"scanctl a", b"scanned -1 +2:log\n\n"),
-    (b"scanctl n", b"done\n\n"),
-    (b"scanctl t", b"refused Closing\n\n"),
-    (b"mkdir queue", b"done\n\n"),
-    (b"send dir queue ab", b"done\n\n"),
-    (b"send svc web a", b"refused Reserved\n\n"),
-    (b"subscribe dir queue once b$", b"sub 1\n\nm 1 b\n\n"),
-    (b"subscribe svc web once u.*u", b"sub 2\n\nm 2 overlong\n\n"),
-    (b"permafailon web 60 3 1-2,SIGKILL", b"permafail 125\n\n"),
-];
+/// The requests, each before the lines that answer it.
+const TABLE: &str = "svc web uO=done\n\n\
+#svc nobody u=refused NoService\n\n\
+#status web=row 1 web true true true false false 7 -1 -1 1 -1\n\n\
+#status nobody=refused NoService\n\n\
+#wait u a 0 web=wait 1\n\nr 1 held\n\n\
+#wait U a 0 web log=wait 2\n\nr 2 failed\n\n\
+#wait d o 0 web=wait 3\n\nr 3 gone\n\n\
+#wait D a 5 web=wait 4\n\nr 4 timedout\n\n\
+#wait u a 0 nobody=refused NoService\n\n\
+#scanctl a=scanned -1 +2:log\n\n\
+#scanctl n=done\n\n\
+#scanctl t=refused Closing\n\n\
+#mkdir queue=done\n\n\
+#send dir queue ab=done\n\n\
+#send svc web a=refused Reserved\n\n\
+#subscribe dir queue once b$=sub 1\n\nm 1 b\n\n\
+#subscribe svc web once u.*u=sub 2\n\nm 2 overlong\n\n\
+#permafailon web 60 3 1-2,SIGKILL=permafail 125\n\n";
+
+// The lines that answer a request.
+fn lines_of(request: &[u8]) -> &'static [u8] {
+    for row in TABLE.split('#') {
+        if let Some((known, lines)) = row.split_once('=') {
+            if known.as_bytes() == request {
+                return lines.as_bytes();
+            }
+        }
+    }
+    b"refused Line\n\n"
+}
 
 /// Answers by the table.
 #[derive(Drop)]
@@ -46,13 +53,7 @@ impl Answers for TableServer {
         line: &[u8],
         mailbox: &Mailbox,
     ) -> Next {
-        for (request, lines) in TABLE.iter() {
-            if line == *request {
-                let _ = mailbox.post(rt, lines);
-                return Next::GoOn;
-            }
-        }
-        let _ = mailbox.post(rt, b"refused Line\n\n");
+        let _ = mailbox.post(rt, lines_of(line));
         Next::GoOn
     }
 

@@ -6,7 +6,8 @@ use std::net::Net;
 use std::os::unix::net::{UnixListener, UnixStream};
 use std::process::Processes;
 use std::rt::Files;
-use std::sync::{Mutex, Wait};
+use std::sync::Wait;
+use std::sync::atomic::{AtomicBool, Ordering};
 use std::thread::{self, Scope, Threads};
 use std::time::{Clock, Duration, Instant};
 
@@ -27,15 +28,22 @@ pub fn come_whole<R: Net + Files + Processes + Threads + Wait + Clock + Sync>(
 ) -> io::Result<bool> {
     let listener = UnixListener::bind(rt, path)?;
     listener.set_nonblocking(true)?;
-    let are_whole = Mutex::new(false);
+    Ok(serve_and_send(rt, alloc, path, &listener))
+}
+
+fn serve_and_send<R: Net + Processes + Threads + Wait + Clock + Sync>(
+    rt: &R,
+    alloc: Global,
+    path: &str,
+    listener: &UnixListener,
+) -> bool {
+    let are_whole = AtomicBool::new(false);
     thread::scope(thread::scope_env(), rt, |scope| {
-        if !start_server(scope, rt, &listener, &are_whole) {
-            return Err(io::Error::from(ErrorKind::OutOfMemory));
+        if start_server(scope, rt, listener, &are_whole) {
+            send_letters(rt, alloc, path);
         }
-        send_letters(rt, alloc, path);
-        Ok(())
-    })?;
-    Ok(*are_whole.lock(rt))
+    });
+    are_whole.load(Ordering::SeqCst)
 }
 
 fn send_letters<R: Net + Processes>(rt: &R, alloc: Global, path: &str) {
@@ -49,33 +57,32 @@ fn start_server<'s, E, R: Threads + Wait + Clock + Sync>(
     scope: &Scope<'s, E>,
     rt: &'s R,
     listener: &'s UnixListener,
-    are_whole: &'s Mutex<bool>,
+    are_whole: &'s AtomicBool,
 ) -> bool {
     thread::Builder::new()
         .spawn_scoped(scope, move || serve_tool(rt, listener, are_whole))
         .is_ok()
 }
 
-fn serve_tool<R: Wait + Clock>(rt: &R, listener: &UnixListener, are_whole: &Mutex<bool>) {
-    if let Ok(Some(stream)) = accept_soon(rt, listener) {
-        if let Ok(true) = read_requests(rt, &stream) {
-            *are_whole.lock(rt) = true;
-        }
+fn serve_tool<R: Wait + Clock>(rt: &R, listener: &UnixListener, are_whole: &AtomicBool) {
+    if let Some(stream) = accept_soon(rt, listener) {
+        let is_whole = matches!(read_requests(rt, &stream), Ok(true));
+        are_whole.store(is_whole, Ordering::SeqCst);
     }
 }
 
 // The connection of the tool, or None where none comes.
-fn accept_soon<R: Clock>(rt: &R, listener: &UnixListener) -> io::Result<Option<UnixStream>> {
+fn accept_soon<R: Clock>(rt: &R, listener: &UnixListener) -> Option<UnixStream> {
     for _ in 0..20_000u32 {
         match listener.accept() {
-            Ok((stream, _)) => return Ok(Some(stream)),
+            Ok((stream, _)) => return Some(stream),
             Err(error) if error.kind() == ErrorKind::WouldBlock => {
                 thread::sleep(rt, Duration::from_millis(1));
             }
-            Err(error) => return Err(error),
+            Err(_) => return None,
         }
     }
-    Ok(None)
+    None
 }
 
 // Answers the requests, up to one that comes in pieces. Whether none does.
@@ -93,19 +100,25 @@ fn read_requests<R: Clock>(rt: &R, stream: &UnixStream) -> io::Result<bool> {
 
 // Reads once, as soon as there is a byte: tries again at once while there is none. Whether a newline ends what was read.
 fn reads_whole<R: Clock>(rt: &R, stream: &UnixStream) -> io::Result<bool> {
-    let mut reader = stream;
-    let mut bytes = [0u8; 1024];
     let start = Instant::now(rt)?;
     for _ in 0..u64::MAX {
-        match reader.read(&mut bytes) {
-            Ok(count) => return Ok(bytes[..count].ends_with(b"\n")),
-            Err(error) if error.kind() == ErrorKind::WouldBlock => {
-                if start.elapsed(rt)?.as_secs() >= PATIENCE {
-                    break;
-                }
-            }
-            Err(error) => return Err(error),
+        if let Some(is_whole) = read_once(stream)? {
+            return Ok(is_whole);
+        }
+        if start.elapsed(rt)?.as_secs() >= PATIENCE {
+            break;
         }
     }
     Ok(false)
+}
+
+// Whether a newline ends what is there to be read; None where nothing is.
+fn read_once(stream: &UnixStream) -> io::Result<Option<bool>> {
+    let mut reader = stream;
+    let mut bytes = [0u8; 1024];
+    match reader.read(&mut bytes) {
+        Ok(count) => Ok(Some(bytes[..count].ends_with(b"\n"))),
+        Err(error) if error.kind() == ErrorKind::WouldBlock => Ok(None),
+        Err(error) => Err(error),
+    }
 }

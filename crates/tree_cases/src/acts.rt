@@ -49,21 +49,14 @@ fn act_of_service(alloc: Global, number: u32) -> Option<Act<Global>> {
     })
 }
 
-// What a user asks for.
+// What a user asks for of the tree or of a service.
 fn act_of_user(alloc: Global, number: u32) -> Option<Act<Global>> {
     let serial = u64::from(number / 18).saturating_add(1);
-    let directory = Target::Directory(name_of(b"free")?);
     Some(match number % 18 {
         9 => {
             let list = DeathList::parse(alloc, b"1-2,SIGTERM").ok()??;
             Act::Permafailon(name_of(b"first")?, 60, 1, list)
         }
-        10 => Act::MakeDir(name_of(b"free")?),
-        11 if number % 180 == 11 => {
-            let repeats = number % 1_800 == 11;
-            Act::Subscribe(directory, Pattern::build(alloc, "a+b").ok()?, repeats)
-        }
-        12 if number % 36 == 12 => Act::Send(directory, Message::new(b"aab")?),
         13 => Act::Wait(Condition::Up, Mode::One, 100, one_name(alloc, b"first")?),
         14 => Act::Cancel(WaitId(serial)),
         15 => Act::Unsubscribe(SubId(serial)),
@@ -72,13 +65,27 @@ fn act_of_user(alloc: Global, number: u32) -> Option<Act<Global>> {
     })
 }
 
+// What a user asks for of an event directory.
+fn act_of_directory(alloc: Global, number: u32) -> Option<Act<Global>> {
+    let name = name_of(b"free")?;
+    Some(match number % 18 {
+        10 => Act::MakeDir(name),
+        11 if number % 180 == 11 => {
+            let pattern = Pattern::build(alloc, "a+b").ok()?;
+            Act::Subscribe(Target::Directory(name), pattern, number % 1_800 == 11)
+        }
+        12 if number % 36 == 12 => Act::Send(Target::Directory(name), Message::new(b"aab")?),
+        _ => Act::Tick,
+    })
+}
+
 /// The act of this number of an actor: of most kinds one in 18. Those for which a pattern is built or searched are rarer, since they
 /// take most of the time; and now and then all services are ordered to leave.
 pub fn act_of(alloc: Global, number: u32) -> Option<Act<Global>> {
-    if number % 18 < 9 {
-        act_of_service(alloc, number)
-    } else {
-        act_of_user(alloc, number)
+    match number % 18 {
+        0..=8 => act_of_service(alloc, number),
+        10..=12 => act_of_directory(alloc, number),
+        _ => act_of_user(alloc, number),
     }
 }
 

@@ -1,13 +1,11 @@
 //! Services that die again and again, and what is left of them.
-use crate::census::{count_at_rest, returns_to};
-use crate::connections::{ask, connect};
+use crate::connections::ask;
 use crate::stage::Stage;
-use std::io::{self, Write};
 use std::net::Net;
-use std::process::Processes;
-use std::rt::Files;
-use std::thread;
+use std::os::unix::net::UnixStream;
+use std::process::{Processes, SystemProcess};
 use std::time::{Clock, Duration};
+use std::{io, thread};
 
 /// How many services die.
 const SERVICES: u32 = 40;
@@ -15,54 +13,46 @@ const SERVICES: u32 = 40;
 /// How many deaths there are to be.
 const DEATHS: usize = 200;
 
-/// Tries many deaths: no zombie is left, and no more descriptors and threads than before.
-pub fn try_crowd<R: Net + Files + Processes + Clock, W: Write>(
-    rt: &R,
-    stage: &Stage,
-    server: u32,
-    output: &mut W,
-) -> io::Result<()> {
-    let before = count_at_rest(rt, stage.alloc, server)?;
-    for number in 0..SERVICES {
-        let name = format!(in stage.alloc; "dies{number}")?;
-        stage.write_program(rt, name.as_str(), "run", "exit 0")?;
+impl<R: Print + Net + Processes<Started = SystemProcess> + Clock> Stage<R> {
+    /// Tries many deaths: no zombie is left, and no more descriptors and threads than before.
+    pub fn try_crowd(&self, server: u32) -> io::Result<()> {
+        let before = self.census_at_rest(server)?;
+        self.die()?;
+        let is_as_before = self.returns_to(server, before.as_str())?;
+        self.say_whether("no zombie, descriptors and threads as before", is_as_before)
     }
-    stage.tell(rt, "svscanctl -a", output)?;
-    let has_died = die(rt, stage)?;
-    write!(output, "200 deaths: {has_died}\n")?;
-    for number in 0..SERVICES {
-        let name = format!(in stage.alloc; "dies{number}")?;
-        stage.remove_service(rt, name.as_str())?;
-    }
-    stage.tell(rt, "svscanctl -an", output)?;
-    let is_gone = stage.comes_to(rt, "svc -u dies0", "1 svc: refused Ended")?;
-    write!(output, "all gone: {is_gone}\n")?;
-    let is_as_before = returns_to(rt, stage.alloc, server, &before)?;
-    write!(
-        output,
-        "no zombie, descriptors and threads as before: {is_as_before}\n"
-    )
-}
 
-// Waits until all deaths have come. Whether they did in time.
-fn die<R: Net + Clock>(rt: &R, stage: &Stage) -> io::Result<bool> {
-    let stream = connect(rt, stage)?;
-    for _ in 0..100u32 {
-        thread::sleep(rt, Duration::from_millis(500));
+    // The services come, die, and go.
+    fn die(&self) -> io::Result<()> {
+        self.write("for number in $(seq 0 39); do program dies$number run 'exit 0'; done")?;
+        self.tell("svscanctl -a")?;
+        let stream = self.connect()?;
+        self.say_whether("200 deaths", self.await_deaths(&stream)?)?;
+        self.write("rm -r dies*")?;
+        self.tell("svscanctl -an")?;
+        let is_gone = self.comes_to("svc -u dies0", "1 svc: refused Ended")?;
+        self.say_whether("all gone", is_gone)
+    }
+
+    // Waits until all deaths have come. Whether they did in time.
+    fn await_deaths(&self, stream: &UnixStream) -> io::Result<bool> {
+        for _ in 0..100u32 {
+            thread::sleep(&self.rt, Duration::from_millis(500));
+            if self.count_deaths(stream)? >= DEATHS {
+                return Ok(true);
+            }
+        }
+        Ok(false)
+    }
+
+    // How many deaths there were: a space stands before each.
+    fn count_deaths(&self, stream: &UnixStream) -> io::Result<usize> {
         let mut deaths = 0usize;
         for number in 0..SERVICES {
-            let request = format!(in stage.alloc; "tally dies{number}\n")?;
-            let reply = ask(stage.alloc, &stream, request.as_bytes())?;
-            let count = reply
-                .as_slice()
-                .iter()
-                .filter(|byte| **byte == b' ')
-                .count();
-            deaths = deaths.saturating_add(count);
+            let request = format!(in self.alloc; "tally dies{number}\n")?;
+            let reply = ask(self.alloc, stream, request.as_str())?;
+            deaths = deaths.saturating_add(reply.as_str().matches(' ').count());
         }
-        if deaths >= DEATHS {
-            return Ok(true);
-        }
+        Ok(deaths)
     }
-    Ok(false)
 }

@@ -1,108 +1,73 @@
 //! Services that start, stop, become ready, fail, come and go.
 use crate::stage::Stage;
-use std::io::{self, Write};
-use std::process::Processes;
-use std::rt::Files;
+use std::io;
+use std::net::Net;
+use std::process::{Processes, SystemProcess};
 use std::time::Clock;
 
-/// Tries the lives of services.
-pub fn try_lives<R: Files + Processes + Clock, W: Write>(
-    rt: &R,
-    stage: &Stage,
-    output: &mut W,
-) -> io::Result<()> {
-    for words in [
-        "svwait web",
-        "svstat -o up,wantedup,ready web",
-        "svwait -U one three",
-        "svstat -o up,ready three",
-        "svstat -o up,ready one",
-        "svc -u nobody",
-        "svwait nobody",
-        "svwait -U -t 50 web",
-        "svc -d web",
-        "svwait -D web",
-        "svstat -o up,wantedup,pid web",
-        "svc -u web",
-        "svwait -u web",
-    ] {
-        stage.tell(rt, words, output)?;
+/// The services with which the tree starts.
+pub const SERVICES: &str = "program web run 'exec sleep 100'
+program three run 'echo >&3; exec sleep 100'
+echo 3 >three/notification-fd
+program one run 'echo; exec sleep 100'
+echo 1 >one/notification-fd
+program fails run 'exit 1'
+program fails finish 'exit 125'
+: >fails/down
+";
+
+const STARTS: &str =
+    "svwait web|svstat -o up,wantedup,ready web|svwait -U one three|svstat -o up,ready three|svstat -o up,ready one";
+
+const ORDERS: &str =
+    "svc -u nobody|svwait nobody|svwait -U -t 50 web|svc -d web|svwait -D web|svstat -o up,wantedup,pid web|svc -u web|svwait -u web";
+
+/// Free event directories, and those of services.
+const DIRECTORIES: &str =
+    "mkfifodir queue|mkfifodir queue|ftrig-notify queue ab|ftrig-notify web/event u|ftrig-wait nothing a|ftrig-wait queue (|ftrig-wait queue a\nb";
+
+impl<R: Print + Net + Processes<Started = SystemProcess> + Clock> Stage<R> {
+    /// Tries the lives of services.
+    pub fn try_lives(&self) -> io::Result<()> {
+        self.tell_each(STARTS)?;
+        self.tell_each(ORDERS)?;
+        self.try_failure()?;
+        self.try_restart()?;
+        self.tell_each(DIRECTORIES)?;
+        self.try_coming()
     }
-    try_failure(rt, stage, output)?;
-    try_restart(rt, stage, output)?;
-    try_directories(rt, stage, output)?;
-    try_coming(rt, stage, output)
-}
 
-// A service that fails for good, while a client waits for it to be ready.
-fn try_failure<R: Processes + Clock, W: Write>(
-    rt: &R,
-    stage: &Stage,
-    output: &mut W,
-) -> io::Result<()> {
-    let starter = stage.starter("fails")?;
-    let told = stage.outcome(rt, starter.as_str())?;
-    write!(output, "a permanent failure: {}\n", told.as_str())?;
-    stage.tell(rt, "permafailon fails 60 1 1", output)?;
-    stage.tell(rt, "permafailon fails 60 1 2", output)
-}
-
-// A daemon that was ready is killed, and is ready again.
-fn try_restart<R: Processes, W: Write>(rt: &R, stage: &Stage, output: &mut W) -> io::Result<()> {
-    let told = stage.outcome(rt, "svstat -o pid three")?;
-    let Some((_, pid)) = told.as_str().split_once(' ') else {
-        return Err(io::Error::from(io::ErrorKind::InvalidData));
-    };
-    let words = format!(in stage.alloc; "svlisten -R three -- kill -9 {pid}")?;
-    let told = stage.outcome(rt, words.as_str())?;
-    write!(output, "killed, and ready again: {}\n", told.as_str())?;
-    stage.tell(rt, "svstat -o up,ready three", output)
-}
-
-// Free event directories, and those of services.
-fn try_directories<R: Processes, W: Write>(
-    rt: &R,
-    stage: &Stage,
-    output: &mut W,
-) -> io::Result<()> {
-    for words in [
-        "mkfifodir queue",
-        "mkfifodir queue",
-        "ftrig-notify queue ab",
-        "ftrig-notify web/event u",
-        "ftrig-wait nothing a",
-        "ftrig-wait queue (",
-        "ftrig-wait queue a\nb",
-    ] {
-        stage.tell(rt, words, output)?;
-    }
-    Ok(())
-}
-
-// A directory that comes, and goes.
-fn try_coming<R: Files + Processes + Clock, W: Write>(
-    rt: &R,
-    stage: &Stage,
-    output: &mut W,
-) -> io::Result<()> {
-    stage.write_program(rt, "guest", "run", "exec sleep 100")?;
-    stage.tell(rt, "svstat -o up guest", output)?;
-    stage.tell(rt, "svscanctl -a", output)?;
-    stage.tell(rt, "svwait guest", output)?;
-    stage.tell(rt, "svstat -o up guest", output)?;
-    stage.remove_service(rt, "guest")?;
-    stage.tell(rt, "svscanctl -an", output)?;
-    let is_gone = stage.comes_to(rt, "svc -u guest", "1 svc: refused Ended")?;
-    write!(output, "the guest is gone: {is_gone}\n")?;
-    stage.tell(rt, "svwait guest", output)?;
-    stage.tell(rt, "svscanctl -a", output)?;
-    stage.tell(rt, "svstat -o up guest", output)
-}
-
-impl Stage {
-    // The words of a client that starts a service once it waits for its readiness.
-    fn starter(&self, service: &str) -> io::Result<String> {
+    // A service that fails for good, while a client waits for it to be ready: it starts the service once it waits.
+    fn try_failure(&self) -> io::Result<()> {
         let (program, socket) = (self.program(), self.socket());
-        Ok(format!(in self.alloc; "svlisten -R {service} -- {program} svc {socket} -u {service}")?)
+        let words = format!(in self.alloc; "svlisten -R fails -- {program} svc {socket} -u fails")?;
+        self.say(
+            "a permanent failure",
+            self.outcome(words.as_str())?.as_str(),
+        )?;
+        self.tell_each("permafailon fails 60 1 1|permafailon fails 60 1 2")
+    }
+
+    // A daemon that was ready is killed, and is ready again.
+    fn try_restart(&self) -> io::Result<()> {
+        let told = self.outcome("svstat -o pid three")?;
+        let pid = told.as_str().strip_prefix("0 ").unwrap_or("none");
+        let words = format!(in self.alloc; "svlisten -R three -- kill -9 {pid}")?;
+        self.say(
+            "killed, and ready again",
+            self.outcome(words.as_str())?.as_str(),
+        )?;
+        self.tell("svstat -o up,ready three")
+    }
+
+    // A directory that comes, and goes.
+    fn try_coming(&self) -> io::Result<()> {
+        self.write("program guest run 'exec sleep 100'")?;
+        self.tell_each("svstat -o up guest|svscanctl -a|svwait guest|svstat -o up guest")?;
+        self.write("rm -r guest")?;
+        self.tell("svscanctl -an")?;
+        let is_gone = self.comes_to("svc -u guest", "1 svc: refused Ended")?;
+        self.say_whether("the guest is gone", is_gone)?;
+        self.tell_each("svwait guest|svscanctl -a|svstat -o up guest")
     }
 }

@@ -12,6 +12,7 @@ mod records;
 mod scans;
 mod stage;
 mod starts;
+mod texts;
 mod trial;
 
 use std::env;
@@ -31,10 +32,9 @@ fn handover<R: Env + Alloc>(rt: &R) -> u64 {
 
 fn main(rt: HostRuntime) -> ExitCode {
     let alloc = rt.alloc();
-    let mut errors = rt.stderr();
     let has_words = matches!(env::args(&rt), Ok(words) if words.len() > 1);
     if !has_words {
-        return ExitCode::from(try_all(&rt, alloc, rt.process(), rt.stdout(), &mut errors));
+        return ExitCode::from(try_all(rt, alloc, rt.process()));
     }
     let standard = Standard {
         input: rt.stdin(),

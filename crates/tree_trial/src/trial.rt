@@ -1,98 +1,80 @@
 //! The trial: its folder, its server, and all cases.
-use crate::connections::try_connections;
-use crate::crowd::try_crowd;
-use crate::endings::try_end;
-use crate::handovers::try_handovers;
-use crate::lives::try_lives;
-use crate::records::try_records;
-use crate::scans::try_scans;
-use crate::stage::Stage;
-use crate::starts::try_starts;
-use std::alloc::Global;
-use std::env::Env;
-use std::io::{self, Write};
+use crate::lives::SERVICES;
+use crate::stage::{SERVE, Stage};
+use std::alloc::{AllocError, Global};
+use std::env::{self, Env};
+use std::io::{self, ErrorKind};
 use std::net::Net;
-use std::process::{Process, Processes, SystemProcess};
+use std::process::{self, Process, Processes, Stdio, SystemProcess};
 use std::rt::Files;
 use std::time::Clock;
-use std::{env, fs, process};
 
-/// Tries all cases, and writes their outcomes line by line. Answers the status: 0 where all of them were tried.
+/// Tries all cases, and prints their outcomes line by line. Answers the status: 0 where all of them were tried.
 pub fn try_all<
-    R: Env + Net + Files + Processes<Started = SystemProcess> + Clock,
-    W: Write + Drop,
-    E: Write,
->(rt: &R, alloc: Global, this: Process, output: W, errors: &mut E) -> u8 {
-    let mut output = output;
-    match try_in_folder(rt, alloc, this, &mut output) {
+    R: Print
+        + Eprint
+        + Env
+        + Net
+        + Files
+        + Processes<Started = SystemProcess>
+        + Clock
+        + Copy
+        + Drop,
+>(rt: R, alloc: Global, this: Process) -> u8 {
+    match try_in_folder(rt, alloc, this) {
         Ok(()) => 0,
         Err(error) => {
-            let _ = write!(errors, "tree_trial: {error}\n");
+            let _ = eprintln!(rt; "tree_trial: {error}");
             1
         }
     }
 }
 
-// Makes the folder of the trial, a new one for each run, since two runs may go on at once. It is removed at the end.
-fn try_in_folder<R: Env + Net + Files + Processes<Started = SystemProcess> + Clock, W: Write>(
-    rt: &R,
-    alloc: Global,
-    this: Process,
-    output: &mut W,
-) -> io::Result<()> {
-    let Some(program) = env::args(&(rt, alloc))?.next() else {
-        return Err(io::Error::from(io::ErrorKind::NotFound));
+// A stage in a new folder for each run, since two runs may go on at once.
+fn new_stage<R: Env + Copy + Drop>(rt: R, alloc: Global, this: Process) -> io::Result<Stage<R>> {
+    let Some(program) = env::args(&(&rt, alloc))?.next() else {
+        return Err(io::Error::from(ErrorKind::NotFound));
     };
-    let temp = env::temp_dir(&(rt, alloc))?;
+    let temp = env::temp_dir(&(&rt, alloc))?;
     let number = process::id(this);
     let root = format!(in alloc; "{}/tree-trial-{number}", temp.as_path().display())?;
-    let stage = Stage::new(alloc, program, root)?;
-    stage.make_folder(rt)?;
-    let mut done = try_cases(rt, &stage, output);
-    if done.is_ok() {
-        done = try_others(rt, &stage, output);
-    }
-    fs::remove_dir_all(&(rt, alloc), stage.root())?;
-    done?;
-    output.flush()
+    Ok(Stage::new(rt, alloc, program.as_str(), root.as_str())?)
+}
+
+// The folder of the trial is removed at the end.
+fn try_in_folder<
+    R: Print + Env + Net + Files + Processes<Started = SystemProcess> + Clock + Copy + Drop,
+>(rt: R, alloc: Global, this: Process) -> io::Result<()> {
+    let stage = new_stage(rt, alloc, this)?;
+    let done = stage.try_first().and_then(|()| try_others(&stage));
+    stage.run("rm -r \"$1\"")?;
+    done
 }
 
 // The cases that have servers of their own, each in a folder of its own.
-fn try_others<R: Net + Files + Processes<Started = SystemProcess> + Clock, W: Write>(
-    rt: &R,
-    stage: &Stage,
-    output: &mut W,
+fn try_others<R: Print + Net + Files + Processes<Started = SystemProcess> + Clock + Copy + Drop>(
+    stage: &Stage<R>,
 ) -> io::Result<()> {
-    try_handovers(rt, &stage.within("short")?, output)?;
-    try_starts(rt, &stage.within("starts")?, output)?;
-    try_records(rt, &stage.within("records")?, output)?;
-    try_scans(rt, &stage.within("scans")?, output)
+    stage.within("short")?.try_handovers()?;
+    stage.within("starts")?.try_starts()?;
+    stage.within("records")?.try_records()?;
+    stage.within("scans")?.try_scans()
 }
 
-// Starts the server, tries the cases, and ends it.
-fn try_cases<R: Net + Files + Processes<Started = SystemProcess> + Clock, W: Write>(
-    rt: &R,
-    stage: &Stage,
-    output: &mut W,
-) -> io::Result<()> {
-    stage.write_services(rt)?;
-    let mut server = stage.start_server(rt)?;
-    let id = server.id();
-    let mut done = try_lives(rt, stage, output);
-    if done.is_ok() {
-        done = try_connections(rt, stage, id, output);
+impl<R: Print + Net + Processes<Started = SystemProcess> + Clock> Stage<R> {
+    // Starts the server, tries the cases beside it, and ends it.
+    fn try_first(&self) -> io::Result<()> {
+        self.write(SERVICES)?;
+        let mut server = self.start(SERVE, Stdio::inherit())?;
+        let done = self.try_beside(server.id());
+        self.tell_end(&mut server, done)?;
+        self.try_left()
     }
-    if done.is_ok() {
-        done = try_crowd(rt, stage, id, output);
+
+    // The cases beside the server, whose process number this is.
+    fn try_beside(&self, server: u32) -> io::Result<()> {
+        self.try_lives()?;
+        self.try_connections(server)?;
+        self.try_crowd(server)
     }
-    if done.is_ok() {
-        done = try_end(rt, stage, &mut server, output);
-    }
-    if done.is_err() {
-        let _ = stage.outcome(rt, "svscanctl -t");
-        stage.await_end(rt, &mut server);
-        let _ = server.kill();
-        let _ = server.wait();
-    }
-    done
 }
