@@ -1,9 +1,10 @@
 //! Names, letters, actors, moments and histories by their public calls.
-use linked_list_allocator::LocalHeap;
+ghost use Rattle.std.specs.Prelude.{◌≡◌, ◌<◌, []};
+
+use crate::shared::new_heap;
 use s6_events::{Actor, At, History, Letter, Mark, Moment, Name, NoMemory, Sid};
-use std::alloc::Allocator;
+use std::alloc::{Allocator, Global};
 use std::process::Abort;
-use std::test::Fail;
 
 const LAST_MOMENT: u64 = 1_000_000_000_000_000;
 
@@ -75,10 +76,10 @@ fn takes_names_of_its_alphabet(rt: HostRuntime) {
 }
 
 #[test]
-fn orders_names_by_their_bytes(rt: HostRuntime) -> Result<(), Fail> {
-    let upper = Name::new(b"B").ok_or("B")?;
-    let lower = Name::new(b"a").ok_or("a")?;
-    let longer = Name::new(b"a0").ok_or("a0")?;
+fn orders_names_by_their_bytes(rt: HostRuntime) {
+    let upper = Name::new(b"B").expect(&rt, "B");
+    let lower = Name::new(b"a").expect(&rt, "a");
+    let longer = Name::new(b"a0").expect(&rt, "a0");
     let found = [
         upper < lower,
         lower < longer,
@@ -86,7 +87,6 @@ fn orders_names_by_their_bytes(rt: HostRuntime) -> Result<(), Fail> {
         lower == longer,
     ];
     assert_eq!(rt; found, [true, true, true, false]);
-    Ok(())
 }
 
 const FIRST: Moment = Moment::Event(Sid(1), Mark::SupervisorStarted);
@@ -95,73 +95,99 @@ const SECOND: Moment = Moment::Event(Sid(1), Mark::Spawned);
 
 const THIRD: Moment = Moment::Event(Sid(1), Mark::Died);
 
-#[test]
-fn a_history_is_the_list_of_its_pushes(rt: HostRuntime) -> Result<(), Fail> {
-    let mut history = History::new(rt.alloc());
-    let was_empty = history.is_empty();
-    history.push(FIRST)?;
-    let plan = history.prepare(vec![in rt.alloc(); SECOND, THIRD]?)?;
-    let prepared = history.len();
+// From this place on the history has these moments, or it has no such place.
+fn wants_from<R: Abort>(rt: &R, history: &History<Global>, place: u64, wanted: Option<&[Moment]>) {
+    assert_eq!(rt; history.from(place), wanted, "from {place}");
+}
+
+// The history has so many places.
+fn wants_places<R: Abort>(rt: &R, history: &History<Global>, wanted: u64) {
+    assert_eq!(rt; (history.len(), history.is_empty()), (wanted, wanted == 0));
+}
+
+// Prepares these moments, which shows nothing, and makes them.
+fn push_all<R: Abort>(rt: &R, alloc: Global, history: &mut History<Global>, moments: &[Moment]) {
+    let before = history.len();
+    assert!(rt; before < 9 && moments.len() < 9);
+    let moments = moments.to_vec(alloc).expect(rt, "memory");
+    let plan = history.prepare(moments).expect(rt, "memory");
+    wants_places(rt, history, before);
     history.commit(plan);
-    let lengths = (was_empty, prepared, history.len());
-    assert_eq!(rt; lengths, (true, 1, 3));
-    let all = [FIRST, SECOND, THIRD];
-    let last = [THIRD];
-    let end = history.from(3).ok_or("the end")?;
-    assert_eq!(rt; history.from(0).ok_or("the start")?, all.as_slice());
-    assert_eq!(rt; history.from(2).ok_or("place 2")?, last.as_slice());
-    assert!(rt; end.is_empty() && history.from(4).is_none());
-    Ok(())
 }
 
 #[test]
-fn forgotten_places_of_the_history(rt: HostRuntime) -> Result<(), Fail> {
+fn a_history_is_the_list_of_its_pushes(rt: HostRuntime) {
     let mut history = History::new(rt.alloc());
-    let plan = history.prepare(vec![in rt.alloc(); FIRST, SECOND, THIRD, FIRST, SECOND]?)?;
-    history.commit(plan);
+    wants_places(&rt, &history, 0);
+    history.push(FIRST).expect(&rt, "memory");
+    wants_places(&rt, &history, 1);
+    push_all(&rt, rt.alloc(), &mut history, &[SECOND, THIRD]);
+    wants_places(&rt, &history, 3);
+    wants_from(&rt, &history, 0, Some(&[FIRST, SECOND, THIRD]));
+    wants_from(&rt, &history, 2, Some(&[THIRD]));
+    wants_from(&rt, &history, 3, Some(&[]));
+    wants_from(&rt, &history, 4, None);
+}
+
+#[test]
+fn forgotten_places_of_the_history(rt: HostRuntime) {
+    let mut history = History::new(rt.alloc());
+    let moments = [FIRST, SECOND, THIRD, FIRST, SECOND];
+    push_all(&rt, rt.alloc(), &mut history, &moments);
     history.forget(3);
-    let kept = [FIRST, SECOND];
-    let end = history.from(5).ok_or("the end")?;
-    assert_eq!(rt; history.from(3).ok_or("place 3")?, kept.as_slice());
-    assert!(rt; end.is_empty() && history.from(2).is_none() && history.from(6).is_none());
-    assert_eq!(rt; history.len(), 5);
+    wants_from(&rt, &history, 3, Some(&[FIRST, SECOND]));
+    wants_from(&rt, &history, 5, Some(&[]));
+    wants_from(&rt, &history, 2, None);
+    wants_from(&rt, &history, 6, None);
+    wants_places(&rt, &history, 5);
     history.forget(2);
-    assert_eq!(rt; history.from(3).ok_or("place 3")?, kept.as_slice());
+    wants_from(&rt, &history, 3, Some(&[FIRST, SECOND]));
     history.forget(9);
-    assert!(rt; history.from(4).is_none() && history.from(5).is_some() && history.len() == 5);
+    wants_from(&rt, &history, 4, None);
+    wants_from(&rt, &history, 5, Some(&[]));
+    wants_places(&rt, &history, 5);
+}
+
+// Pushes a moment and then nine more, as far as memory goes.
+fn push_ten<A: Allocator + Copy>(alloc: A, history: &mut History<A>) -> Result<(), NoMemory>
+    requires forgotten { history.old.forgotten ≡ 0 }
+    requires kept { history.old.kept ≡ [] }
+{
+    history.push(FIRST)?;
+    let moments = Vec::from_slice(alloc, &[SECOND; 9])?;
+    let plan = history.prepare(moments)?;
+    history.commit(plan);
     Ok(())
 }
 
-// Pushes a moment and then nine more, as far as memory goes; how many are in the history then.
+// How many are in the history then.
 fn pushed<A: Allocator + Copy>(alloc: A) -> u64 {
     let mut history = History::new(alloc);
-    if history.push(FIRST).is_err() {
-        return history.len();
-    }
-    let Ok(moments) = Vec::from_slice(alloc, &[SECOND; 9]) else {
-        return history.len();
-    };
-    match history.prepare(moments) {
-        Ok(plan) => history.commit(plan),
-        Err(NoMemory) => {}
-    }
+    let _told = push_ten(alloc, &mut history);
     history.len()
 }
 
 // On heaps of a growing size each growth is the first one refused; then the history is as it was.
 #[test]
-fn a_refused_growth_changes_nothing(rt: HostRuntime) -> Result<(), Fail> {
+fn a_refused_growth_changes_nothing(rt: HostRuntime) {
     let mut seen = [0u32; 3];
     for step in 0..120usize {
-        let heap = LocalHeap::new(rt.alloc(), 16 * step)?;
-        let stage = match pushed(&heap) {
-            0 => 0,
-            1 => 1,
-            10 => 2,
-            _ => return Err("a part of the pushes".into()),
-        };
+        let stage = stage_of(&rt, pushed(&new_heap(&rt, rt.alloc(), 16 * step)));
         seen[stage] = seen[stage].saturating_add(1);
     }
     assert!(rt; seen[0] > 1 && seen[1] > 1 && seen[2] > 1, "{seen:?}");
-    Ok(())
+}
+
+// How many of the two pushes were made, by the count of moments.
+fn stage_of<R: Abort>(rt: &R, count: u64) -> usize
+    ensures { result < 3 }
+{
+    match count {
+        0 => 0,
+        1 => 1,
+        _ => {
+            assert_eq!(rt; count, 10, "a part of the pushes");
+            2
+        }
+    }
 }

@@ -8,6 +8,8 @@ mod events;
 #[cfg(test)]
 mod restarts;
 #[cfg(test)]
+mod shared;
+#[cfg(test)]
 mod timers;
 #[cfg(test)]
 mod waiters;

@@ -1,29 +1,27 @@
 //! Restarts, arguments of `finish` and its verdict, by their public calls.
+use crate::shared::at;
 use finish_core::{Verdict125, finish_args, restart_due, verdict};
-use s6_events::{At, Exit};
-use std::test::Fail;
+use s6_events::Exit;
+use std::process::Abort;
+
+// A service that was ready since then and died then may be started again at this moment.
+fn wants_due<R: Abort>(rt: &R, since: Option<u64>, death: u64, now: u64, due: u64) {
+    let since = match since {
+        Some(millis) => Some(at(rt, millis)),
+        None => None,
+    };
+    assert_eq!(rt; restart_due(since, at(rt, death), at(rt, now)), due);
+}
 
 #[test]
-fn pauses_a_second_unless_it_was_ready_for_longer(rt: HostRuntime) -> Result<(), Fail> {
+fn pauses_a_second_unless_it_was_ready_for_longer(rt: HostRuntime) {
     // ready since, death, now, due
-    let rows: [(Option<u64>, u64, u64, u64); 6] = [
-        (None, 300, 300, 1300),
-        (None, 300, 1300, 1300),
-        (None, 300, 1301, 1301),
-        (Some(100), 1100, 1100, 2100),
-        (Some(100), 1101, 1101, 1101),
-        (Some(0), 5, 20, 1005),
-    ];
-    for (since, death, now, due) in rows {
-        let since = match since {
-            Some(millis) => Some(At::new(millis).ok_or("since")?),
-            None => None,
-        };
-        let death = At::new(death).ok_or("death")?;
-        let now = At::new(now).ok_or("now")?;
-        assert_eq!(rt; restart_due(since, death, now), due);
-    }
-    Ok(())
+    wants_due(&rt, None, 300, 300, 1300);
+    wants_due(&rt, None, 300, 1300, 1300);
+    wants_due(&rt, None, 300, 1301, 1301);
+    wants_due(&rt, Some(100), 1100, 1100, 2100);
+    wants_due(&rt, Some(100), 1101, 1101, 1101);
+    wants_due(&rt, Some(0), 5, 20, 1005);
 }
 
 #[test]

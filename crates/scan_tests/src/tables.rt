@@ -11,7 +11,6 @@ use s6_events::{At, Name, NoMemory, Sid};
 use servicedir::Config;
 use std::alloc::{Allocator, Global};
 use std::process::Abort;
-use std::test::Fail;
 use supervise_core::ChartState;
 use svscan_core::{Answer, Entry, Registry, RegistryPlan, ScanOrder, ServiceWork, has_repeats};
 
@@ -68,10 +67,6 @@ fn is_orderly(alloc: Global, work: &ServiceWork) -> Result<bool, NoMemory>
     }
 }
 
-pub fn at(millis: u64) -> Result<At, Fail> {
-    Ok(At::new(millis).ok_or("a moment")?)
-}
-
 // Whether all services of the registry are, and few ever stood.
 fn is_ready<A: Allocator + Copy>(registry: &Registry<A>, due: &[Sid], now: At) -> bool
     ensures few { result ≡ true → All (λ c. c.generation + 2 < 2 ^ 64)
@@ -110,12 +105,12 @@ pub fn prepare<A: Allocator + Copy>(
     due: &[Sid],
     work: &ServiceWork,
     now: At,
-) -> Result<Option<RegistryPlan<A>>, Fail>
-    ensures { IfOk result (λ found. IfSome found (λ plan. Fits registry.new plan)) }
+) -> Option<RegistryPlan<A>>
+    ensures { IfSome result (λ plan. Fits registry.new plan) }
 {
-    let is_orderly = is_orderly(alloc, work)?;
+    let is_orderly = is_orderly(alloc, work).expect(rt, "memory");
     assert!(rt; is_orderly);
-    Ok(prepare_orderly(registry, due, work, now))
+    prepare_orderly(registry, due, work, now)
 }
 
 // The scan is made at once; None where memory was refused.
@@ -125,13 +120,13 @@ pub fn scan<A: Allocator + Copy>(
     registry: &mut Registry<A>,
     listing: &[Entry],
     now: At,
-) -> Result<Option<Answer<A>>, Fail> {
-    let repeats = has_repeats(alloc, listing)?;
+) -> Option<Answer<A>> {
+    let repeats = has_repeats(alloc, listing).expect(rt, "memory");
     let are_fit = are_fit(registry, &[], At::zero());
     assert!(rt; !repeats);
     assert!(rt; are_fit);
     assert!(rt; registry.next_sid().0 < 1000);
-    Ok(registry.scan(listing, now).ok())
+    registry.scan(listing, now).ok()
 }
 
 // All services are told this at once; None where memory was refused.
@@ -148,42 +143,62 @@ pub fn control<A: Allocator + Copy>(
 }
 
 // An entry of this name, which keeps few deaths, so that their memory is small beside that of a step.
-pub fn entry(word: &str) -> Result<Entry, Fail> {
-    let name = Name::new(word.as_bytes()).ok_or("a name")?;
+fn entry(rt: &impl Abort, word: &str) -> Entry {
+    let name = Name::new(word.as_bytes()).expect(rt, "a name");
     let config = Config {
         max_death_tally: 2,
         ..Config::plain()
     };
-    Ok(Entry {
+    Entry {
         name,
         config: Some(config),
-    })
+    }
 }
 
-// The listing of these words, between spaces.
-pub fn listing(alloc: Global, words: &str) -> Result<Vec<Entry, Global>, Fail> {
+// The listing of these words, with a space between two.
+pub fn listing(rt: &impl Abort, alloc: Global, words: &str) -> Vec<Entry, Global> {
     let mut entries = Vec::new(alloc);
     for word in words.split(' ') {
-        if !word.is_empty() {
-            entries.push(entry(word)?)?;
-        }
+        entries.push(entry(rt, word)).expect(rt, "memory");
     }
-    Ok(entries)
+    entries
 }
 
-// The state of each service, as `nth` and `get` show it; `find` knows each one by its name, and none stands behind the last.
+// The state of the service at this place, as `nth` and `get` show it; `find` knows it by its name.
+fn chart_at<A: Allocator + Copy>(
+    rt: &impl Abort,
+    registry: &Registry<A>,
+    place: usize,
+) -> ChartState {
+    let sid = registry.nth(place).expect(rt, "a serial");
+    let chart = registry.get(sid).expect(rt, "a service").chart();
+    assert_eq!(rt; (chart.sid, registry.find(chart.name)), (sid, Some(sid)));
+    chart
+}
+
+// The state of each service, in their order; none stands behind the last.
 pub fn shown<A: Allocator + Copy>(
     rt: &impl Abort,
     alloc: Global,
     registry: &Registry<A>,
-) -> Result<Vec<ChartState, Global>, Fail> {
+) -> Vec<ChartState, Global> {
+    assert!(rt; registry.nth(registry.len()).is_none());
     let mut charts = Vec::new(alloc);
     for place in 0..registry.len() {
-        let sid = registry.nth(place).ok_or("a serial")?;
-        let chart = registry.get(sid).ok_or("a service")?.chart();
-        assert_eq!(rt; (chart.sid, registry.find(chart.name)), (sid, Some(sid)));
-        charts.push(chart)?;
+        charts
+            .push(chart_at(rt, registry, place))
+            .expect(rt, "memory");
     }
-    assert_eq!(rt; registry.nth(registry.len()), None);
-    Ok(charts)
+    charts
+}
+
+// So many services stand, each of which is shown.
+pub fn wants_services<A: Allocator + Copy>(
+    rt: &impl Abort,
+    alloc: Global,
+    registry: &Registry<A>,
+    wanted: usize,
+) {
+    let count = shown(rt, alloc, registry).len();
+    assert_eq!(rt; (count, registry.len()), (wanted, wanted));
 }
