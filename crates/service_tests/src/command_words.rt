@@ -1,9 +1,9 @@
 //! The words of the command-line tools, table by table.
 use arrayvec::ArrayVec;
+use death_tally::DeathList;
 use s6_events::{Condition, Exit, Mode, Name};
 use std::alloc::Global;
 use std::process::Abort;
-use std::test::Fail;
 use svc_commands::{
     ControlLetter, ScanLetter, UsageFault, WaitCommand, compile_permafailon, compile_svc,
     compile_svlisten, compile_svscanctl, compile_svstat, compile_svwait,
@@ -271,16 +271,21 @@ fn show_permafailon(alloc: Global, words: &[&str], shown: &mut Shown) -> Result<
     add(shown, command.name.as_bytes());
     show_number(alloc, command.secs, shown)?;
     show_number(alloc, command.count, shown)?;
+    show_list(&command.list, shown);
+    Ok(())
+}
+
+// What the list names of the codes 0 to 9 and SIGTERM.
+fn show_list(list: &DeathList, shown: &mut Shown) {
     add(shown, b"");
     for code in 0..10u8 {
-        if command.list.names(Exit::Code(code)) {
+        if list.names(Exit::Code(code)) {
             add_bytes(shown, &[b'0' + code]);
         }
     }
-    if command.list.names(Exit::Killed(15)) {
+    if list.names(Exit::Killed(15)) {
         add_bytes(shown, b"T");
     }
-    Ok(())
 }
 
 // What a tool reads in the words.
@@ -317,114 +322,125 @@ fn answers(rt: &impl Abort, alloc: Global, tool: Tool, words: &[&str], answer: &
     assert_eq!(rt; shown.as_slice(), answer.as_bytes(), "{tool:?}: {words:?}");
 }
 
+// A row of a tool.
+fn row_agrees(rt: &impl Abort, alloc: Global, tool: Tool, row: &str) {
+    let (line, answer) = row.split_once(" = ").expect(rt, "a row");
+    let words: Vec<&str> = line.split('|').collect(alloc).expect(rt, "memory");
+    answers(rt, alloc, tool, &words, answer);
+}
+
 // The rows of a tool, which wants at least one word.
-fn rows_agree(rt: &impl Abort, alloc: Global, tool: Tool, rows: &str) -> Result<(), Fail> {
+fn rows_agree(rt: &impl Abort, alloc: Global, tool: Tool, rows: &str) {
     answers(rt, alloc, tool, &[], "Missing");
     for row in rows.split('\n') {
-        let (line, answer) = row.split_once(" = ").ok_or("a row")?;
-        let words: Vec<&str> = line.split('|').collect(alloc)?;
-        answers(rt, alloc, tool, &words, answer);
+        row_agrees(rt, alloc, tool, row);
     }
-    Ok(())
 }
 
 #[test]
-fn reads_the_words_of_svc(rt: HostRuntime) -> Result<(), Fail> {
-    rows_agree(&rt, rt.alloc(), Tool::Svc, SVC)
+fn reads_the_words_of_svc(rt: HostRuntime) {
+    rows_agree(&rt, rt.alloc(), Tool::Svc, SVC);
 }
 
 #[test]
-fn reads_the_words_of_svscanctl(rt: HostRuntime) -> Result<(), Fail> {
-    rows_agree(&rt, rt.alloc(), Tool::Svscanctl, SVSCANCTL)
+fn reads_the_words_of_svscanctl(rt: HostRuntime) {
+    rows_agree(&rt, rt.alloc(), Tool::Svscanctl, SVSCANCTL);
 }
 
 #[test]
-fn reads_the_words_of_svwait(rt: HostRuntime) -> Result<(), Fail> {
-    rows_agree(&rt, rt.alloc(), Tool::Svwait, SVWAIT)
+fn reads_the_words_of_svwait(rt: HostRuntime) {
+    rows_agree(&rt, rt.alloc(), Tool::Svwait, SVWAIT);
 }
 
 #[test]
-fn reads_the_words_of_svlisten(rt: HostRuntime) -> Result<(), Fail> {
-    rows_agree(&rt, rt.alloc(), Tool::Svlisten, SVLISTEN)
+fn reads_the_words_of_svlisten(rt: HostRuntime) {
+    rows_agree(&rt, rt.alloc(), Tool::Svlisten, SVLISTEN);
 }
 
 #[test]
-fn reads_the_words_of_svstat(rt: HostRuntime) -> Result<(), Fail> {
-    rows_agree(&rt, rt.alloc(), Tool::Svstat, SVSTAT)
+fn reads_the_words_of_svstat(rt: HostRuntime) {
+    rows_agree(&rt, rt.alloc(), Tool::Svstat, SVSTAT);
 }
 
 #[test]
-fn reads_the_words_of_permafailon(rt: HostRuntime) -> Result<(), Fail> {
-    rows_agree(&rt, rt.alloc(), Tool::Permafailon, PERMAFAILON)
+fn reads_the_words_of_permafailon(rt: HostRuntime) {
+    rows_agree(&rt, rt.alloc(), Tool::Permafailon, PERMAFAILON);
+}
+
+// The tool reads the words, or is refused memory.
+fn reads_or_tells(rt: &impl Abort, alloc: Global, tool: Tool, words: &[&str]) {
+    let answer = show(alloc, tool, words, &mut Shown::new());
+    assert!(rt;
+        matches!(answer, Ok(()) | Err(UsageFault::NoMemory)),
+        "{tool:?}"
+    );
 }
 
 // With the Nth growth refused (`rt try --test --fail-alloc N`) each call answers as it should, or NoMemory.
 #[test]
 fn a_refused_growth_is_told(rt: HostRuntime) {
-    let rows = [
-        (Tool::Svwait, ["-U", "-t", "5", "a", "b"].as_slice()),
-        (Tool::Svlisten, &["-r", "a", "--", "prog", "x"]),
-        (Tool::Svstat, &["-o", "up,pid", "web"]),
-        (Tool::Permafailon, &["web", "60", "3", "1-2"]),
-    ];
-    for (tool, words) in rows {
-        let answer = show(rt.alloc(), tool, words, &mut Shown::new());
-        assert!(rt;
-            matches!(answer, Ok(()) | Err(UsageFault::NoMemory)),
-            "{tool:?}"
-        );
-    }
+    let alloc = rt.alloc();
+    reads_or_tells(&rt, alloc, Tool::Svwait, &["-U", "-t", "5", "a", "b"]);
+    reads_or_tells(&rt, alloc, Tool::Svlisten, &["-r", "a", "--", "prog", "x"]);
+    reads_or_tells(&rt, alloc, Tool::Svstat, &["-o", "up,pid", "web"]);
+    reads_or_tells(&rt, alloc, Tool::Permafailon, &["web", "60", "3", "1-2"]);
+}
+
+// A fault has this number, and its text has this part.
+fn tells(rt: &impl Abort, alloc: Global, fault: UsageFault, number: u8, part: &str) {
+    let text = format!(in alloc; "{fault}").expect(rt, "memory");
+    assert_eq!(rt; (fault as u8, text.as_str().contains(part)), (number, true));
 }
 
 #[test]
-fn faults_tell_what_to_change(rt: HostRuntime) -> Result<(), Fail> {
-    let texts = [
-        (UsageFault::Unknown, 1, "leave it out"),
-        (UsageFault::Missing, 2, "add it"),
-        (UsageFault::TooMany, 3, "leave some out"),
-        (UsageFault::BadNumber, 4, "write milliseconds, seconds"),
-        (UsageFault::BadList, 5, "write known fields, or at most"),
-        (UsageFault::BadName, 6, "write 1 to 64 of"),
-        (UsageFault::NoMemory, 7, "out of memory"),
-    ];
-    for (fault, number, part) in texts {
-        let text = format!(in rt.alloc(); "{fault}")?;
-        assert_eq!(rt; (fault as u8, text.as_str().contains(part)), (number, true));
-    }
-    Ok(())
+fn faults_tell_what_to_change(rt: HostRuntime) {
+    let alloc = rt.alloc();
+    tells(&rt, alloc, UsageFault::Unknown, 1, "leave it out");
+    tells(&rt, alloc, UsageFault::Missing, 2, "add it");
+    tells(&rt, alloc, UsageFault::TooMany, 3, "leave some out");
+    tells(
+        &rt,
+        alloc,
+        UsageFault::BadNumber,
+        4,
+        "write milliseconds, seconds",
+    );
+    tells(
+        &rt,
+        alloc,
+        UsageFault::BadList,
+        5,
+        "write known fields, or at most",
+    );
+    tells(&rt, alloc, UsageFault::BadName, 6, "write 1 to 64 of");
+    tells(&rt, alloc, UsageFault::NoMemory, 7, "out of memory");
 }
 
-// The letter that a byte is read as, as it is written, and its signal.
-fn letter(byte: u8) -> Option<(u8, Option<u8>)> {
-    let letter = ControlLetter::of_byte(byte)?;
-    Some((letter.byte(), letter.signal()))
+// The letter that a byte is read as is written as this byte, and has this signal; or there is none.
+fn is_letter(rt: &impl Abort, byte: u8, wanted: Option<(u8, Option<u8>)>) {
+    let found = match ControlLetter::of_byte(byte) {
+        Some(letter) => Some((letter.byte(), letter.signal())),
+        None => None,
+    };
+    assert_eq!(rt; found, wanted);
+}
+
+// Letters, and the signal of each that has one.
+const LETTERS: &str = "a=14 b=6 q=3 h=1 k=9 t=15 i=2 1=10 2=12 p=19 c=18 y=28 u= d= O= r= x=";
+
+// A row of these.
+fn is_row(rt: &impl Abort, row: &str) {
+    let (letter, signal) = row.split_once('=').expect(rt, "a row");
+    let byte = letter.bytes().next().expect(rt, "a letter");
+    is_letter(rt, byte, Some((byte, signal.parse::<u8>().ok())));
 }
 
 #[test]
 fn letters_stand_for_their_signals(rt: HostRuntime) {
-    let rows = [
-        (b'a', Some(14)),
-        (b'b', Some(6)),
-        (b'q', Some(3)),
-        (b'h', Some(1)),
-        (b'k', Some(9)),
-        (b't', Some(15)),
-        (b'i', Some(2)),
-        (b'1', Some(10)),
-        (b'2', Some(12)),
-        (b'p', Some(19)),
-        (b'c', Some(18)),
-        (b'y', Some(28)),
-        (b'u', None),
-        (b'd', None),
-        (b'O', None),
-        (b'r', None),
-        (b'x', None),
-    ];
-    for (byte, signal) in rows {
-        assert_eq!(rt; letter(byte), Some((byte, signal)));
+    for row in LETTERS.split(' ') {
+        is_row(&rt, row);
     }
-    for byte in *b"oUDz-" {
-        assert_eq!(rt; letter(byte), None);
+    for byte in b"oUDz-" {
+        is_letter(&rt, *byte, None);
     }
 }

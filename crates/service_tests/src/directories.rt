@@ -3,9 +3,8 @@ use crate::fake_files::FakeFiles;
 use linked_list_allocator::LocalHeap;
 use s6_events::Name;
 use servicedir::{Config, DirFault, Found, ServiceFile, read};
-use std::alloc::Allocator;
+use std::alloc::{Allocator, Global};
 use std::process::Abort;
-use std::test::Fail;
 
 // The files of a directory, with their texts.
 type Listing<'a> = &'a [(ServiceFile, &'a [u8])];
@@ -60,55 +59,96 @@ fn found_with(file: ServiceFile, number: u32) -> Found {
     Found { config, note }
 }
 
-// A file beside `run`, its text, and the number that it says or that its absence gives.
-const TEXTS: [(ServiceFile, &[u8], u32); 36] = [
-    (ServiceFile::Kind, b"longrun", 0),
-    (ServiceFile::Finish, b"", 1),
-    (ServiceFile::Finish, b"\xff", 1),
-    (ServiceFile::Down, b"", 1),
-    (ServiceFile::Down, b"no\n", 1),
-    (ServiceFile::NotificationFd, b"1\n", 1),
-    (ServiceFile::NotificationFd, b"3", 3),
-    (ServiceFile::NotificationFd, b"9\n", 9),
-    (ServiceFile::NotificationFd, b"0\n", 0),
-    (ServiceFile::NotificationFd, b"2\n", 0),
-    (ServiceFile::NotificationFd, b"10\n", 0),
-    (ServiceFile::NotificationFd, b"257\n", 0),
-    (ServiceFile::NotificationFd, b"4294967299\n", 0),
-    (ServiceFile::NotificationFd, b"3\n\n", 0),
-    (ServiceFile::NotificationFd, b"", 0),
-    (ServiceFile::TimeoutKill, b"500\n", 500),
-    (ServiceFile::TimeoutKill, b"4294967295\n", 4_294_967_295),
-    (ServiceFile::TimeoutKill, b"4294967296\n", 0),
-    (ServiceFile::TimeoutKill, b" 500", 0),
-    (ServiceFile::TimeoutFinish, b"0", 0),
-    (ServiceFile::TimeoutFinish, b"007", 7),
-    (ServiceFile::TimeoutFinish, b"500\n\n", 5000),
-    (ServiceFile::TimeoutFinish, b"\xff\xfe", 5000),
-    (ServiceFile::MaxDeathTally, b"0\n", 0),
-    (ServiceFile::MaxDeathTally, b"4096\n", 4096),
-    (ServiceFile::MaxDeathTally, b"4097\n", 4096),
-    (ServiceFile::MaxDeathTally, b"65539\n", 4096),
-    (ServiceFile::MaxDeathTally, b"4294967295\n", 4096),
-    (ServiceFile::MaxDeathTally, b"4294967296\n", 100),
-    (ServiceFile::MaxDeathTally, b"x\n", 100),
-    (ServiceFile::DownSignal, b"SIGHUP\n", 1),
-    (ServiceFile::DownSignal, b"KILL", 9),
-    (ServiceFile::DownSignal, b"64\n", 64),
-    (ServiceFile::DownSignal, b"65\n", 15),
-    (ServiceFile::DownSignal, b"0\n", 15),
-    (ServiceFile::DownSignal, b"hup\n", 15),
-];
+// A file beside `run`, the number that it says or that its absence gives, and its text, in which a dollar is a newline, a circumflex the
+// byte 0xff, and a tilde the byte 0xfe.
+const TEXTS: &str = "type|0|longrun
+finish|1|
+finish|1|^
+down|1|
+down|1|no$
+notification-fd|1|1$
+notification-fd|3|3
+notification-fd|9|9$
+notification-fd|0|0$
+notification-fd|0|2$
+notification-fd|0|10$
+notification-fd|0|257$
+notification-fd|0|4294967299$
+notification-fd|0|3$$
+notification-fd|0|
+timeout-kill|500|500$
+timeout-kill|4294967295|4294967295$
+timeout-kill|0|4294967296$
+timeout-kill|0| 500
+timeout-finish|0|0
+timeout-finish|7|007
+timeout-finish|5000|500$$
+timeout-finish|5000|^~
+max-death-tally|0|0$
+max-death-tally|4096|4096$
+max-death-tally|4096|4097$
+max-death-tally|4096|65539$
+max-death-tally|4096|4294967295$
+max-death-tally|100|4294967296$
+max-death-tally|100|x$
+down-signal|1|SIGHUP$
+down-signal|9|KILL
+down-signal|64|64$
+down-signal|15|65$
+down-signal|15|0$
+down-signal|15|hup$";
+
+// The file of this name.
+fn file_of(name: &str) -> ServiceFile {
+    match name {
+        "type" => ServiceFile::Kind,
+        "finish" => ServiceFile::Finish,
+        "down" => ServiceFile::Down,
+        "notification-fd" => ServiceFile::NotificationFd,
+        "timeout-kill" => ServiceFile::TimeoutKill,
+        "timeout-finish" => ServiceFile::TimeoutFinish,
+        "max-death-tally" => ServiceFile::MaxDeathTally,
+        _ => ServiceFile::DownSignal,
+    }
+}
+
+// The bytes of a text that is written so.
+fn bytes_of(rt: &impl Abort, alloc: Global, text: &str) -> Vec<u8> {
+    let mut bytes = Vec::new(alloc);
+    for byte in text.bytes() {
+        let meant = match byte {
+            b'$' => b'\n',
+            b'^' => 0xff,
+            b'~' => 0xfe,
+            _ => byte,
+        };
+        bytes.push(meant).expect(rt, "memory");
+    }
+    bytes
+}
+
+// A row of these.
+fn row_is_said(rt: &impl Abort, alloc: Global, row: &str) {
+    let (name, rest) = row.split_once('|').expect(rt, "a row");
+    let (number, text) = rest.split_once('|').expect(rt, "a row");
+    let number = number.parse::<u32>().expect(rt, "a number");
+    is_said(rt, alloc, file_of(name), &bytes_of(rt, alloc, text), number);
+}
+
+// Beside `run` a file of this text says this number.
+fn is_said(rt: &impl Abort, alloc: Global, file: ServiceFile, text: &[u8], number: u32) {
+    answers(
+        rt,
+        alloc,
+        &[RUN, (file, text)],
+        Ok(found_with(file, number)),
+    );
+}
 
 #[test]
 fn each_file_says_its_part(rt: HostRuntime) {
-    for (file, text, number) in TEXTS {
-        answers(
-            &rt,
-            rt.alloc(),
-            &[RUN, (file, text)],
-            Ok(found_with(file, number)),
-        );
+    for row in TEXTS.split('\n') {
+        row_is_said(&rt, rt.alloc(), row);
     }
 }
 
@@ -116,11 +156,10 @@ fn each_file_says_its_part(rt: HostRuntime) {
 #[test]
 fn a_text_of_over_4096_bytes_is_invalid(rt: HostRuntime) {
     let zeros = [b'0'; 5000];
-    for (length, number) in [(4096, 0), (4097, 5000), (5000, 5000)] {
-        let file = ServiceFile::TimeoutFinish;
-        let files = [RUN, (file, &zeros[..length])];
-        answers(&rt, rt.alloc(), &files, Ok(found_with(file, number)));
-    }
+    let file = ServiceFile::TimeoutFinish;
+    is_said(&rt, rt.alloc(), file, &zeros[..4096], 0);
+    is_said(&rt, rt.alloc(), file, &zeros[..4097], 5000);
+    is_said(&rt, rt.alloc(), file, &zeros, 5000);
 }
 
 // All files at once, in another order than that in which they are looked at.
@@ -162,41 +201,36 @@ const PLAIN: Found = Found {
     note: None,
 };
 
-// Texts of `type` that are not longrun.
-const OTHER_TYPES: [&[u8]; 9] = [
-    b"",
-    b"\n",
-    b"oneshot\n",
-    b"bundle",
-    b"longrun\n\n",
-    b" longrun",
-    b"longrun ",
-    b"Longrun",
-    b"longrun\xff",
-];
+// Texts of `type` that are not longrun, with a bar between two.
+const OTHER_TYPES: &str = "|$|oneshot$|bundle|longrun$$| longrun|longrun |Longrun|longrun^";
 
 #[test]
 fn whole_directories_and_faults(rt: HostRuntime) {
+    let alloc = rt.alloc();
     let timeout = (ServiceFile::TimeoutKill, b"500\n".as_slice());
-    let rows: [(Listing<'_>, Result<Found, DirFault>); 6] = [
-        (&FULL, Ok(FULL_SAYS)),
-        (&[RUN], Ok(PLAIN)),
-        (&[RUN, LONGRUN], Ok(PLAIN)),
-        (&[timeout], Err(DirFault::NoRun)),
-        (&[ONESHOT], Err(DirFault::NoRun)),
-        (&[], Err(DirFault::NoRun)),
-    ];
-    for (files, answer) in rows {
-        answers(&rt, rt.alloc(), files, answer);
-    }
-    for text in OTHER_TYPES {
-        let kind = (ServiceFile::Kind, text);
-        answers(&rt, rt.alloc(), &[RUN, kind], Err(DirFault::NotLongrun));
+    answers(&rt, alloc, &FULL, Ok(FULL_SAYS));
+    answers(&rt, alloc, &[RUN], Ok(PLAIN));
+    answers(&rt, alloc, &[RUN, LONGRUN], Ok(PLAIN));
+    answers(&rt, alloc, &[timeout], Err(DirFault::NoRun));
+    answers(&rt, alloc, &[ONESHOT], Err(DirFault::NoRun));
+    answers(&rt, alloc, &[], Err(DirFault::NoRun));
+}
+
+// Beside `run` a file `type` of this text is a fault.
+fn is_other_type(rt: &impl Abort, alloc: Global, text: &[u8]) {
+    let kind = (ServiceFile::Kind, text);
+    answers(rt, alloc, &[RUN, kind], Err(DirFault::NotLongrun));
+}
+
+#[test]
+fn other_types_are_faults(rt: HostRuntime) {
+    for text in OTHER_TYPES.split('|') {
+        is_other_type(&rt, rt.alloc(), &bytes_of(&rt, rt.alloc(), text));
     }
 }
 
 // All the files, in the order in which they are looked at.
-const IN_ORDER: [ServiceFile; 9] = [
+const IN_ORDER: &[ServiceFile] = &[
     ServiceFile::Run,
     ServiceFile::Kind,
     ServiceFile::Finish,
@@ -208,47 +242,76 @@ const IN_ORDER: [ServiceFile; 9] = [
     ServiceFile::DownSignal,
 ];
 
-// The reading of each file fails in turn: in a directory without fault, without run, and with the type oneshot.
+// Where the reading of this file fails, the directory has this fault; and this is the file whose reading failed.
+fn answers_failing(
+    rt: &impl Abort,
+    alloc: Global,
+    files: Listing<'_>,
+    failing: ServiceFile,
+    wanted: (DirFault, Option<ServiceFile>),
+) {
+    let (found, failed) = read_failing(alloc, files, Some(failing));
+    let (fault, file) = wanted;
+    assert_eq!(rt; (found, failed), (Err(fault), file), "{failing:?}");
+}
+
+// The reading of each file fails in turn; so many are looked at before the fault of the directory.
+fn fails_in_turn(
+    rt: &impl Abort,
+    alloc: Global,
+    files: Listing<'_>,
+    looked_at: usize,
+    fault: DirFault,
+) {
+    for (place, file) in IN_ORDER.iter().enumerate() {
+        let wanted = if place < looked_at {
+            (DirFault::Io, Some(*file))
+        } else {
+            (fault, None)
+        };
+        answers_failing(rt, alloc, files, *file, wanted);
+    }
+}
+
+// In a directory without fault, without run, and with the type oneshot.
 #[test]
 fn a_failed_reading_is_answered_unless_a_fault_came_before(rt: HostRuntime) {
-    let rows: [(Listing<'_>, usize, DirFault); 3] = [
-        (&[RUN, LONGRUN], 9, DirFault::Io),
-        (&[RUN, ONESHOT], 2, DirFault::NotLongrun),
-        (&[ONESHOT], 1, DirFault::NoRun),
-    ];
-    for (files, looked_at, fault) in rows {
-        for (place, file) in IN_ORDER.iter().enumerate() {
-            let answer = if place < looked_at {
-                (Err(DirFault::Io), Some(*file))
-            } else {
-                (Err(fault), None)
-            };
-            let found = read_failing(rt.alloc(), files, Some(*file));
-            assert_eq!(rt; found, answer, "{file:?}");
+    let alloc = rt.alloc();
+    fails_in_turn(&rt, alloc, &[RUN, LONGRUN], 9, DirFault::Io);
+    fails_in_turn(&rt, alloc, &[RUN, ONESHOT], 2, DirFault::NotLongrun);
+    fails_in_turn(&rt, alloc, &[ONESHOT], 1, DirFault::NoRun);
+}
+
+// Whether these files are read on a heap of so many bytes; a refused growth, and nothing else, is answered.
+fn is_read_on(rt: &impl Abort, alloc: Global, bytes: usize, files: Listing<'_>) -> bool {
+    let heap = LocalHeap::new(alloc, bytes).expect(rt, "memory");
+    match read(&heap, &mut FakeFiles::new(files), Name::default()) {
+        Ok(found) => {
+            assert_eq!(rt; found.config.down_signal, 1);
+            true
+        }
+        Err(fault) => {
+            assert_eq!(rt; fault, DirFault::NoMemory);
+            false
         }
     }
 }
 
 // On heaps of a growing size each growth is the first one refused; then it is that, and nothing else, that is answered.
 #[test]
-fn a_refused_growth_is_answered(rt: HostRuntime) -> Result<(), Fail> {
-    let texts = [
+fn a_refused_growth_is_answered(rt: HostRuntime) {
+    let texts: Listing<'_> = &[
         RUN,
         LONGRUN,
         (ServiceFile::TimeoutKill, &[b'0'; 45]),
         (ServiceFile::TimeoutFinish, &[b'0'; 300]),
         (ServiceFile::DownSignal, b"HUP"),
     ];
-    let mut refused = 0u32;
     let mut done = 0u32;
     for step in 0..60usize {
-        let heap = LocalHeap::new(rt.alloc(), 16 * step)?;
-        match read(&heap, &mut FakeFiles::new(&texts), Name::default()) {
-            Ok(found) if found.config.down_signal == 1 => done = done.saturating_add(1),
-            Err(DirFault::NoMemory) => refused = refused.saturating_add(1),
-            _ => return Err("another answer".into()),
+        if is_read_on(&rt, rt.alloc(), 16 * step, texts) {
+            done = done.saturating_add(1);
         }
     }
-    assert!(rt; refused > 2 && done > 2, "{refused} {done}");
-    Ok(())
+    assert!(rt; done > 2 && done < 58, "{done} of 60");
 }

@@ -6,33 +6,37 @@ use s6_events::{At, Exit, Mark, Name, Order, Sid};
 use servicedir::Config;
 use std::alloc::Global;
 use std::process::Abort;
-use std::test::Fail;
-use supervise_core::{Change, Out, Phase, Row, Service};
+use supervise_core::{Change, ChartState, Out, Phase, Row, Service, ServiceState};
 use svc_commands::{ControlLetter, Letters};
 
-// A change, the moment of it, the marks and the orders that it gives, and whether it is stale.
-type Step<'a> = (u64, Change, &'a [Mark], &'a [Order], bool);
+// Two services that began alike. One takes its changes by `change`, the other each by the call that is named after it.
+type Pair = (Service<Global>, Service<Global>);
 
-fn at(millis: u64) -> Result<At, Fail> {
-    Ok(At::new(millis).ok_or("a moment")?)
+// What a change gives: its marks and its orders, and whether it is stale.
+type Given<'a> = (&'a [Mark], &'a [Order], bool);
+
+fn at(rt: &impl Abort, millis: u64) -> At {
+    At::new(millis).expect(rt, "a moment")
 }
 
-fn control(letter: ControlLetter) -> Result<Change, Fail> {
+fn control(rt: &impl Abort, letter: ControlLetter) -> Change {
     let mut letters = Letters::new();
-    letters.try_push(letter).map_err(|_| "a letter")?;
-    Ok(Change::Control(letters))
+    let added = letters.try_push(letter).is_ok();
+    assert!(rt; added);
+    Change::Control(letters)
 }
 
-fn notify(generation: u64, bytes: &[u8]) -> Result<Change, Fail> {
+fn notify(rt: &impl Abort, generation: u64, bytes: &[u8]) -> Change {
     let mut list = ArrayVec::new();
-    list.try_extend_from_slice(bytes).map_err(|_| "64 bytes")?;
-    Ok(Change::Notify(generation, list))
+    let added = list.try_extend_from_slice(bytes).is_ok();
+    assert!(rt; added);
+    Change::Notify(generation, list)
 }
 
-// The answer to a change has these marks and orders.
-fn gives(rt: &impl Abort, out: &Out, now: u64, marks: &[Mark], orders: &[Order], stale: bool) {
+// The answer to a change is this.
+fn gives(rt: &impl Abort, out: &Out, now: u64, wanted: Given) {
     let found = (out.events.as_slice(), out.orders.as_slice(), out.stale);
-    assert_eq!(rt; found, (marks, orders, stale), "at {now}");
+    assert_eq!(rt; found, wanted, "at {now}");
 }
 
 // Takes a change by the call that is named after it.
@@ -52,41 +56,120 @@ fn take(service: &mut Service<Global>, change: &Change, now: At) -> Out
     }
 }
 
-// Takes the changes in turn: one service by `change`, the other by the call of each.
-fn play(
+// One service takes a change by `change`.
+fn play_one(
     rt: &impl Abort,
     service: &mut Service<Global>,
-    other: &mut Service<Global>,
-    steps: &[Step<'_>],
-) -> Result<(), Fail> {
-    for (now, change, marks, orders, stale) in steps {
-        assert!(rt; service.chart().generation < 9 && other.chart().generation < 9);
-        let out = service.change(change, at(*now)?);
-        gives(rt, &out, *now, marks, orders, *stale);
-        let out = take(other, change, at(*now)?);
-        gives(rt, &out, *now, marks, orders, *stale);
-    }
-    Ok(())
+    now: u64,
+    change: &Change,
+    wanted: Given,
+) {
+    assert!(rt; service.chart().generation < 9);
+    let out = service.change(change, at(rt, now));
+    gives(rt, &out, now, wanted);
 }
 
-// Two services that began so take changes until they are ready; the row of one of them then.
-fn play_to_ready(
+// The other service takes a change by the call of it.
+fn play_other(
     rt: &impl Abort,
-    web: Name,
     service: &mut Service<Global>,
-    other: &mut Service<Global>,
-) -> Result<Row, Fail> {
+    now: u64,
+    change: &Change,
+    wanted: Given,
+) {
+    assert!(rt; service.chart().generation < 9);
+    let out = take(service, change, at(rt, now));
+    gives(rt, &out, now, wanted);
+}
+
+// Both take this change at this moment, and give this.
+fn play(rt: &impl Abort, pair: &mut Pair, now: u64, change: &Change, wanted: Given) {
+    play_one(rt, &mut pair.0, now, change, wanted);
+    play_other(rt, &mut pair.1, now, change, wanted);
+}
+
+// They take changes until they are ready.
+fn play_to_ready(rt: &impl Abort, web: Name, pair: &mut Pair) {
     let second = [Order::Run(Sid(1), 2, web, Some(3))];
-    let steps: [Step<'_>; 6] = [
-        (0, Change::StartFailed(1), &[], &[], false),
-        (59999, Change::Fire, &[], &[], false),
-        (60000, Change::Fire, &[], &second, false),
-        (60000, Change::Started(2, 500), &[Mark::Spawned], &[], false),
-        (60010, Change::Started(2, 501), &[], &[], true),
-        (60100, notify(2, b"a\n\n")?, &[Mark::Ready], &[], false),
-    ];
-    play(rt, service, other, &steps)?;
-    let row = Row {
+    let ready = notify(rt, 2, b"a\n\n");
+    play(rt, pair, 0, &Change::StartFailed(1), (&[], &[], false));
+    play(rt, pair, 59999, &Change::Fire, (&[], &[], false));
+    play(rt, pair, 60000, &Change::Fire, (&[], &second, false));
+    play(
+        rt,
+        pair,
+        60000,
+        &Change::Started(2, 500),
+        (&[Mark::Spawned], &[], false),
+    );
+    play(rt, pair, 60010, &Change::Started(2, 501), (&[], &[], true));
+    play(rt, pair, 60100, &ready, (&[Mark::Ready], &[], false));
+}
+
+// From there they go on until they are killed.
+fn play_to_killed(rt: &impl Abort, pair: &mut Pair) {
+    let down = [Order::Signal(Sid(1), 2, 15), Order::Signal(Sid(1), 2, 18)];
+    let kill = [Order::Signal(Sid(1), 2, 9)];
+    let letter = control(rt, ControlLetter::Down);
+    play(rt, pair, 60200, &letter, (&[], &down, false));
+    play(rt, pair, 60700, &Change::Fire, (&[], &kill, false));
+}
+
+// From there until they have failed for good.
+fn play_to_failed(rt: &impl Abort, web: Name, pair: &mut Pair) {
+    let finish = [Order::Finish(Sid(1), 2, web, 256, 9)];
+    let failed = [Mark::PermanentFailure, Mark::FinishDone];
+    let died = Change::Death(2, Exit::Killed(9));
+    let ended = Change::FinishEnded(2, Exit::Code(125));
+    play(rt, pair, 60800, &died, (&[Mark::Died], &finish, false));
+    play(rt, pair, 60900, &ended, (&failed, &[], false));
+}
+
+// From there until the next supervisor has started.
+fn play_to_the_next_supervisor(rt: &impl Abort, web: Name, pair: &mut Pair) {
+    let third = [Order::Run(Sid(1), 3, web, None)];
+    let config = Change::SetConfig(Config::plain());
+    let exit = control(rt, ControlLetter::Exit);
+    play(rt, pair, 60950, &config, (&[], &[], false));
+    play(
+        rt,
+        pair,
+        61000,
+        &exit,
+        (&[Mark::SupervisorEnded], &[], false),
+    );
+    play(
+        rt,
+        pair,
+        61050,
+        &Change::SetActive(false),
+        (&[], &[], false),
+    );
+    play(rt, pair, 61100, &Change::SetActive(true), (&[], &[], false));
+    play(rt, pair, 62099, &Change::Fire, (&[], &[], false));
+    play(
+        rt,
+        pair,
+        62100,
+        &Change::Fire,
+        (&[Mark::SupervisorStarted], &third, false),
+    );
+}
+
+// A service has died at this moment, so.
+fn has_died(rt: &impl Abort, alloc: Global, service: &Service<Global>, millis: u64, exit: Exit) {
+    let deaths = service.tally().list(alloc).expect(rt, "memory");
+    assert_eq!(rt; deaths.as_slice(), [(at(rt, millis), exit)].as_slice());
+}
+
+// The row of a service at this moment.
+fn has_row(rt: &impl Abort, service: &Service<Global>, now: u64, row: Row) {
+    assert_eq!(rt; service.row(at(rt, now)), row);
+}
+
+// The row of the service while it is ready, at 61099.
+fn ready_row(web: Name) -> Row {
+    Row {
         sid: Sid(1),
         name: web,
         up: true,
@@ -98,61 +181,50 @@ fn play_to_ready(
         exit: None,
         up_down_for: Some(1),
         ready_for: Some(0),
-    };
-    assert_eq!(rt; service.row(at(61099)?), row);
-    Ok(row)
+    }
 }
 
-// From there they go on until the next supervisor has started.
-fn play_to_the_next_supervisor(
+// The same after its end, under the next supervisor.
+fn ended_row(web: Name) -> Row {
+    Row {
+        up: false,
+        pid: None,
+        exit: Some(Exit::Killed(9)),
+        up_down_for: None,
+        ready_for: None,
+        ..ready_row(web)
+    }
+}
+
+// A service begins, and gives this.
+fn begin(
     rt: &impl Abort,
     alloc: Global,
-    web: Name,
-    service: &mut Service<Global>,
-    other: &mut Service<Global>,
-) -> Result<(), Fail> {
-    let down = [Order::Signal(Sid(1), 2, 15), Order::Signal(Sid(1), 2, 18)];
-    let kill = [Order::Signal(Sid(1), 2, 9)];
-    let finish = [Order::Finish(Sid(1), 2, web, 256, 9)];
-    let failed = [Mark::PermanentFailure, Mark::FinishDone];
-    let third = [Order::Run(Sid(1), 3, web, None)];
-    let died = Change::Death(2, Exit::Killed(9));
-    let ended = Change::FinishEnded(2, Exit::Code(125));
-    let begun = &[Mark::SupervisorStarted];
-    let steps: [Step<'_>; 10] = [
-        (60200, control(ControlLetter::Down)?, &[], &down, false),
-        (60700, Change::Fire, &[], &kill, false),
-        (60800, died, &[Mark::Died], &finish, false),
-        (60900, ended, &failed, &[], false),
-        (60950, Change::SetConfig(Config::plain()), &[], &[], false),
-        (
-            61000,
-            control(ControlLetter::Exit)?,
-            &[Mark::SupervisorEnded],
-            &[],
-            false,
-        ),
-        (61050, Change::SetActive(false), &[], &[], false),
-        (61100, Change::SetActive(true), &[], &[], false),
-        (62099, Change::Fire, &[], &[], false),
-        (62100, Change::Fire, begun, &third, false),
-    ];
-    play(rt, service, other, &steps)?;
-    let deaths = [(at(60800)?, Exit::Killed(9))];
-    let own = service.tally().list(alloc)?;
-    let others = other.tally().list(alloc)?;
-    assert_eq!(rt;
-        (own.as_slice(), others.as_slice()),
-        (deaths.as_slice(), deaths.as_slice())
-    );
-    Ok(())
+    (sid, name): (Sid, Name),
+    config: Config,
+    wanted: Given,
+) -> Service<Global> {
+    let begun = Service::begin(alloc, sid, name, config, At::zero());
+    let (service, out) = begun.expect(rt, "memory");
+    gives(rt, &out, 0, wanted);
+    service
+}
+
+// Both services play all of it, with their rows in between and at the end.
+fn play_all(rt: &impl Abort, alloc: Global, web: Name, pair: &mut Pair) {
+    play_to_ready(rt, web, pair);
+    has_row(rt, &pair.0, 61099, ready_row(web));
+    play_to_killed(rt, pair);
+    play_to_failed(rt, web, pair);
+    play_to_the_next_supervisor(rt, web, pair);
+    has_died(rt, alloc, &pair.0, 60800, Exit::Killed(9));
+    has_died(rt, alloc, &pair.1, 60800, Exit::Killed(9));
+    has_row(rt, &pair.1, 63000, ended_row(web));
 }
 
 #[test]
-fn a_service_takes_each_change(rt: HostRuntime) -> Result<(), Fail> {
-    let web = Name::new(b"web").ok_or("web")?;
-    let start = at(0)?;
-    let end = at(63000)?;
+fn a_service_takes_each_change(rt: HostRuntime) {
+    let web = Name::new(b"web").expect(&rt, "web");
     let config = Config {
         finish: true,
         notification_fd: Some(3),
@@ -160,86 +232,102 @@ fn a_service_takes_each_change(rt: HostRuntime) -> Result<(), Fail> {
         ..Config::plain()
     };
     let first = [Order::Run(Sid(1), 1, web, Some(3))];
-    let (mut service, out) = Service::begin(rt.alloc(), Sid(1), web, config, start)?;
-    gives(&rt, &out, 0, &[Mark::SupervisorStarted], &first, false);
-    let (mut other, _) = Service::begin(rt.alloc(), Sid(1), web, config, start)?;
-    let ready = play_to_ready(&rt, web, &mut service, &mut other)?;
-    play_to_the_next_supervisor(&rt, rt.alloc(), web, &mut service, &mut other)?;
-    let row = Row {
-        up: false,
-        pid: None,
-        exit: Some(Exit::Killed(9)),
-        up_down_for: None,
-        ready_for: None,
-        ..ready
-    };
-    assert_eq!(rt; other.row(end), row);
-    Ok(())
+    let given: Given = (&[Mark::SupervisorStarted], &first, false);
+    let service = begin(&rt, rt.alloc(), (Sid(1), web), config, given);
+    let other = begin(&rt, rt.alloc(), (Sid(1), web), config, given);
+    play_all(&rt, rt.alloc(), web, &mut (service, other));
 }
 
 #[test]
-fn a_service_with_a_file_down_begins_without_a_run(rt: HostRuntime) -> Result<(), Fail> {
+fn a_service_with_a_file_down_begins_without_a_run(rt: HostRuntime) {
     let config = Config {
         down: true,
         ..Config::plain()
     };
-    let (service, out) = Service::begin(rt.alloc(), Sid(2), Name::default(), config, at(0)?)?;
-    gives(&rt, &out, 0, &[Mark::SupervisorStarted], &[], false);
+    let given: Given = (&[Mark::SupervisorStarted], &[], false);
+    let service = begin(&rt, rt.alloc(), (Sid(2), Name::default()), config, given);
     assert_eq!(rt;
         (service.sid(), service.timer(), service.chart().phase),
         (Sid(2), None, Phase::Down)
     );
-    Ok(())
 }
 
-// A start, a stale one and a letter are added to what the beginning of another service gave; then the service takes them over, with a
-// death.
+// A start is added to what is there.
+fn add_start(rt: &impl Abort, standing: &mut ServiceState, pid: u32, out: &mut Out) {
+    assert!(rt; standing.chart().generation < 9 && out.events.len() < 4 && out.orders.len() < 9);
+    standing.change_onto(&Change::Started(1, pid), at(rt, 5), out);
+}
+
+// A letter is added to what is there.
+fn add_letter(rt: &impl Abort, chart: ChartState, letter: ControlLetter, out: &mut Out) {
+    let mut chart = chart;
+    let mut letters = Letters::new();
+    let added = letters.try_push(letter).is_ok();
+    assert!(rt;
+        added
+            && chart.generation < 9
+            && out.events.len() < 4
+            && out.orders.len() < 9
+            && letters.len() < 9
+    );
+    chart.control_onto(&letters, at(rt, 6), out);
+}
+
+// A start, a stale one and a letter are added to what the beginning of another service gave: an order, and then one more.
 fn add_changes(
     rt: &impl Abort,
-    alloc: Global,
-    run: Order,
-    service: &mut Service<Global>,
+    begun: &[Order],
+    told: &[Order],
+    standing: &mut ServiceState,
     out: &mut Out,
-) -> Result<(), Fail> {
+) {
     let marks = [Mark::SupervisorStarted, Mark::Spawned];
-    gives(rt, out, 0, &marks[..1], &[run], false);
-    let mut standing = service.standing();
-    for (pid, stale) in [(70, false), (71, true)] {
-        assert!(rt;
-            standing.chart().generation < 9 && out.events.len() < 4 && out.orders.len() < 9
-        );
-        standing.change_onto(&Change::Started(1, pid), at(5)?, out);
-        gives(rt, out, 5, &marks, &[run], stale);
-    }
-    let mut letters = Letters::new();
-    letters.try_push(ControlLetter::Hangup).map_err(|_| "h")?;
-    let mut chart = standing.chart();
-    assert!(rt;
-        chart.generation < 9 && out.events.len() < 4 && out.orders.len() < 9 && letters.len() < 9
-    );
-    chart.control_onto(&letters, at(6)?, out);
-    let hangup = Order::Signal(Sid(2), 1, 1);
-    gives(rt, out, 6, &marks, &[run, hangup], true);
+    gives(rt, out, 0, (&marks[..1], begun, false));
+    add_start(rt, standing, 70, out);
+    gives(rt, out, 5, (&marks, begun, false));
+    add_start(rt, standing, 71, out);
+    gives(rt, out, 5, (&marks, begun, true));
+    add_letter(rt, standing.chart(), ControlLetter::Hangup, out);
+    gives(rt, out, 6, (&marks, told, true));
     out.clear();
-    gives(rt, out, 7, &[], &[], false);
-    let death = (at(7)?, Exit::Code(1));
-    service.adopt(standing, Some(death));
+    gives(rt, out, 7, (&[], &[], false));
+}
+
+// The order to start a service for the first time.
+fn first_run(name: Name) -> Order {
+    Order::Run(Sid(1), 1, name, None)
+}
+
+// The service takes them over, with a death.
+fn take_over(
+    rt: &impl Abort,
+    alloc: Global,
+    service: &mut Service<Global>,
+    standing: ServiceState,
+) {
+    service.adopt(standing, Some((at(rt, 7), Exit::Code(1))));
     assert_eq!(rt;
         (service.chart().pid, service.status().letter),
         (70, Mark::Spawned)
     );
-    let deaths = service.tally().list(alloc)?;
-    assert_eq!(rt; deaths.as_slice(), [death].as_slice());
-    Ok(())
+    has_died(rt, alloc, service, 7, Exit::Code(1));
+}
+
+// What the beginning of a service with a plain configuration gave.
+fn begin_plain(rt: &impl Abort, alloc: Global, sid: Sid, name: Name) -> (Service<Global>, Out) {
+    let begun = Service::begin(alloc, sid, name, Config::plain(), At::zero());
+    begun.expect(rt, "memory")
 }
 
 #[test]
-fn a_change_is_added_to_what_is_there(rt: HostRuntime) -> Result<(), Fail> {
-    let web = Name::new(b"web").ok_or("web")?;
-    let log = Name::new(b"log").ok_or("log")?;
-    let start = at(0)?;
-    let (_, mut out) = Service::begin(rt.alloc(), Sid(1), web, Config::plain(), start)?;
-    let (mut service, _) = Service::begin(rt.alloc(), Sid(2), log, Config::plain(), start)?;
-    let run = Order::Run(Sid(1), 1, web, None);
-    add_changes(&rt, rt.alloc(), run, &mut service, &mut out)
+fn a_change_is_added_to_what_is_there(rt: HostRuntime) {
+    let web = Name::new(b"web").expect(&rt, "web");
+    let log = Name::new(b"log").expect(&rt, "log");
+    let (_, mut out) = begin_plain(&rt, rt.alloc(), Sid(1), web);
+    let (mut service, _) = begin_plain(&rt, rt.alloc(), Sid(2), log);
+    let mut standing = service.standing();
+    let begun = [first_run(web)];
+    let told = [first_run(web), Order::Signal(Sid(2), 1, 1)];
+    add_changes(&rt, &begun, &told, &mut standing, &mut out);
+    take_over(&rt, rt.alloc(), &mut service, standing);
 }

@@ -4,128 +4,127 @@ use death_tally::{DeathList, Tally, permafails};
 use linked_list_allocator::LocalHeap;
 use s6_events::{At, Exit};
 use std::alloc::{Allocator, Global};
-use std::test::Fail;
+use std::process::Abort;
 
-fn at(millis: u64) -> Result<At, Fail> {
-    Ok(At::new(millis).ok_or("a moment")?)
+fn at(rt: &impl Abort, millis: u64) -> At {
+    At::new(millis).expect(rt, "a moment")
 }
 
 // A tally of so many deaths at most, after five deaths with the code 1, each 1100 ms after the one before.
-fn after_five<A: Allocator + Copy>(alloc: A, most: u16) -> Result<Tally<A>, Fail> {
-    let mut tally = Tally::new(alloc, most)?;
-    for millis in [100, 1200, 2300, 3400, 4500] {
-        tally.add(at(millis)?, Exit::Code(1));
-    }
-    Ok(tally)
+fn after_five(rt: &impl Abort, alloc: Global, most: u16) -> Tally<Global> {
+    let mut tally = Tally::new(alloc, most).expect(rt, "memory");
+    tally.add(at(rt, 100), Exit::Code(1));
+    tally.add(at(rt, 1200), Exit::Code(1));
+    tally.add(at(rt, 2300), Exit::Code(1));
+    tally.add(at(rt, 3400), Exit::Code(1));
+    tally.add(at(rt, 4500), Exit::Code(1));
+    tally
 }
 
-// The moments of the deaths of a tally, summed, and how many there are.
-fn sum_of<A: Allocator + Copy>(alloc: Global, tally: &Tally<A>) -> Result<(u64, usize), Fail> {
+// The moments of these deaths, summed.
+fn sum_of(deaths: &[(At, Exit)]) -> u64 {
     let mut sum = 0u64;
-    let deaths = tally.list(alloc)?;
-    for (at, _) in &deaths {
+    for (at, _) in deaths {
         sum = sum.saturating_add(at.millis());
     }
-    Ok((sum, deaths.len()))
+    sum
 }
 
-// How many deaths a tally keeps at most, the sum of the moments that are left, and how many are left.
-const TALLIES: [(u16, u64, usize); 4] = [(0, 0, 0), (1, 4500, 1), (3, 10_200, 3), (9, 11_500, 5)];
+// Of the five a tally of so many at most has so many left, and this is the sum of their moments.
+fn wants_left(rt: &impl Abort, alloc: Global, most: u16, sum: u64, count: usize) {
+    let tally = after_five(rt, alloc, most);
+    let deaths = tally.list(alloc).expect(rt, "memory");
+    assert_eq!(rt; (sum_of(&deaths), deaths.len()), (sum, count));
+}
 
 #[test]
-fn a_tally_forgets_the_oldest(rt: HostRuntime) -> Result<(), Fail> {
-    for (most, sum, count) in TALLIES {
-        let tally = after_five(rt.alloc(), most)?;
-        assert_eq!(rt; sum_of(rt.alloc(), &tally)?, (sum, count));
-    }
-    Ok(())
+fn a_tally_forgets_the_oldest(rt: HostRuntime) {
+    let alloc = rt.alloc();
+    wants_left(&rt, alloc, 0, 0, 0);
+    wants_left(&rt, alloc, 1, 4500, 1);
+    wants_left(&rt, alloc, 3, 10_200, 3);
+    wants_left(&rt, alloc, 9, 11_500, 5);
 }
 
-// The list and the numbers of a permanent failure test of the three deaths at 2300, 3400 and 4500, and what it says at 4500.
-const FAILURES: [(&str, u32, u32, bool); 9] = [
-    ("1", 60, 4, false),
-    ("1-2", 60, 3, true),
-    ("0,2-255,SIGTERM", 60, 1, false),
-    ("1", 60, 0, true),
-    ("TERM", 60, 0, true),
-    ("7,001", 1, 1, true),
-    ("1", 1, 2, false),
-    ("1", 2, 2, true),
-    ("1", 0, 1, true),
-];
-
-fn fails<A: Allocator + Copy>(
+// A tally of the three deaths at 2300, 3400 and 4500, and the allocator of the lists.
+#[derive(Drop)]
+struct Three {
     alloc: Global,
-    tally: &Tally<A>,
-    text: &str,
-    seconds: u32,
-    count: u32,
-) -> Result<bool, Fail> {
-    let list = DeathList::parse(alloc, text.as_bytes())?.ok_or("a list")?;
-    Ok(permafails(tally, at(4500)?, seconds, count, &list))
+    tally: Tally<Global>,
 }
 
-#[test]
-fn enough_deaths_in_time_are_a_permanent_failure(rt: HostRuntime) -> Result<(), Fail> {
-    let tally = after_five(rt.alloc(), 3)?;
-    for (text, seconds, count, answer) in FAILURES {
-        let found = fails(rt.alloc(), &tally, text, seconds, count)?;
+impl Three {
+    // What a permanent failure test of this list and these numbers says at 4500.
+    fn wants(&self, rt: &impl Abort, text: &str, seconds: u32, count: u32, answer: bool) {
+        let list = list_of(rt, self.alloc, text).expect(rt, "a list");
+        let found = permafails(&self.tally, at(rt, 4500), seconds, count, &list);
         assert_eq!(rt; found, answer, "{text}");
     }
-    Ok(())
 }
 
-// What is no list: 33 items among them.
-const NO_LISTS: [&str; 12] = [
-    "",
-    ",",
-    "1,",
-    "256",
-    "2-1",
-    "1-2-3",
-    "-1",
-    "1-",
-    "sigterm",
-    "SIG11",
-    "1 2",
-    "1,1,1,1,1,1,1,1,1,1,1,1,1,1,1,1,1,1,1,1,1,1,1,1,1,1,1,1,1,1,1,1,1",
-];
+// The list of this text, where it is one.
+fn list_of(rt: &impl Abort, alloc: Global, text: &str) -> Option<DeathList> {
+    DeathList::parse(alloc, text.as_bytes()).expect(rt, "memory")
+}
 
 #[test]
-fn other_texts_are_no_lists(rt: HostRuntime) -> Result<(), Fail> {
-    let mut refused = 0usize;
-    for text in NO_LISTS {
-        if DeathList::parse(rt.alloc(), text.as_bytes())?.is_none() {
-            refused = refused.saturating_add(1);
-        }
+fn enough_deaths_in_time_are_a_permanent_failure(rt: HostRuntime) {
+    let alloc = rt.alloc();
+    let tally = after_five(&rt, alloc, 3);
+    let three = Three { alloc, tally };
+    three.wants(&rt, "1", 60, 4, false);
+    three.wants(&rt, "1-2", 60, 3, true);
+    three.wants(&rt, "0,2-255,SIGTERM", 60, 1, false);
+    three.wants(&rt, "1", 60, 0, true);
+    three.wants(&rt, "TERM", 60, 0, true);
+    three.wants(&rt, "7,001", 1, 1, true);
+    three.wants(&rt, "1", 1, 2, false);
+    three.wants(&rt, "1", 2, 2, true);
+    three.wants(&rt, "1", 0, 1, true);
+}
+
+// What is no list, with a bar between two: 33 items among them.
+const NO_LISTS: &str =
+    "|,|1,|256|2-1|1-2-3|-1|1-|sigterm|SIG11|1 2|1,1,1,1,1,1,1,1,1,1,1,1,1,1,1,1,1,1,1,1,1,1,1,1,1,1,1,1,1,1,1,1,1";
+
+#[test]
+fn other_texts_are_no_lists(rt: HostRuntime) {
+    for text in NO_LISTS.split('|') {
+        wants_no_list(&rt, rt.alloc(), text);
     }
-    assert_eq!(rt; refused, NO_LISTS.len());
-    Ok(())
 }
 
-// Whether each of the three calls that take memory succeeds on a heap of so many bytes.
-fn succeed_on(alloc: Global, bytes: usize) -> Result<[bool; 3], Fail> {
-    let heap = LocalHeap::new(alloc, bytes)?;
+fn wants_no_list(rt: &impl Abort, alloc: Global, text: &str) {
+    let is_list = list_of(rt, alloc, text).is_some();
+    assert!(rt; !is_list, "{text}");
+}
+
+// Whether a tally can be made, and its list.
+fn make_tally<A: Allocator + Copy>(alloc: A) -> [bool; 2] {
+    match Tally::new(alloc, 4) {
+        Ok(tally) => [true, is_listed(alloc, tally)],
+        Err(_) => [false, false],
+    }
+}
+
+// Whether the tally gives the list of one death.
+fn is_listed<A: Allocator + Copy>(alloc: A, tally: Tally<A>) -> bool {
+    let mut tally = tally;
+    tally.add(At::zero(), Exit::Killed(9));
+    tally.list(alloc).is_ok()
+}
+
+// On a heap of so many bytes a list is read, a tally is made, and its list; or each of these is refused.
+fn wants_on_heap(rt: &impl Abort, alloc: Global, bytes: usize, wanted: [bool; 3]) {
+    let heap = LocalHeap::new(alloc, bytes).expect(rt, "memory");
     let is_read = DeathList::parse(&heap, b"1,2,3").is_ok();
-    let Ok(mut tally) = Tally::new(&heap, 4) else {
-        return Ok([is_read, false, false]);
-    };
-    tally.add(at(1)?, Exit::Killed(9));
-    Ok([is_read, true, tally.list(&heap).is_ok()])
+    let [is_made, is_listed] = make_tally(&heap);
+    assert_eq!(rt; [is_read, is_made, is_listed], wanted);
 }
 
 #[test]
-fn each_growth_may_be_refused(rt: HostRuntime) -> Result<(), Fail> {
-    let none = succeed_on(rt.alloc(), 16)?;
-    let some = succeed_on(rt.alloc(), 112)?;
-    let all = succeed_on(rt.alloc(), 65_536)?;
-    assert_eq!(rt;
-        [none, some, all],
-        [
-            [false, false, false],
-            [true, true, false],
-            [true, true, true]
-        ]
-    );
-    Ok(())
+fn each_growth_may_be_refused(rt: HostRuntime) {
+    wants_on_heap(&rt, rt.alloc(), 16, [false, false, false]);
+    wants_on_heap(&rt, rt.alloc(), 112, [true, true, false]);
+    wants_on_heap(&rt, rt.alloc(), 65_536, [true, true, true]);
 }
