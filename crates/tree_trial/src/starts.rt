@@ -1,17 +1,27 @@
 //! How a server starts: its socket's rights, servers that start together, descriptors that are closed, and a file that isn't its own.
 use crate::stage::{SERVE, Stage};
-use std::io;
 use std::net::Net;
 use std::os::unix::net::UnixListener;
 use std::process::{Child, Processes, Stdio, SystemProcess};
 use std::rt::Files;
-use std::time::Clock;
+use std::time::{Clock, Duration};
+use std::{io, thread};
 
 /// How often three servers start together on an abandoned socket.
 const ROUNDS: u32 = 4;
 
 /// A server with no mask of rights, and without standard descriptors.
 const SERVE_BARE: &str = "umask 0; exec <&- >&- 2>&-; exec \"$0\" svscan \"$1/services\" \"$2\"";
+
+// How many of these servers have ended.
+fn count_ended(servers: &mut [Child<SystemProcess>]) -> u32 {
+    let mut ended = 0u32;
+    for server in servers.iter_mut() {
+        let has_ended = matches!(server.try_wait(), Ok(Some(_)));
+        ended = ended.saturating_add(u32::from(has_ended));
+    }
+    ended
+}
 
 impl<R: Print + Net + Files + Processes<Started = SystemProcess> + Clock + Copy + Drop> Stage<R> {
     /// Tries how servers start on this stage's socket.
@@ -47,14 +57,25 @@ impl<R: Print + Net + Files + Processes<Started = SystemProcess> + Clock + Copy 
         )
     }
 
-    // Three servers at once, on a socket whose server is gone. Whether one of them serves, and the others end 111.
+    // Three servers at once, on a socket whose server is gone. Whether one of them serves, and the others end 111 meanwhile.
     fn start_three(&self) -> io::Result<bool> {
         drop(UnixListener::bind(&self.rt, self.socket())?);
         let mut servers = Vec::new(self.alloc);
         self.spawn_three(&mut servers)?;
         let is_up = self.comes_to("svwait web", "0")?;
+        self.await_two(servers.as_mut_slice());
         let _ = self.outcome("svscanctl -t")?;
         Ok(self.has_one_served(servers.as_mut_slice()) && is_up)
+    }
+
+    // Waits until two of three servers have ended: one that came later would find the socket gone, and serve.
+    fn await_two(&self, servers: &mut [Child<SystemProcess>]) {
+        for _ in 0..500u32 {
+            if count_ended(servers) >= 2 {
+                break;
+            }
+            thread::sleep(&self.rt, Duration::from_millis(20));
+        }
     }
 
     fn spawn_three(&self, servers: &mut Vec<Child<SystemProcess>>) -> io::Result<()> {
