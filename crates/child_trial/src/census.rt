@@ -3,8 +3,9 @@ use std::alloc::Global;
 use std::io;
 use std::process::{Command, Processes, Stdio};
 
-/// How many descriptors this process has open.
-pub const DESCRIPTORS: &str = "ls /proc/$PPID/fd | wc -l";
+/// How many descriptors this process has open, but for those of the script itself, which it may still be about to close.
+pub const DESCRIPTORS: &str = "out=$(readlink /proc/$$/fd/1); err=$(readlink /proc/$$/fd/2)
+ls -l /proc/$PPID/fd | grep -vcF -e \"$out\" -e \"$err\" -e /dev/null";
 
 /// How many threads it has.
 pub const THREADS: &str = "ls /proc/$PPID/task | wc -l";
