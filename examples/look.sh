@@ -1,5 +1,5 @@
 #!/bin/sh
-# A first look, in about two minutes: builds s6_tree without any proof, unoptimised and with checks, and runs the tree of examples/services
+# A first look, in two to three minutes: builds s6_tree without any proof, unoptimised and with checks, and runs the tree of examples/services
 # on a socket, until it is told to end: by Ctrl-C, or by `s6_tree svscanctl SOCKET -t`.
 #
 #   examples/look.sh [SOCKET [RECORD]]
@@ -68,7 +68,7 @@ build() {
 if [ -e "$PROGRAM.stamp" ]; then
     fail "a program that was proved is there: sh examples/start.sh runs it"
 fi
-echo "look: nothing is proved: s6_tree is only built, which takes about two minutes" >&2
+echo "look: nothing is proved: s6_tree is only built, which takes two to three minutes" >&2
 is_built || build
 echo "svscan: examples/services on $SOCKET, recorded in $RECORD" >&2
 S6_TREE=$PROGRAM
