@@ -20,7 +20,7 @@ fail() {
 # Ends what builds, and leaves no file of it.
 leave() {
     [ -z "$try" ] || kill "$try" 2>/dev/null
-    [ -z "$folder" ] || rm -rf "$folder"
+    [ -z "$folder" ] || rm -rf "$folder" "$PROGRAM.$$"
 }
 
 # Whether the program is there, and no source has changed since.
@@ -57,7 +57,7 @@ build() {
         sleep 0.2
     done
     built=$(program_of "$folder/socket")
-    [ -n "$built" ] && cp "$built" "$PROGRAM.new" && mv "$PROGRAM.new" "$PROGRAM" || fail "no program that was built"
+    [ -n "$built" ] && cp "$built" "$PROGRAM.$$" && mv "$PROGRAM.$$" "$PROGRAM" || fail "no program that was built"
     "$PROGRAM" svscanctl "$folder/socket" -t
     wait "$try"
     try=

@@ -8,9 +8,10 @@ checkout wait for each other where they stand on the same crate, so each check r
 proved there is linked into this checkout. What rt prints goes to out/logs/CRATE.log. A crate that was proved here before is not proved
 again unless it has changed, or one that it uses.
 
-The status is 0 where the program is built, 111 where a crate is not proved, and 130 after Ctrl-C; then no process of it is left.
+The status is 0 where the program is built, 111 where a crate is not proved, the system refuses something, or another one runs in this
+checkout, and 130 after Ctrl-C. No process of it is left afterwards.
 """
-import hashlib, os, shutil, signal, subprocess, sys, time
+import fcntl, hashlib, os, shutil, signal, subprocess, sys, time
 
 # Seconds of processor that a check takes, by which the next crate is chosen and what is left is reckoned; docs/PROOFS.md has them.
 SECONDS = {
@@ -109,7 +110,7 @@ class Plan:
     def __init__(self, program):
         uses = read_uses()
         if program not in uses:
-            sys.exit("prove: no crate %s" % program)
+            raise FileNotFoundError("no crate %s in crates.txt" % program)
         names = below(program, uses)
         self.program = program
         self.processors = usable_processors()
@@ -271,21 +272,35 @@ def build_program(plan):
     return refuse(plan.program) if status else 0
 
 
+def prove_and_build(program):
+    """Proves what is not proved yet, and builds the program. The status."""
+    plan = Plan(program)
+    if not plan.is_proved():
+        print("prove: %s and what it stands on; what rt prints is in %s" % (program, LOGS), file=sys.stderr)
+        status = prove_libraries(plan)
+        if status:
+            return status
+    return build_program(plan)
+
+
 def main():
     if len(sys.argv) != 2:
         sys.exit(__doc__)
     os.chdir(os.path.join(os.path.dirname(os.path.abspath(__file__)), ".."))
-    os.makedirs(LOGS, exist_ok=True)
     for number in (signal.SIGTERM, signal.SIGHUP):
         signal.signal(number, signal.default_int_handler)
-    plan = Plan(sys.argv[1])
     try:
-        if not plan.is_proved():
-            print("prove: %s and what it stands on; what rt prints is in %s" % (plan.program, LOGS), file=sys.stderr)
-            status = prove_libraries(plan)
-            if status:
-                return status
-        return build_program(plan)
+        os.makedirs(LOGS, exist_ok=True)
+        # Its lock ends with the process.
+        logs = os.open(LOGS, os.O_RDONLY)
+        fcntl.flock(logs, fcntl.LOCK_EX | fcntl.LOCK_NB)
+        return prove_and_build(sys.argv[1])
+    except BlockingIOError:
+        print("prove: another one runs in this checkout", file=sys.stderr)
+        return FAILED
+    except OSError as error:
+        print("prove: %s" % error, file=sys.stderr)
+        return FAILED
     except KeyboardInterrupt:
         return INTERRUPTED
 
