@@ -283,6 +283,16 @@ def prove_and_build(program):
     return build_program(plan)
 
 
+def lock_logs():
+    """Keeps others out of this checkout until the process ends. Whether nobody else was in it."""
+    os.makedirs(LOGS, exist_ok=True)
+    try:
+        fcntl.flock(os.open(LOGS, os.O_RDONLY), fcntl.LOCK_EX | fcntl.LOCK_NB)
+    except BlockingIOError:
+        return False
+    return True
+
+
 def main():
     if len(sys.argv) != 2:
         sys.exit(__doc__)
@@ -290,19 +300,14 @@ def main():
     for number in (signal.SIGTERM, signal.SIGHUP):
         signal.signal(number, signal.default_int_handler)
     try:
-        os.makedirs(LOGS, exist_ok=True)
-        # Its lock ends with the process.
-        logs = os.open(LOGS, os.O_RDONLY)
-        fcntl.flock(logs, fcntl.LOCK_EX | fcntl.LOCK_NB)
-        return prove_and_build(sys.argv[1])
-    except BlockingIOError:
+        if lock_logs():
+            return prove_and_build(sys.argv[1])
         print("prove: another one runs in this checkout", file=sys.stderr)
-        return FAILED
     except OSError as error:
         print("prove: %s" % error, file=sys.stderr)
-        return FAILED
     except KeyboardInterrupt:
         return INTERRUPTED
+    return FAILED
 
 
 sys.exit(main())
