@@ -1,26 +1,16 @@
-//! Tries a running tree: with words it is the program itself, and with none it starts itself as other processes, a server and its
-//! clients, and prints what came of each. `S6_TREE_HANDOVER` says after how many steps the next run goes on.
+//! Tries a running tree. With the words of the program this is the program itself, and `S6_TREE_HANDOVER` says after how many steps its
+//! next run goes on. With no words it runs the script `trial.sh`, which starts servers and clients, and prints what came of each.
 #![tactic(auto)]
 
-mod census;
-mod connections;
-mod crowd;
-mod endings;
-mod handovers;
-mod lives;
-mod records;
-mod scans;
-mod stage;
-mod starts;
-mod texts;
-mod trial;
+mod connection;
+mod parts;
 
+use parts::do_part;
 use std::env;
 use std::env::Env;
 use std::process::ExitCode;
 use tree_front::{Begun, BegunTree, Standard, begin_program, end_program};
 use tree_server::{HANDOVER, run_tree};
-use trial::try_all;
 
 // After how many steps the next run goes on.
 fn handover<R: Env + Alloc>(rt: &R) -> u64 {
@@ -32,9 +22,8 @@ fn handover<R: Env + Alloc>(rt: &R) -> u64 {
 
 fn main(rt: HostRuntime) -> ExitCode {
     let alloc = rt.alloc();
-    let has_words = matches!(env::args(&rt), Ok(words) if words.len() > 1);
-    if !has_words {
-        return ExitCode::from(try_all(rt, alloc, rt.process()));
+    if let Some(status) = do_part(&rt, alloc, rt.stdin(), &mut rt.stdout()) {
+        return ExitCode::from(status);
     }
     let standard = Standard {
         input: rt.stdin(),

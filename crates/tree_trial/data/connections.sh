@@ -1,0 +1,86 @@
+# Connections that clients don't make: half lines, too many, one that never reads, and noise.
+connect() { timeout 20 "$program" connect "$socket"; }
+
+# Whether what is read is sent, and the server then ends the connection.
+ends_after() { timeout 20 "$program" connect "$socket" <"$1" || [ $? -ne 124 ]; }
+
+before=$(census_at_rest)
+
+# Requests that no client sends, and a waiter that is released as it is made.
+printf 'tick\n\nscan web\nstarted 1 1 5\nsvc web\n' | connect
+open waiter
+request waiter 'wait u a 0 web'
+soon has_replies waiter 2
+whether 'a waiter, and then its release' grep -q '^r [0-9]* held$' "$root/waiter.out"
+printf '%09000d' 0 >"$root/waiter.in"
+soon has_replies waiter 3
+tail -n 2 "$root/waiter.out"
+whether 'a long line ends its connection' soon has_ended "$client_waiter"
+close waiter
+printf 'svc web d' >"$root/half"
+whether 'half a line ends' ends_after "$root/half"
+tell svstat -o up,wantedup web
+
+# Eleven connections, and one more. A seat is free again once a connection has ended.
+seats=0
+for number in $(seq 1000); do
+    [ $seats -lt 11 ] || break
+    open seat
+    ask seat 'tally web'
+    if grep -q '^tally' "$root/seat.out"; then
+        seats=$((seats + 1))
+        mv "$root/seat.in" "$root/seat$seats.in"
+        mv "$root/seat.out" "$root/seat$seats.out"
+        eval "client_seat$seats=$client_seat"
+    else
+        close seat
+    fi
+done
+say connections $seats
+say 'one more' "$(connect </dev/null)"
+for seat in $(seq 11); do
+    request seat$seat 'wait D a 0 web'
+done
+for seat in $(seq 11); do
+    soon has_replies seat$seat 2
+done
+say 'of eleven that wait, refused' "$(cat "$root"/seat*.out | grep -c '^refused Busy$')"
+close seat11
+whether 'a seat is free again' soon comes_to 0 svc -u web
+for seat in $(seq 10); do
+    close seat$seat
+done
+whether 'all have left' soon has_at_most $before
+
+# A client that asks for 12,000 rows, ends its half, and reads late, while another one sends what it has subscribed to.
+client mkfifodir half
+mkfifo "$root/late"
+exec 3<>"$root/late"
+{
+    echo 'subscribe dir half repeat .'
+    yes 'status web' | head -n 12000
+} | "$program" connect "$socket" >&3 3>&- &
+read -r subscribed <&3
+for number in $(seq 20); do
+    client ftrig-notify half a
+done
+exec 4<"$root/late" 3>&-
+say 'rows behind a half-close' "$(timeout 20 grep -c '^row ' <&4)"
+exec 4<&-
+
+# A client that asks and never reads: others are answered meanwhile, and in the end it is closed.
+mkfifo "$root/deaf"
+"$program" send "$socket" <"$root/deaf" 2>/dev/null &
+deaf=$!
+exec 3>"$root/deaf"
+yes 'status web' | head -n 5000 >&3
+tell svstat -o up three
+yes 'status web' | head -n 100000 >&3 2>/dev/null
+exec 3>&-
+wait $deaf
+whether 'a client that never reads is closed' [ $? = 1 ]
+
+# Bytes that mean nothing.
+seq 200000 | gzip -nc | head -c 100000 >"$root/noise"
+whether 'noise ends' ends_after "$root/noise"
+tell svstat -o up,wantedup web

@@ -1,0 +1,157 @@
+# Tries a running tree, and prints what comes of it. `trial.sh PROGRAM`: the program under trial, which has the words of s6_tree and three more:
+# `connect SOCKET` sends what it reads and writes what comes, until the server ends the connection; `send SOCKET` only sends; `abandon SOCKET`
+# leaves a socket on which nobody listens.
+program=$1
+scripts=$PWD
+trial=$(mktemp -d) || exit 1
+trap 'kill $(jobs -p) 2>/dev/null; rm -rf "$trial"' EXIT
+trap 'exit 1' INT TERM HUP
+newline='
+'
+
+# Begins a stage: a folder with a scan directory, a socket and a record.
+stage() {
+    root=$trial/$1 socket=$trial/$1/socket record=$trial/$1/record
+    mkdir -p "$root/services" && cd "$root/services" || exit 1
+}
+
+# write SERVICE FILE SCRIPT: writes a program of a service.
+write() {
+    mkdir -p "$1"
+    printf '#!/bin/sh\n%s\n' "$3" >"$1/$2"
+    chmod 755 "$1/$2"
+}
+
+# The lines that were written, in one line.
+joined() { sed '/^$/d' | paste -s -d ' ' -; }
+
+# Runs a command: its status, and what it wrote.
+outcome() {
+    written=$("$@" </dev/null 2>&1)
+    printf '%s\n' $? "$written" | joined
+}
+
+# The words of a client, the socket's path behind the first.
+client() {
+    tool=$1
+    shift
+    "$program" "$tool" "$socket" "$@"
+}
+
+say() { printf '%s: %s\n' "$1" "$2"; }
+
+# Runs a client, and prints what came of it.
+tell() { say "$*" "$(outcome client "$@")"; }
+
+# The clients of the lines that are read, one after the other.
+tell_each() {
+    while read -r words; do
+        tell $words
+    done
+}
+
+# Runs a command, and prints whether it succeeds.
+whether() {
+    what=$1
+    shift
+    if "$@" >/dev/null 2>&1; then say "$what" true; else say "$what" false; fi
+}
+
+# Whether a command succeeds within 20 seconds.
+soon() {
+    for try in $(seq 400); do
+        "$@" >/dev/null 2>&1 && return
+        sleep 0.05
+    done
+    false
+}
+
+# Whether a client comes to this outcome: the outcome first, and then its words.
+comes_to() { [ "$(shift; outcome client "$@")" = "$1" ]; }
+
+# Begins to run a server in the place of the shell, with these words behind the socket.
+svscan() { exec "$program" svscan "$root/services" "$socket" "$@"; }
+
+# Starts a server with these words, and waits until it answers. What it tells on standard error comes in the file `errors`.
+start() {
+    svscan "$@" >/dev/null 2>"$root/errors" &
+    server=$!
+    soon answers || exit 1
+}
+
+answers() { "$program" connect "$socket" </dev/null; }
+
+# Whether a process has ended.
+has_ended() { case $(cut -d ' ' -f 3 "/proc/$1/stat" 2>/dev/null) in '' | Z) ;; *) false ;; esac; }
+
+# The status of a server that ends by itself, or -1 where it doesn't in time. It is gone afterwards.
+end_of() {
+    if soon has_ended "$1"; then
+        wait "$1"
+        status=$?
+    else
+        kill -9 "$1"
+        status=-1
+    fi
+}
+
+# Ends the server, and prints its status.
+end() {
+    tell svscanctl -t
+    end_of "$server"
+    say svscan $status
+}
+
+# The descriptors, the threads and the zombies of the server.
+census() {
+    ls "/proc/$server/fd" | wc -l
+    ls "/proc/$server/task" | wc -l
+    grep -l "^[0-9]* (.*) Z $server " /proc/[0-9]*/stat 2>/dev/null | wc -l
+}
+
+# What the server has once that stays the same for 300 milliseconds, and it has no zombie.
+census_at_rest() {
+    now=$(census | joined)
+    for try in $(seq 100); do
+        before=$now
+        sleep 0.3
+        now=$(census | joined)
+        case $now in "$before") case $now in *' 0') break ;; esac ;; esac
+    done
+    echo $now
+}
+
+# Whether the server has no more than this, and no zombie: three numbers.
+has_at_most() {
+    set -- $(census) "$@"
+    [ "$1" -le "$4" ] && [ "$2" -le "$5" ] && [ "$3" = 0 ]
+}
+
+# Opens a connection. What is written to NAME.in is sent, and what comes is in NAME.out. It stays until it is closed, or the server ends it.
+open() {
+    mkfifo "$root/$1.in"
+    "$program" connect "$socket" <>"$root/$1.in" >"$root/$1.out" &
+    eval "client_$1=$!"
+}
+
+# Closes a connection.
+close() {
+    eval "kill \$client_$1; wait \$client_$1" 2>/dev/null
+    rm "$root/$1.in"
+}
+
+# Sends a request on a connection.
+request() { printf '%s\n' "$2" >"$root/$1.in"; }
+
+# Whether so many replies have come on a connection: an empty line ends each.
+has_replies() { [ "$(grep -c '^$' "$root/$1.out")" -ge "$2" ]; }
+
+# Sends a request on a new connection, and waits for its reply.
+ask() {
+    request "$1" "$2"
+    soon has_replies "$1" 1
+}
+
+for part in lives connections crowd endings handovers starts records scans; do
+    . "$scripts/$part.sh"
+done
