@@ -1,19 +1,17 @@
-//! Tries the backend of real processes: starts services, signals them, and prints what was reported of them.
+//! Tries the backend of real processes: carries out the commands of standard input, and prints what was reported.
 #![tactic(auto)]
 
-mod cases;
-mod census;
-mod crowd;
-mod endings;
-mod figures;
-mod last_words;
-mod linked;
+mod commands;
+mod gate;
+mod lane;
 mod noted;
+mod orders;
+mod reports;
 mod stage;
+mod words;
 
-use child_runner::Keeper;
-use error_notes::Notes;
-use std::process::ExitCode;
+use gate::start_lane;
+use stage::Stage;
 use std::sync::Arc;
 use std::{env, fs, io, process};
 
@@ -24,39 +22,18 @@ fn root_of(rt: &HostRuntime) -> io::Result<String> {
     Ok(format!(in rt.alloc(); "{}/child-trial-{number}", temp.as_path().display())?)
 }
 
-fn main(rt: HostRuntime) -> io::Result<ExitCode> {
-    let alloc = rt.alloc();
+fn main(rt: HostRuntime) -> io::Result<()> {
+    let script = io::read_to_string(rt.alloc(), rt.reader())?;
     let root = root_of(&rt)?;
-    let root = root.as_str();
-    let notes = Arc::new(alloc, Notes::new(alloc))?;
-    linked::write_services(&rt, alloc, root)?;
-    let wants_figures = env::args(&rt)?.count() > 1;
-    let (Ok(keeper), Ok(other), Ok(lanes)) = (
-        Keeper::start(rt, alloc),
-        Keeper::start(rt, alloc),
-        Keeper::start(rt, alloc),
-    ) else {
-        return Ok(ExitCode::from(111));
-    };
-    let tried = if wants_figures {
-        other.end();
-        figures::print_all(&rt, alloc, keeper, root, &notes)
-    } else {
-        endings::try_all(&rt, alloc, (keeper, other), root, &notes)
-    };
-    if wants_figures {
-        lanes.end();
-        fs::remove_dir_all(&rt, root)?;
-        tried?;
-        return Ok(ExitCode::SUCCESS);
-    }
-    let linked = match linked::lane_of(rt, alloc, &lanes, root, &notes) {
-        Ok((backend, bell)) => linked::try_link(&rt, alloc, backend, bell),
-        Err(error) => Err(error),
-    };
-    lanes.end();
-    fs::remove_dir_all(&rt, root)?;
-    tried.and(linked)?;
-    noted::try_all(&rt, alloc, &notes, io::pipe(&rt)?)?;
-    Ok(ExitCode::SUCCESS)
+    fs::create_dir_all(&rt, root.as_str())?;
+    let mut stage = Stage::new(rt, rt.alloc(), root.as_str())?;
+    let (backend, wires) = stage.open_lane()?;
+    let link = Arc::try_clone(&wires.link)?;
+    let thread = start_lane(rt, wires, backend)?;
+    let tried = stage.try_all(script.as_str());
+    link.end(&rt);
+    let _ = thread.join(&rt);
+    stage.end_all();
+    fs::remove_dir_all(&rt, root.as_str())?;
+    tried
 }

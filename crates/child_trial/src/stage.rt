@@ -1,29 +1,40 @@
-//! One backend, its services, and what it reports.
-use child_runner::{Bell, Keeper, ProcessBackend};
+//! What the commands work on: backends, their keeper and their services.
+use crate::gate::Wires;
+use crate::lane::{Carrier, Lane};
+use child_runner::{Bell, Keeper, LaneLink, LinkedBackend, ProcessBackend};
 use error_notes::Notes;
-use order_lanes::{Backend, Report};
-use s6_events::{Exit, Name, Order, Sid};
-use std::alloc::Global;
-use std::fs::Permissions;
-use std::io::ErrorKind;
-use std::os::unix::fs::PermissionsExt;
-use std::process::{Processes, SystemProcess};
+use order_lanes::Report;
+use s6_events::Order;
+use std::alloc::{AllocError, Global};
+use std::io::{self, ErrorKind};
+use std::process::{Command, Processes, SystemProcess};
 use std::rt::Files;
+use std::sync::atomic::AtomicBool;
 use std::sync::{Arc, Wait};
-use std::time::{Clock, Duration};
-use std::{fs, io};
+use std::thread::Threads;
+use std::time::Clock;
 
-/// How many seconds a report may take.
-const PATIENCE: u64 = 30;
-
-/// A backend under trial.
+/// The stage of a trial.
 #[derive(Drop)]
 pub struct Stage<R> {
+    /// The runtime.
     pub rt: R,
+    /// What allocates.
     pub alloc: Global,
+    // The folder of the services.
     root: String,
-    pub backend: ProcessBackend<R>,
-    bell: Arc<Bell, Global>,
+    /// Where starts that fail are noted.
+    pub notes: Arc<Notes, Global>,
+    /// Whether the lane that a thread serves takes no order.
+    pub is_shut: Arc<AtomicBool, Global>,
+    // The keeper of that lane, and those of the others that weren't ended yet.
+    keepers: Vec<Keeper<R>>,
+    // That lane, and then the backends of the other keepers.
+    lanes: Vec<Lane<R>>,
+    /// Which of them takes orders and is asked for reports.
+    pub chosen: usize,
+    /// The process number of the service that was started last.
+    pub number: u32,
 }
 
 /// What an allocation that failed is here.
@@ -31,122 +42,169 @@ pub fn no_memory() -> io::Error {
     io::Error::from(ErrorKind::OutOfMemory)
 }
 
-/// Writes a script under the root, with its folder.
-pub fn write_program<R: Files>(
-    rt: &R,
+// A backend of this keeper, and its bell.
+fn backend_of<R: Drop>(
+    rt: R,
     alloc: Global,
-    folder: &str,
-    file: &str,
-    script: &str,
-    mode: u32,
-) -> io::Result<()> {
-    fs::create_dir_all(&(rt, alloc), folder)?;
-    let path = format!(in alloc; "{folder}/{file}")?;
-    let text = format!(in alloc; "#!/bin/sh\n{script}\n")?;
-    write_executable(rt, path.as_str(), text.as_str(), mode)
-}
-
-fn write_executable<R: Files>(rt: &R, path: &str, text: &str, mode: u32) -> io::Result<()> {
-    fs::write(rt, path, text)?;
-    fs::set_permissions(rt, path, Permissions::from_mode(mode))
-}
-
-/// The name of these letters.
-pub fn name_of(text: &str) -> io::Result<Name> {
-    match Name::new(text.as_bytes()) {
-        Some(name) => Ok(name),
-        None => Err(io::Error::from(ErrorKind::InvalidInput)),
+    keeper: &Keeper<R>,
+    root: &str,
+    notes: &Arc<Notes, Global>,
+) -> io::Result<(ProcessBackend<R>, Arc<Bell, Global>)> {
+    let Ok(backend) = ProcessBackend::new(rt, alloc, keeper, root, notes) else {
+        return Err(no_memory());
+    };
+    match backend.bell() {
+        Ok(bell) => Ok((backend, bell)),
+        Err(_) => Err(no_memory()),
     }
 }
 
-impl<R: Copy + Drop> Stage<R> {
-    pub fn new(
-        rt: R,
-        alloc: Global,
-        keeper: &Keeper<R>,
-        root: &str,
-        notes: &Arc<Notes, Global>,
-    ) -> io::Result<Stage<R>> {
-        let Ok(backend) = ProcessBackend::new(rt, alloc, keeper, root, notes) else {
-            return Err(no_memory());
-        };
-        let Ok(bell) = backend.bell() else {
-            return Err(no_memory());
-        };
+// The lane at the other end of a link.
+fn linked_lane<R: Wait + Drop>(rt: R, alloc: Global, wires: &Wires) -> io::Result<Lane<R>> {
+    let bell = Arc::try_clone(&wires.driver)?;
+    match LinkedBackend::new(rt, alloc, &wires.link) {
+        Ok(backend) => Ok(Lane {
+            carrier: Carrier::Linked(backend),
+            bell,
+        }),
+        Err(_) => Err(no_memory()),
+    }
+}
+
+impl<R: Wait + Copy + Drop> Stage<R> {
+    /// A stage in this folder, with an open gate and nothing else.
+    pub fn new(rt: R, alloc: Global, root: &str) -> io::Result<Stage<R>> {
         Ok(Stage {
             rt,
             alloc,
             root: String::from_str(alloc, root)?,
-            backend,
-            bell,
+            notes: Arc::new(alloc, Notes::new(alloc))?,
+            is_shut: Arc::new(alloc, AtomicBool::new(false))?,
+            keepers: Vec::new(alloc),
+            lanes: Vec::new(alloc),
+            chosen: 0,
+            number: 0,
         })
     }
 }
 
-impl<R: Processes<Started = SystemProcess> + Files + Wait + Clock + Drop> Stage<R> {
-    /// Writes a program of a service, with this mode.
-    pub fn write(&self, service: &str, program: &str, script: &str, mode: u32) -> io::Result<()> {
-        let folder = format!(in self.alloc; "{}/{service}", self.root.as_str())?;
-        write_program(&self.rt, self.alloc, folder.as_str(), program, script, mode)
+// What a shell is told: the script, and its `$0`.
+fn add_script(command: &mut Command, script: &str, words: &str) -> Result<(), AllocError> {
+    command.arg("-c")?.arg(script)?.arg(words)?;
+    Ok(())
+}
+
+impl<R: Processes> Stage<R> {
+    /// Runs a script in the folder of the trial, with these words as `$0`. `$number` is the process that was started last. It prints by
+    /// itself, and inherits all, so that no descriptor is opened here for it.
+    pub fn run_shell(&self, script: &str, words: &str) -> io::Result<()> {
+        let mut command = Command::new(self.alloc, "/bin/sh")?;
+        self.run_script(&mut command, script, words)
     }
 
-    /// Waits for so many milliseconds, and takes no report.
-    pub fn pause(&self, millis: u64) {
-        std::thread::sleep(&self.rt, Duration::from_millis(millis));
-    }
-
-    /// Asks an order. Whether it was taken.
-    pub fn ask(&mut self, order: Order) -> bool {
-        self.backend.ask(order).is_ok()
-    }
-
-    /// Asks that `run` of this service be started: its first generation.
-    pub fn run(&mut self, sid: u64, service: &str, fd: Option<u8>) -> io::Result<bool> {
-        Ok(self.ask(Order::Run(Sid(sid), 1, name_of(service)?, fd)))
-    }
-
-    /// Sends `run` of this service a signal.
-    pub fn kill(&mut self, sid: u64, signal: u8) -> bool {
-        self.ask(Order::Signal(Sid(sid), 1, signal))
-    }
-
-    /// The next report, for which the bell rings; None where none came in time.
-    pub fn next_report(&mut self) -> Option<Report> {
-        for _ in 0..1000u32 {
-            if let Some(report) = self.backend.report() {
-                return Some(report);
-            }
-            if !self
-                .bell
-                .wait_at_most(&self.rt, Duration::from_secs(PATIENCE))
-            {
-                return None;
-            }
-        }
-        None
-    }
-
-    /// Whether no report comes for so many milliseconds.
-    pub fn is_silent(&mut self, millis: u64) -> bool {
-        for _ in 0..1000u32 {
-            if self.backend.report().is_some() {
-                return false;
-            }
-            if !self
-                .bell
-                .wait_at_most(&self.rt, Duration::from_millis(millis))
-            {
-                return self.backend.report().is_none();
-            }
-        }
-        false
+    fn run_script(&self, command: &mut Command, script: &str, words: &str) -> io::Result<()> {
+        let root = self.root.as_str();
+        let script = format!(in self.alloc; "cd {root}; number={}; {script}", self.number)?;
+        add_script(command, script.as_str(), words)?;
+        command.status(&self.rt)?;
+        Ok(())
     }
 }
 
-/// How a program ended: how, and the number.
-pub fn exit_words(exit: Exit) -> (&'static str, i64) {
-    match exit {
-        Exit::Code(code) => ("code", i64::from(code)),
-        Exit::Killed(signal) => ("signal", i64::from(signal)),
+impl<R: Processes<Started = SystemProcess> + Files + Wait + Clock + Drop> Stage<R> {
+    /// Asks the chosen backend an order. Whether it was taken.
+    pub fn ask(&mut self, order: Order) -> bool {
+        match self.lanes.get_mut(self.chosen) {
+            Some(lane) => lane.ask(order),
+            None => false,
+        }
+    }
+
+    /// The next report of the chosen backend; None where none came within so many milliseconds.
+    pub fn next_report(&mut self, millis: u64) -> Option<Report> {
+        let report = self
+            .lanes
+            .get_mut(self.chosen)?
+            .next_report(&self.rt, millis)?;
+        if let Report::Started(_, _, number) = &report {
+            self.number = *number;
+        }
+        Some(report)
+    }
+}
+
+impl<
+    R: Print
+        + Processes<Started = SystemProcess>
+        + Threads
+        + Wait
+        + Clock
+        + Copy
+        + Send
+        + Sync
+        + Drop
+        + 'static,
+> Stage<R> {
+    /// Starts a keeper.
+    pub fn start_keeper(&mut self) -> io::Result<()> {
+        match Keeper::start(self.rt, self.alloc) {
+            Ok(keeper) => {
+                self.keepers.push(keeper)?;
+                Ok(())
+            }
+            Err(_) => Err(no_memory()),
+        }
+    }
+
+    // A backend of the keeper that was started last, and its bell.
+    fn new_backend(&self) -> io::Result<(ProcessBackend<R>, Arc<Bell, Global>)> {
+        let Some(keeper) = self.keepers.last() else {
+            return Err(no_memory());
+        };
+        backend_of(self.rt, self.alloc, keeper, self.root.as_str(), &self.notes)
+    }
+
+    // Ties the lane to the thread that will serve a backend with this bell.
+    fn tie_lane(&mut self, bell: Arc<Bell, Global>) -> io::Result<Wires> {
+        let wires = Wires {
+            link: Arc::new(self.alloc, LaneLink::new(self.alloc, bell))?,
+            driver: Arc::new(self.alloc, Bell::new())?,
+            is_shut: Arc::try_clone(&self.is_shut)?,
+        };
+        self.lanes.push(linked_lane(self.rt, self.alloc, &wires)?)?;
+        Ok(wires)
+    }
+
+    /// Starts the lane's keeper. The lane's own backend, and what ties it to its thread.
+    pub fn open_lane(&mut self) -> io::Result<(ProcessBackend<R>, Wires)> {
+        self.start_keeper()?;
+        let (backend, bell) = self.new_backend()?;
+        match self.tie_lane(bell) {
+            Ok(wires) => Ok((backend, wires)),
+            Err(error) => Err(error),
+        }
+    }
+
+    /// Adds such a backend, and chooses it.
+    pub fn add_backend(&mut self) -> io::Result<()> {
+        let (backend, bell) = self.new_backend()?;
+        self.chosen = self.lanes.len();
+        let carrier = Carrier::Own(backend);
+        self.lanes.push(Lane { carrier, bell })?;
+        Ok(())
+    }
+
+    /// Ends the keeper that was started last.
+    pub fn end_keeper(&mut self) {
+        if let Some(keeper) = self.keepers.pop() {
+            keeper.end();
+        }
+    }
+
+    /// Ends all keepers.
+    pub fn end_all(&mut self) {
+        for _ in 0..self.keepers.len() {
+            self.end_keeper();
+        }
     }
 }
