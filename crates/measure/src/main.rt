@@ -2,85 +2,98 @@
 #![tactic(auto)]
 
 mod fault;
+mod figures;
+mod office_steps;
 mod reads;
-mod steps;
+mod rounds;
 mod submissions;
+mod tree_steps;
 mod words;
 
 use fault::Fault;
+use figures::{now, write_since};
+use office_steps::drive_all;
 use reads::read_and_publish;
-use status_board::NewBoard;
 use std::alloc::Global;
-use std::io::{self, Write};
-use std::marker::Brand;
+use std::io::Write;
 use std::process::ExitCode;
 use std::sync::Wait;
 use std::thread::Threads;
-use std::time::{Clock, Instant};
-use steps::{apply_all, drive_all, new_office};
-use submissions::{four_rings, submit_and_take};
+use std::time::Clock;
+use submissions::submit_and_take;
+use tree_steps::apply_all;
 use words::{HELP, Load, USAGE, Words, read_words};
 
-// Writes how many there were, how long they took, and so how many there are in a second.
-fn write_figures(output: &mut impl Write, what: &str, load: Load, micros: u128) -> io::Result<()> {
-    let (threads, all, millis) = (load.threads, load.all(), micros / 1000);
-    let a_second = u128::from(all) * 1_000_000 / micros.max(1);
-    writeln!(
-        output,
-        "{what}: {threads} threads or seats, {all} in all, {millis} ms, {a_second} a second"
-    )?;
-    output.flush()
-}
-
-// Writes how long it took since then.
-fn write_since(
-    clock: &impl Clock,
-    output: &mut impl Write,
-    what: &str,
-    load: Load,
-    start: Instant,
-) -> Result<(), Fault> {
-    let passed = start.elapsed(clock).map_err(|_| Fault::NoClock)?;
-    write_figures(output, what, load, passed.as_micros()).map_err(|_| Fault::Write)
-}
-
-// The steps of a tree alone, and then the same steps of an office.
-fn measure_steps<R: Wait + Clock>(
+// The submissions. What is measured begins as the rings are opened, and ends with the last thread.
+fn measure_submissions<R: Threads + Wait + Clock + Sync>(
     rt: &R,
     alloc: Global,
     load: Load,
     output: &mut impl Write,
 ) -> Result<(), Fault> {
-    let start = Instant::now(rt).map_err(|_| Fault::NoClock)?;
+    let start = now(rt)?;
+    submit_and_take(rt, alloc, load)?;
+    write_since(rt, output, "submissions", load, start)
+}
+
+// The reads of a board of so many rows. What is measured begins as the board is opened, and ends with the last thread.
+fn measure_reads<R: Threads + Wait + Clock + Sync>(
+    rt: &R,
+    alloc: Global,
+    load: Load,
+    rows: usize,
+    output: &mut impl Write,
+) -> Result<(), Fault> {
+    let start = now(rt)?;
+    read_and_publish(rt, alloc, load, rows)?;
+    write_since(rt, output, "reads", load, start)
+}
+
+// The steps of a tree alone.
+fn measure_tree(
+    clock: &impl Clock,
+    alloc: Global,
+    load: Load,
+    output: &mut impl Write,
+) -> Result<(), Fault> {
+    let start = now(clock)?;
     apply_all(alloc, load)?;
-    write_since(rt, output, "steps of a tree alone", load, start)?;
-    let start = Instant::now(rt).map_err(|_| Fault::NoClock)?;
-    let office = new_office(rt, alloc, load)?;
-    drive_all::<_, Brand, _>(rt, alloc, office, load)?;
+    write_since(clock, output, "steps of a tree alone", load, start)
+}
+
+// The same steps of an office. What is measured begins as the office is opened.
+fn measure_office<R: Wait + Clock>(
+    rt: &R,
+    alloc: Global,
+    load: Load,
+    output: &mut impl Write,
+) -> Result<(), Fault> {
+    let start = now(rt)?;
+    drive_all(rt, alloc, load)?;
     write_since(rt, output, "steps of an office", load, start)
 }
 
-// Does what the words ask for. What is measured begins as the rings, the board or the office are opened, and ends with the last thread.
+// Writes the help.
+fn write_help(output: &mut impl Write) -> Result<(), Fault> {
+    output.write_all(HELP).map_err(|_| Fault::Write)
+}
+
+// Does what the words ask for.
 fn run<R: Threads + Wait + Clock + Sync>(
     rt: &R,
     alloc: Global,
     words: Words,
     output: &mut impl Write,
 ) -> Result<(), Fault> {
-    let start = Instant::now(rt).map_err(|_| Fault::NoClock)?;
-    let (what, load) = match words {
-        Words::Help => return output.write_all(HELP).map_err(|_| Fault::Write),
-        Words::Submit(load) => {
-            submit_and_take::<Brand, _>(rt, four_rings(alloc)?, load)?;
-            ("submissions", load)
+    match words {
+        Words::Help => write_help(output),
+        Words::Submit(load) => measure_submissions(rt, alloc, load, output),
+        Words::Read(load, rows) => measure_reads(rt, alloc, load, rows, output),
+        Words::Steps(load) => {
+            measure_tree(rt, alloc, load, output)?;
+            measure_office(rt, alloc, load, output)
         }
-        Words::Read(load, rows) => {
-            read_and_publish::<Brand, _>(rt, alloc, NewBoard::new(), load, rows)?;
-            ("reads", load)
-        }
-        Words::Steps(load) => return measure_steps(rt, alloc, load, output),
-    };
-    write_since(rt, output, what, load, start)
+    }
 }
 
 fn main(rt: HostRuntime) -> ExitCode {

@@ -69,63 +69,57 @@ fn has_word(env: &impl Env, place: usize) -> bool {
     !matches!(env.arg(place, &mut room), Err(FillError::NotPresent))
 }
 
-// The word at this place; None where there is none, and where it is too long for the room.
-fn word<'a>(env: &impl Env, place: usize, room: &'a mut [u8; LONGEST_WORD]) -> Option<&'a [u8]> {
-    let count = env.arg(place, room).ok()?;
-    Some(&room[..count])
+// The word at this place; empty where there is none, and where it is too long for the room.
+fn word<'a>(env: &impl Env, place: usize, room: &'a mut [u8; LONGEST_WORD]) -> &'a [u8] {
+    let count = env.arg(place, room).unwrap_or(0);
+    &room[..count]
 }
 
-// How many threads, and how often each.
-fn read_load(env: &impl Env) -> Option<Load> {
+// The number at this place, from 1 to so many; 0 where there is none.
+fn number(env: &impl Env, place: usize, most: u32) -> u32 {
     let mut room = [0; LONGEST_WORD];
-    let threads = match word(env, 2, &mut room)? {
+    parse_digits(word(env, place, &mut room), most).unwrap_or(0)
+}
+
+// How many threads or seats; 0 where the word tells none.
+fn read_threads(env: &impl Env) -> u8 {
+    let mut room = [0; LONGEST_WORD];
+    match word(env, 2, &mut room) {
         b"1" => 1,
         b"2" => 2,
         b"4" => 4,
-        _ => return None,
-    };
-    let count = read_count(env)?;
-    Some(Load { threads, count })
-}
-
-// How often.
-fn read_count(env: &impl Env) -> Option<u32> {
-    let mut room = [0; LONGEST_WORD];
-    let count = parse_digits(word(env, 3, &mut room)?, GREATEST_COUNT)?;
-    if count == 0 { None } else { Some(count) }
-}
-
-// How many seats, and how many inputs each, where a run may have so many.
-fn read_steps(env: &impl Env) -> Option<Load> {
-    let mut room = [0; LONGEST_WORD];
-    let threads = match word(env, 2, &mut room)? {
-        b"1" => 1,
         b"15" => 15,
-        _ => return None,
-    };
-    let count = read_count(env)?;
-    let load = Load { threads, count };
-    if load.all() <= GREATEST_STEPS {
-        Some(load)
-    } else {
-        None
+        _ => 0,
     }
 }
 
-// How many rows the board has.
-fn read_rows(env: &impl Env) -> Option<usize> {
-    let mut room = [0; LONGEST_WORD];
-    let rows = parse_digits(word(env, 4, &mut room)?, ROW_LIMIT as u32)?;
-    if rows == 0 { None } else { Some(rows as usize) }
+impl Load {
+    // Whether so many threads do something.
+    fn is_of_threads(self) -> bool {
+        self.count > 0 && (self.threads == 1 || self.threads == 2 || self.threads == 4)
+    }
+
+    // Whether so many seats do something, and a run may have so many steps.
+    fn is_of_seats(self) -> bool {
+        let is_known = self.threads == 1 || self.threads == 15;
+        is_known && self.count > 0 && self.all() <= GREATEST_STEPS
+    }
 }
 
 /// What the command line asks for; None where it has other words than `--help` tells.
 pub fn read_words(env: &impl Env) -> Option<Words> {
+    let load = Load {
+        threads: read_threads(env),
+        count: number(env, 3, GREATEST_COUNT),
+    };
+    let rows = number(env, 4, ROW_LIMIT as u32) as usize;
     let mut room = [0; LONGEST_WORD];
-    match word(env, 1, &mut room)? {
-        b"submit" if !has_word(env, 4) => Some(Words::Submit(read_load(env)?)),
-        b"read" if !has_word(env, 5) => Some(Words::Read(read_load(env)?, read_rows(env)?)),
-        b"steps" if !has_word(env, 4) => Some(Words::Steps(read_steps(env)?)),
+    match word(env, 1, &mut room) {
+        b"submit" if load.is_of_threads() && !has_word(env, 4) => Some(Words::Submit(load)),
+        b"read" if load.is_of_threads() && rows > 0 && !has_word(env, 5) => {
+            Some(Words::Read(load, rows))
+        }
+        b"steps" if load.is_of_seats() && !has_word(env, 4) => Some(Words::Steps(load)),
         b"--help" if !has_word(env, 2) => Some(Words::Help),
         _ => None,
     }

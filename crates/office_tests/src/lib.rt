@@ -1,17 +1,27 @@
-//! Tests of the office, with and without threads.
+//! Tests of the office and of a tree under a lock, with and without threads.
 #![tactic(auto)]
 
 #[cfg(test)]
-mod blocking;
+mod acts;
 #[cfg(test)]
-mod effects;
+mod asking;
 #[cfg(test)]
 mod lanes;
 #[cfg(test)]
-mod opening;
+mod locked_tree;
+#[cfg(test)]
+mod opened;
+#[cfg(test)]
+mod parts;
 #[cfg(test)]
 mod refused;
 #[cfg(test)]
-mod two_seats;
+mod replaying;
 #[cfg(test)]
-mod wants;
+mod scenes;
+#[cfg(test)]
+mod seats;
+#[cfg(test)]
+mod stage;
+#[cfg(test)]
+mod storm;

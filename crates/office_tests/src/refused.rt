@@ -1,172 +1,132 @@
 //! One growth is refused: run with `--fail-alloc N` for each N. What was refused is asked for again, and then nothing is lost.
-ghost use Rattle.std.specs.Prelude.{◌≡◌, ℕ, slice_get};
-ghost use Rattle.office.specs.Names.{ring_of, lane_ring_of, asked_of};
-
-use crate::wants::wants_back;
+use crate::acts::input_of;
+use crate::parts::{new_log, new_parts, step_once};
+use crate::replaying::is_replayed;
+use crate::scenes::same;
+use crate::stage::play_scene;
 use channel_names::Channels;
 use inbox::Seat;
 use locked_services::{DriveStop, Driven};
-use office::{NewOffice, Office, OpenFault, Opened};
-use office_cases::{is_replayed, new_log, new_office, open_office, probes, stepped_tree};
+use office::{Closed, Office};
 use order_lanes::probe::Probe;
 use order_lanes::{Backend, Lanes};
 use status_board::Board;
 use std::alloc::Global;
-use std::marker::Brand;
+use std::io::Write;
 use std::process::Abort;
 use std::sync::Wait;
-use tree_cases::{act_of, moment_of};
-use tree_core::Tree;
-
-/// A tree and the backends of its lanes.
-type Back<B> = (Box<Tree<Global>>, Vec<B>);
-
-/// The same, and why it came back.
-type Refused<B> = (OpenFault, Box<Tree<Global>>, Vec<B>);
+use std::thread::Threads;
+use std::time::Clock;
+use tree_core::Input;
 
 /// How many inputs a ring holds.
 const RING: u64 = 64;
 
-// Two backends; None where a growth was refused.
-fn new_backends<R: Copy + Drop>(rt: R, alloc: Global) -> Option<Vec<Probe<R>>> {
-    let log = new_log(alloc).ok()?;
-    probes(rt, alloc, 2, &log).ok()
-}
+/// An office of two seats and two lanes is opened.
+const OPENED: &str = "> open 2
+> sizes
+2 lanes, 0 steps, 0 finishes
+";
+
+/// What is written where it is not, since a growth was refused.
+const CAME_BACK: &str = "> open 2
+NoMemory, tree of 1, 2 backends
+";
+
+/// All that a ring takes becomes steps.
+const FILLED: &str = "> open 1
+> fill
+true
+";
 
 // A tree that has made one step, and two backends; None where the test's own growth was refused.
-fn new_parts<R: Copy + Drop>(rt: R, alloc: Global) -> Option<Back<Probe<R>>> {
-    let backends = new_backends(rt, alloc)?;
-    Some((stepped_tree(alloc)?, backends))
-}
-
-// The same, where at most one growth is refused.
-fn parts_at_last<R: Abort + Copy + Drop>(rt: R, alloc: Global) -> Back<Probe<R>> {
-    match new_parts(rt, alloc) {
-        Some(parts) => parts,
-        None => new_parts(rt, alloc).expect(&rt, "two growths were refused"),
-    }
+fn stepped_parts<R: Copy + Drop>(rt: R, alloc: Global) -> Option<Closed<Probe<R>>> {
+    let log = new_log(alloc).ok()?;
+    let mut parts = new_parts(rt, alloc, 2, &log).ok()?;
+    step_once(&mut parts.tree).then_some(parts)
 }
 
 #[test]
 fn refused_opening_gives_all_back(rt: HostRuntime) {
     let alloc = rt.alloc();
-    let (tree, backends) = parts_at_last(rt, alloc);
-    let back = open_or_back(&rt, alloc, tree, backends);
-    open_again(&rt, alloc, back);
+    let mut left = stepped_parts(rt, alloc);
+    if left.is_none() {
+        left = stepped_parts(rt, alloc);
+    }
+    let mut text = Vec::new(alloc);
+    reserve_at_last(&rt, &mut text);
+    open_or_back(&rt, alloc, &mut left, &mut text);
 }
 
-// What came back makes an office the second time.
-fn open_again<B: Backend, R: Wait + Abort + Copy + Drop>(
+// Room for what is written of a scene, where at most one growth is refused.
+fn reserve_at_last<R: Abort>(rt: &R, text: &mut Vec<u8>) {
+    let is_reserved = text.reserve(1_000).is_ok() || text.reserve(1_000).is_ok();
+    assert!(rt; is_reserved, "two growths were refused");
+}
+
+// Opens an office. What comes back where a growth is refused makes an office the second time.
+fn open_or_back<B: Backend + Send, R: Threads + Wait + Clock + Abort + Copy + Send + Sync + Drop>(
     rt: &R,
     alloc: Global,
-    back: Option<Back<B>>,
+    left: &mut Option<Closed<B>>,
+    text: &mut Vec<u8>,
 ) {
-    if let Some((tree, backends)) = back {
-        let again = open_or_back(rt, alloc, tree, backends);
-        assert!(rt; again.is_none());
+    play_scene(rt, alloc, left, OPENED, text);
+    if text.as_slice() == CAME_BACK.as_bytes() {
+        text.clear();
+        play_scene(rt, alloc, left, OPENED, text);
     }
-}
-
-// Opens an office with two seats; what comes back, where a growth was refused.
-fn open_or_back<B: Backend, R: Wait + Abort + Copy + Drop>(
-    rt: &R,
-    alloc: Global,
-    tree: Box<Tree<Global>>,
-    backends: Vec<B>,
-) -> Option<Back<B>> {
-    match NewOffice::new(alloc, tree, 2, backends) {
-        Ok(office) => open_named::<_, Brand, _>(rt, alloc, office),
-        Err(refused) => Some(all_back(rt, refused)),
-    }
-}
-
-// Opens it in a run that names its rings so.
-fn open_named<B: Backend, C: Channels + Lanes, R: Wait + Abort + Copy + Drop>(
-    rt: &R,
-    alloc: Global,
-    office: NewOffice<B>,
-) -> Option<Back<B>>
-    requires seats { (k : ℕ) → C.seat_ring k ≡ ring_of (slice_get office.rings k) }
-    requires board { C.board ≡ office.board }
-    requires lanes { (k : ℕ) → C.lane_ring k ≡ lane_ring_of (slice_get office.lane_rings k) }
-    requires before { (k : ℕ) → C.asked_before k ≡ asked_of B.asked (slice_get office.backends k) }
-{
-    let opened = office.open::<C, R>(alloc, *rt);
-    what_came_back(rt, opened)
-}
-
-// What came back, where the office was not opened.
-fn what_came_back<C: Channels + Lanes, D: Board<C>, B: Backend, R: Abort>(
-    rt: &R,
-    opened: Result<Opened<C, D, B>, Refused<B>>,
-) -> Option<Back<B>> {
-    match opened {
-        Ok(opened) => {
-            wants_two_lanes(rt, &opened.office);
-            None
-        }
-        Err(refused) => Some(all_back(rt, refused)),
-    }
-}
-
-fn wants_two_lanes<C: Channels + Lanes, D: Board<C>, B: Backend, R: Abort>(
-    rt: &R,
-    office: &Office<C, D, B>,
-) {
-    assert_eq!(rt; office.lanes(), 2);
-}
-
-// The tree is the one that was handed in, and both backends are there.
-fn all_back<B: Backend, R: Abort>(rt: &R, refused: Refused<B>) -> Back<B> {
-    wants_back(rt, &refused, OpenFault::NoMemory, 1, 2);
-    let (_, tree, backends) = refused;
-    (tree, backends)
+    same(rt, text.as_slice(), OPENED);
 }
 
 #[test]
 fn refused_step_is_made_once_there_is_memory(rt: HostRuntime) {
     let alloc = rt.alloc();
-    let answer = match run_once(rt, alloc) {
-        Some(answer) => Some(answer),
-        None => run_once(rt, alloc),
-    };
-    assert_eq!(rt; answer, Some(true));
+    let mut text = Vec::new(alloc);
+    run_once(rt, alloc, &mut text);
+    if is_refused(text.as_slice()) {
+        run_once(rt, alloc, &mut text);
+    }
+    same(&rt, text.as_slice(), FILLED);
 }
 
-// Whether all inputs became steps, as in an undisturbed run; None where a growth outside the run's steps was refused.
-fn run_once<R: Wait + Copy + Drop>(rt: R, alloc: Global) -> Option<bool> {
-    let log = new_log(alloc).ok()?;
-    let office = new_office(rt, alloc, 1, 1, &log)?;
-    run_named::<_, Brand, _>(&rt, alloc, office)
+// Whether a growth outside the run's steps was refused.
+fn is_refused(text: &[u8]) -> bool {
+    text.is_empty()
+        || text.ends_with(b"no memory\n")
+        || text.ends_with(b"NoMemory, tree of 0, 1 backends\n")
 }
 
-// Opens the office and makes its steps, in a run that names its rings so.
-fn run_named<B: Backend, C: Channels + Lanes, R: Wait + Copy + Drop>(
-    rt: &R,
+// Writes what comes of a run; nothing where there is no memory for its parts.
+fn run_once<R: Threads + Wait + Clock + Copy + Send + Sync + Drop>(
+    rt: R,
     alloc: Global,
-    office: NewOffice<B>,
-) -> Option<bool>
-    requires seats { (k : ℕ) → C.seat_ring k ≡ ring_of (slice_get office.rings k) }
-    requires board { C.board ≡ office.board }
-    requires lanes { (k : ℕ) → C.lane_ring k ≡ lane_ring_of (slice_get office.lane_rings k) }
-    requires before { (k : ℕ) → C.asked_before k ≡ asked_of B.asked (slice_get office.backends k) }
-{
-    let mut opened = open_office::<B, C, R>(rt, alloc, office)?;
-    let mut seat = opened.seats.pop()?;
-    run_all(rt, alloc, &opened.office, &mut seat)
+    text: &mut Vec<u8>,
+) {
+    text.clear();
+    if let Ok(log) = new_log(alloc) {
+        let mut left = new_parts(rt, alloc, 1, &log).ok();
+        if left.is_some() && text.reserve(1_000).is_ok() {
+            play_scene(&rt, alloc, &mut left, FILLED, text);
+        }
+    }
 }
 
-// Fills the ring, and makes the steps.
-fn run_all<C: Channels + Lanes, D: Board<C>, B: Backend, R: Wait>(
+/// Fills the last seat's ring, and makes the steps. Whether all inputs became steps, as in an undisturbed run, is written; None where a
+/// growth outside the run's steps was refused.
+pub fn fill_and_drive<C: Channels + Lanes, D: Board<C>, B: Backend, R: Wait>(
     rt: &R,
     alloc: Global,
     office: &Office<C, D, B>,
-    seat: &mut Seat<C>,
-) -> Option<bool> {
+    seats: &mut Vec<Seat<C>>,
+    text: &mut Vec<u8>,
+) -> Option<()> {
+    let seat = seats.last_mut()?;
     fill(alloc, seat)?;
     let made = drive_all(rt, alloc, office, seat)?;
     let is_same = is_replayed(rt, alloc, office, made)?;
-    Some(is_same && made == seat.sent() && made >= RING)
+    let is_all = is_same && made == seat.sent() && made >= RING;
+    writeln!(text, "{is_all}").ok()
 }
 
 // Submits the next act, of every kind in turn: whether the ring took it.
@@ -175,10 +135,8 @@ fn submit_next<C: Channels>(alloc: Global, seat: &mut Seat<C>) -> Option<bool> {
     if sent > 2 * RING {
         return None;
     }
-    let number = sent as u32;
-    let act = act_of(alloc, number)?;
-    let ticket = seat.submit(moment_of(number), act).ok();
-    Some(ticket.is_some())
+    let Input { actor: _, at, act } = input_of(alloc, seat.actor(), sent as u32)?;
+    Some(seat.submit(at, act).is_ok())
 }
 
 // Submits acts, until the ring takes no more.

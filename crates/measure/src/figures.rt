@@ -1,0 +1,33 @@
+//! The figures that are written, and the clock that they are read off.
+use crate::fault::Fault;
+use crate::words::Load;
+use std::io::{self, Write};
+use std::time::{Clock, Instant};
+
+/// The moment that it is.
+pub fn now(clock: &impl Clock) -> Result<Instant, Fault> {
+    Instant::now(clock).map_err(|_| Fault::NoClock)
+}
+
+// Writes how many there were, how long they took, and so how many there are in a second.
+fn write_figures(output: &mut impl Write, what: &str, load: Load, micros: u128) -> io::Result<()> {
+    let (threads, all, millis) = (load.threads, load.all(), micros / 1000);
+    let a_second = u128::from(all) * 1_000_000 / micros.max(1);
+    writeln!(
+        output,
+        "{what}: {threads} threads or seats, {all} in all, {millis} ms, {a_second} a second"
+    )?;
+    output.flush()
+}
+
+/// Writes how long it took since then.
+pub fn write_since(
+    clock: &impl Clock,
+    output: &mut impl Write,
+    what: &str,
+    load: Load,
+    start: Instant,
+) -> Result<(), Fault> {
+    let passed = start.elapsed(clock).map_err(|_| Fault::NoClock)?;
+    write_figures(output, what, load, passed.as_micros()).map_err(|_| Fault::Write)
+}
