@@ -94,7 +94,7 @@ class Check:
     """A crate that is being proved in a lane."""
 
     def __init__(self, name, lane, jobs):
-        self.name, self.lane, self.jobs = name, lane, jobs
+        self.name, self.lane, self.jobs, self.begun = name, lane, jobs, time.monotonic()
         with open(log_of(name), "wb") as log:
             how = dict(stdout=log, stderr=log, stdin=subprocess.DEVNULL, start_new_session=True)
             self.process = subprocess.Popen(["rt", "lib", "--jobs", str(jobs)], cwd=os.path.join(lane.place, "crates", name), **how)
@@ -142,6 +142,11 @@ class Plan:
             for it in above:
                 self.add_way(it)
             self.ways[name] = SECONDS.get(name, USUAL_SECONDS) + max([self.ways[it] for it in above], default=0)
+
+    def way_left(self, check):
+        """The seconds from now to the program, by way of a crate that is being proved."""
+        spent = time.monotonic() - check.begun
+        return self.ways[check.name] - min(spent, SECONDS.get(check.name, USUAL_SECONDS))
 
     def sum_file(self, name):
         return os.path.join(library_of(".", name), "proved")
@@ -193,7 +198,7 @@ def busy(running):
 def jobs_for(plan, name, others, running):
     """How many processors the crate gets: what the others leave. The one that all wait for gets two at least, also where none is free; 0: it waits."""
     free = plan.processors - busy(running)
-    if all(plan.ways[name] >= plan.ways[it] for it in running):
+    if all(plan.ways[name] >= plan.way_left(check) for check in running.values()):
         return max(min(2, plan.processors), free - others) if free > -2 else 0
     return max(0, min(1, free))
 
