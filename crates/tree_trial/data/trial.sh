@@ -2,12 +2,24 @@
 # `connect SOCKET` sends what it reads and writes what comes, until the server ends the connection; `send SOCKET` only sends; `abandon SOCKET`
 # leaves a socket on which nobody listens.
 program=$1
-scripts=$PWD
+scripts=$PWD server=
 trial=$(mktemp -d) || exit 1
-trap 'kill $(jobs -p) 2>/dev/null; rm -rf "$trial"' EXIT
+trap leave EXIT
 trap 'exit 1' INT TERM HUP
 newline='
 '
+
+# Whether a process is a child of this shell, which hasn't waited for it: only then its number is no other process's.
+is_child() { [ "$(cut -d ' ' -f 4 "/proc/$1/stat" 2>/dev/null)" = $$ ]; }
+
+# Ends what a trial that stops in the middle leaves: a server in order, and then whatever child there is.
+leave() {
+    is_child "$server" && client svscanctl -t >/dev/null 2>&1 && soon has_ended "$server"
+    for place in /proc/[0-9]*; do
+        is_child "${place#/proc/}" && kill "${place#/proc/}"
+    done 2>/dev/null
+    rm -rf "$trial"
+}
 
 # Begins a stage: a folder with a scan directory, a socket and a record.
 stage() {
@@ -81,8 +93,8 @@ start() {
 
 answers() { "$program" connect "$socket" </dev/null; }
 
-# Whether a process has ended.
-has_ended() { case $(cut -d ' ' -f 3 "/proc/$1/stat" 2>/dev/null) in '' | Z) ;; *) false ;; esac; }
+# Whether a child of this shell has ended.
+has_ended() { ! is_child "$1" || [ "$(cut -d ' ' -f 3 "/proc/$1/stat" 2>/dev/null)" = Z ]; }
 
 # The status of a server that ends by itself, or -1 where it doesn't in time. It is gone afterwards.
 end_of() {
@@ -90,7 +102,7 @@ end_of() {
         wait "$1"
         status=$?
     else
-        kill -9 "$1"
+        is_child "$1" && kill -9 "$1"
         status=-1
     fi
 }
@@ -136,7 +148,9 @@ open() {
 
 # Closes a connection.
 close() {
-    eval "kill \$client_$1; wait \$client_$1" 2>/dev/null
+    eval "client=\$client_$1"
+    is_child "$client" && kill "$client"
+    wait "$client" 2>/dev/null
     rm "$root/$1.in"
 }
 
