@@ -1,9 +1,9 @@
 -- Letters are read back from their bytes.
 use Rattle.std.proofs.Common.{◌≡◌, ◌∙◌, ap, sym, ℕ, List, [], ◌∷◌, ◌++◌, ◌<◌, ◌≤◌, ◌+◌, length, map, take, get_or, Some, rules, arith}
 use Rattle.std.proofs.lemmas.List.{take_more, get_or-map, length-map, length-take-le}
-use Rattle.svc_commands.specs.declared.control_letter.ControlLetter.{ControlLetter}
-use Rattle.svc_commands.specs.declared.control_letter.ControlLetter.TheVariants.{Up}
-use Rattle.svc_commands.specs.ControlLetter.{byte_of, letter_of_byte}
+use Rattle.control_letters.specs.declared.control_letter.ControlLetter.{ControlLetter}
+use Rattle.control_letters.specs.declared.control_letter.ControlLetter.TheVariants.{Up}
+use Rattle.control_letters.specs.ControlLetter.{byte_of, letter_of_byte}
 
 pub letter_back : (l : ControlLetter) → letter_of_byte (byte_of l) ≡ Some l
 unfolding letter_of_byte

@@ -17,8 +17,8 @@ use Rattle.s6_script.specs.declared.parse.Verb.TheVariants as verbs
 use Rattle.svscan_core.specs.declared.entry.ScanOrder.{ScanOrder}
 use Rattle.s6_script.specs.Spelling.{IsSpelt, IsExit, IsAct, act_words, input_words, spelling}
 use Rattle.s6_script.specs.Verb.{exit_words, order_word, verb_word, verb_of_act, details}
-use Rattle.svc_commands.specs.ControlLetter.{byte_of}
-use Rattle.svc_commands.specs.declared.control_letter.ControlLetter.{ControlLetter}
+use Rattle.control_letters.specs.ControlLetter.{byte_of}
+use Rattle.control_letters.specs.declared.control_letter.ControlLetter.{ControlLetter}
 use Rattle.s6_script.proofs.Hexadecimal.{hex_plain}
 use Rattle.s6_script.proofs.Joined.{is_no_space, has_no_space, split_joined}
 use Rattle.s6_script.proofs.Plain.{digits_plain, name_plain, no_space_in}

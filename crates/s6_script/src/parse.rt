@@ -7,8 +7,8 @@ ghost use Rattle.hex.specs.Hex.{IsBytes, encode_lower};
 ghost use Rattle.s6_script.specs.Spelling.{HasExpression, IsSpelt, IsExit, IsAct, Spells, SpellsButForPattern, input_words};
 ghost use Rattle.s6_script.specs.Unbuilt.{act_read, input_read, FitsButText};
 ghost use Rattle.s6_events.specs.At.{last_moment};
-ghost use Rattle.svc_commands.specs.ControlLetter.{byte_of};
-ghost use Rattle.svc_commands.specs.declared.control_letter.ControlLetter.{ControlLetter};
+ghost use Rattle.control_letters.specs.ControlLetter.{byte_of};
+ghost use Rattle.control_letters.specs.declared.control_letter.ControlLetter.{ControlLetter};
 ghost use Rattle.s6_script.specs.Verb.{exit_words, has_form_of, order_word, verb_word, verb_of_act, details};
 ghost use Rattle.svscan_core.specs.declared.entry.ScanOrder.{ScanOrder};
 
@@ -20,9 +20,9 @@ use super::unbuilt::{UnbuiltAct, UnbuiltInput, build};
 use super::waiting::wait_of;
 use super::words::{Words, is_word, name_of, number};
 use arrayvec::ArrayVec;
+use control_letters::{ControlLetter, Letters};
 use s6_events::{Actor, At, Exit, NoMemory, Sid, SubId, WaitId};
 use std::alloc::{AllocError, Allocator, Global};
-use svc_commands::{ControlLetter, Letters};
 use thiserror::Error;
 use tree_core::{Act, Input, Listing, ScanOrder};
 

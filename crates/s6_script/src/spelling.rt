@@ -2,7 +2,7 @@
 ghost use Rattle.std.specs.Prelude.{◌≡◌, ◌++◌, ◌∷◌, [], map, codes, decimal, OnOk};
 ghost use Rattle.std.specs.List.{join_with_byte};
 ghost use Rattle.hex.specs.Hex.{encode_lower};
-ghost use Rattle.svc_commands.specs.ControlLetter.{byte_of};
+ghost use Rattle.control_letters.specs.ControlLetter.{byte_of};
 ghost use Rattle.s6_script.specs.Options.{entry_text};
 ghost use Rattle.s6_script.specs.Spelling.{act_words, spelling};
 ghost use Rattle.s6_script.specs.Unbuilt.{act_read, input_read};
@@ -14,9 +14,9 @@ use super::entry_options::push_entries;
 use super::subscribing::{push_send, push_subscribe};
 use super::unbuilt::{UnbuiltAct, UnbuiltInput};
 use super::waiting::push_wait;
+use control_letters::ControlLetter;
 use s6_events::{Exit, Name, Sid};
 use std::alloc::{AllocError, Allocator};
-use svc_commands::ControlLetter;
 use tree_core::{Act, Entry, ScanOrder};
 
 // Adds the byte of each letter.

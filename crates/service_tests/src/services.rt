@@ -2,12 +2,12 @@
 ghost use Rattle.std.specs.Prelude.{◌+◌, ◌<◌, ◌^◌};
 
 use arrayvec::ArrayVec;
+use control_letters::{ControlLetter, Letters};
 use s6_events::{At, Exit, Mark, Name, Order, Sid};
 use servicedir::Config;
 use std::alloc::Global;
 use std::process::Abort;
 use supervise_core::{Change, ChartState, Out, Phase, Row, Service, ServiceState};
-use svc_commands::{ControlLetter, Letters};
 
 // Two services that began alike. One takes its changes by `change`, the other each by the call that is named after it.
 type Pair = (Service<Global>, Service<Global>);

@@ -2,7 +2,7 @@
 use Rattle.std.proofs.Common.{◌≡◌, refl, ap, ◌∙◌, ℕ, List, [], ◌∷◌, fold, Some, rules}
 use Rattle.std.proofs.lemmas.List.Sums.{fold-append}
 use Rattle.s6_events.specs.declared.exit.Exit.{Exit}
-use Rattle.svc_commands.specs.declared.control_letter.ControlLetter.{ControlLetter}
+use Rattle.control_letters.specs.declared.control_letter.ControlLetter.{ControlLetter}
 use Rattle.supervise_core.specs.declared.change.Change.{Change}
 use Rattle.supervise_core.specs.declared.change.Change.TheVariants.{Started, StartFailed, Notify, Death, FinishEnded, Control, Fire, SetConfig}
 use Rattle.supervise_core.specs.declared.change.Change.TheVariants.{SetActive}

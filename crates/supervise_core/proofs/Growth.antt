@@ -14,7 +14,7 @@ use Rattle.supervise_core.specs.Reports.{with_last_exit, is_awaiting, is_running
 use Rattle.supervise_core.specs.Chart.{timer_rule, fire_move, is_due, control_move, with_activity, changed_by}
 use Rattle.supervise_core.specs.LetterBounds.{runs_left}
 use Rattle.supervise_core.proofs.LetterGrowth.{spends_control}
-use Rattle.svc_commands.specs.declared.control_letter.ControlLetter.{ControlLetter}
+use Rattle.control_letters.specs.declared.control_letter.ControlLetter.{ControlLetter}
 use Rattle.finish_core.specs.declared.exit_verdict.Verdict125.{Verdict125}
 use Rattle.finish_core.specs.declared.exit_verdict.Verdict125.TheVariants.{Permanent, Ordinary}
 use Rattle.finish_core.specs.ExitVerdict.{verdict_of}

@@ -1,9 +1,9 @@
 -- The control letters: what each of them does in each phase. control_letter.Once the supervisor has ended no letter does anything.
 use Rattle.std.specs.Prelude.{ℕ, List, ◌++◌, Bool, true, false, fold, Option, None, Some, if◌then◌else◌}
 use Rattle.s6_events.specs.declared.order.Order.TheVariants.{Signal}
-use Rattle.svc_commands.specs.declared.control_letter.ControlLetter.{ControlLetter}
-use Rattle.svc_commands.specs.declared.control_letter.ControlLetter.TheVariants as control_letter
-use Rattle.svc_commands.specs.ControlLetter.{signal_of}
+use Rattle.control_letters.specs.declared.control_letter.ControlLetter.{ControlLetter}
+use Rattle.control_letters.specs.declared.control_letter.ControlLetter.TheVariants as control_letter
+use Rattle.control_letters.specs.ControlLetter.{signal_of}
 use Rattle.supervise_core.specs.declared.chart.ChartState.{ChartState}
 use Rattle.supervise_core.specs.declared.phase.Phase.{Phase}
 use Rattle.supervise_core.specs.declared.phase.Phase.TheVariants.{Down, Starting, Up}

@@ -3,9 +3,9 @@ ghost use Rattle.std.specs.Prelude.{◌≡◌};
 ghost use Rattle.supervise_core.specs.Service.{death_by};
 
 use arrayvec::ArrayVec;
+use control_letters::Letters;
 use s6_events::{At, Exit};
 use servicedir::Config;
-use svc_commands::Letters;
 
 /// What may happen to a service: a report of the outside, letters of a user, its timer, or a look at its directory.
 #[derive(Clone, Debug, PartialEq, Eq, Drop)]

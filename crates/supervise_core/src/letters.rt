@@ -2,14 +2,14 @@
 ghost use Rattle.std.specs.Prelude.{◌≡◌, ◌+◌, ◌<◌, ◌≤◌, ◌^◌, ◌*◌, length};
 ghost use Rattle.supervise_core.specs.ControlLetters.{letter_move, up_move, down_move, signal_move, as_unwanted, control_move};
 ghost use Rattle.supervise_core.specs.MatchesMove.{MatchesMove, AppendsMove};
-ghost use Rattle.svc_commands.specs.ControlLetter.{signal_of};
+ghost use Rattle.control_letters.specs.ControlLetter.{signal_of};
 ghost use Rattle.supervise_core.specs.LetterBounds.{marks_left, runs_left};
 
 use super::chart::ChartState;
 use super::out::Out;
 use super::phase::Phase;
+use control_letters::{ControlLetter, Letters};
 use s6_events::{At, Order};
-use svc_commands::{ControlLetter, Letters};
 
 // The letters of a user.
 impl ChartState {

@@ -19,12 +19,12 @@ use super::image::ServiceImage;
 use super::out::Out;
 use super::row::{Row, Status};
 use super::service_state::ServiceState;
+use control_letters::Letters;
 use death_tally::Tally;
 use s6_events::{At, Exit, Name, NoMemory, Sid};
 use servicedir::Config;
 use std::alloc::Allocator;
 use std::marker::Model;
-use svc_commands::Letters;
 
 /// A service under its supervisor, with its last deaths. No change of it takes memory.
 #[derive(Drop)]

@@ -3,9 +3,9 @@ use Rattle.std.specs.Prelude.{ℕ, List, [], ◌∷◌, ◌+◌, ◌==◌, ◌&&
 use Rattle.std.specs.Prelude.{length, drop, filter, flat_map, option_to_list, slice_index, nat_le, nat_lt}
 use Rattle.std.specs.Prelude.{if◌then◌else◌}
 use Rattle.s6_events.specs.Name.{is_name}
-use Rattle.svc_commands.specs.ControlLetter.{letter_of_byte}
-use Rattle.svc_commands.specs.declared.control_letter.ControlLetter.{ControlLetter}
-use Rattle.svc_commands.specs.declared.control_letter.ControlLetter.TheVariants.{Up, Once}
+use Rattle.control_letters.specs.ControlLetter.{letter_of_byte}
+use Rattle.control_letters.specs.declared.control_letter.ControlLetter.{ControlLetter}
+use Rattle.control_letters.specs.declared.control_letter.ControlLetter.TheVariants.{Up, Once}
 use Rattle.svc_commands.specs.declared.svscanctl.ScanLetter.{ScanLetter}
 use Rattle.svc_commands.specs.declared.svscanctl.ScanLetter.TheVariants.{Scan, Nuke, Terminate}
 use Rattle.svc_commands.specs.declared.usage_fault.UsageFault.{UsageFault}

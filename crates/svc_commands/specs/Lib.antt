@@ -1,4 +1,3 @@
-pub mod ControlLetter
 pub mod LetterWords
 pub mod LetterLaw
 pub mod ReadWords

@@ -1,7 +1,6 @@
 //! The words of the control tools, read into values.
 #![tactic(auto)]
 
-mod control_letter;
 mod letter_law;
 mod letter_words;
 mod matches;
@@ -14,7 +13,7 @@ mod svstat;
 mod svwait;
 mod usage_fault;
 
-pub use control_letter::{ControlLetter, Letters};
+pub use control_letters::{ControlLetter, Letters};
 pub use letter_law::{law_of_svc, law_of_svscanctl};
 pub use names::Names;
 pub use permafailon::{PermafailCommand, compile_permafailon};

@@ -4,10 +4,10 @@ ghost use Rattle.svc_commands.specs.LetterWords.{letter_fault, run_fault, name_f
 ghost use Rattle.svc_commands.specs.LetterCommands.{IsSvcCommand};
 ghost use Rattle.svc_commands.specs.ReadWords.{IsRead, IsRefused, AddsName};
 
-use crate::control_letter::{ControlLetter, Letters};
 use crate::letter_words::run_of;
 use crate::names::name_of;
 use crate::usage_fault::UsageFault;
+use control_letters::{ControlLetter, Letters};
 use s6_events::Name;
 
 /// What a service is told: `letters`, in their order, in one step.

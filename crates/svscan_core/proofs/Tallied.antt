@@ -18,7 +18,7 @@ use Rattle.supervise_core.specs.ControlLetters.{then_move}
 use Rattle.supervise_core.specs.Chart.{changed_by, control_move, fire_move, with_activity, letter_move}
 use Rattle.supervise_core.specs.Service.{Supervised, ServiceView, with_view, tally_with, death_by}
 use Rattle.supervise_core.proofs.Identity.{KeepsIdentity, keeps_fire, keeps_changed}
-use Rattle.svc_commands.specs.declared.control_letter.ControlLetter.{ControlLetter}
+use Rattle.control_letters.specs.declared.control_letter.ControlLetter.{ControlLetter}
 use Rattle.svscan_core.specs.declared.entry.Entry.{Entry}
 use Rattle.svscan_core.specs.declared.entry.ScanOrder.{ScanOrder}
 use Rattle.svscan_core.specs.declared.entry.ScanOrder.TheVariants.{Nuke, Terminate}

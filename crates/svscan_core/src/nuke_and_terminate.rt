@@ -9,9 +9,9 @@ ghost use Rattle.svscan_core.specs.Work.Work.{command};
 use super::entry::ScanOrder;
 use super::visit::take;
 use arrayvec::ArrayVec;
+use control_letters::{ControlLetter, Letters};
 use s6_events::At;
 use supervise_core::{Change, Out, ServiceState};
-use svc_commands::{ControlLetter, Letters};
 
 // The letters of a service that leaves.
 fn leaving_letters() -> Letters

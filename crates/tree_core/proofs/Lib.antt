@@ -30,3 +30,4 @@ pub mod OneMoreService
 pub mod OneMoreInput
 pub mod HistoryGrows
 pub mod Crosses
+pub mod Sleeping

@@ -13,7 +13,7 @@ use Rattle.finish_core.specs.Restart.{was_ready_long, restart_moment}
 use Rattle.s6_events.specs.declared.exit.Exit.{Exit}
 use Rattle.s6_events.specs.declared.mark.Mark.TheVariants.{Died, FinishDone, SupervisorEnded}
 use Rattle.servicedir.specs.declared.config.Config.{Config}
-use Rattle.svc_commands.specs.declared.control_letter.ControlLetter.{ControlLetter}
+use Rattle.control_letters.specs.declared.control_letter.ControlLetter.{ControlLetter}
 use Rattle.supervise_core.specs.declared.change.Change.{Change}
 use Rattle.supervise_core.specs.declared.change.Change.TheVariants.{Started, StartFailed, Notify, Death, FinishEnded, Control, Fire, SetConfig}
 use Rattle.supervise_core.specs.declared.change.Change.TheVariants.{SetActive}

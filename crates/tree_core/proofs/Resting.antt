@@ -8,7 +8,7 @@ use Rattle.finish_core.specs.declared.exit_verdict.Verdict125.TheVariants.{Perma
 use Rattle.finish_core.specs.ExitVerdict.{verdict_of}
 use Rattle.s6_events.specs.declared.exit.Exit.{Exit}
 use Rattle.servicedir.specs.declared.config.Config.{Config}
-use Rattle.svc_commands.specs.declared.control_letter.ControlLetter.{ControlLetter}
+use Rattle.control_letters.specs.declared.control_letter.ControlLetter.{ControlLetter}
 use Rattle.supervise_core.specs.declared.change.Change.{Change}
 use Rattle.supervise_core.specs.declared.change.Change.TheVariants.{Started, StartFailed, Notify, Death, FinishEnded, Control, Fire, SetConfig}
 use Rattle.supervise_core.specs.declared.change.Change.TheVariants.{SetActive}

@@ -25,3 +25,4 @@ pub mod OneLife
 pub mod Signals
 pub mod Permanent
 pub mod Pause
+pub mod Sleep

@@ -3,8 +3,8 @@ use Rattle.std.specs.Prelude.{◌≡◌, ℕ, List, [], ◌∷◌, ◌++◌, Boo
 use Rattle.std.specs.List.{list_any}
 use Rattle.s6_events.specs.declared.mark.Mark.{Mark}
 use Rattle.s6_events.specs.declared.mark.Mark.TheVariants.{SupervisorStarted, PermanentFailure}
-use Rattle.svc_commands.specs.declared.control_letter.ControlLetter.{ControlLetter}
-use Rattle.svc_commands.specs.declared.control_letter.ControlLetter.TheVariants.{Up}
+use Rattle.control_letters.specs.declared.control_letter.ControlLetter.{ControlLetter}
+use Rattle.control_letters.specs.declared.control_letter.ControlLetter.TheVariants.{Up}
 use Rattle.supervise_core.specs.declared.change.Change.{Change}
 use Rattle.supervise_core.specs.declared.change.Change.TheVariants.{Control}
 use Rattle.tree_core.specs.declared.input.Input.{Input}

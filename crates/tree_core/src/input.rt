@@ -3,12 +3,12 @@ ghost use Rattle.std.specs.Prelude.{◌≡◌};
 
 use super::names::Names;
 use arrayvec::ArrayVec;
+use control_letters::Letters;
 use death_tally::DeathList;
 use event_directory::{Message, Pattern};
 use s6_events::{Actor, At, Condition, Exit, Mode, Name, Sid, SubId, WaitId};
 use std::alloc::Allocator;
 use std::marker::Model;
-use svc_commands::Letters;
 use svscan_core::{Entry, ScanOrder};
 
 /// What a look at the scan directory found, in the order in which it came.

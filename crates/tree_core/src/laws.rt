@@ -12,6 +12,7 @@ ghost use Rattle.tree_core.specs.OneLife.{HasOneLife};
 ghost use Rattle.tree_core.specs.Pause.{PausesAfterDeath};
 ghost use Rattle.tree_core.specs.Permanent.{RestsAfterFailure};
 ghost use Rattle.tree_core.specs.Signals.{SignalsWhatIsThere};
+ghost use Rattle.tree_core.specs.Sleep.{SleepsUntilDue};
 ghost use Rattle.tree_core.specs.declared.input.Input.{Input};
 
 use std::alloc::Allocator;
@@ -65,4 +66,10 @@ pub fn permanent<A: Allocator>()
 pub fn pause<A: Allocator>()
     ensures { (inputs : List (Input A)) → (input : Input A) → (sid : ℕ)
         → PausesAfterDeath inputs input sid }
+{}
+
+/// A tick that makes a clock before the next moment at which something is due gives no event, no order, no match and no release, and changes
+/// nothing but the clock. So whoever sleeps until that moment misses nothing.
+pub fn sleep<A: Allocator>()
+    ensures { (m : Machine) → (input : Input A) → SleepsUntilDue m input }
 {}

@@ -3,11 +3,11 @@ ghost use Rattle.std.specs.Prelude.{◌≡◌, IfOk};
 ghost use Rattle.tree_core.specs.Plain.{act_of};
 
 use super::input::{Act, Input, Target};
+use control_letters::ControlLetter;
 use death_tally::DeathItem;
 use s6_events::{Actor, At, Condition, Exit, Mode, Name, NoMemory, Sid, SubId, WaitId};
 use std::alloc::{AllocError, Allocator};
 use std::marker::Model;
-use svc_commands::ControlLetter;
 use svscan_core::{Entry, ScanOrder};
 
 /// An act as plain data: its lists as vectors, its pattern as the text that it was built from.

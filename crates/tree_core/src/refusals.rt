@@ -22,12 +22,12 @@ use super::limits::NAME_LIMIT;
 use super::names::has_repeated_name;
 use super::reply::Refusal;
 use arrayvec::ArrayVec;
+use control_letters::Letters as ControlLetters;
 use death_tally::{DeathList, permafails};
 use event_directory::{Message, Source};
 use s6_events::{At, Condition, Mode, Name, NoMemory, Sid};
 use std::alloc::Allocator;
 use supervise_core::{Change, Phase};
-use svc_commands::Letters as ControlLetters;
 use svscan_core::{Entry, Registry, has_repeats};
 
 /// The same list.

@@ -18,3 +18,4 @@ pub mod Oldest
 pub mod Ordered
 pub mod Joining
 pub mod NextDeadline
+pub mod Sleeping

@@ -1,12 +1,14 @@
 -- Laws of a waiter's release.
-use Rattle.std.specs.Prelude.{◌≡◌, ℕ, ◌+◌, ◌≤◌, List, [], ◌∷◌, ◌++◌, length, map, take}
+use Rattle.std.specs.Prelude.{◌≡◌, ℕ, ◌+◌, ◌≤◌, List, [], ◌∷◌, ◌++◌, true, length, map, take}
 use Rattle.s6_events.specs.Rising.{AreRising}
 use Rattle.s6_events.specs.declared.moment.Moment.{Moment}
+use Rattle.s6_events.specs.declared.moment.Moment.TheVariants.{Clock}
 use Rattle.wait_conditions.specs.declared.verdict.Verdict.{Verdict}
 use Rattle.wait_conditions.specs.declared.verdict.WaitState.TheVariants.{Waiting, Released}
 use Rattle.wait_conditions.specs.Verdict.{WaitTerms, verdict}
 use Rattle.wait_conditions.specs.Release.{release_state, first_release_of, IsLeast}
 use Rattle.wait_conditions.specs.Stands.{WaitsShown, WaitsStandFor}
+use Rattle.wait_conditions.specs.NextDeadline.{next_deadline, is_before}
 use Rattle.wait_conditions.specs.Watch.{Watch, releases}
 
 -- a released waiter has the verdict that comes at the least number of moments since its place
@@ -39,3 +41,7 @@ ReleasedByTheLastMoment =
 abbrev pub ReleasesRise : Type 0
 ReleasesRise = (s : WaitsShown) (w : Watch) (m : Moment) → WaitsStandFor s w
     → AreRising (map (λ (r : ℕ × Verdict). r.0) (releases w m))
+
+-- a clock reading before the next deadline releases none
+abbrev pub ReleasesNoneBefore : Type 0
+ReleasesNoneBefore = (w : Watch) (at : ℕ) → is_before at (next_deadline w) ≡ true → releases w (Clock at) ≡ []

@@ -1,5 +1,5 @@
 -- The next deadline of the waiters that wait still.
-use Rattle.std.specs.Prelude.{ℕ, List, Option, Some, None, fold, map, min, if◌then◌else◌}
+use Rattle.std.specs.Prelude.{ℕ, List, Bool, true, Option, Some, None, fold, map, min, nat_lt, if◌then◌else◌}
 use Rattle.s6_events.specs.declared.moment.Moment.{Moment}
 use Rattle.wait_conditions.specs.Kept.{StoredWaiter, is_waiting, still_waits}
 use Rattle.wait_conditions.specs.Watch.{Watch, WrittenWaiter, waiter_state}
@@ -21,6 +21,11 @@ awaited_until history p = if is_waiting (waiter_state history p) then p.asked.de
 -- the earliest of these
 abbrev pub next_deadline : Watch → Option ℕ
 next_deadline w = earliest (map (awaited_until w.history) w.waiters)
+
+-- before this moment, where there is one
+abbrev pub is_before : ℕ → Option ℕ → Bool
+is_before at None = true
+is_before at (Some moment) = nat_lt at moment
 
 -- the same by what is stored of a waiter
 abbrev pub stored_until : StoredWaiter → Option ℕ

@@ -1,5 +1,5 @@
 //! Laws of a waiter's release. Each is the contract of a function that does nothing, so that its statement is proved.
-ghost use Rattle.wait_conditions.specs.Laws.{GrowsByMoments, ReleasedAtTheLeast, ReleasedByTheLastMoment, ReleasesRise, WaitsThroughout};
+ghost use Rattle.wait_conditions.specs.Laws.{GrowsByMoments, ReleasedAtTheLeast, ReleasedByTheLastMoment, ReleasesNoneBefore, ReleasesRise, WaitsThroughout};
 
 /// A waiter that is released has the verdict over the least number of moments since its place, from 0 on, at which its verdict
 /// isn't waiting.
@@ -27,4 +27,9 @@ pub fn released_by_the_last_moment()
 /// The releases of one moment come in rising serial.
 pub fn releases_rise()
     ensures { ReleasesRise }
+{}
+
+/// A clock reading before the deadline of each waiter that waits still releases none.
+pub fn none_before_a_deadline()
+    ensures { ReleasesNoneBefore }
 {}

@@ -1,5 +1,5 @@
 use Rattle.std.proofs.Common.{◌≡◌, ◌∙◌, ◌++◌, [], ◌∷◌, ap, sym, Some}
-use Rattle.svc_commands.specs.ControlLetter.{letter_of_byte}
+use Rattle.control_letters.specs.ControlLetter.{letter_of_byte}
 use Rattle.s6_script.proofs.Letters.{letter_back}
 use Rattle.s6_script.proofs.parse.add_letter.Goals as goal
 

@@ -1,6 +1,6 @@
 use Rattle.std.proofs.Common.{◌≡◌, ◌≤◌, List, map, take, length}
-use Rattle.svc_commands.specs.ControlLetter.{byte_of}
-use Rattle.svc_commands.specs.declared.control_letter.ControlLetter.{ControlLetter}
+use Rattle.control_letters.specs.ControlLetter.{byte_of}
+use Rattle.control_letters.specs.declared.control_letter.ControlLetter.{ControlLetter}
 use Rattle.s6_script.proofs.parse.letters_of.Given as goal
 
 abbrev pub invariant-loop-byte : goal.invariant-loop-byte

@@ -1,5 +1,5 @@
 use Rattle.std.proofs.Common.{◌≡◌, ◌++◌, map, take}
-use Rattle.svc_commands.specs.ControlLetter.{byte_of}
+use Rattle.control_letters.specs.ControlLetter.{byte_of}
 use Rattle.s6_script.proofs.spelling.push_letters.Given as goal
 
 abbrev pub invariant-loop-letter : goal.invariant-loop-letter

@@ -1,6 +1,6 @@
 //! The letters of `s6-svc`, and the signals that they stand for.
 ghost use Rattle.std.specs.Prelude.{◌≡◌, ◌==◌, find};
-ghost use Rattle.svc_commands.specs.ControlLetter.{byte_of, letter_of_byte, signal_of};
+ghost use Rattle.control_letters.specs.ControlLetter.{byte_of, letter_of_byte, signal_of};
 
 use arrayvec::ArrayVec;
 

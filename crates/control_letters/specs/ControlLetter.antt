@@ -1,10 +1,10 @@
 -- The control letters of a service: the byte of each, and the signal that it stands for.
 use Rattle.std.specs.Prelude.{ℕ, List, [], ◌∷◌, ◌==◌, Option, None, Some, find}
-use Rattle.svc_commands.specs.declared.control_letter.ControlLetter.{ControlLetter}
-use Rattle.svc_commands.specs.declared.control_letter.ControlLetter.TheVariants.{Alarm, Abort, Quit, Hangup, Kill}
-use Rattle.svc_commands.specs.declared.control_letter.ControlLetter.TheVariants.{Interrupt, Terminate, User1, User2}
-use Rattle.svc_commands.specs.declared.control_letter.ControlLetter.TheVariants.{Pause, Continue, WindowChange, Up}
-use Rattle.svc_commands.specs.declared.control_letter.ControlLetter.TheVariants.{Down, Once, Restart, Exit}
+use Rattle.control_letters.specs.declared.control_letter.ControlLetter.{ControlLetter}
+use Rattle.control_letters.specs.declared.control_letter.ControlLetter.TheVariants.{Alarm, Abort, Quit, Hangup, Kill}
+use Rattle.control_letters.specs.declared.control_letter.ControlLetter.TheVariants.{Interrupt, Terminate, User1, User2}
+use Rattle.control_letters.specs.declared.control_letter.ControlLetter.TheVariants.{Pause, Continue, WindowChange, Up}
+use Rattle.control_letters.specs.declared.control_letter.ControlLetter.TheVariants.{Down, Once, Restart, Exit}
 
 -- a b q h k i t 1 2 p c y, then u d O r x
 abbrev pub byte_of : ControlLetter → ℕ
