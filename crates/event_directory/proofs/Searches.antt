@@ -1,35 +1,32 @@
--- A search by a built pattern finds what the pattern's text finds.
-use Rattle.std.proofs.Common.{◌≡◌, ℕ, ◌<◌, List, Option, None, Some, IsSomeAnd, is_some, get_or, refl, true}
-use Rattle.regex_syntax.specs.Grammar.{Names, read}
-use Rattle.regex_syntax.specs.Brackets.{Nested}
-use Rattle.regex.specs.Patterns.{Re, find_str, default_config, Reads}
-use Rattle.regex.specs.Strings.{regex_source, regex_config, regex_pattern, IsReadFromSource}
-use Rattle.regex.specs.declared.string.regex.Regex.{Regex}
-use Rattle.regex.proofs.OnLiterals.{IsReadAs, is_match_as_written, same_refl}
-use Rattle.regex_syntax.specs.Same.{SameTree}
-use Rattle.std.specs.Str.{chars}
-use Rattle.event_directory.specs.Pattern.{is_expression, tree_of, pattern_of_text, finds}
+-- A search among the bytes of letters finds what the pattern's text finds in them.
+use Rattle.std.proofs.Common.{◌≡◌, refl, ℕ, ◌<◌, List, All, Bool, true, false, Option, None, Some, length, subst, sym, ap, ◌∙◌, arith, get_or}
+use Rattle.std.proofs.lemmas.Bool.Decides.{nat_tests}
+use Rattle.std.proofs.lemmas.Option.{same_Some, slice_get_within, slice_get-get_or}
+use Rattle.std.specs.Int.{is_in_range}
+use Rattle.std.specs.Prelude.{slice_get, if◌then◌else◌, is_some, not}
+use Rattle.regex_hir.specs.Re.{accept, attempt}
+use Rattle.regex_hir.specs.Text.{is_boundary, is_none_or}
+use Rattle.regex_hir.specs.Find.{find, find_str}
+use Rattle.regex_hir.proofs.FindLemmas.{first_between_cong}
+use Rattle.text_matcher.specs.Expression.{expression_of, has_match}
+use Rattle.event_directory.specs.Pattern.{finds}
 
-own_tree : (P : Nested Re × Names → Type 0) (o : Option (Nested Re × Names)) → IsSomeAnd o P → IsSomeAnd o (λ p. SameTree p.0.value (tree_of o))
-own_tree P None h = absurd h
-own_tree P (Some p) h = same_refl p.0.value
+small_byte : (b : ℕ) → b < 128 → is_in_range 0x80 0xBF b ≡ false
+small_byte b small = grind (arith, nat_tests)
 
-read_as_itself : (r : Regex) (text : List ℕ) → regex_source r ≡ text → regex_config r ≡ default_config → IsReadFromSource r
-    → IsReadAs default_config text (pattern_of_text text)
-unfolding Reads pattern_of_text
-read_as_itself r text e d is = own_tree _ (read default_config (chars text)) (rw (e, d) at is)
+before_small : (o : Option ℕ) → ((b : ℕ) → o ≡ Some b → b < 128) → is_none_or o (λ b. not (is_in_range 0x80 0xBF b)) ≡ true
+before_small None small = refl
+before_small (Some b) small = ap not (small_byte b (small b refl))
 
-read_some : (P : Nested Re × Names → Type 0) (o : Option (Nested Re × Names)) → IsSomeAnd o P → is_some o ≡ true
-read_some P None h = absurd h
-read_some P (Some p) h = refl
+-- each place among bytes below 128 is one between two characters
+at_boundary : (hay : List ℕ) → All (λ b. b < 128) hay → (i : ℕ) → is_boundary hay i ≡ true
+unfolding is_boundary
+at_boundary hay small i = before_small (slice_get hay i) (λ b e.
+    let within : i < length hay = slice_get_within hay i b e in
+    let here : get_or hay i 0 ≡ b = same_Some _ _ (sym (slice_get-get_or hay i 0 within) ∙ e) in
+    subst (λ n. n < 128) here (small i 0 within))
 
--- the text of a built pattern is an expression
-pub built_expression : (r : Regex) (text : List ℕ) → regex_source r ≡ text → regex_config r ≡ default_config → IsReadFromSource r
-    → is_expression text ≡ true
-unfolding Reads
-built_expression r text e d is = read_some _ (read default_config (chars text)) (rw (e, d) at is)
-
-pub finds_as_text : (r : Regex) (text hay : List ℕ) → regex_source r ≡ text → regex_config r ≡ default_config → IsReadFromSource r
-    → ((k : ℕ) → get_or hay k 0 < 256) → is_some (find_str (regex_pattern r) hay 0) ≡ finds text hay
-unfolding finds
-finds_as_text r text hay e d is bytes = is_match_as_written r text _ e d is (read_as_itself r text e d is) hay bytes 0
+pub found_among_letters : (text hay : List ℕ) → All (λ b. b < 128) hay → has_match text hay ≡ finds text hay
+unfolding has_match finds find find_str
+found_among_letters text hay small =
+    ap is_some (sym (first_between_cong _ _ 0 (length hay) (λ i _ _. ap (λ b. if b then attempt hay (expression_of text) accept i else None) (at_boundary hay small i))))

@@ -4,7 +4,6 @@ pub mod Views
 pub mod Laws
 pub mod Stored
 pub mod Pattern
-pub mod PatternFields
 pub mod Message
 pub mod Directories
 pub mod Changes

@@ -13,6 +13,7 @@ pub trait Finds: Drop {
     ghost test: { List ℕ → List ℕ → Bool };
 
     /// Whether there is a match in these letters. NoMemory: the search was refused memory.
-    fn finds(&self, letters: &[Letter]) -> Result<bool, NoMemory>
-        ensures { IfOk result (λ found. found ≡ test (source self.now) letters.now) };
+    fn finds(&mut self, letters: &[Letter]) -> Result<bool, NoMemory>
+        ensures found { IfOk result (λ found. found ≡ test (source self.old) letters.now) }
+        ensures same { source self.new ≡ source self.old };
 }

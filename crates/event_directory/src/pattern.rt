@@ -1,38 +1,46 @@
 //! A pattern, built from its text.
-ghost use Rattle.std.specs.Prelude.{◌≡◌, IfOk, IsErrOf, ◌↔◌, true, false, IsTrue, nat_le, ◌<◌, ◌&&◌, string_bytes};
+ghost use Rattle.std.specs.Prelude.{◌≡◌, IfOk, IsErrOf, OnOk, ◌↔◌, true, false, IsTrue, nat_le, ◌<◌, ◌&&◌, All};
 ghost use Rattle.std.specs.List.{list_all};
 ghost use Rattle.event_directory.specs.Pattern.{is_pattern_text, is_expression, finds, pattern_fault};
 
 use crate::finds::Finds;
 use crate::pattern_fault::PatternFault;
-use regex::{Error as RegexError, Regex};
 use s6_events::{Letter, NoMemory};
-use std::alloc::{AllocError, Global};
+use std::alloc::Global;
 use std::marker::Model;
+use text_matcher::{BuildFault, TextMatcher};
 
-/// A regular expression of the crate `regex`, built from a text of 1 to 256 bytes 0x20 to 0x7e. A clause sees its text.
-/// Page `s6-ftrig-listen1`; s6 takes POSIX expressions.
+// So many letters of one text are searched.
+pub(crate) const TEXT_LIMIT: usize = 1024;
+
+/// The most bytes that the tables of a pattern take. So whatever is subscribed, a letter that 256 subscriptions look at is heard
+/// soon, and their matchers take little memory.
+pub const PATTERN_SIZE_LIMIT: usize = 4096;
+
+/// A regular expression of the crate `regex`, built from a text of 1 to 256 bytes 0x20 to 0x7e, with all that searching for it
+/// takes. A clause sees its text. Page `s6-ftrig-listen1`; s6 takes POSIX expressions.
 #[derive(Drop)]
 pub struct Pattern {
     // Behind a pointer, since acts that may hold a pattern are moved about.
-    regex: Box<Regex, Global>,
-    alloc: Global,
+    matcher: Box<TextMatcher, Global>,
+    // The text that is searched.
+    bytes: Vec<u8>,
 }
 
 impl Model for Pattern {
-    ghost use Rattle.std.specs.Prelude.{List, ℕ};
+    ghost use Rattle.std.specs.Prelude.{List, ℕ, IsTrue};
+    ghost use Rattle.event_directory.specs.Pattern.{is_pattern_text};
 
     ghost Value = { List ℕ };
 
-    ghost use Rattle.event_directory.specs.PatternFields.{source_text, IsBuilt};
+    ghost view = { λ p. p.matcher.value };
 
-    ghost view = { source_text };
-
-    ghost invariant = { IsBuilt };
+    ghost invariant = { λ p. IsTrue (is_pattern_text p.matcher.value) };
 }
 
 impl Pattern {
-    /// The pattern of this text. Length is looked for first; Refused: `regex` refused the text, and not for want of memory.
+    /// The pattern of this text. Length is looked for first; Refused: `regex` refused the text, and not for want of memory, or its
+    /// tables would take more than `PATTERN_SIZE_LIMIT`.
     pub fn build(alloc: Global, text: &str) -> Result<Pattern, PatternFault>
         ensures ok { IfOk result (λ p. p ≡ text.now) }
         ensures expression { IfOk result (λ _. is_expression text.now ≡ true) }
@@ -41,12 +49,16 @@ impl Pattern {
         if !is_text(text) {
             return Err(PatternFault::Length);
         }
-        match Regex::new(alloc, text) {
-            Ok(regex) => match Box::new(alloc, regex) {
-                Ok(regex) => Ok(Pattern { regex, alloc }),
-                Err(_) => Err(PatternFault::NoMemory),
-            },
-            Err(error) => Err(fault_of(&error)),
+        let matcher = match TextMatcher::build(alloc, text, PATTERN_SIZE_LIMIT) {
+            Ok(matcher) => matcher,
+            Err(fault) => return Err(fault_of(fault)),
+        };
+        let Ok(bytes) = Vec::with_capacity(alloc, TEXT_LIMIT) else {
+            return Err(PatternFault::NoMemory);
+        };
+        match Box::new(alloc, matcher) {
+            Ok(matcher) => Ok(Pattern { matcher, bytes }),
+            Err(_) => Err(PatternFault::NoMemory),
         }
     }
 
@@ -55,15 +67,7 @@ impl Pattern {
         ensures text { result.now ≡ self.now }
         ensures kind { IsTrue (is_pattern_text result.now) }
     {
-        self.regex.as_str()
-    }
-
-    // Whether it finds a match in this text.
-    fn finds_in(&self, letters: &str) -> Result<bool, AllocError>
-        ensures { IfOk result (λ found. found ≡ finds self.now letters.now) }
-    {
-        let mut matcher = self.regex.matcher(self.alloc)?;
-        Ok(matcher.is_match(letters))
+        self.matcher.source()
     }
 }
 
@@ -72,40 +76,40 @@ impl Finds for Pattern {
 
     ghost test = { finds };
 
-    fn finds(&self, letters: &[Letter]) -> Result<bool, NoMemory> {
-        let text = spell(self.alloc, letters)?;
-        let found = self.finds_in(&text)?;
-        Ok(found)
+    fn finds(&mut self, letters: &[Letter]) -> Result<bool, NoMemory> {
+        spell(&mut self.bytes, letters)?;
+        Ok(self.matcher.is_match(&self.bytes))
     }
 }
 
-// Why a text that `regex` didn't take is no pattern.
-fn fault_of(error: &RegexError) -> PatternFault
-    ensures { result ≡ pattern_fault error.now }
+// Why a text that makes no matcher is no pattern.
+fn fault_of(fault: BuildFault) -> PatternFault
+    ensures { result ≡ pattern_fault fault }
 {
-    match error {
-        RegexError::OutOfMemory => PatternFault::NoMemory,
-        _ => PatternFault::Refused,
+    match fault {
+        BuildFault::NoMemory => PatternFault::NoMemory,
+        BuildFault::Refused => PatternFault::Refused,
     }
 }
 
-// The letters as a text.
-fn spell(alloc: Global, letters: &[Letter]) -> Result<String, AllocError>
-    ensures { IfOk result (λ text. string_bytes text ≡ letters.now) }
+// The letters as bytes.
+fn spell(bytes: &mut Vec<u8>, letters: &[Letter]) -> Result<(), NoMemory>
+    ensures letters { OnOk result (bytes.new.items ≡ letters.now) }
+    ensures ascii { OnOk result (All (λ b. b < 128) bytes.new.items) }
 {
-    let mut text = String::new(alloc);
+    bytes.clear();
     for letter in letters {
-        text.push(char_of(*letter))?;
+        bytes.push(byte_of(*letter))?;
     }
-    Ok(text)
+    Ok(())
 }
 
-// A letter is one byte of a text.
-fn char_of(letter: Letter) -> char
+// The byte of a letter.
+fn byte_of(letter: Letter) -> u8
     ensures value { result ≡ letter }
     ensures ascii { result < 128 }
 {
-    letter.byte() as char
+    letter.byte()
 }
 
 #[tactic(auto, unfolding(crate::specs::Pattern::is_pattern_text))]

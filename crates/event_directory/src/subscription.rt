@@ -6,13 +6,11 @@ ghost use Rattle.event_directory.specs.declared.sub_view.State.TheVariants as st
 
 use crate::finds::Finds;
 use crate::hit::Hit;
+use crate::pattern::TEXT_LIMIT;
 use crate::sub_view::State;
 use s6_events::{Letter, NoMemory, SubId};
 use std::alloc::Allocator;
 use std::marker::Model;
-
-// So many letters of one text are searched.
-const TEXT_LIMIT: usize = 1024;
 
 /// What letters that are not heard yet will make of a subscription.
 #[derive(Drop)]

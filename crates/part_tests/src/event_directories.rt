@@ -24,7 +24,7 @@ impl Finds for AtLeast {
 
     ghost test = { λ source letters. nat_le (sum source) (length letters) };
 
-    fn finds(&self, letters: &[Letter]) -> Result<bool, NoMemory> {
+    fn finds(&mut self, letters: &[Letter]) -> Result<bool, NoMemory> {
         Ok(self.count <= letters.len())
     }
 }
@@ -175,6 +175,16 @@ fn builds_what_it_can(rt: HostRuntime) {
     wants_pattern(&rt, alloc, "(", Some(PatternFault::Refused));
     wants_pattern(&rt, alloc, "a b~", None);
     wants_pattern(&rt, alloc, &long, None);
+}
+
+// 900 states and more take far more than the limit; 256 letters, each with a state of its own, don't.
+#[test]
+fn a_pattern_past_the_limit_is_refused(rt: HostRuntime) {
+    let alloc = rt.alloc();
+    wants_pattern(&rt, alloc, "((a?){30}){30}b", Some(PatternFault::Refused));
+    wants_pattern(&rt, alloc, "a{999}", Some(PatternFault::Refused));
+    wants_pattern(&rt, alloc, "a{256}", None);
+    wants_pattern(&rt, alloc, "^.{5}$", None);
 }
 
 // Hears a letter, and then two of one step, as far as memory goes; whether each was answered.

@@ -1,0 +1,4 @@
+pub mod Expression
+pub mod Matching
+pub mod BuildFault
+pub mod MatcherFields

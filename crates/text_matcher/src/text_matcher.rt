@@ -1,0 +1,157 @@
+//! A matcher: an expression, its automaton, and what searches write to.
+ghost use Rattle.std.specs.Prelude.{◌≡◌, IfOk, None, true, length, vec_len, is_some};
+ghost use Rattle.std.specs.Option.{ForSome};
+ghost use Rattle.regex_bits.specs.Sound.{IsFor};
+ghost use Rattle.regex_vm.specs.Found.{first_match};
+ghost use Rattle.text_matcher.specs.Expression.{is_expression, has_match};
+ghost use Rattle.text_matcher.specs.Matching.{Matches};
+
+use crate::build_fault::BuildFault;
+use regex_bits::Bits;
+use regex_compile::compile;
+use regex_dfa::{Dfa, End, Forward};
+use regex_nfa::{BuildError, Nfa};
+use regex_syntax::{Config, Parsed, parse};
+use regex_vm::PikeVm;
+use std::alloc::Global;
+use std::marker::Model;
+
+// So many bytes the rows of the automaton that is built while it runs take at most.
+const ROW_BYTES: usize = 0x8000;
+
+// So long the rows may have taken to make, in eighths of a nanosecond, before the sets of states are asked first: 0.1 ms in all.
+const ROW_TIME: u64 = 800_000;
+
+/// A regular expression of the crate `regex`, with all that searching for it takes: it owns its automaton and the engines that run
+/// it, so it can be kept for as long as somebody searches. What one search worked out of the automaton the next one finds.
+///
+/// A clause sees its text.
+pub struct TextMatcher {
+    source: String,
+    dfa: Dfa,
+    // Runs the automaton by rows that it makes as it goes, and gives up where they find no room.
+    forward: Forward,
+    // Where many rows are made, tells sooner that there is no match. Where it can't, there may be one or none.
+    bits: Option<Bits>,
+    // Runs it state by state where that gives up: it takes no memory, and never fails.
+    pikevm: PikeVm,
+}
+
+// Written out, so that whoever holds one drops it by one call.
+impl Drop for TextMatcher {
+    fn drop(self) {
+        let TextMatcher {
+            source: _source,
+            dfa: _dfa,
+            bits: _bits,
+            forward: _forward,
+            pikevm: _pikevm,
+        } = self;
+    }
+}
+
+impl Model for TextMatcher {
+    ghost use Rattle.std.specs.Prelude.{List, ℕ};
+
+    ghost Value = { List ℕ };
+
+    ghost use Rattle.text_matcher.specs.MatcherFields.{source_text, IsBuilt};
+
+    ghost view = { source_text };
+
+    ghost invariant = { IsBuilt };
+}
+
+impl TextMatcher {
+    /// The matcher of this text, with the default options of `regex`. Its tables take at most `size_limit` bytes. Refused: the text
+    /// is no expression, nests too deep, or its tables would take more. NoMemory: a growth was refused.
+    pub fn build(alloc: Global, text: &str, size_limit: usize) -> Result<TextMatcher, BuildFault>
+        ensures text { IfOk result (λ m. m ≡ text.now) }
+        ensures expression { IfOk result (λ _. is_expression text.now ≡ true) }
+    {
+        let nfa = automaton_of(alloc, text, size_limit)?;
+        let dfa = match Dfa::new(alloc, nfa) {
+            Ok(dfa) => dfa,
+            Err(BuildError::OutOfMemory) => return Err(BuildFault::NoMemory),
+            Err(BuildError::Malformed) => return Err(BuildFault::Refused),
+        };
+        let bits = Bits::new(alloc, &dfa.nfa)?;
+        let forward = Forward::with_budget(alloc, &dfa, false, ROW_BYTES)?;
+        let pikevm = PikeVm::new(alloc, &dfa.nfa)?;
+        let source = String::from_str(alloc, text)?;
+        Ok(TextMatcher {
+            source,
+            dfa,
+            bits,
+            forward,
+            pikevm,
+        })
+    }
+
+    /// The text that it was built from.
+    pub fn source(&self) -> &str
+        ensures text { result.now ≡ self.now }
+    {
+        self.source.as_str()
+    }
+
+    /// Whether there is a match somewhere in these bytes.
+    pub fn is_match(&mut self, bytes: &[u8]) -> bool
+        ensures found { result ≡ has_match self.old bytes.now }
+        ensures same { self.new ≡ self.old }
+    {
+        if self.forward.work().built > ROW_TIME && is_hopeless(&self.bits, &self.dfa, bytes) {
+            return false;
+        }
+        let end = bytes.len();
+        match self
+            .forward
+            .find_end(&self.dfa, bytes, 0, end, false, true)
+        {
+            End::At(_) => true,
+            End::NoMatch => false,
+            End::Idle(_) | End::GaveUp => finds_by_states(&mut self.pikevm, &self.dfa, bytes),
+        }
+    }
+}
+
+// Whether the sets of states say that there is no match.
+fn is_hopeless(bits: &Option<Bits>, dfa: &Dfa, bytes: &[u8]) -> bool
+    requires { ∥ ForSome bits.now (λ b. IsFor b dfa.now.nfa) ∥₁ }
+    ensures { result ≡ true →
+        first_match dfa.now.nfa bytes.now (length bytes.now) 0 (length bytes.now) ≡ None }
+{
+    match bits {
+        Some(bits) => bits.window(&dfa.nfa, bytes, 0, bytes.len()).is_none(),
+        None => false,
+    }
+}
+
+// Whether the automaton finds a match, run state by state.
+fn finds_by_states(pikevm: &mut PikeVm, dfa: &Dfa, bytes: &[u8]) -> bool
+    requires { pikevm.old.states ≡ vec_len dfa.now.nfa.states }
+    ensures found { result ≡ is_some
+        (first_match dfa.now.nfa bytes.now (length bytes.now) 0 (length bytes.now)) }
+    ensures same { pikevm.new ≡ pikevm.old }
+{
+    let end = bytes.len();
+    pikevm.is_match(&dfa.nfa, bytes, 0, end, end)
+}
+
+// The automaton of the expression that this text is.
+fn automaton_of(alloc: Global, text: &str, size_limit: usize) -> Result<Nfa, BuildFault>
+    ensures matches { IfOk result (λ nfa. Matches nfa text.now) }
+    ensures expression { IfOk result (λ _. is_expression text.now ≡ true) }
+{
+    let Parsed { hir, names } = match parse(alloc, text, &Config::default()) {
+        Ok(parsed) => parsed,
+        Err(error) => return Err(BuildFault::of_parser(error.kind)),
+    };
+    let Ok(groups) = u32::try_from(names.len()) else {
+        return Err(BuildFault::Refused);
+    };
+    match compile(alloc, &hir, groups, size_limit) {
+        Ok(nfa) => Ok(nfa),
+        Err(error) => Err(BuildFault::of_compiler(error)),
+    }
+}
