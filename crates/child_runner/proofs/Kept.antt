@@ -7,7 +7,7 @@ use Rattle.std.proofs.lemmas.List.Folds.{list_any_at}
 use Rattle.s6_events.specs.declared.order.Order.{Order}
 use Rattle.order_lanes.specs.Backend.{answers, IsOfAsked}
 use Rattle.child_runner.specs.Roll.{WasAsked}
-use Rattle.order_lanes.specs.declared.report.Report.{Report}
+use Rattle.s6_events.specs.declared.report.Report.{Report}
 
 pub more_asked : (asked : List Order) (order : Order) (living : List Order) → All (WasAsked asked) living
     → All (WasAsked (asked ++ order ∷ [])) living

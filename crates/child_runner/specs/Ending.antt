@@ -1,7 +1,7 @@
 -- Which reports tell an end.
 use Rattle.std.specs.Prelude.{Bool, true, false}
-use Rattle.order_lanes.specs.declared.report.Report.{Report}
-use Rattle.order_lanes.specs.declared.report.Report.TheVariants.{Started, StartFailed, Notify, Death, FinishEnded}
+use Rattle.s6_events.specs.declared.report.Report.{Report}
+use Rattle.s6_events.specs.declared.report.Report.TheVariants.{Started, StartFailed, Notify, Death, FinishEnded}
 
 -- the report tells that a child has ended
 abbrev pub is_end : Report → Bool

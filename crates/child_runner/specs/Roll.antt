@@ -3,7 +3,7 @@ use Rattle.std.specs.Prelude.{List, map}
 use Rattle.std.specs.declared.snapshot.Snapshot.{Snapshot}
 use Rattle.std.specs.List.{Contains}
 use Rattle.s6_events.specs.declared.order.Order.{Order}
-use Rattle.order_lanes.specs.declared.report.Report.{Report}
+use Rattle.s6_events.specs.declared.report.Report.{Report}
 
 -- all orders that were asked, and all reports that were given, oldest first
 pub record RollView : Type 0 where

@@ -5,7 +5,7 @@ use crate::bell::Bell;
 use crate::commands::{
     directory_of, finish_command, is_executable, is_read, path_of, run_command, text_of,
 };
-use crate::keeper::{Keeper, SIGKILL};
+use crate::keeper::Keeper;
 use crate::process::{Pipe, ServiceProcess};
 use crate::roll::Roll;
 use crate::roster::Roster;
@@ -13,7 +13,7 @@ use crate::shell::{Sending, signal_child};
 use crate::start::{Program, Start, is_last};
 use error_notes::Notes;
 use order_lanes::{AskFault, Backend, Report};
-use s6_events::{Name, NoMemory, Order, Sid};
+use s6_events::{Name, NoMemory, Order, SIGKILL, Sid};
 use std::alloc::{AllocError, Global};
 use std::io;
 use std::marker::Model;

@@ -13,9 +13,6 @@ use std::thread::{Builder, JoinHandle, Scope, Threads};
 use std::time::Clock;
 use thiserror::Error;
 
-/// The number of SIGKILL.
-pub(crate) const SIGKILL: u8 = 9;
-
 /// Why there is no keeper.
 #[derive(Clone, Copy, Debug, PartialEq, Eq, Error)]
 pub enum KeeperFault {

@@ -7,7 +7,7 @@ ghost use Rattle.s6_events.specs.declared.order.Order.{Order as Asked};
 ghost use Rattle.order_lanes.specs.Backend.{answers, IsOfAsked};
 
 use crate::start::is_last;
-use order_lanes::Report;
+use order_lanes::{Report, answers};
 use s6_events::{NoMemory, Order};
 use std::alloc::Global;
 use std::marker::Model;
@@ -41,7 +41,7 @@ fn place_of(orders: &[Order], report: &Report) -> Option<usize>
         × (slice_get orders.now k ≡ Some order) × IsTrue (answers order report.now)) }
 {
     for (place, order) in orders.iter().enumerate() {
-        if report.answers(order) {
+        if answers(order, report) {
             return Some(place);
         }
     }

@@ -3,8 +3,8 @@ use Rattle.std.specs.Prelude.{ℕ, List, Bool, false, ◌==◌, ◌&&◌, IsTrue
 use Rattle.std.specs.List.{list_any}
 use Rattle.s6_events.specs.declared.order.Order.{Order}
 use Rattle.s6_events.specs.declared.order.Order.TheVariants.{Run, Finish, Signal, KillFinish}
-use Rattle.order_lanes.specs.declared.report.Report.{Report}
-use Rattle.order_lanes.specs.declared.report.Report.TheVariants.{Started, StartFailed, Notify, Death, FinishEnded}
+use Rattle.s6_events.specs.declared.report.Report.{Report}
+use Rattle.s6_events.specs.declared.report.Report.TheVariants.{Started, StartFailed, Notify, Death, FinishEnded}
 
 -- the report is of `run` of this service and generation
 abbrev pub is_of_run : ℕ → ℕ → Report → Bool

@@ -1,7 +1,7 @@
 -- What a contract sees of a desk, and what one turn does there.
 use Rattle.std.specs.Prelude.{◌≡◌, ℕ, List, [], ◌∷◌, ◌++◌, Option, Some, None}
 use Rattle.s6_events.specs.declared.order.Order.{Order}
-use Rattle.order_lanes.specs.declared.report.Report.{Report}
+use Rattle.s6_events.specs.declared.report.Report.{Report}
 
 -- what its backend took and gave, the order that is held, what was taken from the ring, and what is seen there beyond that
 pub record DeskView : Type 0 where

@@ -1,7 +1,7 @@
 -- What a contract sees of a probe.
 use Rattle.std.specs.Prelude.{ℕ, List}
 use Rattle.s6_events.specs.declared.order.Order.{Order}
-use Rattle.order_lanes.specs.declared.report.Report.{Report}
+use Rattle.s6_events.specs.declared.report.Report.{Report}
 
 -- what it took and gave, and how often it is still to be busy
 pub record ProbeView : Type 0 where

@@ -2,8 +2,8 @@
 use Rattle.std.specs.declared.alloc.Global.{Global}
 use Rattle.tree_core.specs.declared.input.Act.{Act}
 use Rattle.tree_core.specs.declared.input.Act.TheVariants as act
-use Rattle.order_lanes.specs.declared.report.Report.{Report}
-use Rattle.order_lanes.specs.declared.report.Report.TheVariants.{Started, StartFailed, Notify, Death, FinishEnded}
+use Rattle.s6_events.specs.declared.report.Report.{Report}
+use Rattle.s6_events.specs.declared.report.Report.TheVariants.{Started, StartFailed, Notify, Death, FinishEnded}
 
 -- the act with the same fields
 abbrev pub act_of : Report → Act Global

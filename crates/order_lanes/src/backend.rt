@@ -1,11 +1,10 @@
 //! What carries out orders.
 ghost use Rattle.std.specs.Prelude.{◌≡◌, List, [], ◌∷◌, ◌++◌, OnOk, IfErr, IfSome, IfNone};
 ghost use Rattle.s6_events.specs.declared.order.Order.{Order as Asked};
-ghost use Rattle.order_lanes.specs.declared.report.Report.{Report as Given};
+ghost use Rattle.s6_events.specs.declared.report.Report.{Report as Given};
 ghost use Rattle.order_lanes.specs.Backend.{IsOfAsked};
 
-use crate::report::Report;
-use s6_events::Order;
+use s6_events::{Order, Report};
 
 /// Why a backend handed an order back. It may be asked the same order again at any time.
 #[derive(Clone, Copy, PartialEq, Eq, Debug)]

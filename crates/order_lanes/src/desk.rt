@@ -10,9 +10,8 @@ ghost use Rattle.order_lanes.specs.declared.desk.Carried.TheVariants.{Asked, Idl
 use crate::backend::{AskFault, Backend};
 use crate::lane::Lane;
 use crate::lanes::Lanes;
-use crate::report::Report;
 use rtrb::Consumer;
-use s6_events::Order;
+use s6_events::{Order, Report};
 use std::marker::{Model, PhantomData};
 
 /// What `carry_one` did.

@@ -15,5 +15,6 @@ pub use desk::{Carried, Desk};
 pub use lane::Lane;
 pub use lane_orders::{blocked_lane, lane_of, send_all};
 pub use lanes::Lanes;
-pub use report::Report;
+pub use report::{act_of, answers, is_of_asked};
 pub use ring::{LANE_ROOM, LaneRing, open_lane_rings};
+pub use s6_events::Report;

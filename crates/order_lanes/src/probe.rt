@@ -2,8 +2,8 @@
 ghost use Rattle.std.specs.Prelude.{◌≡◌, [], ◌∷◌, ◌++◌, OnOk, OnErr};
 
 use crate::backend::{AskFault, Backend};
-use crate::report::Report;
-use s6_events::{NoMemory, Order};
+use crate::report::is_of_asked;
+use s6_events::{NoMemory, Order, Report};
 use std::alloc::Global;
 use std::marker::Model;
 use std::snapshot::Snapshot;
@@ -90,7 +90,7 @@ impl<R: Wait + Drop> Backend for Probe<R> {
         for _ in 0..self.waiting.len() {
             self.given.reserve(1).ok()?;
             let report = self.waiting.pop()?;
-            if report.is_of_asked(self.asked.as_slice()) {
+            if is_of_asked(self.asked.as_slice(), &report) {
                 self.given.push_reserved(Snapshot::of(&report));
                 return Some(report);
             }

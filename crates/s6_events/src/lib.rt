@@ -1,4 +1,4 @@
-//! What every layer speaks of: services, moments, marks, orders, and the history of all of them.
+//! What every layer speaks of: services, moments, marks, orders, reports, and the history of all of them.
 #![tactic(auto)]
 
 mod at;
@@ -14,6 +14,7 @@ mod moment;
 mod name;
 mod no_memory;
 mod order;
+mod report;
 
 pub use at::At;
 pub use condition::{Condition, Mode};
@@ -27,4 +28,5 @@ pub use mark::Mark;
 pub use moment::Moment;
 pub use name::Name;
 pub use no_memory::NoMemory;
-pub use order::Order;
+pub use order::{Order, SIGKILL};
+pub use report::Report;

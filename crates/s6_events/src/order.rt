@@ -2,6 +2,9 @@
 use crate::ids::Sid;
 use crate::name::Name;
 
+/// The number of SIGKILL.
+pub const SIGKILL: u8 = 9;
+
 /// What the outside is asked to do for a service. The second field is the generation: the number of the run, from 1, that is
 /// started or signalled. Page `s6-supervise`, "Detailed operation"; that starts and signals are orders is chosen here.
 #[derive(Clone, Copy, PartialEq, Eq, Debug)]

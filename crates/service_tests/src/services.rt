@@ -3,7 +3,7 @@ ghost use Rattle.std.specs.Prelude.{◌+◌, ◌<◌, ◌^◌};
 
 use arrayvec::ArrayVec;
 use control_letters::{ControlLetter, Letters};
-use s6_events::{At, Exit, Mark, Name, Order, Sid};
+use s6_events::{At, Exit, Mark, Name, Order, Report, Sid};
 use servicedir::Config;
 use std::alloc::Global;
 use std::process::Abort;
@@ -30,7 +30,7 @@ fn notify(rt: &impl Abort, generation: u64, bytes: &[u8]) -> Change {
     let mut list = ArrayVec::new();
     let added = list.try_extend_from_slice(bytes).is_ok();
     assert!(rt; added);
-    Change::Notify(generation, list)
+    Change::Report(Report::Notify(Sid(1), generation, list))
 }
 
 // The answer to a change is this.
@@ -39,16 +39,25 @@ fn gives(rt: &impl Abort, out: &Out, now: u64, wanted: Given) {
     assert_eq!(rt; found, wanted, "at {now}");
 }
 
+// Takes a report by the call that is named after it.
+fn take_report(service: &mut Service<Global>, report: &Report, now: At) -> Out
+    requires { service.old.chart.generation + 1 < 2 ^ 64 }
+{
+    match report {
+        Report::Started(_, generation, pid) => service.started(*generation, *pid, now),
+        Report::StartFailed(_, generation) => service.start_failed(*generation, now),
+        Report::Notify(_, generation, bytes) => service.notify(*generation, bytes.as_slice(), now),
+        Report::Death(_, generation, exit) => service.death(*generation, *exit, now),
+        Report::FinishEnded(_, generation, exit) => service.finish_ended(*generation, *exit, now),
+    }
+}
+
 // Takes a change by the call that is named after it.
 fn take(service: &mut Service<Global>, change: &Change, now: At) -> Out
     requires { service.old.chart.generation + 1 < 2 ^ 64 }
 {
     match change {
-        Change::Started(generation, pid) => service.started(*generation, *pid, now),
-        Change::StartFailed(generation) => service.start_failed(*generation, now),
-        Change::Notify(generation, bytes) => service.notify(*generation, bytes.as_slice(), now),
-        Change::Death(generation, exit) => service.death(*generation, *exit, now),
-        Change::FinishEnded(generation, exit) => service.finish_ended(*generation, *exit, now),
+        Change::Report(report) => take_report(service, report, now),
         Change::Control(letters) => service.control(letters, now),
         Change::Fire => service.fire(now),
         Change::SetConfig(config) => service.set_config(*config),
@@ -92,17 +101,29 @@ fn play(rt: &impl Abort, pair: &mut Pair, now: u64, change: &Change, wanted: Giv
 fn play_to_ready(rt: &impl Abort, web: Name, pair: &mut Pair) {
     let second = [Order::Run(Sid(1), 2, web, Some(3))];
     let ready = notify(rt, 2, b"a\n\n");
-    play(rt, pair, 0, &Change::StartFailed(1), (&[], &[], false));
+    play(
+        rt,
+        pair,
+        0,
+        &Change::Report(Report::StartFailed(Sid(1), 1)),
+        (&[], &[], false),
+    );
     play(rt, pair, 59999, &Change::Fire, (&[], &[], false));
     play(rt, pair, 60000, &Change::Fire, (&[], &second, false));
     play(
         rt,
         pair,
         60000,
-        &Change::Started(2, 500),
+        &Change::Report(Report::Started(Sid(1), 2, 500)),
         (&[Mark::Spawned], &[], false),
     );
-    play(rt, pair, 60010, &Change::Started(2, 501), (&[], &[], true));
+    play(
+        rt,
+        pair,
+        60010,
+        &Change::Report(Report::Started(Sid(1), 2, 501)),
+        (&[], &[], true),
+    );
     play(rt, pair, 60100, &ready, (&[Mark::Ready], &[], false));
 }
 
@@ -119,8 +140,8 @@ fn play_to_killed(rt: &impl Abort, pair: &mut Pair) {
 fn play_to_failed(rt: &impl Abort, web: Name, pair: &mut Pair) {
     let finish = [Order::Finish(Sid(1), 2, web, 256, 9)];
     let failed = [Mark::PermanentFailure, Mark::FinishDone];
-    let died = Change::Death(2, Exit::Killed(9));
-    let ended = Change::FinishEnded(2, Exit::Code(125));
+    let died = Change::Report(Report::Death(Sid(1), 2, Exit::Killed(9)));
+    let ended = Change::Report(Report::FinishEnded(Sid(1), 2, Exit::Code(125)));
     play(rt, pair, 60800, &died, (&[Mark::Died], &finish, false));
     play(rt, pair, 60900, &ended, (&failed, &[], false));
 }
@@ -255,7 +276,11 @@ fn a_service_with_a_file_down_begins_without_a_run(rt: HostRuntime) {
 // A start is added to what is there.
 fn add_start(rt: &impl Abort, standing: &mut ServiceState, pid: u32, out: &mut Out) {
     assert!(rt; standing.chart().generation < 9 && out.events.len() < 4 && out.orders.len() < 9);
-    standing.change_onto(&Change::Started(1, pid), at(rt, 5), out);
+    standing.change_onto(
+        &Change::Report(Report::Started(Sid(1), 1, pid)),
+        at(rt, 5),
+        out,
+    );
 }
 
 // A letter is added to what is there.

@@ -4,8 +4,8 @@ use Rattle.std.proofs.lemmas.List.Sums.{fold-append}
 use Rattle.s6_events.specs.declared.exit.Exit.{Exit}
 use Rattle.control_letters.specs.declared.control_letter.ControlLetter.{ControlLetter}
 use Rattle.supervise_core.specs.declared.change.Change.{Change}
-use Rattle.supervise_core.specs.declared.change.Change.TheVariants.{Started, StartFailed, Notify, Death, FinishEnded, Control, Fire, SetConfig}
-use Rattle.supervise_core.specs.declared.change.Change.TheVariants.{SetActive}
+use Rattle.s6_events.specs.declared.report.Report.TheVariants.{Started, StartFailed, Notify, Death, FinishEnded}
+use Rattle.supervise_core.specs.declared.change.Change.TheVariants.{Report, Control, Fire, SetConfig, SetActive}
 use Rattle.supervise_core.specs.declared.chart.ChartState.{ChartState}
 use Rattle.supervise_core.specs.ChartState.{Moved, no_move}
 use Rattle.supervise_core.specs.Chart.{started_move, start_failed_move, notify_move, death_move, finish_ended_move, control_move, letter_move}
@@ -51,11 +51,11 @@ walks_control : (letters : List ControlLetter) (now : ℕ) (c : ChartState) → 
 walks_control letters now c = walks_rest now letters c (no_move c) refl
 
 pub walks_changed : (change : Change) (now : ℕ) (c : ChartState) → Walks c (changed_by change now c)
-walks_changed (Started generation pid) now c = walks_started generation pid now c
-walks_changed (StartFailed generation) now c = walks_start_failed generation now c
-walks_changed (Notify generation bytes) now c = walks_notified generation bytes.items now c
-walks_changed (Death generation exit) now c = walks_death generation exit now c
-walks_changed (FinishEnded generation exit) now c = walks_finish_ended generation exit now c
+walks_changed (Report (Started _ generation pid)) now c = walks_started generation pid now c
+walks_changed (Report (StartFailed _ generation)) now c = walks_start_failed generation now c
+walks_changed (Report (Notify _ generation bytes)) now c = walks_notified generation bytes.items now c
+walks_changed (Report (Death _ generation exit)) now c = walks_death generation exit now c
+walks_changed (Report (FinishEnded _ generation exit)) now c = walks_finish_ended generation exit now c
 walks_changed (Control letters) now c = walks_control letters.items now c
 walks_changed Fire now c = walks_fire now c
 walks_changed (SetConfig config) now c = refl

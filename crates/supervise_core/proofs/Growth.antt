@@ -3,8 +3,8 @@ use Rattle.std.proofs.Common.{ℕ, ◌+◌, ◌≤◌, List, Bool, true, false, 
 use Rattle.std.specs.Prelude.{nat_le}
 use Rattle.finish_core.specs.Restart.{restart_moment}
 use Rattle.supervise_core.specs.declared.change.Change.{Change}
-use Rattle.supervise_core.specs.declared.change.Change.TheVariants.{Started, StartFailed, Notify, Death, FinishEnded, Control, Fire, SetConfig}
-use Rattle.supervise_core.specs.declared.change.Change.TheVariants.{SetActive}
+use Rattle.s6_events.specs.declared.report.Report.TheVariants.{Started, StartFailed, Notify, Death, FinishEnded}
+use Rattle.supervise_core.specs.declared.change.Change.TheVariants.{Report, Control, Fire, SetConfig, SetActive}
 use Rattle.supervise_core.specs.declared.chart.ChartState.{ChartState}
 use Rattle.supervise_core.specs.declared.phase.Phase.{Phase}
 use Rattle.supervise_core.specs.declared.phase.Phase.TheVariants.{Down, Starting, Up, Finish, Gone}
@@ -61,17 +61,17 @@ grows_control : (letters : List ControlLetter) (now : ℕ) (c : ChartState) → 
 grows_control letters now c = omega (arith, spends_control letters now c, one_run_left c.phase)
 
 pub grows_changed : (change : Change) (now : ℕ) (c : ChartState) → Grows c (changed_by change now c)
-grows_changed (Started generation pid) now c =
+grows_changed (Report (Started _ generation pid)) now c =
     grows_either (is_awaiting generation c) c _ _ (grows_either c.down_pending c _ _ (omega arith) (omega arith)) (omega arith)
-grows_changed (StartFailed generation) now c =
+grows_changed (Report (StartFailed _ generation)) now c =
     grows_either (is_awaiting generation c) c _ _ (grows_either c.exit_requested c _ _ (omega arith) (omega arith))
     (grows_either (is_in_finish generation c) c _ _ (grows_settle now c) (omega arith))
-grows_changed (Notify generation bytes) now c =
+grows_changed (Report (Notify _ generation bytes)) now c =
     grows_either (is_running generation c) c _ _ (grows_either (says_ready bytes.items c) c _ _ (omega arith) (omega arith)) (omega arith)
-grows_changed (Death generation exit) now c =
+grows_changed (Report (Death _ generation exit)) now c =
     grows_either (is_running generation c) c _ _
     (grows_either c.config.finish c _ _ (omega arith) (grows_settle now (with_last_exit exit now c))) (omega arith)
-grows_changed (FinishEnded generation exit) now c =
+grows_changed (Report (FinishEnded _ generation exit)) now c =
     grows_either (is_in_finish generation c) c _ _ (grows_finish (verdict_of exit) now c) (omega arith)
 grows_changed (Control letters) now c = grows_control letters.items now c
 grows_changed Fire now c = grows_fire now c

@@ -4,8 +4,8 @@ use Rattle.s6_events.specs.declared.exit.Exit.{Exit}
 use Rattle.servicedir.specs.declared.config.Config.{Config}
 use Rattle.control_letters.specs.declared.control_letter.ControlLetter.{ControlLetter}
 use Rattle.supervise_core.specs.declared.change.Change.{Change}
-use Rattle.supervise_core.specs.declared.change.Change.TheVariants.{Started, StartFailed, Notify, Death, FinishEnded, Control, Fire, SetConfig}
-use Rattle.supervise_core.specs.declared.change.Change.TheVariants.{SetActive}
+use Rattle.s6_events.specs.declared.report.Report.TheVariants.{Started, StartFailed, Notify, Death, FinishEnded}
+use Rattle.supervise_core.specs.declared.change.Change.TheVariants.{Report, Control, Fire, SetConfig, SetActive}
 use Rattle.supervise_core.specs.declared.chart.ChartState.{ChartState}
 use Rattle.supervise_core.specs.ChartState.{Moved, no_move, new_service}
 use Rattle.supervise_core.specs.Moves.{begin_move}
@@ -60,11 +60,11 @@ keeps_finish_ended : (generation : ℕ) (exit : Exit) (now : ℕ) (c : ChartStat
 keeps_finish_ended generation exit now c = record { sid = search rules; name = search rules; most = search rules }
 
 pub keeps_changed : (change : Change) (now : ℕ) (c : ChartState) → KeepsIdentity c (changed_by change now c)
-keeps_changed (Started generation pid) now c = keeps_started generation pid now c
-keeps_changed (StartFailed generation) now c = keeps_start_failed generation now c
-keeps_changed (Notify generation bytes) now c = keeps_notified generation bytes.items now c
-keeps_changed (Death generation exit) now c = keeps_death generation exit now c
-keeps_changed (FinishEnded generation exit) now c = keeps_finish_ended generation exit now c
+keeps_changed (Report (Started _ generation pid)) now c = keeps_started generation pid now c
+keeps_changed (Report (StartFailed _ generation)) now c = keeps_start_failed generation now c
+keeps_changed (Report (Notify _ generation bytes)) now c = keeps_notified generation bytes.items now c
+keeps_changed (Report (Death _ generation exit)) now c = keeps_death generation exit now c
+keeps_changed (Report (FinishEnded _ generation exit)) now c = keeps_finish_ended generation exit now c
 keeps_changed (Control letters) now c = keeps_rest now letters.items c (no_move c) (record { sid = refl; name = refl; most = refl })
 keeps_changed Fire now c = keeps_fire now c
 keeps_changed (SetConfig config) now c = record { sid = refl; name = refl; most = refl }

@@ -6,18 +6,18 @@ pub use Rattle.supervise_core.specs.ControlLetters.{letter_move, control_move}
 pub use Rattle.supervise_core.specs.Timer.{is_due, timer_rule, fire_move}
 pub use Rattle.supervise_core.specs.Listed.{with_activity, with_config}
 use Rattle.supervise_core.specs.declared.change.Change.{Change}
-use Rattle.supervise_core.specs.declared.change.Change.TheVariants.{Started, StartFailed, Notify, Death, FinishEnded}
-use Rattle.supervise_core.specs.declared.change.Change.TheVariants.{Control, Fire, SetConfig, SetActive}
+use Rattle.s6_events.specs.declared.report.Report.TheVariants.{Started, StartFailed, Notify, Death, FinishEnded}
+use Rattle.supervise_core.specs.declared.change.Change.TheVariants.{Report, Control, Fire, SetConfig, SetActive}
 use Rattle.supervise_core.specs.declared.chart.ChartState.{ChartState}
 use Rattle.supervise_core.specs.ChartState.{Moved, no_move}
 
--- the five reports, a call with letters, the timer, and what a look at the directory tells
+-- the five reports, whose generation tells whether they are stale, letters, the timer, and what a look at the directory tells
 abbrev pub changed_by : Change → ℕ → ChartState → Moved
-changed_by (Started generation pid) now c = started_move generation pid now c
-changed_by (StartFailed generation) now c = start_failed_move generation now c
-changed_by (Notify generation bytes) now c = notify_move generation bytes.items now c
-changed_by (Death generation exit) now c = death_move generation exit now c
-changed_by (FinishEnded generation exit) now c = finish_ended_move generation exit now c
+changed_by (Report (Started sid generation pid)) now c = started_move generation pid now c
+changed_by (Report (StartFailed sid generation)) now c = start_failed_move generation now c
+changed_by (Report (Notify sid generation bytes)) now c = notify_move generation bytes.items now c
+changed_by (Report (Death sid generation exit)) now c = death_move generation exit now c
+changed_by (Report (FinishEnded sid generation exit)) now c = finish_ended_move generation exit now c
 changed_by (Control letters) now c = control_move letters.items now c
 changed_by Fire now c = fire_move now c
 changed_by (SetConfig config) now c = no_move (with_config config c)

@@ -1,8 +1,8 @@
 -- What a change of a service answers.
 use Rattle.std.specs.Prelude.{◌≡◌, ◌++◌, ◌||◌, ℕ}
 use Rattle.supervise_core.specs.declared.change.Change.{Change}
-use Rattle.supervise_core.specs.declared.change.Change.TheVariants.{Started, StartFailed, Notify, Death, FinishEnded}
-use Rattle.supervise_core.specs.declared.change.Change.TheVariants.{Control, Fire, SetConfig, SetActive}
+use Rattle.s6_events.specs.declared.report.Report.TheVariants.{Started, StartFailed, Notify, Death, FinishEnded}
+use Rattle.supervise_core.specs.declared.change.Change.TheVariants.{Report, Control, Fire, SetConfig, SetActive}
 use Rattle.supervise_core.specs.declared.chart.ChartState.{ChartState}
 use Rattle.supervise_core.specs.declared.out.Out.{Out}
 use Rattle.supervise_core.specs.ChartState.{Moved}
@@ -28,11 +28,11 @@ most_orders _ = 2
 
 -- the most marks that a change may give
 abbrev pub most_marks : Change → ℕ
-most_marks (Started generation pid) = 1
-most_marks (StartFailed generation) = 2
-most_marks (Notify generation bytes) = 1
-most_marks (Death generation exit) = 3
-most_marks (FinishEnded generation exit) = 3
+most_marks (Report (Started sid generation pid)) = 1
+most_marks (Report (StartFailed sid generation)) = 2
+most_marks (Report (Notify sid generation bytes)) = 1
+most_marks (Report (Death sid generation exit)) = 3
+most_marks (Report (FinishEnded sid generation exit)) = 3
 most_marks (Control letters) = 1
 most_marks Fire = 1
 most_marks (SetConfig config) = 0

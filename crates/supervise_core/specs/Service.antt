@@ -1,12 +1,13 @@
 -- What a contract sees of a service, and the histories that agree with it.
-use Rattle.std.specs.Prelude.{◌≡◌, ℕ, ◌++◌, List, Bool, false, Option, None, Some}
+use Rattle.std.specs.Prelude.{◌≡◌, ℕ, ◌++◌, List, Bool, true, false, Option, None, Some}
 use Rattle.death_tally.specs.LastDeaths.{Deaths, with_death}
 use Rattle.s6_events.specs.declared.exit.Exit.{Exit}
 use Rattle.s6_events.specs.declared.mark.Mark.{Mark}
 use Rattle.s6_events.specs.declared.moment.Moment.{Moment}
 use Rattle.s6_events.specs.Clock.{clock_of}
 use Rattle.supervise_core.specs.declared.change.Change.{Change}
-use Rattle.supervise_core.specs.declared.change.Change.TheVariants.{Death}
+use Rattle.s6_events.specs.declared.report.Report.TheVariants.{Death}
+use Rattle.supervise_core.specs.declared.change.Change.TheVariants.{Report}
 use Rattle.supervise_core.specs.declared.chart.ChartState.{ChartState}
 use Rattle.supervise_core.specs.declared.row.Status.{Status}
 use Rattle.supervise_core.specs.Status.{Agrees, mark_moments}
@@ -25,9 +26,14 @@ pub record ServiceView : Type 0 where
 abbrev pub service_view : Supervised → ServiceView
 service_view s = record { chart = s.chart; status = s.status }
 
--- the death of a change that was not stale
+-- a death that was reported at this moment, unless the report was stale
+abbrev pub death_unless : Bool → ℕ → Exit → Option (ℕ × Exit)
+death_unless false now exit = Some (now, exit)
+death_unless true now exit = None
+
+-- the death of a change
 abbrev pub death_by : Change → Bool → ℕ → Option (ℕ × Exit)
-death_by (Death generation exit) false now = Some (now, exit)
+death_by (Report (Death sid generation exit)) stale now = death_unless stale now exit
 death_by change stale now = None
 
 -- the tally, with a death more where there is one

@@ -8,7 +8,7 @@ ghost use Rattle.supervise_core.specs.MatchesMove.{MatchesMove, AppendsMove, mos
 use super::change::Change;
 use super::out::Out;
 use super::phase::Phase;
-use s6_events::{At, Exit, Name, Sid};
+use s6_events::{At, Exit, Name, Report, Sid};
 use servicedir::Config;
 
 /// The state of a service and its supervisor, without its tally of deaths. It is copyable and takes each change as its service
@@ -114,13 +114,19 @@ impl ChartState {
             ≤ length out.old.orders.items + most_orders change.now }
     {
         match change {
-            Change::Started(generation, pid) => self.started_onto(*generation, *pid, now, out),
-            Change::StartFailed(generation) => self.start_failed_onto(*generation, now, out),
-            Change::Notify(generation, bytes) => {
+            Change::Report(Report::Started(_, generation, pid)) => {
+                self.started_onto(*generation, *pid, now, out)
+            }
+            Change::Report(Report::StartFailed(_, generation)) => {
+                self.start_failed_onto(*generation, now, out)
+            }
+            Change::Report(Report::Notify(_, generation, bytes)) => {
                 self.notify_onto(*generation, bytes.as_slice(), now, out)
             }
-            Change::Death(generation, exit) => self.death_onto(*generation, *exit, now, out),
-            Change::FinishEnded(generation, exit) => {
+            Change::Report(Report::Death(_, generation, exit)) => {
+                self.death_onto(*generation, *exit, now, out)
+            }
+            Change::Report(Report::FinishEnded(_, generation, exit)) => {
                 self.finish_ended_onto(*generation, *exit, now, out)
             }
             Change::Control(letters) => self.take_letters(letters.as_slice(), now, out),

@@ -9,9 +9,6 @@ use super::phase::Phase;
 use finish_core::{finish_args, restart_due};
 use s6_events::{At, Exit, Mark, Order};
 
-/// SIGKILL.
-pub const KILL: u8 = 9;
-
 /// SIGCONT, which follows each down signal.
 const CONTINUE: u8 = 18;
 

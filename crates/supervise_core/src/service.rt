@@ -9,8 +9,7 @@ ghost use Rattle.supervise_core.specs.EventGrammar.{LeadsTo};
 ghost use Rattle.s6_events.specs.declared.mark.Mark.{Mark};
 ghost use Rattle.supervise_core.specs.Status.{mark_moments};
 ghost use Rattle.death_tally.specs.LastDeaths.{new_tally};
-ghost use Rattle.supervise_core.specs.declared.change.Change.TheVariants.{Death};
-ghost use Rattle.supervise_core.specs.Service.{AgreesWith, KeepsAgreeing, with_view, death_by, tally_with, service_view};
+ghost use Rattle.supervise_core.specs.Service.{AgreesWith, KeepsAgreeing, with_view, death_by, death_unless, tally_with, service_view};
 ghost use Rattle.supervise_core.specs.StatusRow.{status_row};
 
 use super::change::Change;
@@ -206,13 +205,13 @@ impl<A: Allocator + Copy> Service<A> {
         ensures gives { MatchesMove
             (death_move generation exit now self.old.chart) self.new.chart result }
         ensures tally { self.new.tally
-            ≡ tally_with self.old.tally (death_by (Death generation exit) result.stale now) }
+            ≡ tally_with self.old.tally (death_unless result.stale now exit) }
         ensures agrees { KeepsAgreeing now result.events.items (service_view self.old)
             (service_view self.new) }
     {
         let out = self.chart.death(generation, exit, now);
         self.status.record_marks(out.events.as_slice(), now);
-        self.join(Change::Death(generation, exit).death(out.stale, now));
+        self.join(if out.stale { None } else { Some((now, exit)) });
         out
     }
 

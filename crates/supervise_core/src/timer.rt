@@ -4,10 +4,9 @@ ghost use Rattle.supervise_core.specs.Timer.{fire_move, timer_rule, is_due};
 ghost use Rattle.supervise_core.specs.MatchesMove.{MatchesMove, AppendsMove};
 
 use super::chart::ChartState;
-use super::moves::KILL;
 use super::out::Out;
 use super::phase::Phase;
-use s6_events::{At, Order};
+use s6_events::{At, Order, SIGKILL};
 
 // The timer.
 impl ChartState {
@@ -59,7 +58,7 @@ impl ChartState {
             Phase::Starting => {}
             Phase::Up => {
                 out.orders
-                    .push(Order::Signal(self.sid, self.generation, KILL));
+                    .push(Order::Signal(self.sid, self.generation, SIGKILL));
                 self.timer = None;
             }
             Phase::Finish => {

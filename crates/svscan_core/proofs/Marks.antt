@@ -6,8 +6,8 @@ use Rattle.servicedir.specs.declared.config.Config.{Config}
 use Rattle.control_letters.specs.declared.control_letter.ControlLetter.{ControlLetter}
 use Rattle.supervise_core.specs.declared.chart.ChartState.{ChartState}
 use Rattle.supervise_core.specs.declared.change.Change.{Change}
-use Rattle.supervise_core.specs.declared.change.Change.TheVariants.{Started, StartFailed, Notify, Death, FinishEnded, Control, Fire, SetConfig}
-use Rattle.supervise_core.specs.declared.change.Change.TheVariants.{SetActive}
+use Rattle.s6_events.specs.declared.report.Report.TheVariants.{Started, StartFailed, Notify, Death, FinishEnded}
+use Rattle.supervise_core.specs.declared.change.Change.TheVariants.{Report, Control, Fire, SetConfig, SetActive}
 use Rattle.supervise_core.specs.ChartState.{Moved, new_service, no_move}
 use Rattle.supervise_core.specs.ControlLetters.{letter_move, then_move, control_move}
 use Rattle.supervise_core.specs.Moves.{begin_move}
@@ -54,11 +54,11 @@ few_control letters now c =
     omega (arith, all)
 
 few_changed : (change : Change) (now : ℕ) (c : ChartState) → Few (changed_by change now c)
-few_changed (Started generation pid) now c = search rules
-few_changed (StartFailed generation) now c = search rules
-few_changed (Notify generation bytes) now c = search rules
-few_changed (Death generation exit) now c = search rules
-few_changed (FinishEnded generation exit) now c = search rules
+few_changed (Report (Started _ generation pid)) now c = search rules
+few_changed (Report (StartFailed _ generation)) now c = search rules
+few_changed (Report (Notify _ generation bytes)) now c = search rules
+few_changed (Report (Death _ generation exit)) now c = search rules
+few_changed (Report (FinishEnded _ generation exit)) now c = search rules
 few_changed (Control letters) now c = few_control letters.items now c
 few_changed Fire now c = few_fire now c
 few_changed (SetConfig config) now c = search rules

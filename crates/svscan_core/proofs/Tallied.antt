@@ -12,6 +12,7 @@ use Rattle.s6_events.specs.declared.exit.Exit.{Exit}
 use Rattle.servicedir.specs.declared.config.Config.{Config}
 use Rattle.supervise_core.specs.declared.change.Change.{Change}
 use Rattle.supervise_core.specs.declared.chart.ChartState.{ChartState}
+use Rattle.s6_events.specs.declared.report.Report.TheVariants as reports
 use Rattle.supervise_core.specs.declared.change.Change.TheVariants as changes
 use Rattle.supervise_core.specs.ChartState.{Moved, no_move}
 use Rattle.supervise_core.specs.ControlLetters.{then_move}
@@ -185,11 +186,11 @@ visit_joins visit now c = record { deaths = no_deaths visit now c; most = (keeps
 -- the death of a change is the one that its move reports
 gives_death : (change : Change) (now : ℕ) (c : ChartState)
     → (changed_by change now c).deaths ≡ option_to_list (death_by change (changed_by change now c).stale now)
-gives_death (changes.Started generation pid) now c = search rules
-gives_death (changes.StartFailed generation) now c = search rules
-gives_death (changes.Notify generation bytes) now c = search rules
-gives_death (changes.Death generation exit) now c = search rules
-gives_death (changes.FinishEnded generation exit) now c = search rules
+gives_death (changes.Report (reports.Started _ generation pid)) now c = search rules
+gives_death (changes.Report (reports.StartFailed _ generation)) now c = search rules
+gives_death (changes.Report (reports.Notify _ generation bytes)) now c = search rules
+gives_death (changes.Report (reports.Death _ generation exit)) now c = search rules
+gives_death (changes.Report (reports.FinishEnded _ generation exit)) now c = search rules
 gives_death (changes.Control letters) now c = letters_give_none now letters.items (no_move c) refl
 gives_death changes.Fire now c = no_fire_deaths now c
 gives_death (changes.SetConfig config) now c = refl

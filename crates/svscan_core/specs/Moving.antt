@@ -31,6 +31,10 @@ with_change services t = with_view_at t (slice_get services t.place) services
 abbrev pub with_changes : List Supervised → List ChangedService → List Supervised
 with_changes services touched = fold with_change services touched
 
+-- how they stand so far
+abbrev pub services_so_far : List Supervised → List ChangedService → List ChartState
+services_so_far services touched = charts_of (with_changes services touched)
+
 -- each of them keeps the name at its place
 abbrev pub KeepNames : List Supervised → List ChangedService → Type 0
 KeepNames services [] = Unit {0}

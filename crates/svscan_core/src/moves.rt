@@ -8,7 +8,7 @@ ghost use Rattle.supervise_core.specs.MatchesMove.{most_orders};
 ghost use Rattle.std.specs.List.{list_any};
 ghost use Rattle.svscan_core.specs.Moves.{service_mark};
 ghost use Rattle.svscan_core.specs.Work.{change_move_at};
-ghost use Rattle.svscan_core.specs.Moving.{with_changes, step_so_far, KeepNames, TakesAt, Takes};
+ghost use Rattle.svscan_core.specs.Moving.{services_so_far, with_changes, step_so_far, KeepNames, TakesAt, Takes};
 ghost use Rattle.svscan_core.specs.Table.{charts_of, serials_of};
 ghost use Rattle.svscan_core.specs.Visit.{visit_move};
 ghost use Rattle.svscan_core.specs.declared.visit.Visit.TheVariants.{Fire};
@@ -147,16 +147,16 @@ impl<A: Allocator + Copy> Moves<A> {
         out: &mut Out,
     ) -> Result<(), NoMemory>
         requires next { (c : ChartState)
-            → slice_get (charts_of (with_changes slots.now.services self.old.touched.items)) place
+            → slice_get (services_so_far slots.now.services self.old.touched.items) place
             ≡ Some c → c.generation + 1 < 2 ^ 64 }
         requires order { is_rising (serials_of
-            (charts_of (with_changes slots.now.services self.old.touched.items))) ≡ true }
-        ensures takes { OnOk result ((c : ChartState) → slice_get (charts_of (with_changes slots.now.services self.old.touched.items)) place ≡ Some c
+            (services_so_far slots.now.services self.old.touched.items)) ≡ true }
+        ensures takes { OnOk result ((c : ChartState) → slice_get (services_so_far slots.now.services self.old.touched.items) place ≡ Some c
             → TakesAt now place c (visit_move visit.entry now c)
             (step_so_far slots.now.services self.old) (step_so_far slots.now.services self.new)) }
         ensures serials { OnOk result
-            (serials_of (charts_of (with_changes slots.now.services self.new.touched.items))
-            ≡ serials_of (charts_of (with_changes slots.now.services self.old.touched.items))) }
+            (serials_of (services_so_far slots.now.services self.new.touched.items)
+            ≡ serials_of (services_so_far slots.now.services self.old.touched.items)) }
         ensures names { KeepNames slots.now.services self.old.touched.items
             → OnOk result (KeepNames slots.now.services self.new.touched.items) }
         ensures few { OnOk result (length self.new.orders.items
@@ -185,9 +185,9 @@ impl<A: Allocator + Copy> Moves<A> {
         out: &mut Out,
     ) -> Result<(), NoMemory>
         requires generations { All (λ c. c.generation + 1 < 2 ^ 64)
-            (charts_of (with_changes slots.now.services self.old.touched.items)) }
+            (services_so_far slots.now.services self.old.touched.items) }
         requires order { is_rising (serials_of
-            (charts_of (with_changes slots.now.services self.old.touched.items))) ≡ true }
+            (services_so_far slots.now.services self.old.touched.items)) ≡ true }
         ensures takes { OnOk result
             (Takes now (visit_move visit.entry now) (step_so_far slots.now.services self.old)
             (step_so_far slots.now.services self.new)) }
@@ -215,17 +215,17 @@ impl<A: Allocator + Copy> Moves<A> {
         out: &mut Out,
     ) -> Result<bool, NoMemory>
         requires generations { All (λ c. c.generation + 1 < 2 ^ 64)
-            (charts_of (with_changes slots.now.services self.old.touched.items)) }
+            (services_so_far slots.now.services self.old.touched.items) }
         requires order { is_rising (serials_of (charts_of slots.now.services)) ≡ true }
         requires serials { serials_of
-            (charts_of (with_changes slots.now.services self.old.touched.items))
+            (services_so_far slots.now.services self.old.touched.items)
             ≡ serials_of (charts_of slots.now.services) }
         ensures takes { OnOk result
             (Takes now (change_move_at sid change.now now) (step_so_far slots.now.services self.old)
             (step_so_far slots.now.services self.new)) }
         ensures stale { IfOk result
             (λ stale. stale ≡ list_any (λ c. (change_move_at sid change.now now c).stale)
-            (charts_of (with_changes slots.now.services self.old.touched.items))) }
+            (services_so_far slots.now.services self.old.touched.items)) }
         ensures names { KeepNames slots.now.services self.old.touched.items
             → OnOk result (KeepNames slots.now.services self.new.touched.items) }
         ensures few { OnOk result (length self.new.orders.items

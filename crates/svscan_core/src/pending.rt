@@ -11,7 +11,7 @@ ghost use Rattle.svscan_core.specs.Asked.{work_asked, IsOrderly};
 ghost use Rattle.svscan_core.specs.Deaths.{deaths_given, KeepTallied};
 ghost use Rattle.svscan_core.specs.Limits.{order_limit, service_limit};
 ghost use Rattle.svscan_core.specs.Moves.{moment_of, services_after};
-ghost use Rattle.svscan_core.specs.Moving.{with_changes, timers_of, step_so_far, KeepNames, Takes};
+ghost use Rattle.svscan_core.specs.Moving.{services_so_far, with_changes, timers_of, step_so_far, KeepNames, Takes};
 ghost use Rattle.svscan_core.specs.Names.{repeats_name};
 ghost use Rattle.svscan_core.specs.Pending.{planned_of, step_timers, IsBlank};
 ghost use Rattle.svscan_core.specs.Registry.{registry_prepared, result_of};
@@ -139,30 +139,30 @@ impl<A: Allocator + Copy> Pending<A> {
         requires few { length slots.now.services ≤ service_limit }
         requires room { length self.old.moves.orders.items ≤ service_limit }
         requires generations { All (λ c. c.generation + 1 < 2 ^ 64)
-            (charts_of (with_changes slots.now.services self.old.moves.touched.items)) }
+            (services_so_far slots.now.services self.old.moves.touched.items) }
         requires order { IsNumbered self.old.scan.next_sid
-            (charts_of (with_changes slots.now.services self.old.moves.touched.items)) }
+            (services_so_far slots.now.services self.old.moves.touched.items) }
         requires names { repeats_name
-            (names_of (charts_of (with_changes slots.now.services self.old.moves.touched.items)))
+            (names_of (services_so_far slots.now.services self.old.moves.touched.items))
             ≡ false }
         requires rising { is_rising (serials_of (charts_of slots.now.services)) ≡ true }
         requires serials { serials_of
-            (charts_of (with_changes slots.now.services self.old.moves.touched.items))
+            (services_so_far slots.now.services self.old.moves.touched.items)
             ≡ serials_of (charts_of slots.now.services) }
-        requires stand { names_of (charts_of
-            (with_changes slots.now.services self.old.moves.touched.items))
+        requires stand { names_of
+            (services_so_far slots.now.services self.old.moves.touched.items)
             ≡ names_of (charts_of slots.now.services) }
         requires listing { IsOrderly self.old.scan.next_sid (work_asked work.now) }
         ensures worked { OnOk result (result_of (registry_prepared slots.now.services (planned_of self.new)) ≡ with_earlier self.old.moves.events.items self.old.moves.orders.items
-            (work_result (work_asked work.now) now (charts_of (with_changes slots.now.services self.old.moves.touched.items)) self.old.scan.next_sid)) }
+            (work_result (work_asked work.now) now (services_so_far slots.now.services self.old.moves.touched.items) self.old.scan.next_sid)) }
         ensures agrees { OnOk result ((history : List Moment) → clock_of history ≡ now
             → AllAgree (with_changes slots.now.services self.old.moves.touched.items)
             (history ++ map moment_of self.old.moves.events.items)
             → AllAgree (registry_prepared slots.now.services (planned_of self.new)).services
             (history ++ map moment_of self.new.moves.events.items)) }
         ensures tallies { OnOk result (KeepTallied self.old.scan.next_sid (with_changes slots.now.services self.old.moves.touched.items) (registry_prepared slots.now.services (planned_of self.new)).services
-            (deaths_given (work_asked work.now) now (charts_of (with_changes slots.now.services self.old.moves.touched.items)))) }
-        ensures timers { OnOk result ((timers : List Timer) → TimersAgree (with_timer_changes (timers_of self.old.moves.touched.items) timers) (charts_of (with_changes slots.now.services self.old.moves.touched.items))
+            (deaths_given (work_asked work.now) now (services_so_far slots.now.services self.old.moves.touched.items))) }
+        ensures timers { OnOk result ((timers : List Timer) → TimersAgree (with_timer_changes (timers_of self.old.moves.touched.items) timers) (services_so_far slots.now.services self.old.moves.touched.items)
             → TimersAgree (with_timer_changes (step_timers self.new.moves self.new.scan) timers)
             (charts_of (registry_prepared slots.now.services (planned_of self.new)).services)) }
         ensures touched { KeepNames slots.now.services self.old.moves.touched.items
@@ -280,11 +280,11 @@ fn fire_due<A: Allocator + Copy>(
     out: &mut Out,
 ) -> Result<(), NoMemory>
     requires due { AreDue due.now now
-        (charts_of (with_changes slots.now.services moves.old.touched.items)) }
+        (services_so_far slots.now.services moves.old.touched.items) }
     requires generations { All (λ c. c.generation + 1 < 2 ^ 64)
-        (charts_of (with_changes slots.now.services moves.old.touched.items)) }
+        (services_so_far slots.now.services moves.old.touched.items) }
     requires order { is_rising (serials_of
-        (charts_of (with_changes slots.now.services moves.old.touched.items))) ≡ true }
+        (services_so_far slots.now.services moves.old.touched.items)) ≡ true }
     ensures takes { OnOk result (Takes now (fire_move now)
         (step_so_far slots.now.services moves.old) (step_so_far slots.now.services moves.new)) }
     ensures names { KeepNames slots.now.services moves.old.touched.items

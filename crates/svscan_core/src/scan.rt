@@ -10,7 +10,7 @@ ghost use Rattle.svscan_core.specs.Deaths.{KeepTallied};
 ghost use Rattle.svscan_core.specs.Limits.{service_limit};
 ghost use Rattle.svscan_core.specs.Listing.{names_in};
 ghost use Rattle.svscan_core.specs.Moves.{moment_of};
-ghost use Rattle.svscan_core.specs.Moving.{with_changes, timers_of, KeepNames};
+ghost use Rattle.svscan_core.specs.Moving.{services_so_far, with_changes, timers_of, KeepNames};
 ghost use Rattle.svscan_core.specs.Names.{lists, repeats_name};
 ghost use Rattle.svscan_core.specs.Scan.{after_look, after_scan, dropped_by, stays, leaves, stands, with_service, with_new_name, with_name, with_names};
 ghost use Rattle.deadlines.specs.declared.timer.Timer.{Timer};
@@ -75,14 +75,14 @@ pub fn plan_drops<A: Allocator + Copy>(
 ) -> Result<usize, NoMemory>
     ensures dropped { OnOk result
         (scan.new.dropped.items ≡ scan.old.dropped.items
-        ++ names_of (filter leaves (charts_of (with_changes slots.now.services touched.now)))) }
+        ++ names_of (filter leaves (services_so_far slots.now.services touched.now))) }
     ensures dropped_sids { OnOk result
         (scan.new.dropped_sids.items
         ≡ scan.old.dropped_sids.items
-        ++ serials_of (filter leaves (charts_of (with_changes slots.now.services touched.now)))) }
+        ++ serials_of (filter leaves (services_so_far slots.now.services touched.now))) }
     ensures retained { IfOk result
         (λ retained. retained ≡ length
-        (filter stays (charts_of (with_changes slots.now.services touched.now)))) }
+        (filter stays (services_so_far slots.now.services touched.now))) }
     ensures added { scan.new.added.items ≡ scan.old.added.items }
     ensures listed { scan.new.listed.items ≡ scan.old.listed.items }
     ensures next_sid { scan.new.next_sid ≡ scan.old.next_sid }
@@ -310,41 +310,41 @@ pub fn plan_scan<A: Allocator + Copy>(
     requires added { scan.old.added.items ≡ [] }
     requires listed { scan.old.listed.items ≡ [] }
     requires names { repeats_name
-        (names_of (charts_of (with_changes slots.now.services moves.old.touched.items))) ≡ false }
+        (names_of (services_so_far slots.now.services moves.old.touched.items)) ≡ false }
     requires order { IsNumbered scan.old.next_sid
-        (charts_of (with_changes slots.now.services moves.old.touched.items)) }
+        (services_so_far slots.now.services moves.old.touched.items) }
     requires few { length slots.now.services ≤ service_limit }
-    requires stand { names_of (charts_of (with_changes slots.now.services moves.old.touched.items))
+    requires stand { names_of (services_so_far slots.now.services moves.old.touched.items)
         ≡ names_of (charts_of slots.now.services) }
     requires listing { repeats_name (names_in listing.now) ≡ false }
     requires next { scan.old.next_sid + (service_limit + 1) < 2 ^ 64 }
     requires generations { All (λ c. c.generation + 1 < 2 ^ 64)
-        (charts_of (with_changes slots.now.services moves.old.touched.items)) }
+        (services_so_far slots.now.services moves.old.touched.items) }
     ensures services { OnOk result (charts_of (prepared_services slots.now.services moves.new.touched.items scan.new.dropped.items scan.new.added.items)
         ≡ (after_scan listing.now now
-        (charts_of (with_changes slots.now.services moves.old.touched.items))
+        (services_so_far slots.now.services moves.old.touched.items)
         scan.old.next_sid).services) }
     ensures next_sid { OnOk result
         (scan.new.next_sid ≡ (after_scan listing.now now
-        (charts_of (with_changes slots.now.services moves.old.touched.items))
+        (services_so_far slots.now.services moves.old.touched.items)
         scan.old.next_sid).next_sid) }
     ensures events { OnOk result
         (moves.new.events.items ≡ moves.old.events.items
         ++ (after_scan listing.now now
-        (charts_of (with_changes slots.now.services moves.old.touched.items))
+        (services_so_far slots.now.services moves.old.touched.items)
         scan.old.next_sid).events) }
     ensures orders { OnOk result
         (moves.new.orders.items ≡ moves.old.orders.items
         ++ (after_scan listing.now now
-        (charts_of (with_changes slots.now.services moves.old.touched.items))
+        (services_so_far slots.now.services moves.old.touched.items)
         scan.old.next_sid).orders) }
     ensures dropped { OnOk result
         (scan.new.dropped_sids.items
         ≡ dropped_by listing.now now
-        (charts_of (with_changes slots.now.services moves.old.touched.items))) }
+        (services_so_far slots.now.services moves.old.touched.items)) }
     ensures listed { OnOk result
         (scan.new.listed.items ≡ (after_scan listing.now now
-        (charts_of (with_changes slots.now.services moves.old.touched.items))
+        (services_so_far slots.now.services moves.old.touched.items)
         scan.old.next_sid).listed) }
     ensures agrees { OnOk result ((history : List Moment) → clock_of history ≡ now → AllAgree (with_changes slots.now.services moves.old.touched.items) (history ++ map moment_of moves.old.events.items)
         → AllAgree (prepared_services slots.now.services moves.new.touched.items
@@ -354,7 +354,7 @@ pub fn plan_scan<A: Allocator + Copy>(
         (KeepTallied scan.old.next_sid (with_changes slots.now.services moves.old.touched.items)
         (prepared_services slots.now.services moves.new.touched.items scan.new.dropped.items
         scan.new.added.items) []) }
-    ensures timers { OnOk result ((timers : List Timer) → TimersAgree (with_timer_changes (timers_of moves.old.touched.items) timers) (charts_of (with_changes slots.now.services moves.old.touched.items))
+    ensures timers { OnOk result ((timers : List Timer) → TimersAgree (with_timer_changes (timers_of moves.old.touched.items) timers) (services_so_far slots.now.services moves.old.touched.items)
         → TimersAgree (with_timer_changes
         (timers_of moves.new.touched.items
         ++ (map (λ sid. Clear sid) scan.new.dropped_sids.items

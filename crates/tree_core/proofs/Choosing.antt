@@ -36,9 +36,12 @@ use Rattle.tree_core.specs.Listening.{Ask}
 use Rattle.tree_core.specs.Listening.Ask.{same}
 use Rattle.tree_core.specs.Machine.{Machine}
 use Rattle.tree_core.specs.Tallies.{tally_of, tally_named, failure_named}
-use Rattle.tree_core.specs.Plan.Chosen.{refuse, report, letters, tally}
-use Rattle.tree_core.specs.Plan.{Chosen, Chooses, DoesAsk, HasFired, ListenersAnswer, chosen_work, chosen_change, chosen_ask, chosen_reply}
-use Rattle.tree_core.specs.Plan.{report_choice, letters_choice, row_choice, failure_choice, tally_in}
+use Rattle.tree_core.specs.Choices.Chosen.{refuse, report, letters, tally}
+use Rattle.tree_core.specs.Choices.{Chosen, chosen_work, chosen_change, chosen_ask}
+use Rattle.tree_core.specs.Replies.{ListenersAnswer, chosen_reply}
+use Rattle.tree_core.specs.Plan.{Chooses, DoesAsk, HasFired}
+use Rattle.tree_core.specs.Choices.{report_choice, letters_choice, row_choice, failure_choice}
+use Rattle.tree_core.specs.Replies.{tally_in}
 
 -- a serial is found where a service has it
 pub any_of : (sid : ℕ) (services : List Supervised)

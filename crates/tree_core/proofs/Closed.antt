@@ -4,6 +4,7 @@ use Rattle.std.specs.List.{list_any}
 use Rattle.std.proofs.lemmas.List.Folds.{list_any-append}
 use Rattle.event_directory.specs.Changes.DirectoryRequest.{make_directory, unsubscribe}
 use Rattle.supervise_core.specs.declared.change.Change.{Change}
+use Rattle.s6_events.specs.declared.report.Report.TheVariants as reports
 use Rattle.supervise_core.specs.declared.change.Change.TheVariants as changes
 use Rattle.supervise_core.specs.declared.chart.ChartState.{ChartState}
 use Rattle.supervise_core.specs.Chart.{fire_move, changed_by}
@@ -70,19 +71,19 @@ work_starts_none (Svc name letters) m h =
     (changes.Control letters) m.clock m.services m.next_sid
     (control_leaves letters.items m.clock) h.services
 work_starts_none (Started sid generation pid) m h =
-    report_starts_none (serial_refusal sid m.services) sid (changes.Started generation pid) m.clock m.services m.next_sid
+    report_starts_none (serial_refusal sid m.services) sid (changes.Report (reports.Started sid generation pid)) m.clock m.services m.next_sid
     (started_leaves generation pid m.clock) h.services
 work_starts_none (StartFailed sid generation) m h =
-    report_starts_none (serial_refusal sid m.services) sid (changes.StartFailed generation) m.clock m.services m.next_sid
+    report_starts_none (serial_refusal sid m.services) sid (changes.Report (reports.StartFailed sid generation)) m.clock m.services m.next_sid
     (start_failed_leaves generation m.clock) h.services
 work_starts_none (Notify sid generation bytes) m h =
-    report_starts_none (serial_refusal sid m.services) sid (changes.Notify generation bytes) m.clock m.services m.next_sid
+    report_starts_none (serial_refusal sid m.services) sid (changes.Report (reports.Notify sid generation bytes)) m.clock m.services m.next_sid
     (notified_leaves generation bytes.items m.clock) h.services
 work_starts_none (Death sid generation exit) m h =
-    report_starts_none (serial_refusal sid m.services) sid (changes.Death generation exit) m.clock m.services m.next_sid
+    report_starts_none (serial_refusal sid m.services) sid (changes.Report (reports.Death sid generation exit)) m.clock m.services m.next_sid
     (death_leaves generation exit m.clock) h.services
 work_starts_none (FinishEnded sid generation exit) m h =
-    report_starts_none (serial_refusal sid m.services) sid (changes.FinishEnded generation exit) m.clock m.services m.next_sid
+    report_starts_none (serial_refusal sid m.services) sid (changes.Report (reports.FinishEnded sid generation exit)) m.clock m.services m.next_sid
     (finish_ended_leaves generation exit m.clock) h.services
 work_starts_none (Status name) m h = (h.services, refl)
 work_starts_none (Tally name) m h = (h.services, refl)

@@ -19,7 +19,9 @@ use Rattle.tree_core.specs.declared.reply.Reply.TheVariants as answers
 use Rattle.tree_core.specs.Acts.{reply_unless, serial_of, source_named, work_unless}
 use Rattle.tree_core.specs.Listening.{as_refusal}
 use Rattle.tree_core.specs.Machine.{Machine, directories_of}
-use Rattle.tree_core.specs.Plan.{Chosen, Chooses, HasFired, directory_reply, subscribe_choice}
+use Rattle.tree_core.specs.Choices.{Chosen, subscribe_choice}
+use Rattle.tree_core.specs.Replies.{directory_reply}
+use Rattle.tree_core.specs.Plan.{Chooses, HasFired}
 use Rattle.tree_core.proofs.Choosing.{chooses_this}
 use Rattle.tree_core.proofs.WaitChosen.{still_named}
 

@@ -15,8 +15,8 @@ use Rattle.s6_events.specs.declared.order.Order.TheVariants.{Run}
 use Rattle.servicedir.specs.declared.config.Config.{Config}
 use Rattle.control_letters.specs.declared.control_letter.ControlLetter.{ControlLetter}
 use Rattle.supervise_core.specs.declared.change.Change.{Change}
-use Rattle.supervise_core.specs.declared.change.Change.TheVariants.{Started, StartFailed, Notify, Death, FinishEnded, Control, Fire, SetConfig}
-use Rattle.supervise_core.specs.declared.change.Change.TheVariants.{SetActive}
+use Rattle.s6_events.specs.declared.report.Report.TheVariants.{Started, StartFailed, Notify, Death, FinishEnded}
+use Rattle.supervise_core.specs.declared.change.Change.TheVariants.{Report, Control, Fire, SetConfig, SetActive}
 use Rattle.supervise_core.specs.declared.chart.ChartState.{ChartState}
 use Rattle.supervise_core.specs.declared.phase.Phase.{Phase}
 use Rattle.supervise_core.specs.declared.phase.Phase.TheVariants.{Down, Starting, Up, Finish, Gone}
@@ -94,8 +94,8 @@ notified_lives may generation bytes now c h = search (h, counts_none, counts_one
 
 -- what a report tells ends a run
 abbrev pub IsEnd : (ℕ → Bool) → Option Change → Type 0
-IsEnd may (Some (Death generation exit)) = may (generation + 1) ≡ true
-IsEnd may (Some (StartFailed generation)) = may (generation + 1) ≡ true
+IsEnd may (Some (Report (Death _ generation exit))) = may (generation + 1) ≡ true
+IsEnd may (Some (Report (StartFailed _ generation))) = may (generation + 1) ≡ true
 IsEnd may told = Unit
 
 the_same : (may : ℕ → Bool) (is : Bool) (generation now : ℕ) → (is && (now == generation)) ≡ true → may (generation + 1) ≡ true
@@ -205,11 +205,11 @@ active_lives may active now c h = search (h, counts_none, rules)
 
 changed_lives : (may : ℕ → Bool) (change : Change) (now : ℕ) (c : ChartState) → IsEnd may (Some change) → MayStart may c.phase c.generation
     → Lives may c (changed_by change now c)
-changed_lives may (Started generation pid) now c ended h = started_lives may generation pid now c h
-changed_lives may (StartFailed generation) now c ended h = start_failed_lives may generation now c ended h
-changed_lives may (Notify generation bytes) now c ended h = notified_lives may generation bytes.items now c h
-changed_lives may (Death generation exit) now c ended h = death_lives may generation exit now c ended h
-changed_lives may (FinishEnded generation exit) now c ended h = finish_ended_lives may generation exit now c h
+changed_lives may (Report (Started _ generation pid)) now c ended h = started_lives may generation pid now c h
+changed_lives may (Report (StartFailed _ generation)) now c ended h = start_failed_lives may generation now c ended h
+changed_lives may (Report (Notify _ generation bytes)) now c ended h = notified_lives may generation bytes.items now c h
+changed_lives may (Report (Death _ generation exit)) now c ended h = death_lives may generation exit now c ended h
+changed_lives may (Report (FinishEnded _ generation exit)) now c ended h = finish_ended_lives may generation exit now c h
 changed_lives may (Control letters) now c ended h = control_lives may letters.items now c h
 changed_lives may Fire now c ended h = fire_lives may now c h
 changed_lives may (SetConfig config) now c ended h = record { counted = counts_none c.generation; allowed = tt; next = h }

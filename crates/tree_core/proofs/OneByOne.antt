@@ -8,8 +8,8 @@ use Rattle.std.proofs.lemmas.List.Folds.{list_any-append}
 use Rattle.s6_events.specs.declared.order.Order.{Order}
 use Rattle.s6_events.specs.declared.order.Order.TheVariants.{Run, Finish, Signal, KillFinish}
 use Rattle.supervise_core.specs.declared.change.Change.{Change}
-use Rattle.supervise_core.specs.declared.change.Change.TheVariants.{Started, StartFailed, Notify, Death, FinishEnded, Control, Fire, SetConfig}
-use Rattle.supervise_core.specs.declared.change.Change.TheVariants.{SetActive}
+use Rattle.s6_events.specs.declared.report.Report.TheVariants.{Started, StartFailed, Notify, Death, FinishEnded}
+use Rattle.supervise_core.specs.declared.change.Change.TheVariants.{Report, Control, Fire, SetConfig, SetActive}
 use Rattle.supervise_core.specs.declared.chart.ChartState.{ChartState}
 use Rattle.supervise_core.specs.declared.phase.Phase.{Phase}
 use Rattle.supervise_core.specs.declared.phase.Phase.TheVariants.{Down, Starting, Up, Finish, Gone}
@@ -57,13 +57,13 @@ now_over sid ts t generation h =
 is_end : {A : Type 0} (sid : ℕ) (ts : List (StepTaken A)) (t : StepTaken A) (told : Option Change) → change_in_step sid t ≡ told
     → IsEnd (may_come sid (ts ++ t ∷ [])) told
 is_end sid ts t None e = tt
-is_end sid ts t (Some (Death generation exit)) e =
+is_end sid ts t (Some (Report (Death _ generation exit))) e =
     now_over sid ts t (generation + 1) (ap (ends_before (generation + 1)) e ∙ itself (generation + 1))
-is_end sid ts t (Some (StartFailed generation)) e =
+is_end sid ts t (Some (Report (StartFailed _ generation))) e =
     now_over sid ts t (generation + 1) (ap (ends_before (generation + 1)) e ∙ itself (generation + 1))
-is_end sid ts t (Some (Started generation pid)) e = tt
-is_end sid ts t (Some (Notify generation bytes)) e = tt
-is_end sid ts t (Some (FinishEnded generation exit)) e = tt
+is_end sid ts t (Some (Report (Started _ generation pid))) e = tt
+is_end sid ts t (Some (Report (Notify _ generation bytes))) e = tt
+is_end sid ts t (Some (Report (FinishEnded _ generation exit))) e = tt
 is_end sid ts t (Some (Control letters)) e = tt
 is_end sid ts t (Some Fire) e = tt
 is_end sid ts t (Some (SetConfig config)) e = tt

@@ -6,6 +6,7 @@ use Rattle.std.specs.List.{list_any}
 use Rattle.std.proofs.lemmas.Bool.Decides.{Decides-eqb}
 use Rattle.event_directory.specs.Changes.DirectoryRequest.{make_directory, unsubscribe}
 use Rattle.supervise_core.specs.declared.change.Change.{Change}
+use Rattle.s6_events.specs.declared.report.Report.TheVariants as reports
 use Rattle.supervise_core.specs.declared.change.Change.TheVariants as service_change
 use Rattle.supervise_core.specs.declared.chart.ChartState.{ChartState}
 use Rattle.supervise_core.specs.ChartState.{no_move, is_gone}
@@ -163,15 +164,20 @@ act_own {A} (Svc name letters) m sid c one same lower =
     letters_own A (service_named name m.services) sid m.clock m.next_sid (service_change.Control letters) c m.services one same lower
     (λ x. control_fresh letters.items m.clock x)
 act_own {A} (Started of generation pid) m sid c one same lower =
-    report_own A (serial_refusal of m.services) of sid m.clock m.next_sid (service_change.Started generation pid) c m.services one same lower
+    report_own A (serial_refusal of m.services) of sid m.clock m.next_sid (service_change.Report (reports.Started of generation pid))
+    c m.services one same lower
 act_own {A} (StartFailed of generation) m sid c one same lower =
-    report_own A (serial_refusal of m.services) of sid m.clock m.next_sid (service_change.StartFailed generation) c m.services one same lower
+    report_own A (serial_refusal of m.services) of sid m.clock m.next_sid (service_change.Report (reports.StartFailed of generation))
+    c m.services one same lower
 act_own {A} (Notify of generation bytes) m sid c one same lower =
-    report_own A (serial_refusal of m.services) of sid m.clock m.next_sid (service_change.Notify generation bytes) c m.services one same lower
+    report_own A (serial_refusal of m.services) of sid m.clock m.next_sid (service_change.Report (reports.Notify of generation bytes))
+    c m.services one same lower
 act_own {A} (Death of generation exit) m sid c one same lower =
-    report_own A (serial_refusal of m.services) of sid m.clock m.next_sid (service_change.Death generation exit) c m.services one same lower
+    report_own A (serial_refusal of m.services) of sid m.clock m.next_sid (service_change.Report (reports.Death of generation exit))
+    c m.services one same lower
 act_own {A} (FinishEnded of generation exit) m sid c one same lower =
-    report_own A (serial_refusal of m.services) of sid m.clock m.next_sid (service_change.FinishEnded generation exit) c m.services one same lower
+    report_own A (serial_refusal of m.services) of sid m.clock m.next_sid (service_change.Report (reports.FinishEnded of generation exit))
+    c m.services one same lower
 act_own {A} (Status name) m sid c one same lower =
     others_own None sid m.clock m.next_sid c m.services (is_done (act_result {A = A} (Status name) m).reply) one lower
 act_own {A} (Tally name) m sid c one same lower =
@@ -247,15 +253,20 @@ pub act_untold : {A : Type 0} (act : Act A) (m : Machine) (sid : ℕ) → servic
 act_untold {A} (Svc name letters) m sid none =
     untold_letters A (service_named name m.services) sid (service_change.Control letters) (λ d e. found_other name sid m.services d none e)
 act_untold {A} (Started of generation pid) m sid none =
-    untold_serial A (serial_refusal of m.services) of sid (service_change.Started generation pid) _ (refused_there of sid m.services none)
+    untold_serial A (serial_refusal of m.services) of sid (service_change.Report (reports.Started of generation pid)) _
+    (refused_there of sid m.services none)
 act_untold {A} (StartFailed of generation) m sid none =
-    untold_serial A (serial_refusal of m.services) of sid (service_change.StartFailed generation) _ (refused_there of sid m.services none)
+    untold_serial A (serial_refusal of m.services) of sid (service_change.Report (reports.StartFailed of generation)) _
+    (refused_there of sid m.services none)
 act_untold {A} (Notify of generation bytes) m sid none =
-    untold_serial A (serial_refusal of m.services) of sid (service_change.Notify generation bytes) _ (refused_there of sid m.services none)
+    untold_serial A (serial_refusal of m.services) of sid (service_change.Report (reports.Notify of generation bytes)) _
+    (refused_there of sid m.services none)
 act_untold {A} (Death of generation exit) m sid none =
-    untold_serial A (serial_refusal of m.services) of sid (service_change.Death generation exit) _ (refused_there of sid m.services none)
+    untold_serial A (serial_refusal of m.services) of sid (service_change.Report (reports.Death of generation exit)) _
+    (refused_there of sid m.services none)
 act_untold {A} (FinishEnded of generation exit) m sid none =
-    untold_serial A (serial_refusal of m.services) of sid (service_change.FinishEnded generation exit) _ (refused_there of sid m.services none)
+    untold_serial A (serial_refusal of m.services) of sid (service_change.Report (reports.FinishEnded of generation exit)) _
+    (refused_there of sid m.services none)
 act_untold act m sid none = none_either (is_done (act_result act m).reply)
 
 yet_untold : (sid : ℕ) (told : Option Change) (w : WorkResult) → told ≡ None → YetOf sid None w → YetOf sid told w

@@ -9,8 +9,8 @@ use Rattle.s6_events.specs.declared.order.Order.{Order}
 use Rattle.servicedir.specs.declared.config.Config.{Config}
 use Rattle.control_letters.specs.declared.control_letter.ControlLetter.{ControlLetter}
 use Rattle.supervise_core.specs.declared.change.Change.{Change}
-use Rattle.supervise_core.specs.declared.change.Change.TheVariants.{Started, StartFailed, Notify, Death, FinishEnded, Control, Fire, SetConfig}
-use Rattle.supervise_core.specs.declared.change.Change.TheVariants.{SetActive}
+use Rattle.s6_events.specs.declared.report.Report.TheVariants.{Started, StartFailed, Notify, Death, FinishEnded}
+use Rattle.supervise_core.specs.declared.change.Change.TheVariants.{Report, Control, Fire, SetConfig, SetActive}
 use Rattle.supervise_core.specs.declared.chart.ChartState.{ChartState}
 use Rattle.supervise_core.specs.ChartState.{Moved, no_move}
 use Rattle.supervise_core.specs.Chart.{started_move, start_failed_move, notify_move, death_move, finish_ended_move, control_move, letter_move}
@@ -139,11 +139,11 @@ stale_fire : (now : ℕ) (c : ChartState) → (fire_move now c).stale ≡ true �
 stale_fire now c h = search (h, rules)
 
 pub stale_changed : (change : Change) (now : ℕ) (c : ChartState) → (changed_by change now c).stale ≡ true → IsNothing c (changed_by change now c)
-stale_changed (Started generation pid) now c h = stale_started generation pid now c h
-stale_changed (StartFailed generation) now c h = stale_start_failed generation now c h
-stale_changed (Notify generation bytes) now c h = stale_notified generation bytes.items now c h
-stale_changed (Death generation exit) now c h = stale_death generation exit now c h
-stale_changed (FinishEnded generation exit) now c h = stale_finish_ended generation exit now c h
+stale_changed (Report (Started _ generation pid)) now c h = stale_started generation pid now c h
+stale_changed (Report (StartFailed _ generation)) now c h = stale_start_failed generation now c h
+stale_changed (Report (Notify _ generation bytes)) now c h = stale_notified generation bytes.items now c h
+stale_changed (Report (Death _ generation exit)) now c h = stale_death generation exit now c h
+stale_changed (Report (FinishEnded _ generation exit)) now c h = stale_finish_ended generation exit now c h
 stale_changed (Control letters) now c h = true_not_false (control_move letters.items now c).stale
     (control_is_fresh now letters.items (no_move c) refl) h
 stale_changed Fire now c h = stale_fire now c h

@@ -6,8 +6,8 @@ use Rattle.s6_events.specs.declared.order.Order.{Order}
 use Rattle.servicedir.specs.declared.config.Config.{Config}
 use Rattle.control_letters.specs.declared.control_letter.ControlLetter.{ControlLetter}
 use Rattle.supervise_core.specs.declared.change.Change.{Change}
-use Rattle.supervise_core.specs.declared.change.Change.TheVariants.{Started, StartFailed, Notify, Death, FinishEnded, Control, Fire, SetConfig}
-use Rattle.supervise_core.specs.declared.change.Change.TheVariants.{SetActive}
+use Rattle.s6_events.specs.declared.report.Report.TheVariants.{Started, StartFailed, Notify, Death, FinishEnded}
+use Rattle.supervise_core.specs.declared.change.Change.TheVariants.{Report, Control, Fire, SetConfig, SetActive}
 use Rattle.supervise_core.specs.declared.chart.ChartState.{ChartState}
 use Rattle.supervise_core.specs.ChartState.{Moved, no_move, new_service}
 use Rattle.supervise_core.specs.Chart.{started_move, start_failed_move, notify_move, death_move, finish_ended_move, control_move, letter_move}
@@ -75,11 +75,11 @@ for_control : (letters : List ControlLetter) (now : ℕ) (c : ChartState) → Fo
 for_control letters now c = (for_rest c.sid now letters (no_move c) (record { same = refl; orders = tt })).orders
 
 pub for_changed : (change : Change) (now : ℕ) (c : ChartState) → ForIt c (changed_by change now c)
-for_changed (Started generation pid) now c = for_started generation pid now c
-for_changed (StartFailed generation) now c = for_start_failed generation now c
-for_changed (Notify generation bytes) now c = for_notified generation bytes.items now c
-for_changed (Death generation exit) now c = for_death generation exit now c
-for_changed (FinishEnded generation exit) now c = for_finish_ended generation exit now c
+for_changed (Report (Started _ generation pid)) now c = for_started generation pid now c
+for_changed (Report (StartFailed _ generation)) now c = for_start_failed generation now c
+for_changed (Report (Notify _ generation bytes)) now c = for_notified generation bytes.items now c
+for_changed (Report (Death _ generation exit)) now c = for_death generation exit now c
+for_changed (Report (FinishEnded _ generation exit)) now c = for_finish_ended generation exit now c
 for_changed (Control letters) now c = for_control letters.items now c
 for_changed Fire now c = for_fire now c
 for_changed (SetConfig config) now c = tt

@@ -15,8 +15,8 @@ use Rattle.s6_events.specs.declared.mark.Mark.TheVariants.{Died, FinishDone, Sup
 use Rattle.servicedir.specs.declared.config.Config.{Config}
 use Rattle.control_letters.specs.declared.control_letter.ControlLetter.{ControlLetter}
 use Rattle.supervise_core.specs.declared.change.Change.{Change}
-use Rattle.supervise_core.specs.declared.change.Change.TheVariants.{Started, StartFailed, Notify, Death, FinishEnded, Control, Fire, SetConfig}
-use Rattle.supervise_core.specs.declared.change.Change.TheVariants.{SetActive}
+use Rattle.s6_events.specs.declared.report.Report.TheVariants.{Started, StartFailed, Notify, Death, FinishEnded}
+use Rattle.supervise_core.specs.declared.change.Change.TheVariants.{Report, Control, Fire, SetConfig, SetActive}
 use Rattle.supervise_core.specs.declared.chart.ChartState.{ChartState}
 use Rattle.supervise_core.specs.declared.phase.Phase.{Phase}
 use Rattle.supervise_core.specs.declared.phase.Phase.TheVariants.{Down, Starting, Up, Finish, Gone}
@@ -367,11 +367,11 @@ control_runs letters now c k = letters_run now letters (no_move c) k refl
 
 changed_paces : (past : Past) (change : Change) (now : ℕ) (c : ChartState) → Paced past c → has_paused (now + 1000) past.last_death ≡ true
     → Paces past now (changed_by change now c)
-changed_paces past (Started generation pid) now c h bound = started_paces past generation pid now c h bound
-changed_paces past (StartFailed generation) now c h bound = (start_failed_paces past generation now c h bound).paces
-changed_paces past (Notify generation bytes) now c h bound = notified_paces past generation bytes.items now c h bound
-changed_paces past (Death generation exit) now c h bound = (death_paces past generation exit now c h bound).paces
-changed_paces past (FinishEnded generation exit) now c h bound = (finish_ended_paces past generation exit now c h bound).paces
+changed_paces past (Report (Started _ generation pid)) now c h bound = started_paces past generation pid now c h bound
+changed_paces past (Report (StartFailed _ generation)) now c h bound = (start_failed_paces past generation now c h bound).paces
+changed_paces past (Report (Notify _ generation bytes)) now c h bound = notified_paces past generation bytes.items now c h bound
+changed_paces past (Report (Death _ generation exit)) now c h bound = (death_paces past generation exit now c h bound).paces
+changed_paces past (Report (FinishEnded _ generation exit)) now c h bound = (finish_ended_paces past generation exit now c h bound).paces
 changed_paces past (Control letters) now c h bound = control_paces past letters.items now c h bound
 changed_paces past Fire now c h bound = (fire_paces past now c h bound).paces
 changed_paces past (SetConfig config) now c h bound = record { paced = record { timer = h.timer; death = h.death; ready = h.ready }; bound = bound }
@@ -380,12 +380,13 @@ changed_paces past (SetActive active) now c h bound = active_paces past active n
 changed_runs : (past : Past) (change : Change) (now : ℕ) (c : ChartState) → wants_up (Some change) ≡ false → Paced past c
     → has_paused (now + 1000) past.last_death ≡ true
     → RunsLate past now (changed_by change now c)
-changed_runs past (Started generation pid) now c k h bound = no_run past now (started_move generation pid now c) (started_runs generation pid now c)
-changed_runs past (StartFailed generation) now c k h bound = (start_failed_paces past generation now c h bound).runs
-changed_runs past (Notify generation bytes) now c k h bound =
+changed_runs past (Report (Started _ generation pid)) now c k h bound =
+    no_run past now (started_move generation pid now c) (started_runs generation pid now c)
+changed_runs past (Report (StartFailed _ generation)) now c k h bound = (start_failed_paces past generation now c h bound).runs
+changed_runs past (Report (Notify _ generation bytes)) now c k h bound =
     no_run past now (notify_move generation bytes.items now c) (notified_runs generation bytes.items now c)
-changed_runs past (Death generation exit) now c k h bound = (death_paces past generation exit now c h bound).runs
-changed_runs past (FinishEnded generation exit) now c k h bound = (finish_ended_paces past generation exit now c h bound).runs
+changed_runs past (Report (Death _ generation exit)) now c k h bound = (death_paces past generation exit now c h bound).runs
+changed_runs past (Report (FinishEnded _ generation exit)) now c k h bound = (finish_ended_paces past generation exit now c h bound).runs
 changed_runs past (Control letters) now c k h bound = no_run past now (control_move letters.items now c) (control_runs letters.items now c k)
 changed_runs past Fire now c k h bound = (fire_paces past now c h bound).runs
 changed_runs past (SetConfig config) now c k h bound = no_run past now (no_move c) refl

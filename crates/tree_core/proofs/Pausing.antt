@@ -9,8 +9,8 @@ use Rattle.s6_events.specs.declared.mark.Mark.{Mark}
 use Rattle.servicedir.specs.declared.config.Config.{Config}
 use Rattle.control_letters.specs.declared.control_letter.ControlLetter.{ControlLetter}
 use Rattle.supervise_core.specs.declared.change.Change.{Change}
-use Rattle.supervise_core.specs.declared.change.Change.TheVariants.{Started, StartFailed, Notify, Death, FinishEnded, Control, Fire, SetConfig}
-use Rattle.supervise_core.specs.declared.change.Change.TheVariants.{SetActive}
+use Rattle.s6_events.specs.declared.report.Report.TheVariants.{Started, StartFailed, Notify, Death, FinishEnded}
+use Rattle.supervise_core.specs.declared.change.Change.TheVariants.{Report, Control, Fire, SetConfig, SetActive}
 use Rattle.supervise_core.specs.declared.chart.ChartState.{ChartState}
 use Rattle.supervise_core.specs.ChartState.{Moved, no_move, is_starting}
 use Rattle.supervise_core.specs.ControlLetters.{then_move}
@@ -68,11 +68,11 @@ same_letters past now (letter ∷ letters) m h =
 
 same_changed : (past : Past) (change : Change) (now : ℕ) (c : ChartState) → is_starting c.phase ≡ true
     → SameDeath past now (changed_by change now c)
-same_changed past (Started generation pid) now c h = same_started past generation pid now c
-same_changed past (StartFailed generation) now c h = same_start_failed past generation now c
-same_changed past (Notify generation bytes) now c h = same_notified past generation bytes.items now c
-same_changed past (Death generation exit) now c h = same_death past generation exit now c h
-same_changed past (FinishEnded generation exit) now c h = same_finish_ended past generation exit now c
+same_changed past (Report (Started _ generation pid)) now c h = same_started past generation pid now c
+same_changed past (Report (StartFailed _ generation)) now c h = same_start_failed past generation now c
+same_changed past (Report (Notify _ generation bytes)) now c h = same_notified past generation bytes.items now c
+same_changed past (Report (Death _ generation exit)) now c h = same_death past generation exit now c h
+same_changed past (Report (FinishEnded _ generation exit)) now c h = same_finish_ended past generation exit now c
 same_changed past (Control letters) now c h = same_letters past now letters.items (no_move c) refl
 same_changed past Fire now c h = same_fire past now c
 same_changed past (SetConfig config) now c h = refl

@@ -44,9 +44,12 @@ use Rattle.wait_conditions.specs.Watch.{Watch}
 use Rattle.tree_core.specs.Acts.{act_result, ask_of, directory_ask_of, offer_of, work_of}
 use Rattle.tree_core.specs.Listening.{Ask, as_match, as_release, watch_after, released_at_once}
 use Rattle.tree_core.specs.Machine.{Machine, directories_at, directories_of, watch_at, watch_of}
-use Rattle.tree_core.specs.Plan.{PresentState, IsNow, Plans, HasFired, Chooses, Chosen, ListenersAnswer, chosen_work, chosen_change, chosen_ask}
-use Rattle.tree_core.specs.Plan.{chosen_reply, is_subscribed, released_by_answer, answers_at}
-use Rattle.tree_core.specs.Plan.Chosen.{refuse, nothing, report, letters, listing, order, show, tally, failure, wait, cancel, ask_directories}
+use Rattle.tree_core.specs.Choices.{Chosen, chosen_work, chosen_change, chosen_ask}
+use Rattle.tree_core.specs.Replies.{ListenersAnswer}
+use Rattle.tree_core.specs.Plan.{PresentState, IsNow, Plans, HasFired, Chooses}
+use Rattle.tree_core.specs.Replies.{chosen_reply, is_subscribed, released_by_answer}
+use Rattle.tree_core.specs.Plan.{answers_at}
+use Rattle.tree_core.specs.Choices.Chosen.{refuse, nothing, report, letters, listing, order, show, tally, failure, wait, cancel, ask_directories}
 use Rattle.tree_core.specs.Step.{StepResult, step, timed_step, with_listeners, with_clock, with_act, with_moves, step_limit, clock_moments}
 use Rattle.tree_core.proofs.Listened.{directories_join, directories_stay, history_stays, moments_join}
 use Rattle.tree_core.proofs.Reading.{reading-clocked}

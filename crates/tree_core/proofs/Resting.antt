@@ -10,8 +10,8 @@ use Rattle.s6_events.specs.declared.exit.Exit.{Exit}
 use Rattle.servicedir.specs.declared.config.Config.{Config}
 use Rattle.control_letters.specs.declared.control_letter.ControlLetter.{ControlLetter}
 use Rattle.supervise_core.specs.declared.change.Change.{Change}
-use Rattle.supervise_core.specs.declared.change.Change.TheVariants.{Started, StartFailed, Notify, Death, FinishEnded, Control, Fire, SetConfig}
-use Rattle.supervise_core.specs.declared.change.Change.TheVariants.{SetActive}
+use Rattle.s6_events.specs.declared.report.Report.TheVariants.{Started, StartFailed, Notify, Death, FinishEnded}
+use Rattle.supervise_core.specs.declared.change.Change.TheVariants.{Report, Control, Fire, SetConfig, SetActive}
 use Rattle.supervise_core.specs.declared.chart.ChartState.{ChartState}
 use Rattle.supervise_core.specs.declared.phase.Phase.{Phase}
 use Rattle.supervise_core.specs.declared.phase.Phase.TheVariants.{Down, Gone}
@@ -103,11 +103,11 @@ control_rests letters now c k h = letters_rest now letters (no_move c) k (still_
 
 changed_rests : (change : Change) (now : ℕ) (c : ChartState) → wants_up (Some change) ≡ false → TellsNoStart (changed_by change now c)
     → IsResting c.phase c.timer → Rests (changed_by change now c)
-changed_rests (Started generation pid) now c k s h = started_rests generation pid now c h
-changed_rests (StartFailed generation) now c k s h = start_failed_rests generation now c h
-changed_rests (Notify generation bytes) now c k s h = notified_rests generation bytes.items now c h
-changed_rests (Death generation exit) now c k s h = death_rests generation exit now c h
-changed_rests (FinishEnded generation exit) now c k s h = finish_ended_rests generation exit now c h
+changed_rests (Report (Started _ generation pid)) now c k s h = started_rests generation pid now c h
+changed_rests (Report (StartFailed _ generation)) now c k s h = start_failed_rests generation now c h
+changed_rests (Report (Notify _ generation bytes)) now c k s h = notified_rests generation bytes.items now c h
+changed_rests (Report (Death _ generation exit)) now c k s h = death_rests generation exit now c h
+changed_rests (Report (FinishEnded _ generation exit)) now c k s h = finish_ended_rests generation exit now c h
 changed_rests (Control letters) now c k s h = control_rests letters.items now c k h
 changed_rests Fire now c k s h = fire_rests now c h s
 changed_rests (SetConfig config) now c k s h = record { chart = h; orders = refl }
@@ -199,12 +199,14 @@ finish_ended_fails generation exit now c k = by (is_in_finish generation c) refl
 
 changed_fails : (change : Change) (now : ℕ) (c : ChartState) → list_any is_failure_mark (changed_by change now c).marks ≡ true
     → Fails c (changed_by change now c)
-changed_fails (Started generation pid) now c k = none_fails c (started_move generation pid now c) (started_tells_none generation pid now c) k
-changed_fails (StartFailed generation) now c k = none_fails c (start_failed_move generation now c) (start_failed_tells_none generation now c) k
-changed_fails (Notify generation bytes) now c k =
+changed_fails (Report (Started _ generation pid)) now c k =
+    none_fails c (started_move generation pid now c) (started_tells_none generation pid now c) k
+changed_fails (Report (StartFailed _ generation)) now c k =
+    none_fails c (start_failed_move generation now c) (start_failed_tells_none generation now c) k
+changed_fails (Report (Notify _ generation bytes)) now c k =
     none_fails c (notify_move generation bytes.items now c) (notified_tells_none generation bytes.items now c) k
-changed_fails (Death generation exit) now c k = none_fails c (death_move generation exit now c) (death_tells_none generation exit now c) k
-changed_fails (FinishEnded generation exit) now c k = finish_ended_fails generation exit now c k
+changed_fails (Report (Death _ generation exit)) now c k = none_fails c (death_move generation exit now c) (death_tells_none generation exit now c) k
+changed_fails (Report (FinishEnded _ generation exit)) now c k = finish_ended_fails generation exit now c k
 changed_fails (Control letters) now c k = none_fails c (control_move letters.items now c) (letters_tell_none now letters.items (no_move c) refl) k
 changed_fails Fire now c k = none_fails c (fire_move now c) (fire_tells_none now c) k
 changed_fails (SetConfig config) now c k = cc

@@ -10,8 +10,8 @@ use Rattle.s6_events.specs.declared.order.Order.TheVariants.{Signal}
 use Rattle.servicedir.specs.declared.config.Config.{Config}
 use Rattle.control_letters.specs.declared.control_letter.ControlLetter.{ControlLetter}
 use Rattle.supervise_core.specs.declared.change.Change.{Change}
-use Rattle.supervise_core.specs.declared.change.Change.TheVariants.{Started, StartFailed, Notify, Death, FinishEnded, Control, Fire, SetConfig}
-use Rattle.supervise_core.specs.declared.change.Change.TheVariants.{SetActive}
+use Rattle.s6_events.specs.declared.report.Report.TheVariants.{Started, StartFailed, Notify, Death, FinishEnded}
+use Rattle.supervise_core.specs.declared.change.Change.TheVariants.{Report, Control, Fire, SetConfig, SetActive}
 use Rattle.supervise_core.specs.declared.chart.ChartState.{ChartState}
 use Rattle.supervise_core.specs.declared.phase.Phase.{Phase}
 use Rattle.supervise_core.specs.declared.phase.Phase.TheVariants.{Down, Starting, Up, Finish, Gone}
@@ -177,16 +177,16 @@ control_signals there letters now c h = letters_signal there now letters c (no_m
 
 -- what is told as a start is of a run that is there
 abbrev pub TellsStart : (ℕ → Bool) → ChartState → Option Change → Type 0
-TellsStart there c (Some (Started generation pid)) = is_awaiting generation c ≡ true → there c.generation ≡ true
+TellsStart there c (Some (Report (Started _ generation pid))) = is_awaiting generation c ≡ true → there c.generation ≡ true
 TellsStart there c told = Unit
 
 changed_signals : (there : ℕ → Bool) (change : Change) (now : ℕ) (c : ChartState) → TellsStart there c (Some change)
     → IsFine there c.phase c.generation → Signals there c (changed_by change now c)
-changed_signals there (Started generation pid) now c k h = started_signals there generation pid now c h k
-changed_signals there (StartFailed generation) now c k h = start_failed_signals there generation now c h
-changed_signals there (Notify generation bytes) now c k h = notified_signals there generation bytes.items now c h
-changed_signals there (Death generation exit) now c k h = death_signals there generation exit now c h
-changed_signals there (FinishEnded generation exit) now c k h = finish_ended_signals there generation exit now c h
+changed_signals there (Report (Started _ generation pid)) now c k h = started_signals there generation pid now c h k
+changed_signals there (Report (StartFailed _ generation)) now c k h = start_failed_signals there generation now c h
+changed_signals there (Report (Notify _ generation bytes)) now c k h = notified_signals there generation bytes.items now c h
+changed_signals there (Report (Death _ generation exit)) now c k h = death_signals there generation exit now c h
+changed_signals there (Report (FinishEnded _ generation exit)) now c k h = finish_ended_signals there generation exit now c h
 changed_signals there (Control letters) now c k h = control_signals there letters.items now c h
 changed_signals there Fire now c k h = fire_signals there now c h
 changed_signals there (SetConfig config) now c k h = record { fair = tt; up = h; later = omega arith }
@@ -224,17 +224,17 @@ did_signals there (looks listing) now c k h = looked_signals there listing now c
 
 -- a death that is told is that of a run below the first one that is alive
 abbrev pub TellsDeath : ℕ → Option Change → Type 0
-TellsDeath first (Some (Death generation exit)) = generation + 1 ≤ first
+TellsDeath first (Some (Report (Death _ generation exit))) = generation + 1 ≤ first
 TellsDeath first told = Unit
 
 pub did_dies : (did : Did) (now : ℕ) (c : ChartState) → IsFresh did now c
     → TellsDeath (first_alive (move_of did now c).chart.phase (move_of did now c).chart.generation) (told_of did)
 did_dies (takes None) now c fresh = tt
-did_dies (takes (Some (Started generation pid))) now c fresh = tt
-did_dies (takes (Some (StartFailed generation))) now c fresh = tt
-did_dies (takes (Some (Notify generation bytes))) now c fresh = tt
-did_dies (takes (Some (Death generation exit))) now c fresh = death_first generation exit now c fresh
-did_dies (takes (Some (FinishEnded generation exit))) now c fresh = tt
+did_dies (takes (Some (Report (Started _ generation pid)))) now c fresh = tt
+did_dies (takes (Some (Report (StartFailed _ generation)))) now c fresh = tt
+did_dies (takes (Some (Report (Notify _ generation bytes)))) now c fresh = tt
+did_dies (takes (Some (Report (Death _ generation exit)))) now c fresh = death_first generation exit now c fresh
+did_dies (takes (Some (Report (FinishEnded _ generation exit)))) now c fresh = tt
 did_dies (takes (Some (Control letters))) now c fresh = tt
 did_dies (takes (Some Fire)) now c fresh = tt
 did_dies (takes (Some (SetConfig config))) now c fresh = tt

@@ -16,7 +16,8 @@ use Rattle.wait_conditions.specs.Watch.{WrittenWaiter}
 use Rattle.std.proofs.lemmas.List.Elements.{All-cons, All-head, All-tail}
 use Rattle.tree_core.specs.Acts.{offer_of}
 use Rattle.tree_core.specs.Machine.{Machine, directories_of, watch_of}
-use Rattle.tree_core.specs.Plan.{PresentState, present_state, is_subscribed, IsNow, Plans}
+use Rattle.tree_core.specs.Replies.{is_subscribed}
+use Rattle.tree_core.specs.Plan.{PresentState, present_state, IsNow, Plans}
 use Rattle.tree_core.specs.Run.{after, outcome}
 use Rattle.std.specs.Prelude.{All, get_or}
 use Rattle.supervise_core.specs.declared.chart.ChartState.{ChartState}

@@ -27,8 +27,9 @@ use Rattle.tree_core.specs.declared.reply.Refusal.{Refusal}
 use Rattle.tree_core.specs.declared.reply.Refusal.TheVariants.{NoService, TooMany, Repeated, Empty}
 use Rattle.tree_core.specs.Acts.{all_named, service_named, wait_refusal, serial_of, serials_named}
 use Rattle.tree_core.specs.Machine.{Machine}
-use Rattle.tree_core.specs.Plan.{Chosen, Chooses, HasFired, wait_choice}
-use Rattle.tree_core.specs.Plan.Chosen.{refuse, wait, cancel}
+use Rattle.tree_core.specs.Choices.{Chosen, wait_choice}
+use Rattle.tree_core.specs.Plan.{Chooses, HasFired}
+use Rattle.tree_core.specs.Choices.Chosen.{refuse, wait, cancel}
 use Rattle.tree_core.proofs.Choosing.{chooses_this}
 
 -- the timers leave each name with its serial

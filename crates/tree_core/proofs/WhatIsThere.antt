@@ -7,8 +7,8 @@ use Rattle.std.proofs.lemmas.List.Folds.{list_any-append}
 use Rattle.s6_events.specs.declared.order.Order.{Order}
 use Rattle.s6_events.specs.declared.order.Order.TheVariants.{Run, Finish, Signal, KillFinish}
 use Rattle.supervise_core.specs.declared.change.Change.{Change}
-use Rattle.supervise_core.specs.declared.change.Change.TheVariants.{Started, StartFailed, Notify, Death, FinishEnded, Control, Fire, SetConfig}
-use Rattle.supervise_core.specs.declared.change.Change.TheVariants.{SetActive}
+use Rattle.s6_events.specs.declared.report.Report.TheVariants.{Started, StartFailed, Notify, Death, FinishEnded}
+use Rattle.supervise_core.specs.declared.change.Change.TheVariants.{Report, Control, Fire, SetConfig, SetActive}
 use Rattle.supervise_core.specs.declared.chart.ChartState.{ChartState}
 use Rattle.supervise_core.specs.declared.phase.Phase.{Phase}
 use Rattle.supervise_core.specs.declared.phase.Phase.TheVariants.{Down, Starting, Up, Finish, Gone}
@@ -72,11 +72,11 @@ other_death generation of h = grind (arith, nat_tests)
 
 no_death_now : (told : Option Change) (first generation : ℕ) → TellsDeath first told → first ≤ generation → is_death_of generation told ≡ false
 no_death_now None first generation h above = refl
-no_death_now (Some (Death of exit)) first generation h above = other_death generation of (omega (arith, h, above))
-no_death_now (Some (Started of pid)) first generation h above = refl
-no_death_now (Some (StartFailed of)) first generation h above = refl
-no_death_now (Some (Notify of bytes)) first generation h above = refl
-no_death_now (Some (FinishEnded of exit)) first generation h above = refl
+no_death_now (Some (Report (Death _ of exit))) first generation h above = other_death generation of (omega (arith, h, above))
+no_death_now (Some (Report (Started _ of pid))) first generation h above = refl
+no_death_now (Some (Report (StartFailed _ of))) first generation h above = refl
+no_death_now (Some (Report (Notify _ of bytes))) first generation h above = refl
+no_death_now (Some (Report (FinishEnded _ of exit))) first generation h above = refl
 no_death_now (Some (Control letters)) first generation h above = refl
 no_death_now (Some Fire) first generation h above = refl
 no_death_now (Some (SetConfig config)) first generation h above = refl
@@ -115,27 +115,27 @@ started_of sid ts t Finish generation h = tt
 started_of sid ts t Gone generation h = tt
 
 -- a start that is told is that of the run that is awaited
-awaited : {A : Type 0} (sid : ℕ) (ts : List (StepTaken A)) (t : StepTaken A) (generation pid : ℕ) (p : Phase) (now : ℕ)
-    → change_in_step sid t ≡ Some (Started generation pid)
+awaited : {A : Type 0} (sid : ℕ) (ts : List (StepTaken A)) (t : StepTaken A) (of generation pid : ℕ) (p : Phase) (now : ℕ)
+    → change_in_step sid t ≡ Some (Report (Started of generation pid))
     → AreAlive sid ts (first_alive p now) → (is_starting p && (now == generation)) ≡ true → is_run_there sid ts t now ≡ true
-awaited sid ts t generation pid Starting now e alive h =
+awaited sid ts t of generation pid Starting now e alive h =
     let same : now ≡ generation = (Decides-eqb now generation).0 h in
     there_of sid ts t now (started_now sid ts t now (ap (is_start_of now) e ∙ (ap (λ n. n == now) (sym same) ∙ itself now)))
     (alive now (omega arith))
-awaited sid ts t generation pid Down now e alive h = cc
-awaited sid ts t generation pid Up now e alive h = cc
-awaited sid ts t generation pid Finish now e alive h = cc
-awaited sid ts t generation pid Gone now e alive h = cc
+awaited sid ts t of generation pid Down now e alive h = cc
+awaited sid ts t of generation pid Up now e alive h = cc
+awaited sid ts t of generation pid Finish now e alive h = cc
+awaited sid ts t of generation pid Gone now e alive h = cc
 
 tells_start : {A : Type 0} (sid : ℕ) (ts : List (StepTaken A)) (t : StepTaken A) (c : ChartState) (told : Option Change)
     → change_in_step sid t ≡ told → AreAlive sid ts (first_alive c.phase c.generation)
     → TellsStart (is_run_there sid ts t) c told
 tells_start sid ts t c None e alive = tt
-tells_start sid ts t c (Some (Started generation pid)) e alive = λ h. awaited sid ts t generation pid c.phase c.generation e alive h
-tells_start sid ts t c (Some (Death of exit)) e alive = tt
-tells_start sid ts t c (Some (StartFailed of)) e alive = tt
-tells_start sid ts t c (Some (Notify of bytes)) e alive = tt
-tells_start sid ts t c (Some (FinishEnded of exit)) e alive = tt
+tells_start sid ts t c (Some (Report (Started of generation pid))) e alive = λ h. awaited sid ts t of generation pid c.phase c.generation e alive h
+tells_start sid ts t c (Some (Report (Death _ of exit))) e alive = tt
+tells_start sid ts t c (Some (Report (StartFailed _ of))) e alive = tt
+tells_start sid ts t c (Some (Report (Notify _ of bytes))) e alive = tt
+tells_start sid ts t c (Some (Report (FinishEnded _ of exit))) e alive = tt
 tells_start sid ts t c (Some (Control letters)) e alive = tt
 tells_start sid ts t c (Some Fire) e alive = tt
 tells_start sid ts t c (Some (SetConfig config)) e alive = tt

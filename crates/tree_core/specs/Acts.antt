@@ -12,6 +12,7 @@ use Rattle.s6_events.specs.declared.condition.Mode.{Mode}
 use Rattle.s6_events.specs.declared.exit.Exit.{Exit}
 use Rattle.supervise_core.specs.declared.chart.ChartState.{ChartState}
 use Rattle.supervise_core.specs.declared.change.Change.{Change}
+use Rattle.s6_events.specs.declared.report.Report.TheVariants as reports
 use Rattle.supervise_core.specs.declared.change.Change.TheVariants as changes
 use Rattle.supervise_core.specs.declared.row.Row.{Row}
 use Rattle.supervise_core.specs.ChartState.{is_gone}
@@ -135,11 +136,11 @@ abbrev pub asked_work : {A : Type 0} → Act A → Machine → Work
 asked_work (Scan listing) m = apply_listing listing
 asked_work (Scanctl order) m = command order
 asked_work (Svc name letters) m = change_found (service_named name m.services) (changes.Control letters)
-asked_work (Started sid generation pid) m = change_one sid (changes.Started generation pid)
-asked_work (StartFailed sid generation) m = change_one sid (changes.StartFailed generation)
-asked_work (Notify sid generation bytes) m = change_one sid (changes.Notify generation bytes)
-asked_work (Death sid generation exit) m = change_one sid (changes.Death generation exit)
-asked_work (FinishEnded sid generation exit) m = change_one sid (changes.FinishEnded generation exit)
+asked_work (Started sid generation pid) m = change_one sid (changes.Report (reports.Started sid generation pid))
+asked_work (StartFailed sid generation) m = change_one sid (changes.Report (reports.StartFailed sid generation))
+asked_work (Notify sid generation bytes) m = change_one sid (changes.Report (reports.Notify sid generation bytes))
+asked_work (Death sid generation exit) m = change_one sid (changes.Report (reports.Death sid generation exit))
+asked_work (FinishEnded sid generation exit) m = change_one sid (changes.Report (reports.FinishEnded sid generation exit))
 asked_work act m = do_nothing
 
 -- nothing where the act is refused, and else this work

@@ -13,6 +13,8 @@ pub mod Step
 pub mod Run
 pub mod StandsFor
 pub mod Tied
+pub mod Choices
+pub mod Replies
 pub mod Plan
 pub mod Sound
 pub mod TreeFields

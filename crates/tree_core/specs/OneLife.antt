@@ -5,7 +5,8 @@ use Rattle.std.specs.List.{flat_map, list_all, list_any}
 use Rattle.s6_events.specs.declared.order.Order.{Order}
 use Rattle.s6_events.specs.declared.order.Order.TheVariants.{Run}
 use Rattle.supervise_core.specs.declared.change.Change.{Change}
-use Rattle.supervise_core.specs.declared.change.Change.TheVariants.{StartFailed, Death}
+use Rattle.s6_events.specs.declared.report.Report.TheVariants.{StartFailed, Death}
+use Rattle.supervise_core.specs.declared.change.Change.TheVariants.{Report}
 use Rattle.tree_core.specs.declared.input.Input.{Input}
 use Rattle.tree_core.specs.Taken.{StepTaken, steps_taken, next_step, orders_in, change_in_step}
 
@@ -31,8 +32,8 @@ up_to (suc n) = up_to n ++ suc n ∷ []
 
 -- what the service is told ends the run before this generation: its death, or that it could not be started
 abbrev pub ends_before : ℕ → Option Change → Bool
-ends_before generation (Some (Death of exit)) = of + 1 == generation
-ends_before generation (Some (StartFailed of)) = of + 1 == generation
+ends_before generation (Some (Report (Death sid of exit))) = of + 1 == generation
+ends_before generation (Some (Report (StartFailed sid of))) = of + 1 == generation
 ends_before generation told = false
 
 -- after these steps a run of this generation may come: it is the first one, or the one before it is over

@@ -4,7 +4,8 @@ use Rattle.std.specs.List.{flat_map, list_all, list_any}
 use Rattle.s6_events.specs.declared.order.Order.{Order}
 use Rattle.s6_events.specs.declared.order.Order.TheVariants.{Signal}
 use Rattle.supervise_core.specs.declared.change.Change.{Change}
-use Rattle.supervise_core.specs.declared.change.Change.TheVariants.{Started, Death}
+use Rattle.s6_events.specs.declared.report.Report.TheVariants.{Started, Death}
+use Rattle.supervise_core.specs.declared.change.Change.TheVariants.{Report}
 use Rattle.tree_core.specs.declared.input.Input.{Input}
 use Rattle.tree_core.specs.Taken.{StepTaken, steps_taken, next_step, orders_in, change_in_step}
 
@@ -18,11 +19,11 @@ signals_in sid t = flat_map signal_generations (orders_in sid t)
 
 -- what the service is told is the start, or the death, of the run of this generation
 abbrev pub is_start_of : ℕ → Option Change → Bool
-is_start_of generation (Some (Started of pid)) = of == generation
+is_start_of generation (Some (Report (Started sid of pid))) = of == generation
 is_start_of generation told = false
 
 abbrev pub is_death_of : ℕ → Option Change → Bool
-is_death_of generation (Some (Death of exit)) = of == generation
+is_death_of generation (Some (Report (Death sid of exit))) = of == generation
 is_death_of generation told = false
 
 -- in one of these steps its start, or its death, was reported

@@ -5,6 +5,7 @@ use Rattle.s6_events.specs.declared.mark.Mark.{Mark}
 use Rattle.s6_events.specs.declared.order.Order.{Order}
 use Rattle.s6_events.specs.declared.order.Order.TheVariants.{Run, Finish, Signal, KillFinish}
 use Rattle.supervise_core.specs.declared.change.Change.{Change}
+use Rattle.s6_events.specs.declared.report.Report.TheVariants as reports
 use Rattle.supervise_core.specs.declared.change.Change.TheVariants as changes
 use Rattle.supervise_core.specs.declared.chart.ChartState.{ChartState}
 use Rattle.svscan_core.specs.declared.event.Event.{Event}
@@ -89,11 +90,11 @@ if_found (Some c) sid change = if_same c.sid sid change
 
 abbrev pub change_by_act : {A : Type 0} → Act A → ℕ → List ChartState → Option Change
 change_by_act (Svc name letters) sid services = if_found (service_named name services) sid (changes.Control letters)
-change_by_act (Started of generation pid) sid services = if_same of sid (changes.Started generation pid)
-change_by_act (StartFailed of generation) sid services = if_same of sid (changes.StartFailed generation)
-change_by_act (Notify of generation bytes) sid services = if_same of sid (changes.Notify generation bytes)
-change_by_act (Death of generation exit) sid services = if_same of sid (changes.Death generation exit)
-change_by_act (FinishEnded of generation exit) sid services = if_same of sid (changes.FinishEnded generation exit)
+change_by_act (Started of generation pid) sid services = if_same of sid (changes.Report (reports.Started of generation pid))
+change_by_act (StartFailed of generation) sid services = if_same of sid (changes.Report (reports.StartFailed of generation))
+change_by_act (Notify of generation bytes) sid services = if_same of sid (changes.Report (reports.Notify of generation bytes))
+change_by_act (Death of generation exit) sid services = if_same of sid (changes.Report (reports.Death of generation exit))
+change_by_act (FinishEnded of generation exit) sid services = if_same of sid (changes.Report (reports.FinishEnded of generation exit))
 change_by_act act sid services = None
 
 abbrev pub is_done : {A : Type 0} → Reply A → Bool

@@ -8,7 +8,8 @@ ghost use Rattle.svscan_core.specs.Work.{closing_after};
 ghost use Rattle.wait_conditions.specs.Steps.{wait_request_of};
 ghost use Rattle.tree_core.specs.Limits.{service_limit};
 ghost use Rattle.tree_core.specs.Machine.{Machine};
-ghost use Rattle.tree_core.specs.Plan.{chosen_of, chosen_work, chosen_change, chosen_ask, AsksNothing, Chooses, HasFired, is_reading};
+ghost use Rattle.tree_core.specs.Choices.{chosen_of, chosen_work, chosen_change, chosen_ask, AsksNothing};
+ghost use Rattle.tree_core.specs.Plan.{Chooses, HasFired, is_reading};
 
 use super::input::Act;
 use super::limits::NAME_LIMIT;
@@ -16,7 +17,7 @@ use super::refusals::{copy_of, judge, letters, report, scan, send, show, subscri
 use super::reply::Refusal;
 use arrayvec::ArrayVec;
 use event_directory::{DirectoryChange, Message, Source};
-use s6_events::{At, Condition, Mode, Name, NoMemory, Sid, SubId, WaitId};
+use s6_events::{At, Condition, Mode, Name, NoMemory, Report, Sid, SubId, WaitId};
 use std::alloc::Allocator;
 use supervise_core::{Change, Row};
 use svscan_core::{Entry, Registry, ScanOrder, ServiceWork, closing_after};
@@ -120,27 +121,27 @@ pub fn choose<'a, A: Allocator + Copy>(
         Act::Started(sid, generation, pid) => Ok(report(
             registry,
             *sid,
-            Change::Started(*generation, *pid),
+            Change::Report(Report::Started(*sid, *generation, *pid)),
         )),
         Act::StartFailed(sid, generation) => Ok(report(
             registry,
             *sid,
-            Change::StartFailed(*generation),
+            Change::Report(Report::StartFailed(*sid, *generation)),
         )),
         Act::Notify(sid, generation, bytes) => Ok(report(
             registry,
             *sid,
-            Change::Notify(*generation, copy_of(bytes)),
+            Change::Report(Report::Notify(*sid, *generation, copy_of(bytes))),
         )),
         Act::Death(sid, generation, exit) => Ok(report(
             registry,
             *sid,
-            Change::Death(*generation, *exit),
+            Change::Report(Report::Death(*sid, *generation, *exit)),
         )),
         Act::FinishEnded(sid, generation, exit) => Ok(report(
             registry,
             *sid,
-            Change::FinishEnded(*generation, *exit),
+            Change::Report(Report::FinishEnded(*sid, *generation, *exit)),
         )),
         Act::Status(name) => Ok(show(registry, *name, now)),
         Act::Tally(name) => Ok(Choice::Tally(*name)),

@@ -2,7 +2,7 @@
 ghost use Rattle.std.specs.Prelude.{◌≡◌, ◌++◌, ◌∷◌, ◌+◌, ◌≤◌, [], length, map, OnOk, IsOk};
 ghost use Rattle.tree_core.specs.Limits.{order_limit};
 ghost use Rattle.tree_core.specs.Listening.{as_match, as_release};
-ghost use Rattle.tree_core.specs.Plan.{released_by_answer};
+ghost use Rattle.tree_core.specs.Replies.{released_by_answer};
 ghost use Rattle.tree_core.specs.declared.reply.Reply.TheVariants.{Done};
 
 use super::limits::ORDER_LIMIT;

@@ -14,7 +14,8 @@ ghost use Rattle.svscan_core.specs.Sound.{AllAgree};
 ghost use Rattle.svscan_core.specs.Table.{charts_of};
 ghost use Rattle.tree_core.specs.Acts.{all_named, serials_named, source_named};
 ghost use Rattle.tree_core.specs.Limits.{name_limit};
-ghost use Rattle.tree_core.specs.Plan.{chosen_of, report_choice, letters_choice, row_choice, failure_choice, scan_choice, wait_choice, subscribe_choice, send_choice, tally_in, AsksNothing};
+ghost use Rattle.tree_core.specs.Choices.{chosen_of, report_choice, letters_choice, row_choice, failure_choice, scan_choice, wait_choice, subscribe_choice, send_choice, AsksNothing};
+ghost use Rattle.tree_core.specs.Replies.{tally_in};
 
 use super::choice::Choice;
 use super::input::Target;

@@ -14,7 +14,9 @@ ghost use Rattle.tree_core.specs.Limits.{service_limit, moment_limit};
 ghost use Rattle.tree_core.specs.Listening.{as_match, as_release};
 ghost use Rattle.tree_core.specs.Machine.{Machine};
 ghost use Rattle.wait_conditions.specs.Stands.{WaitsShown, FitsWaits, MakesPlan, waits_shown};
-ghost use Rattle.tree_core.specs.Plan.{present_state, chosen_of, lists_more, tally_in, chosen_reply, released_by_answer, waiter_reply, directory_reply, IsNow, Plans, IsQuiet};
+ghost use Rattle.tree_core.specs.Choices.{chosen_of, lists_more};
+ghost use Rattle.tree_core.specs.Replies.{tally_in, chosen_reply, released_by_answer, waiter_reply, directory_reply};
+ghost use Rattle.tree_core.specs.Plan.{present_state, IsNow, Plans, IsQuiet};
 ghost use Rattle.tree_core.specs.Step.{step_limit};
 
 use super::choice::{Choice, choose};

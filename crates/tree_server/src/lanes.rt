@@ -2,7 +2,7 @@
 use crate::driver_state::{DriverState, FIRST_LANE, LANE_COUNT};
 use channel_names::Channels;
 use office::Office;
-use order_lanes::{Backend, Carried, Lanes, Report};
+use order_lanes::{Backend, Carried, Lanes, Report, act_of};
 use status_board::Board;
 use std::sync::Wait;
 
@@ -72,7 +72,10 @@ pub fn hand_in_reports<C: Channels + Lanes, D: Board<C>, B: Backend, R: Wait>(
             let Some(report) = take_report(rt, office, state, lane) else {
                 break;
             };
-            if state.hand_in(FIRST_LANE + lane, now, report.act()).is_err() {
+            if state
+                .hand_in(FIRST_LANE + lane, now, act_of(&report))
+                .is_err()
+            {
                 keep(state, lane, report);
                 is_full = true;
                 break;

@@ -1,5 +1,5 @@
 use Rattle.std.proofs.Common.{◌∙◌, sym, ap, true, false, not}
-use Rattle.tree_core.specs.Plan.{report_choice}
+use Rattle.tree_core.specs.Choices.{report_choice}
 use Rattle.tree_core.proofs.Choosing.{known_by}
 use Rattle.tree_core.proofs.refusals.report.Goals as goal
 

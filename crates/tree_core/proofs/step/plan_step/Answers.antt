@@ -13,7 +13,9 @@ use Rattle.svscan_core.proofs.Growing.{Below, step_grows}
 use Rattle.s6_events.specs.declared.moment.Moment.{Moment}
 use Rattle.wait_conditions.specs.Stands.{waits_shown}
 use Rattle.wait_conditions.specs.Steps.{WaitRequest, wait_request_of}
-use Rattle.tree_core.specs.Plan.{present_state, chosen_of, chosen_change, chosen_ask, chosen_reply, released_by_answer, ListenersAnswer}
+use Rattle.tree_core.specs.Choices.{chosen_of, chosen_change, chosen_ask}
+use Rattle.tree_core.specs.Replies.{chosen_reply, released_by_answer, ListenersAnswer}
+use Rattle.tree_core.specs.Plan.{present_state}
 use Rattle.tree_core.specs.Step.{clock_moments}
 use Rattle.tree_core.proofs.PlanMakes.{HearsLetters, Listens, plans_all, not_ok, not_ok_and}
 use Rattle.tree_core.proofs.TimersDue.{due_now, none_for_quiet}

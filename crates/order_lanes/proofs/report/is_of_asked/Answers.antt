@@ -1,6 +1,6 @@
 use Rattle.std.proofs.Common.{sym, ◌∙◌}
 use Rattle.order_lanes.specs.Backend.{IsOfAsked}
-use Rattle.order_lanes.proofs.report.Report.is_of_asked.Goals as goal
+use Rattle.order_lanes.proofs.report.is_of_asked.Goals as goal
 
 pub returns : goal.returns
 unfolding IsOfAsked
