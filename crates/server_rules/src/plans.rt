@@ -25,7 +25,8 @@ pub enum Wanted {
 /// What is planned.
 #[derive(Drop)]
 pub struct Plans {
-    /// The moment to which a timer or a deadline is set, in milliseconds.
+    /// The moment to which a timer or a deadline is set, in milliseconds. A tick before it changes nothing but the clock
+    /// (`tree_core::laws::sleep`), so nobody wakes earlier.
     pub due: Option<u64>,
     /// Who waits for a scan that isn't begun.
     pub askers: Askers,

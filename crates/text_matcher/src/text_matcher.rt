@@ -104,10 +104,7 @@ impl TextMatcher {
             return false;
         }
         let end = bytes.len();
-        match self
-            .forward
-            .find_end(&self.dfa, bytes, 0, end, false, true)
-        {
+        match self.forward.find_end(&self.dfa, bytes, 0, end, false, true) {
             End::At(_) => true,
             End::NoMatch => false,
             End::Idle(_) | End::GaveUp => finds_by_states(&mut self.pikevm, &self.dfa, bytes),
