@@ -1,10 +1,9 @@
 -- What the engines find is what the text of the expression has.
-use Rattle.std.proofs.Common.{◌≡◌, refl, sym, ap, subst, ◌∙◌, ℕ, zero, suc, ◌+◌, ◌-◌, ◌<◌, ◌≤◌, List, length, All, true, false, Option, None, Some, IfSome, IsSome, IsSomeAnd, is_some, option_map, arith, Fits, w8, get_or}
+use Rattle.std.proofs.Common.{◌≡◌, refl, sym, ap, subst, ◌∙◌, ℕ, zero, suc, ◌+◌, ◌-◌, ◌<◌, ◌≤◌, List, length, All, true, false, Option, None, Some, IsSome, IsSomeAnd, is_some, option_map, arith, Fits, w8, get_or}
 use Rattle.std.proofs.lemmas.List.Elements.{All-from_get_or}
 use Rattle.std.proofs.Math.Bool.{Bool-set}
 use Rattle.std.proofs.Math.Logic.{∥∥₁_elim}
-use Rattle.std.specs.Option.{ForSome, option_or}
-use Rattle.std.proofs.lemmas.Option.{same_Some}
+use Rattle.std.specs.Option.{option_or}
 use Rattle.std.specs.Prelude.{chars}
 use Rattle.regex_hir.specs.Re.{Re, Trace, Rest, accept}
 use Rattle.regex_hir.specs.Find.{first_from, find}
@@ -33,11 +32,6 @@ some_of_or None None b b' e f = f
 some_of_or None (Some x) b b' e f = absurd (cc e)
 some_of_or (Some x) None b b' e f = absurd (cc e)
 some_of_or (Some x) (Some y) b b' e f = refl
-
--- P of the value that it holds, in the form that is kept
-pub for_some : {A : Type 0} (P : A → Type 0) (o : Option A) → IfSome o P → ForSome o P
-for_some P None h x e = absurd (cc e)
-for_some P (Some y) h x e = subst P (same_Some y x e) h
 
 -- two searches that find a match at the same positions both find one, or neither does
 same_searches : (one other : Rest) (n i : ℕ) → ((j : ℕ) → is_some (one j) ≡ is_some (other j))

@@ -1,5 +1,5 @@
 //! A matcher: an expression, its automaton, and what searches write to.
-ghost use Rattle.std.specs.Prelude.{◌≡◌, IfOk, None, true, length, vec_len, is_some};
+ghost use Rattle.std.specs.Prelude.{◌≡◌, IfOk, IfSome, None, true, false, length, vec_len, is_some};
 ghost use Rattle.std.specs.Option.{ForSome};
 ghost use Rattle.regex_bits.specs.Sound.{IsFor};
 ghost use Rattle.regex_vm.specs.Found.{first_match};
@@ -31,8 +31,11 @@ pub struct TextMatcher {
     dfa: Dfa,
     // Runs the automaton by rows that it makes as it goes, and gives up where they find no room.
     forward: Forward,
-    // Where many rows are made, tells sooner that there is no match. Where it can't, there may be one or none.
+    // Where making rows takes long, tells sooner that there is no match. Where it can't, there may be one or none.
     bits: Option<Bits>,
+    // Whether it was made, or can't be.
+    is_strained: bool,
+    alloc: Global,
     // Runs it state by state where that gives up: it takes no memory, and never fails.
     pikevm: PikeVm,
 }
@@ -44,6 +47,8 @@ impl Drop for TextMatcher {
             source: _source,
             dfa: _dfa,
             bits: _bits,
+            is_strained: _is_strained,
+            alloc: _alloc,
             forward: _forward,
             pikevm: _pikevm,
         } = self;
@@ -75,14 +80,15 @@ impl TextMatcher {
             Err(BuildError::OutOfMemory) => return Err(BuildFault::NoMemory),
             Err(BuildError::Malformed) => return Err(BuildFault::Refused),
         };
-        let bits = Bits::new(alloc, &dfa.nfa)?;
         let forward = Forward::with_budget(alloc, &dfa, false, ROW_BYTES)?;
         let pikevm = PikeVm::new(alloc, &dfa.nfa)?;
         let source = String::from_str(alloc, text)?;
         Ok(TextMatcher {
             source,
             dfa,
-            bits,
+            bits: None,
+            is_strained: false,
+            alloc,
             forward,
             pikevm,
         })
@@ -100,9 +106,29 @@ impl TextMatcher {
         ensures found { result ≡ has_match self.old bytes.now }
         ensures same { self.new ≡ self.old }
     {
-        if self.forward.work().built > ROW_TIME && is_hopeless(&self.bits, &self.dfa, bytes) {
+        if self.is_hopeless(bytes) {
             return false;
         }
+        self.finds_by_rows(bytes)
+    }
+
+    // Whether making rows has taken long, and the sets of states say that there is no match.
+    fn is_hopeless(&mut self, bytes: &[u8]) -> bool
+        ensures none { result ≡ true → has_match self.old bytes.now ≡ false }
+        ensures same { self.new ≡ self.old }
+    {
+        if self.forward.work().built <= ROW_TIME {
+            return false;
+        }
+        self.make_bits();
+        none_by_bits(&self.bits, &self.dfa, bytes)
+    }
+
+    // Whether there is a match, by rows, or state by state where these give up.
+    fn finds_by_rows(&mut self, bytes: &[u8]) -> bool
+        ensures found { result ≡ has_match self.old bytes.now }
+        ensures same { self.new ≡ self.old }
+    {
         let end = bytes.len();
         match self.forward.find_end(&self.dfa, bytes, 0, end, false, true) {
             End::At(_) => true,
@@ -110,10 +136,30 @@ impl TextMatcher {
             End::Idle(_) | End::GaveUp => finds_by_states(&mut self.pikevm, &self.dfa, bytes),
         }
     }
+
+    // Makes the sets of states, the first time that they are wanted.
+    fn make_bits(&mut self)
+        ensures { self.new ≡ self.old }
+    {
+        if !self.is_strained {
+            self.is_strained = true;
+            self.bits = bits_of(self.alloc, &self.dfa);
+        }
+    }
+}
+
+// The sets of states of an automaton, if it is small enough and there is memory.
+fn bits_of(alloc: Global, dfa: &Dfa) -> Option<Bits>
+    ensures { IfSome result (λ bits. IsFor bits dfa.now.nfa) }
+{
+    match Bits::new(alloc, &dfa.nfa) {
+        Ok(bits) => bits,
+        Err(_) => None,
+    }
 }
 
 // Whether the sets of states say that there is no match.
-fn is_hopeless(bits: &Option<Bits>, dfa: &Dfa, bytes: &[u8]) -> bool
+fn none_by_bits(bits: &Option<Bits>, dfa: &Dfa, bytes: &[u8]) -> bool
     requires { ∥ ForSome bits.now (λ b. IsFor b dfa.now.nfa) ∥₁ }
     ensures { result ≡ true →
         first_match dfa.now.nfa bytes.now (length bytes.now) 0 (length bytes.now) ≡ None }

@@ -1,7 +1,7 @@
 use Rattle.std.specs.Coded.{coded_ℕ}
 use Rattle.std.proofs.Math.Logic.{∥∥₁_elim, ∥∥₁_prop}
 use base.Stored.{Coded-set}
-use Rattle.text_matcher.proofs.text_matcher.is_hopeless.Goals as goal
+use Rattle.text_matcher.proofs.text_matcher.none_by_bits.Goals as goal
 
 pub window-requires-clause-own : goal.window-requires-clause-own
 window-requires-clause-own c = (
