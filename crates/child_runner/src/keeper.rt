@@ -5,6 +5,7 @@ use crate::process::ServiceProcess;
 use crate::roster::Roster;
 use crate::shell::signal_child;
 use crate::watching::{STACK, give_back, watch};
+use s6_events::SIGKILL;
 use std::alloc::{AllocError, AllocFailed, Global};
 use std::process::Processes;
 use std::sync::{Arc, Wait};

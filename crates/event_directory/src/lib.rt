@@ -33,7 +33,7 @@ pub use finds::Finds;
 pub use hit::Hit;
 pub use image::{DirectoriesImage, SourceImage, SubscriptionImage};
 pub use message::Message;
-pub use pattern::{PATTERN_SIZE_LIMIT, Pattern};
+pub use pattern::{PATTERN_LIMITS, Pattern};
 pub use pattern_fault::PatternFault;
 pub use plan::LettersPlan;
 pub use source::Source;

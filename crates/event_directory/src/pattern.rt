@@ -8,14 +8,17 @@ use crate::pattern_fault::PatternFault;
 use s6_events::{Letter, NoMemory};
 use std::alloc::Global;
 use std::marker::Model;
-use text_matcher::{BuildFault, TextMatcher};
+use text_matcher::{BuildFault, Limits, TextMatcher};
 
 // So many letters of one text are searched.
 pub(crate) const TEXT_LIMIT: usize = 1024;
 
-/// The most bytes that the tables of a pattern take. So whatever is subscribed, a letter that 256 subscriptions look at is heard
-/// soon, and their matchers take little memory.
-pub const PATTERN_SIZE_LIMIT: usize = 4096;
+/// How large the automaton of a pattern may be. So whatever is subscribed, a letter that 256 subscriptions look at is heard soon,
+/// and their matchers take little memory.
+pub const PATTERN_LIMITS: Limits = Limits {
+    bytes: 16_384,
+    states: 256,
+};
 
 /// A regular expression of the crate `regex`, built from a text of 1 to 256 bytes 0x20 to 0x7e, with all that searching for it
 /// takes. A clause sees its text. Page `s6-ftrig-listen1`; s6 takes POSIX expressions.
@@ -40,7 +43,7 @@ impl Model for Pattern {
 
 impl Pattern {
     /// The pattern of this text. Length is looked for first; Refused: `regex` refused the text, and not for want of memory, or its
-    /// tables would take more than `PATTERN_SIZE_LIMIT`.
+    /// automaton is larger than `PATTERN_LIMITS` allow.
     pub fn build(alloc: Global, text: &str) -> Result<Pattern, PatternFault>
         ensures ok { IfOk result (λ p. p ≡ text.now) }
         ensures expression { IfOk result (λ _. is_expression text.now ≡ true) }
@@ -49,7 +52,7 @@ impl Pattern {
         if !is_text(text) {
             return Err(PatternFault::Length);
         }
-        let matcher = match TextMatcher::build(alloc, text, PATTERN_SIZE_LIMIT) {
+        let matcher = match TextMatcher::build(alloc, text, PATTERN_LIMITS) {
             Ok(matcher) => matcher,
             Err(fault) => return Err(fault_of(fault)),
         };

@@ -177,14 +177,16 @@ fn builds_what_it_can(rt: HostRuntime) {
     wants_pattern(&rt, alloc, &long, None);
 }
 
-// 900 states and more take far more than the limit; 256 letters, each with a state of its own, don't.
+// A pattern has at most 256 states that read a letter, and its tables take at most 16,384 bytes: `.` takes some 200 of them.
 #[test]
-fn a_pattern_past_the_limit_is_refused(rt: HostRuntime) {
+fn a_pattern_past_the_limits_is_refused(rt: HostRuntime) {
     let alloc = rt.alloc();
-    wants_pattern(&rt, alloc, "((a?){30}){30}b", Some(PatternFault::Refused));
-    wants_pattern(&rt, alloc, "a{999}", Some(PatternFault::Refused));
     wants_pattern(&rt, alloc, "a{256}", None);
-    wants_pattern(&rt, alloc, "^.{5}$", None);
+    wants_pattern(&rt, alloc, "a{257}", Some(PatternFault::Refused));
+    wants_pattern(&rt, alloc, "((a?){30}){30}b", Some(PatternFault::Refused));
+    wants_pattern(&rt, alloc, ".{64}", None);
+    wants_pattern(&rt, alloc, ".{128}", Some(PatternFault::Refused));
+    wants_pattern(&rt, alloc, "\\w", None);
 }
 
 // Hears a letter, and then two of one step, as far as memory goes; whether each was answered.

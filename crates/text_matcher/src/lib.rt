@@ -5,4 +5,4 @@ mod build_fault;
 mod text_matcher;
 
 pub use build_fault::BuildFault;
-pub use text_matcher::TextMatcher;
+pub use text_matcher::{Limits, TextMatcher};

@@ -10,7 +10,7 @@ use crate::build_fault::BuildFault;
 use regex_bits::Bits;
 use regex_compile::compile;
 use regex_dfa::{Dfa, End, Forward};
-use regex_nfa::{BuildError, Nfa};
+use regex_nfa::{BuildError, Nfa, State};
 use regex_syntax::{Config, Parsed, parse};
 use regex_vm::PikeVm;
 use std::alloc::Global;
@@ -21,6 +21,18 @@ const ROW_BYTES: usize = 0x8000;
 
 // So long the rows may have taken to make, in eighths of a nanosecond, before the sets of states are asked first: 0.1 ms in all.
 const ROW_TIME: u64 = 800_000;
+
+// The sets of states of a larger automaton would take too much memory.
+const BITS_STATES: usize = 256;
+
+/// How large the automaton of an expression may be.
+#[derive(Clone, Copy, Debug, PartialEq, Eq)]
+pub struct Limits {
+    /// The bytes of its tables, which the compiler may pass by 24.
+    pub bytes: usize,
+    /// The states that read a byte below 128. Among such bytes no others are ever reached, however many there are.
+    pub states: usize,
+}
 
 /// A regular expression of the crate `regex`, with all that searching for it takes: it owns its automaton and the engines that run
 /// it, so it can be kept for as long as somebody searches. What one search worked out of the automaton the next one finds.
@@ -68,13 +80,16 @@ impl Model for TextMatcher {
 }
 
 impl TextMatcher {
-    /// The matcher of this text, with the default options of `regex`. Its tables take at most `size_limit` bytes. Refused: the text
-    /// is no expression, nests too deep, or its tables would take more. NoMemory: a growth was refused.
-    pub fn build(alloc: Global, text: &str, size_limit: usize) -> Result<TextMatcher, BuildFault>
+    /// The matcher of this text, with the default options of `regex`. Refused: the text is no expression, nests too deep, or its
+    /// automaton is larger than the limits say. NoMemory: a growth was refused.
+    pub fn build(alloc: Global, text: &str, limits: Limits) -> Result<TextMatcher, BuildFault>
         ensures text { IfOk result (λ m. m ≡ text.now) }
         ensures expression { IfOk result (λ _. is_expression text.now ≡ true) }
     {
-        let nfa = automaton_of(alloc, text, size_limit)?;
+        let nfa = automaton_of(alloc, text, limits.bytes)?;
+        if ascii_states(&nfa) > limits.states {
+            return Err(BuildFault::Refused);
+        }
         let dfa = match Dfa::new(alloc, nfa) {
             Ok(dfa) => dfa,
             Err(BuildError::OutOfMemory) => return Err(BuildFault::NoMemory),
@@ -152,6 +167,9 @@ impl TextMatcher {
 fn bits_of(alloc: Global, dfa: &Dfa) -> Option<Bits>
     ensures { IfSome result (λ bits. IsFor bits dfa.now.nfa) }
 {
+    if dfa.nfa.states.len() > BITS_STATES {
+        return None;
+    }
     match Bits::new(alloc, &dfa.nfa) {
         Ok(bits) => bits,
         Err(_) => None,
@@ -179,6 +197,24 @@ fn finds_by_states(pikevm: &mut PikeVm, dfa: &Dfa, bytes: &[u8]) -> bool
 {
     let end = bytes.len();
     pikevm.is_match(&dfa.nfa, bytes, 0, end, end)
+}
+
+// How many states read a byte below 128.
+fn ascii_states(nfa: &Nfa) -> usize {
+    nfa.states
+        .iter()
+        .filter(|state| reads_ascii(nfa, **state))
+        .count()
+}
+
+// The transitions of a state ascend, so its first one tells.
+fn reads_ascii(nfa: &Nfa, state: State) -> bool {
+    let first = match state {
+        State::ByteRange(transition) => Some(transition),
+        State::Sparse { from, .. } => nfa.transitions.get(from as usize).copied(),
+        _ => None,
+    };
+    first.is_some_and(|transition| transition.start < 128)
 }
 
 // The automaton of the expression that this text is.
