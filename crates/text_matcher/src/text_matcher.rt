@@ -199,12 +199,14 @@ fn finds_by_states(pikevm: &mut PikeVm, dfa: &Dfa, bytes: &[u8]) -> bool
     pikevm.is_match(&dfa.nfa, bytes, 0, end, end)
 }
 
-// How many states read a byte below 128.
+// How many states read a byte below 128, but for the one that passes over what comes before a match.
 fn ascii_states(nfa: &Nfa) -> usize {
-    nfa.states
+    let all = nfa
+        .states
         .iter()
         .filter(|state| reads_ascii(nfa, **state))
-        .count()
+        .count();
+    all.saturating_sub(1)
 }
 
 // The transitions of a state ascend, so its first one tells.
