@@ -7,6 +7,7 @@ pub mod Subscribes
 pub mod Waits
 pub mod Reading
 pub mod Building
+pub mod Heads
 pub mod WordsTaken
 pub mod Letters
 pub mod Items

@@ -1,9 +1,10 @@
 //! The words of a line, and reading single words.
-ghost use Rattle.std.specs.Prelude.{◌≡◌, ℕ, ◌≤◌, nat_lt, [], decimal, length, map, bytes_eq, drop, slice_index_or, true};
+ghost use Rattle.std.specs.Prelude.{◌≡◌, ℕ, ◌≤◌, nat_lt, [], decimal, length, map, bytes_eq, drop, slice_index_or, true, Some, IfSome};
 ghost use Rattle.std.specs.List.{join_with_byte};
 ghost use Rattle.s6_events.specs.Name.{is_name};
 ghost use Rattle.s6_script.specs.Verb.{text_words};
 
+use itoa::Buffer;
 use memchr::memchr;
 use s6_events::Name;
 use std::marker::Model;
@@ -106,6 +107,20 @@ pub fn number(word: &[u8], most: u64) -> u64
     match text.parse::<u64>() {
         Ok(n) => n.min(most),
         Err(_) => 0,
+    }
+}
+
+// The number of at most so much that a word spells; None where it spells none.
+pub fn number_of(word: &[u8], most: u64) -> Option<u64>
+    ensures spelled { (n : ℕ) → n ≤ most → word.now ≡ decimal n → result ≡ Some n }
+    ensures only { IfSome result (λ n. (n ≤ most) × (word.now ≡ decimal n)) }
+{
+    let found = number(word, most);
+    let mut digits = Buffer::new();
+    if digits.format(found).as_bytes() == word {
+        Some(found)
+    } else {
+        None
     }
 }
 
