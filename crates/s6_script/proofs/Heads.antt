@@ -75,8 +75,7 @@ line_words line i s = ap text_words s.text_is ∙ words_back i s.spelt
 pub line_spelled : {A : Type 0} (line first second behind : List ℕ) (i : Input A) → IsCut line first second behind → Spells line i
     → (first ≡ decimal i.at) × (second ≡ decimal i.actor) × SpellsAct behind i.act
 line_spelled line first second behind i cut s =
-    let words = line_words line i s in
-    (
+    let words = line_words line i s in (
       cut.first_is ∙ ap (λ ws. slice_index_or ws 0 []) words,
       cut.second_is ∙ ap (λ ws. slice_index_or ws 1 []) words,
       record { fits = s.spelt.act; text_is = cut.behind_is ∙ ap (λ ws. join_with_byte 32 (drop 2 ws)) words },

@@ -8,6 +8,7 @@ pub mod Waits
 pub mod Reading
 pub mod Building
 pub mod Heads
+pub mod Numbers
 pub mod WordsTaken
 pub mod Letters
 pub mod Items

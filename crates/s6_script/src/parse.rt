@@ -19,7 +19,7 @@ use super::spelling::spell_read;
 use super::subscribing::{send_of, subscribe_of};
 use super::unbuilt::{UnbuiltAct, build_act};
 use super::waiting::wait_of;
-use super::words::{Words, is_word, name_of, number, number_of};
+use super::words::{Words, exact_number, is_word, name_of, number};
 use arrayvec::ArrayVec;
 use control_letters::{ControlLetter, Letters};
 use s6_events::{Actor, At, Exit, NoMemory, Sid, SubId, WaitId};
@@ -357,7 +357,7 @@ fn moment_of(word: &[u8]) -> Option<At>
     ensures spelled { (n : ℕ) → n ≤ last_moment → word.now ≡ decimal n → result ≡ Some n }
     ensures only { IfSome result (λ at. (at ≤ last_moment) × (word.now ≡ decimal at)) }
 {
-    At::new(number_of(word, 1_000_000_000_000_000)?)
+    At::new(exact_number(word, 1_000_000_000_000_000)?)
 }
 
 // The actor that a word spells.
@@ -365,7 +365,7 @@ fn actor_of(word: &[u8]) -> Option<Actor>
     ensures spelled { (n : ℕ) → n ≤ 15 → word.now ≡ decimal n → result ≡ Some n }
     ensures only { IfSome result (λ actor. (actor ≤ 15) × (word.now ≡ decimal actor)) }
 {
-    Actor::new(number_of(word, 15)? as u8)
+    Actor::new(exact_number(word, 15)? as u8)
 }
 
 /// The input that a line spells: a moment, an actor, and an act; the line is given without its newline, and of any length. A pattern takes its
