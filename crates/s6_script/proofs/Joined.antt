@@ -36,7 +36,7 @@ pub join_act : {A : Type 0} (word : List ℕ) (act : Act A)
 join_act word act = refl
 
 -- a word before the words of a text
-join_more : (word : List ℕ) (words : List (List ℕ)) → 0 < length words → join_with_byte 32 (word ∷ words) ≡ word ++ (32 ∷ join_with_byte 32 words)
+pub join_more : (word : List ℕ) (words : List (List ℕ)) → 0 < length words → join_with_byte 32 (word ∷ words) ≡ word ++ (32 ∷ join_with_byte 32 words)
 join_more word [] some = absurd (omega (arith, some))
 join_more word (next ∷ words) some = refl
 

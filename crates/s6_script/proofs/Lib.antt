@@ -7,6 +7,8 @@ pub mod Subscribes
 pub mod Waits
 pub mod Reading
 pub mod Building
+pub mod Heads
+pub mod Numbers
 pub mod WordsTaken
 pub mod Letters
 pub mod Items

@@ -1,6 +1,6 @@
 -- What is spelled is read.
 use Rattle.std.proofs.Common.{◌≡◌, ℕ, ◌^◌, ◌<◌, ◌≤◌, List, [], ◌∷◌, refl, ap, ◌∙◌, arith, drop, map, rules}
-use Rattle.std.specs.Prelude.{Some, None, true, codes, ◌==◌, decimal, slice_index_or}
+use Rattle.std.specs.Prelude.{Some, None, true, codes, ◌==◌, decimal, slice_index_or, Result, Ok, Err, IfOk}
 use Rattle.std.specs.List.{slice_split, list_all}
 use Rattle.std.proofs.lemmas.Option.{same_Some, none-some}
 use Rattle.death_tally.specs.declared.death_list.DeathItem.{DeathItem}
@@ -15,7 +15,9 @@ use Rattle.tree_core.specs.declared.input.Input.{Input}
 use Rattle.s6_script.specs.declared.parse.Verb.{Verb}
 use Rattle.s6_script.specs.declared.parse.Verb.TheVariants as verbs
 use Rattle.svscan_core.specs.declared.entry.ScanOrder.{ScanOrder}
-use Rattle.s6_script.specs.Spelling.{IsSpelt, IsExit, IsAct, act_words, input_words, spelling}
+use Rattle.s6_script.specs.Spelling.{IsSpelt, IsExit, IsAct, act_words, act_spelling, input_words, spelling}
+use Rattle.s6_script.specs.declared.unbuilt.UnbuiltAct.{UnbuiltAct}
+use Rattle.s6_script.specs.Unbuilt.{act_read}
 use Rattle.s6_script.specs.Verb.{exit_words, order_word, verb_word, verb_of_act, details}
 use Rattle.control_letters.specs.ControlLetter.{byte_of}
 use Rattle.control_letters.specs.declared.control_letter.ControlLetter.{ControlLetter}
@@ -123,7 +125,10 @@ act_plain (Send target message) h = send_no_space target message h.0 h.1
 act_plain (MakeDir name) h = rw (no_space_in name (name_plain name h)) refl
 act_plain Tick h = refl
 
--- a spelling has the words of its input
+-- a spelling has the words of its act, and of its input
+pub act_words_back : {A : Type 0} (act : Act A) → IsAct act → slice_split (λ b. b == 32) (act_spelling act) ≡ act_words act
+act_words_back act fits = split_joined (λ b. b == 32) 32 refl (verb_word (verb_of_act act)) (details act) (act_plain act fits)
+
 pub words_back : {A : Type 0} (i : Input A) → IsSpelt i → slice_split (λ b. b == 32) (spelling i) ≡ input_words i
 words_back i s =
     let at : i.at < 2 ^ 64 = omega (arith, s.at) in
@@ -131,18 +136,13 @@ words_back i s =
     split_joined (λ b. b == 32) 32 refl (decimal i.at) (decimal i.actor ∷ act_words i.act)
     (rw (digits_no_space i.at at, digits_no_space i.actor actor) (act_plain i.act s.act))
 
--- the parts of an input are read, each from its word
-pub input_read : {A : Type 0} (at actor : ℕ) (verb : Verb) (act : Act A) (w0 w1 w2 : List ℕ) (rest texts : List (List ℕ))
-    → w0 ≡ slice_index_or texts 0 [] → w1 ≡ slice_index_or texts 1 [] → w2 ≡ slice_index_or texts 2 [] → rest ≡ drop 3 texts
-    → ((n : ℕ) → n ≤ 1000000000000000 → w0 ≡ decimal n → at ≡ n)
-    → ((n : ℕ) → n ≤ 15 → w1 ≡ decimal n → actor ≡ n)
-    → ((v : Verb) → w2 ≡ verb_word v → verb ≡ v)
-    → ((a : Act A) → IsAct a → verb ≡ verb_of_act a → rest ≡ details a → act ≡ a)
-    → (i : Input A) → IsSpelt i → texts ≡ input_words i → record { actor = actor; at = at; act = act } ≡ i
-input_read at actor verb act w0 w1 w2 rest texts e0 e1 e2 er reads_at reads_actor reads_verb reads_act i s e =
-    let words : texts ≡ decimal i.at ∷ decimal i.actor ∷ verb_word (verb_of_act i.act) ∷ details i.act = e in
-    let same_at : at ≡ i.at = reads_at i.at s.at (e0 ∙ ap (λ ws. slice_index_or ws 0 []) words) in
-    let same_actor : actor ≡ i.actor = reads_actor i.actor s.actor (e1 ∙ ap (λ ws. slice_index_or ws 1 []) words) in
-    let same_verb : verb ≡ verb_of_act i.act = reads_verb (verb_of_act i.act) (e2 ∙ ap (λ ws. slice_index_or ws 2 []) words) in
-    let same_act : act ≡ i.act = reads_act i.act s.act same_verb (er ∙ ap (drop 3) words) in
-    λ k. record { actor = same_actor k; at = same_at k; act = same_act k }
+-- an act is read, its verb from the first word
+pub verb_read : {A E : Type 0} (verb : Verb) (r : Result (UnbuiltAct A) E) (word : List ℕ) (rest texts : List (List ℕ))
+    → word ≡ slice_index_or texts 0 [] → rest ≡ drop 1 texts
+    → ((v : Verb) → word ≡ verb_word v → verb ≡ v)
+    → IfOk r (λ found. (act : Act A) → IsAct act → verb ≡ verb_of_act act → rest ≡ details act → act_read found ≡ act)
+    → IfOk r (λ found. (act : Act A) → IsAct act → texts ≡ act_words act → act_read found ≡ act)
+verb_read verb (Ok found) word rest texts first behind reads_verb reads = λ act fits words.
+    let same : verb ≡ verb_of_act act = reads_verb (verb_of_act act) (first ∙ ap (λ ws. slice_index_or ws 0 []) words) in
+    reads act fits same (behind ∙ ap (drop 1) words)
+verb_read verb (Err fault) word rest texts first behind reads_verb reads = tt

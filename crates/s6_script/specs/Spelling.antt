@@ -1,4 +1,4 @@
--- How an input is spelled.
+-- How an act is spelled, and an input, which is an act with its moment and its actor.
 use Rattle.std.specs.Prelude.{◌≡◌, ℕ, ◌^◌, ◌<◌, ◌≤◌, List, ◌∷◌, decimal, IsTrue, All, length}
 use Rattle.std.specs.List.{join_with_byte}
 use Rattle.hex.specs.Hex.{IsBytes}
@@ -20,6 +20,10 @@ use Rattle.s6_script.specs.Verb.{verb_word, verb_of_act, details, target_name}
 -- the words of an act: its verb, and the words behind it
 abbrev pub act_words : {A : Type 0} → Act A → List (List ℕ)
 act_words act = verb_word (verb_of_act act) ∷ details act
+
+-- the one spelling of an act: its words, with one space between each two
+abbrev pub act_spelling : {A : Type 0} → Act A → List ℕ
+act_spelling act = join_with_byte 32 (act_words act)
 
 -- the words of an input: its moment, its actor, its act
 abbrev pub input_words : {A : Type 0} → Input A → List (List ℕ)
@@ -59,6 +63,11 @@ IsAct (Send target message) = IsTrue (is_name (target_name target)) × IsTrue (i
 IsAct (MakeDir name) = IsTrue (is_name name)
 IsAct Tick = Unit {0}
 
+-- the text spells the act
+pub record SpellsAct {A : Type 0} (text : List ℕ) (act : Act A) : Type 0 where
+  pub fits : IsAct act
+  pub text_is : text ≡ act_spelling act
+
 -- the input has a spelling
 pub record IsSpelt {A : Type 0} (i : Input A) : Type 0 where
   pub at : i.at ≤ last_moment
@@ -79,6 +88,10 @@ HasExpression act = Unit {0}
 abbrev pub IsSubscription : {A : Type 0} → Act A → Type 0
 IsSubscription (Subscribe target pattern repeats) = Unit {0}
 IsSubscription act = ⊥
+
+-- the text spells an act, a subscription, of whose pattern nothing is said but its text
+abbrev pub SpellsActButForPattern : (A : Type 0) → List ℕ → Type 0
+SpellsActButForPattern A text = (act : Act A) × SpellsAct text act × IsSubscription act
 
 -- the text spells an input, a subscription, of whose pattern nothing is said but its text
 abbrev pub SpellsButForPattern : (A : Type 0) → List ℕ → Type 0

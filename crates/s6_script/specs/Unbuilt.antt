@@ -1,26 +1,21 @@
--- What was read from the words of an input, before its pattern is built.
+-- What was read from the words of an act, before its pattern is built.
 use Rattle.std.specs.Prelude.{IsTrue, string_bytes}
 use Rattle.s6_events.specs.Name.{is_name}
 use Rattle.tree_core.specs.declared.input.Act.{Act}
 use Rattle.tree_core.specs.declared.input.Act.TheVariants.{Subscribe}
-use Rattle.tree_core.specs.declared.input.Input.{Input}
 use Rattle.event_directory.specs.declared.pattern_fault.PatternFault.{PatternFault}
 use Rattle.event_directory.specs.declared.pattern_fault.PatternFault.TheVariants as fault
 use Rattle.s6_script.specs.declared.parse.LineFault.{LineFault}
 use Rattle.s6_script.specs.declared.parse.LineFault.TheVariants as line
 use Rattle.s6_script.specs.declared.unbuilt.UnbuiltAct.{UnbuiltAct}
 use Rattle.s6_script.specs.declared.unbuilt.UnbuiltAct.TheVariants as unbuilt
-use Rattle.s6_script.specs.declared.unbuilt.UnbuiltInput.{UnbuiltInput}
 use Rattle.s6_script.specs.Spelling.{HasExpression, IsAct}
 use Rattle.s6_script.specs.Verb.{target_name}
 
--- the act that was read, and the input; a pattern has this text
+-- the act that was read; a pattern has this text
 abbrev pub act_read : {A : Type 0} → UnbuiltAct A → Act A
 act_read (unbuilt.Whole act) = act
 act_read (unbuilt.Subscribe target text repeats) = Subscribe target (string_bytes text) repeats
-
-abbrev pub input_read : {A : Type 0} → UnbuiltInput A → Input A
-input_read u = record { actor = u.actor; at = u.at; act = act_read u.act }
 
 -- the act has a spelling and no pattern that is no expression, or would have a spelling with the text of a pattern
 abbrev pub FitsButText : {A : Type 0} → UnbuiltAct A → Type 0

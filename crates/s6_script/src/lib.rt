@@ -1,4 +1,4 @@
-//! Scripts, which are inputs of the machine as text. Their format is chosen here.
+//! Scripts, which are inputs of the machine as text, and acts as text. Their format is chosen here.
 #![tactic(auto)]
 
 mod act_limits;
@@ -15,8 +15,8 @@ mod words;
 
 pub use death_list::push_permafailon;
 pub use digits::{push_number, push_spaced};
-pub use parse::{LineFault, parse_line, parse_with};
+pub use parse::{LineFault, parse_act, parse_line, parse_with};
 pub use plain_spelling::spell_plain;
-pub use spelling::{push_named, push_svc};
+pub use spelling::{push_act, push_named, push_svc};
 pub use subscribing::{push_send, push_subscribe};
 pub use waiting::push_wait;

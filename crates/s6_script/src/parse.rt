@@ -1,11 +1,12 @@
-//! Reading an input line. Each function here, and in `words.rt` and `entry_options.rt`, reads what its words spell, and from other words
-//! any value of its type. The input that comes of this is spelled again, and answered only where this gives the line. So each line
-//! that spells no input is refused with no case of its own. A pattern is built last, so that a line is refused for it only where it
-//! spells an input otherwise.
-ghost use Rattle.std.specs.Prelude.{◌≡◌, ℕ, ◌≤◌, ◌<◌, ◌^◌, ◌-◌, ◌∷◌, ◌++◌, [], List, Bool, Err, IfOk, decimal, drop, map, length, slice_index_or};
+//! Reading an act, and an input line, which is a moment, an actor and an act. Each function that reads a part of an act, here, in
+//! `words.rt` and in `entry_options.rt`, reads what its words spell, and from other words any value of its type. The act that comes of
+//! this is spelled again, and answered only where this gives its words. So what spells no act is refused with no case of its own.
+//! A pattern is built last, so that a line is refused for it only where it spells an act otherwise.
+ghost use Rattle.std.specs.Prelude.{◌≡◌, ℕ, ◌≤◌, ◌<◌, ◌^◌, ◌-◌, ◌∷◌, ◌++◌, [], List, Bool, Err, IfOk, Some, IfSome, decimal, drop, map, length, slice_index_or};
 ghost use Rattle.hex.specs.Hex.{IsBytes, encode_lower};
-ghost use Rattle.s6_script.specs.Spelling.{HasExpression, IsSpelt, IsExit, IsAct, Spells, SpellsButForPattern, input_words};
-ghost use Rattle.s6_script.specs.Unbuilt.{act_read, input_read, FitsButText};
+ghost use Rattle.s6_script.specs.Spelling.{HasExpression, IsExit, IsAct, SpellsAct, SpellsActButForPattern, act_words};
+ghost use Rattle.s6_script.specs.Spelling.{Spells, SpellsButForPattern};
+ghost use Rattle.s6_script.specs.Unbuilt.{act_read, FitsButText};
 ghost use Rattle.s6_events.specs.At.{last_moment};
 ghost use Rattle.control_letters.specs.ControlLetter.{byte_of};
 ghost use Rattle.control_letters.specs.declared.control_letter.ControlLetter.{ControlLetter};
@@ -14,11 +15,11 @@ ghost use Rattle.svscan_core.specs.declared.entry.ScanOrder.{ScanOrder};
 
 use super::death_list::permafailon_of;
 use super::entry_options::entries_of;
-use super::spelling::spell;
+use super::spelling::spell_read;
 use super::subscribing::{send_of, subscribe_of};
-use super::unbuilt::{UnbuiltAct, UnbuiltInput, build};
+use super::unbuilt::{UnbuiltAct, build_act};
 use super::waiting::wait_of;
-use super::words::{Words, is_word, name_of, number};
+use super::words::{Words, exact_number, is_word, name_of, number};
 use arrayvec::ArrayVec;
 use control_letters::{ControlLetter, Letters};
 use s6_events::{Actor, At, Exit, NoMemory, Sid, SubId, WaitId};
@@ -300,44 +301,77 @@ fn act_of<A: Allocator + Copy>(
     Ok(UnbuiltAct::Whole(act))
 }
 
-// Reads a moment.
-fn moment_of(word: &[u8]) -> At
-    ensures spelled { (n : ℕ) → n ≤ 1000000000000000 → word.now ≡ decimal n → result ≡ n }
-    ensures fits { result ≤ 1000000000000000 }
+// Reads an act from its words.
+fn read_act<A: Allocator + Copy>(alloc: A, words: &mut Words<'_>) -> Result<UnbuiltAct<A>, NoMemory>
+    ensures spelled { IfOk result (λ found. (act : Act A) → IsAct act → words.old ≡ act_words act
+        → act_read found ≡ act) }
+    ensures fits { IfOk result FitsButText }
 {
-    At::new(number(word, 1_000_000_000_000_000)).unwrap_or(At::zero())
-}
-
-// Reads an actor.
-fn actor_of(word: &[u8]) -> Actor
-    ensures spelled { (n : ℕ) → n ≤ 15 → word.now ≡ decimal n → result ≡ n }
-    ensures fits { result ≤ 15 }
-{
-    Actor::new(number(word, 15) as u8).unwrap()
-}
-
-// Reads an input.
-fn input_of<A: Allocator + Copy>(
-    alloc: A,
-    words: &mut Words<'_>,
-) -> Result<UnbuiltInput<A>, NoMemory>
-    ensures spelled { IfOk result
-        (λ found. (i : Input A) → IsSpelt i → words.old ≡ input_words i → input_read found ≡ i) }
-    ensures at { IfOk result (λ found. found.at ≤ last_moment) }
-    ensures actor { IfOk result (λ found. found.actor ≤ 15) }
-    ensures act { IfOk result (λ found. FitsButText found.act) }
-{
-    let at = moment_of(words.take_next());
-    let actor = actor_of(words.take_next());
     let verb = verb_of(words.take_next());
-    let act = act_of(alloc, verb, words)?;
-    Ok(UnbuiltInput { actor, at, act })
+    act_of(alloc, verb, words)
 }
 
-/// The input that a line spells; the line is given without its newline, and of any length. A pattern takes its memory from `patterns`,
-/// and all else from `alloc`; the pattern of an input is one that the grammar of `regex` reads. `Line` comes where the line spells no
-/// input, `Pattern` where it spells a subscription whose pattern is refused by `regex`, and not for want of memory, and `NoMemory` where
-/// a growth was refused; on error nothing is kept. A pattern is built only where the line spells an input but for it.
+/// The act that a text spells, of any length. A pattern takes its memory from `patterns`, and all else from `alloc`; the pattern of an
+/// act is one that the grammar of `regex` reads. `Line` comes where the text spells no act, `Pattern` where it spells a subscription whose
+/// pattern is refused by `regex`, and not for want of memory, and `NoMemory` where a growth was refused; on error nothing is kept.
+/// A pattern is built only where the text spells an act but for it.
+pub fn parse_act<A: Allocator + Copy>(
+    alloc: A,
+    patterns: Global,
+    words: &[u8],
+) -> Result<Act<A>, LineFault>
+    ensures found { IfOk result (SpellsAct words.now) }
+    ensures only { IfOk result (λ found. (act : Act A) → SpellsAct words.now act → found ≡ act) }
+    ensures expression { IfOk result HasExpression }
+    ensures line { result ≡ Err LineFault.Line → (act : Act A) → SpellsAct words.now act → ⊥ }
+    ensures pattern { result ≡ Err LineFault.Pattern → SpellsActButForPattern A words.now }
+{
+    let mut text = Vec::new(alloc);
+    parse_act_with(alloc, patterns, words, &mut text)
+}
+
+// `parse_act`, where what the words spell is made in a text of the caller's.
+fn parse_act_with<A: Allocator + Copy>(
+    alloc: A,
+    patterns: Global,
+    words: &[u8],
+    text: &mut Vec<u8, A>,
+) -> Result<Act<A>, LineFault>
+    ensures found { IfOk result (SpellsAct words.now) }
+    ensures only { IfOk result (λ found. (act : Act A) → SpellsAct words.now act → found ≡ act) }
+    ensures expression { IfOk result HasExpression }
+    ensures line { result ≡ Err LineFault.Line → (act : Act A) → SpellsAct words.now act → ⊥ }
+    ensures pattern { result ≡ Err LineFault.Pattern → SpellsActButForPattern A words.now }
+{
+    let act = read_act(alloc, &mut Words::of(words))?;
+    spell_read(alloc, text, &act)?;
+    if text.as_slice() == words {
+        build_act(patterns, act)
+    } else {
+        Err(LineFault::Line)
+    }
+}
+
+// The moment that a word spells.
+fn moment_of(word: &[u8]) -> Option<At>
+    ensures spelled { (n : ℕ) → n ≤ last_moment → word.now ≡ decimal n → result ≡ Some n }
+    ensures only { IfSome result (λ at. (at ≤ last_moment) × (word.now ≡ decimal at)) }
+{
+    At::new(exact_number(word, 1_000_000_000_000_000)?)
+}
+
+// The actor that a word spells.
+fn actor_of(word: &[u8]) -> Option<Actor>
+    ensures spelled { (n : ℕ) → n ≤ 15 → word.now ≡ decimal n → result ≡ Some n }
+    ensures only { IfSome result (λ actor. (actor ≤ 15) × (word.now ≡ decimal actor)) }
+{
+    Actor::new(exact_number(word, 15)? as u8)
+}
+
+/// The input that a line spells: a moment, an actor, and an act; the line is given without its newline, and of any length. A pattern takes its
+/// memory from `patterns`, and all else from `alloc`; the pattern of an input is one that the grammar of `regex` reads. `Line` comes where the
+/// line spells no input, `Pattern` where it spells a subscription whose pattern is refused by `regex`, and not for want of memory, and
+/// `NoMemory` where a growth was refused; on error nothing is kept. A pattern is built only where the line spells an input but for it.
 pub fn parse_line<A: Allocator + Copy>(
     alloc: A,
     patterns: Global,
@@ -367,11 +401,15 @@ pub fn parse_with<A: Allocator + Copy>(
     ensures line { result ≡ Err LineFault.Line → (i : Input A) → Spells line.now i → ⊥ }
     ensures pattern { result ≡ Err LineFault.Pattern → SpellsButForPattern A line.now }
 {
-    let input = input_of(alloc, &mut Words::of(line))?;
-    spell(alloc, text, &input)?;
-    if text.as_slice() == line {
-        build(patterns, input)
-    } else {
-        Err(LineFault::Line)
+    let mut words = Words::of(line);
+    let Some(at) = moment_of(words.take_next()) else {
+        return Err(LineFault::Line);
+    };
+    let Some(actor) = actor_of(words.take_next()) else {
+        return Err(LineFault::Line);
+    };
+    match parse_act_with(alloc, patterns, words.rest(), text) {
+        Ok(act) => Ok(Input { actor, at, act }),
+        Err(fault) => Err(fault),
     }
 }

@@ -1,8 +1,7 @@
 //! The spelling of an input that is plain data.
 ghost use Rattle.std.specs.Prelude.{◌≡◌, ◌++◌, IfOk, OnOk};
-ghost use Rattle.std.specs.List.{join_with_byte};
 ghost use Rattle.tree_core.specs.Plain.{act_of};
-ghost use Rattle.s6_script.specs.Spelling.{act_words, spelling};
+ghost use Rattle.s6_script.specs.Spelling.{act_spelling, spelling};
 ghost use Rattle.s6_script.specs.Telling.{SpellsIf};
 
 use super::act_limits::is_spelt;
@@ -23,8 +22,7 @@ fn push_plain_act<A: Allocator + Copy>(
     text: &mut Vec<u8, A>,
     act: &PlainAct<A>,
 ) -> Result<(), AllocError>
-    ensures { OnOk result (text.new.items
-        ≡ text.old.items ++ join_with_byte 32 (act_words (act_of act.now))) }
+    ensures { OnOk result (text.new.items ≡ text.old.items ++ act_spelling (act_of act.now)) }
 {
     match act {
         PlainAct::Scan(entries) => push_scan(text, entries.as_slice()),

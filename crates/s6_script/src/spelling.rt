@@ -1,18 +1,18 @@
-//! The spelling of an input.
+//! The spelling of an act.
 ghost use Rattle.std.specs.Prelude.{◌≡◌, ◌++◌, ◌∷◌, [], map, codes, decimal, OnOk};
 ghost use Rattle.std.specs.List.{join_with_byte};
 ghost use Rattle.hex.specs.Hex.{encode_lower};
 ghost use Rattle.control_letters.specs.ControlLetter.{byte_of};
 ghost use Rattle.s6_script.specs.Options.{entry_text};
-ghost use Rattle.s6_script.specs.Spelling.{act_words, spelling};
-ghost use Rattle.s6_script.specs.Unbuilt.{act_read, input_read};
+ghost use Rattle.s6_script.specs.Spelling.{act_spelling};
+ghost use Rattle.s6_script.specs.Unbuilt.{act_read};
 ghost use Rattle.s6_script.specs.Verb.{exit_words};
 
 use super::death_list::push_permafailon;
-use super::digits::{push_number, push_spaced, push_word};
+use super::digits::{push_spaced, push_word};
 use super::entry_options::push_entries;
 use super::subscribing::{push_send, push_subscribe};
-use super::unbuilt::{UnbuiltAct, UnbuiltInput};
+use super::unbuilt::UnbuiltAct;
 use super::waiting::push_wait;
 use control_letters::ControlLetter;
 use s6_events::{Exit, Name, Sid};
@@ -163,73 +163,60 @@ pub(crate) fn push_ended<A: Allocator>(
     push_exit(text, exit)
 }
 
-// Adds the words of an act that was read.
-fn push_act<A: Allocator + Copy>(
+/// Adds the words of an act. An error where a growth was refused; what was added before stays.
+pub fn push_act<A: Allocator + Copy>(
+    alloc: A,
+    text: &mut Vec<u8, A>,
+    act: &Act<A>,
+) -> Result<(), AllocError>
+    ensures { OnOk result (text.new.items ≡ text.old.items ++ act_spelling act.now) }
+{
+    match act {
+        Act::Scan(listing) => push_scan(text, listing.entries()),
+        Act::Scanctl(ScanOrder::Nuke) => text.extend_from_slice(b"scanctl n"),
+        Act::Scanctl(ScanOrder::Terminate) => { text.extend_from_slice(b"scanctl t") }
+        Act::Svc(name, letters) => push_svc(text, name, letters.as_slice()),
+        Act::Started(sid, generation, pid) => { push_started(text, *sid, *generation, *pid) }
+        Act::StartFailed(sid, generation) => { push_report(text, "startfailed", *sid, *generation) }
+        Act::Notify(sid, generation, bytes) => {
+            push_notify(alloc, text, *sid, *generation, bytes.as_slice())
+        }
+        Act::Death(sid, generation, exit) => { push_ended(text, "death", *sid, *generation, *exit) }
+        Act::FinishEnded(sid, generation, exit) => {
+            push_ended(text, "finished", *sid, *generation, *exit)
+        }
+        Act::Status(name) => push_named(text, "status", name),
+        Act::Tally(name) => push_named(text, "tally", name),
+        Act::Permafailon(name, seconds, count, list) => {
+            push_permafailon(text, name, *seconds, *count, list)
+        }
+        Act::Wait(condition, mode, timeout, names) => {
+            push_wait(text, *condition, *mode, *timeout, names.names())
+        }
+        Act::Cancel(waiter) => push_serial(text, "cancel", waiter.0),
+        Act::Subscribe(target, pattern, repeats) => {
+            push_subscribe(text, target, pattern.text(), *repeats)
+        }
+        Act::Unsubscribe(subscription) => { push_serial(text, "unsubscribe", subscription.0) }
+        Act::Send(target, message) => push_send(text, target, message),
+        Act::MakeDir(name) => push_named(text, "mkdir", name),
+        Act::Tick => text.extend_from_slice(b"tick"),
+    }
+}
+
+// Makes the text the spelling of an act that was read.
+pub fn spell_read<A: Allocator + Copy>(
     alloc: A,
     text: &mut Vec<u8, A>,
     act: &UnbuiltAct<A>,
 ) -> Result<(), AllocError>
-    ensures { OnOk result (text.new.items
-        ≡ text.old.items ++ join_with_byte 32 (act_words (act_read act.now))) }
+    ensures { OnOk result (text.new.items ≡ act_spelling (act_read act.now)) }
 {
+    text.clear();
     match act {
+        UnbuiltAct::Whole(act) => push_act(alloc, text, act),
         UnbuiltAct::Subscribe(target, pattern, repeats) => {
             push_subscribe(text, target, pattern, *repeats)
         }
-        UnbuiltAct::Whole(Act::Subscribe(target, pattern, repeats)) => {
-            push_subscribe(text, target, pattern.text(), *repeats)
-        }
-        UnbuiltAct::Whole(Act::Scan(listing)) => push_scan(text, listing.entries()),
-        UnbuiltAct::Whole(Act::Scanctl(ScanOrder::Nuke)) => text.extend_from_slice(b"scanctl n"),
-        UnbuiltAct::Whole(Act::Scanctl(ScanOrder::Terminate)) => {
-            text.extend_from_slice(b"scanctl t")
-        }
-        UnbuiltAct::Whole(Act::Svc(name, letters)) => push_svc(text, name, letters.as_slice()),
-        UnbuiltAct::Whole(Act::Started(sid, generation, pid)) => {
-            push_started(text, *sid, *generation, *pid)
-        }
-        UnbuiltAct::Whole(Act::StartFailed(sid, generation)) => {
-            push_report(text, "startfailed", *sid, *generation)
-        }
-        UnbuiltAct::Whole(Act::Notify(sid, generation, bytes)) => {
-            push_notify(alloc, text, *sid, *generation, bytes.as_slice())
-        }
-        UnbuiltAct::Whole(Act::Death(sid, generation, exit)) => {
-            push_ended(text, "death", *sid, *generation, *exit)
-        }
-        UnbuiltAct::Whole(Act::FinishEnded(sid, generation, exit)) => {
-            push_ended(text, "finished", *sid, *generation, *exit)
-        }
-        UnbuiltAct::Whole(Act::Status(name)) => push_named(text, "status", name),
-        UnbuiltAct::Whole(Act::Tally(name)) => push_named(text, "tally", name),
-        UnbuiltAct::Whole(Act::Permafailon(name, seconds, count, list)) => {
-            push_permafailon(text, name, *seconds, *count, list)
-        }
-        UnbuiltAct::Whole(Act::Wait(condition, mode, timeout, names)) => {
-            push_wait(text, *condition, *mode, *timeout, names.names())
-        }
-        UnbuiltAct::Whole(Act::Cancel(waiter)) => push_serial(text, "cancel", waiter.0),
-        UnbuiltAct::Whole(Act::Unsubscribe(subscription)) => {
-            push_serial(text, "unsubscribe", subscription.0)
-        }
-        UnbuiltAct::Whole(Act::Send(target, message)) => push_send(text, target, message),
-        UnbuiltAct::Whole(Act::MakeDir(name)) => push_named(text, "mkdir", name),
-        UnbuiltAct::Whole(Act::Tick) => text.extend_from_slice(b"tick"),
     }
-}
-
-// Makes the text the spelling of an input that was read.
-#[tactic(auto, using(crate::proofs::Joined::join_act))]
-pub fn spell<A: Allocator + Copy>(
-    alloc: A,
-    text: &mut Vec<u8, A>,
-    input: &UnbuiltInput<A>,
-) -> Result<(), AllocError>
-    ensures { OnOk result (text.new.items ≡ spelling (input_read input.now)) }
-{
-    text.clear();
-    push_number(text, input.at.millis())?;
-    push_spaced(text, u64::from(input.actor.number()))?;
-    text.push(b' ')?;
-    push_act(alloc, text, &input.act)
 }

@@ -1,28 +1,19 @@
-//! What was read from the words of an input, and building its pattern.
+//! What was read from the words of an act, and building its pattern.
 ghost use Rattle.std.specs.Prelude.{◌≡◌, ◌≢◌, ◌↔◌, Err, IfOk, IsErrOf, IsTrue, false};
 ghost use Rattle.event_directory.specs.Pattern.{is_expression, is_pattern_text};
 ghost use Rattle.s6_script.specs.Spelling.{HasExpression, IsAct, IsSubscription};
-ghost use Rattle.s6_script.specs.Unbuilt.{act_read, input_read, pattern_line_fault, FitsButText};
+ghost use Rattle.s6_script.specs.Unbuilt.{act_read, pattern_line_fault, FitsButText};
 
 use super::parse::LineFault;
 use event_directory::{Pattern, PatternFault};
-use s6_events::{Actor, At};
 use std::alloc::{Allocator, Global};
-use tree_core::{Act, Input, Target};
+use tree_core::{Act, Target};
 
 // An act that was read: whole, or a subscription whose pattern is a text, which may be that of no pattern.
 #[derive(Drop)]
 pub enum UnbuiltAct<A: Allocator> {
     Whole(Act<A>),
     Subscribe(Target, String<A>, bool),
-}
-
-// An input whose act was read so.
-#[derive(Drop)]
-pub struct UnbuiltInput<A: Allocator> {
-    pub actor: Actor,
-    pub at: At,
-    pub act: UnbuiltAct<A>,
 }
 
 // Builds a pattern. `Line` comes where the text is that of no pattern.
@@ -49,7 +40,7 @@ fn line_fault_of(fault: PatternFault) -> LineFault
 }
 
 // Builds the pattern of an act, where it has one. `Line` comes where its text is that of no pattern.
-fn build_act<A: Allocator>(patterns: Global, act: UnbuiltAct<A>) -> Result<Act<A>, LineFault>
+pub fn build_act<A: Allocator>(patterns: Global, act: UnbuiltAct<A>) -> Result<Act<A>, LineFault>
     ensures ok { IfOk result (λ built. built ≡ act_read act) }
     ensures expression { FitsButText act → IfOk result HasExpression }
     ensures fits { result ≢ Err LineFault.Line → FitsButText act → IsAct (act_read act) }
@@ -62,21 +53,5 @@ fn build_act<A: Allocator>(patterns: Global, act: UnbuiltAct<A>) -> Result<Act<A
             let pattern = build_pattern(patterns, &text)?;
             Ok(Act::Subscribe(target, pattern, repeats))
         }
-    }
-}
-
-// Builds the pattern of an input, where it has one. `Line` comes where its text is that of no pattern.
-pub fn build<A: Allocator>(patterns: Global, input: UnbuiltInput<A>) -> Result<Input<A>, LineFault>
-    ensures ok { IfOk result (λ built. built ≡ input_read input) }
-    ensures expression { FitsButText input.act → IfOk result (λ built. HasExpression built.act) }
-    ensures fits { result ≢ Err LineFault.Line → FitsButText input.act
-        → IsAct (act_read input.act) }
-    ensures line { result ≡ Err LineFault.Line → IsAct (act_read input.act) → ⊥ }
-    ensures pattern { result ≡ Err LineFault.Pattern → IsSubscription (act_read input.act) }
-{
-    let UnbuiltInput { actor, at, act } = input;
-    match build_act(patterns, act) {
-        Ok(act) => Ok(Input { actor, at, act }),
-        Err(fault) => Err(fault),
     }
 }

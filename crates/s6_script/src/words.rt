@@ -1,13 +1,14 @@
 //! The words of a line, and reading single words.
-ghost use Rattle.std.specs.Prelude.{◌≡◌, ℕ, ◌≤◌, nat_lt, [], decimal, length, map, bytes_eq, drop, slice_index_or, true};
+ghost use Rattle.std.specs.Prelude.{◌≡◌, ℕ, ◌≤◌, ◌<◌, ◌^◌, nat_lt, [], decimal, length, map, bytes_eq, drop, slice_index_or, true, Some, IfSome};
 ghost use Rattle.std.specs.List.{join_with_byte};
 ghost use Rattle.s6_events.specs.Name.{is_name};
+ghost use Rattle.servicedir.specs.Number.{is_digit, with_digit};
 ghost use Rattle.s6_script.specs.Verb.{text_words};
 
+use itoa::Buffer;
 use memchr::memchr;
 use s6_events::Name;
 use std::marker::Model;
-use std::str;
 
 // The words of a line that are left to read. They stand between its spaces, so two spaces have a word of no byte between them, and a
 // line of no byte is one such word.
@@ -95,17 +96,38 @@ pub fn words_from<'a, 'b>(words: &'b [&'a [u8]], place: usize) -> &'b [&'a [u8]]
     }
 }
 
-// Reads a number of at most so much.
+// Reads a number of at most so much. Words that spell none are not looked for: what is read of them is some number.
 pub fn number(word: &[u8], most: u64) -> u64
     ensures spelled { (n : ℕ) → n ≤ most → word.now ≡ decimal n → result ≡ n }
     ensures fits { result ≤ most }
 {
-    let Ok(text) = str::from_utf8(word) else {
-        return 0;
-    };
-    match text.parse::<u64>() {
-        Ok(n) => n.min(most),
-        Err(_) => 0,
+    let mut value = 0;
+    for byte in word {
+        value = with_digit(value, *byte);
+    }
+    value.min(most)
+}
+
+// The number with a digit behind it; where the byte is no digit, or the number doesn't fit, some number.
+fn with_digit(value: u64, byte: u8) -> u64
+    ensures { is_digit byte ≡ true → with_digit value byte < 2 ^ 64 → result ≡ with_digit value byte }
+{
+    value
+        .wrapping_mul(10)
+        .wrapping_add(u64::from(byte.wrapping_sub(b'0')))
+}
+
+// The number of at most so much that a word spells; None where it spells none.
+pub fn exact_number(word: &[u8], most: u64) -> Option<u64>
+    ensures spelled { (n : ℕ) → n ≤ most → word.now ≡ decimal n → result ≡ Some n }
+    ensures only { IfSome result (λ n. (n ≤ most) × (word.now ≡ decimal n)) }
+{
+    let found = number(word, most);
+    let mut digits = Buffer::new();
+    if digits.format(found).as_bytes() == word {
+        Some(found)
+    } else {
+        None
     }
 }
 

@@ -1,17 +1,16 @@
 -- A request of a client.
 use Rattle.std.specs.Prelude.{ℕ, List, [], ◌∷◌, ◌++◌, codes}
-use Rattle.std.specs.List.{join_with_byte}
 use Rattle.std.specs.declared.alloc.Global.{Global}
-use Rattle.s6_script.specs.Spelling.{act_words}
+use Rattle.s6_script.specs.Spelling.{act_spelling}
 use Rattle.svc_commands.specs.declared.svscanctl.ScanLetter.{ScanLetter}
 use Rattle.svc_commands.specs.declared.svscanctl.ScanLetter.TheVariants as letter
 use Rattle.svscan_core.specs.declared.entry.ScanOrder.TheVariants.{Nuke, Terminate}
 use Rattle.tree_core.specs.declared.input.Act.{Act}
 use Rattle.tree_core.specs.declared.input.Act.TheVariants.{Scanctl}
 
--- the words of an act, with one space between each two: a line of a script without its moment and its actor
+-- the spelling of an act: a line of a script without its moment and its actor
 abbrev pub request_of : Act Global → List ℕ
-request_of act = join_with_byte 32 (act_words act)
+request_of act = act_spelling act
 
 -- the request of a letter of `svscanctl`: a scan is asked for by its letter, since the server reads the scan directory itself
 abbrev pub scan_request_of : ScanLetter → List ℕ

@@ -1,48 +1,47 @@
 -- What a client asks for is what its line spells.
-use Rattle.std.proofs.Common.{rules, subst, sym, ◌≡◌, ◌==◌, ℕ, List, Bool, true, false, if◌then◌else◌}
+use Rattle.std.proofs.Common.{rules, ◌≡◌, ◌==◌, ℕ, List, Bool, true, false, if◌then◌else◌}
 use Rattle.std.specs.declared.alloc.Global.{Global}
-use Rattle.s6_script.specs.Spelling.{Spells}
+use Rattle.s6_script.specs.Spelling.{SpellsAct}
 use Rattle.tree_core.specs.declared.input.Act.{Act}
 use Rattle.tree_core.specs.declared.input.Act.TheVariants.{Scan, Scanctl, Svc, Started, StartFailed, Notify, Death, FinishEnded, Status, Tally, Permafailon}
 use Rattle.tree_core.specs.declared.input.Act.TheVariants.{Wait, Cancel, Subscribe, Unsubscribe, Send, MakeDir, Tick}
-use Rattle.tree_core.specs.declared.input.Input.{Input}
 use Rattle.server_rules.specs.Requests.{request_of, last_client, AsksFor, IsWaiting, WaitsOnLastSeat}
 use Rattle.server_rules.specs.declared.own_answer.OwnAnswer.TheVariants as own
 use Rattle.server_rules.specs.declared.requests.Request.TheVariants as request
 
 -- so on the last seat too, where it may be refused
-seated : (is_last : Bool) (act : Act Global) (text : List ℕ) → AsksFor (request.Step act) text
-    → AsksFor (if is_last then request.Refused own.Busy else request.Step act) text
-seated true act text asked = tt
-seated false act text asked = asked
+seated : (is_last : Bool) (act : Act Global) (line : List ℕ) → AsksFor (request.Step act) line
+    → AsksFor (if is_last then request.Refused own.Busy else request.Step act) line
+seated true act line asked = tt
+seated false act line asked = asked
 
-pub asks : (actor : ℕ) (act : Act Global) (text : List ℕ) (i : Input Global) → Spells text i → i.act ≡ act → AsksFor (request_of actor act) text
-asks actor (Scan listing) text i spells is = tt
-asks actor (Scanctl order) text i spells is = (i, spells, is)
-asks actor (Svc name letters) text i spells is = (i, spells, is)
-asks actor (Started sid generation pid) text i spells is = tt
-asks actor (StartFailed sid generation) text i spells is = tt
-asks actor (Notify sid generation bytes) text i spells is = tt
-asks actor (Death sid generation exit) text i spells is = tt
-asks actor (FinishEnded sid generation exit) text i spells is = tt
-asks actor (Status name) text i spells is = (i, spells, is)
-asks actor (Tally name) text i spells is = (i, spells, is)
-asks actor (Permafailon name seconds count list) text i spells is = (i, spells, is)
-asks actor (Wait condition mode timeout names) text i spells is =
-    seated (actor == last_client) (Wait condition mode timeout names) text (i, spells, is)
-asks actor (Cancel id) text i spells is = (i, spells, is)
-asks actor (Subscribe target pattern repeats) text i spells is =
-    seated (actor == last_client) (Subscribe target pattern repeats) text (i, spells, is)
-asks actor (Unsubscribe id) text i spells is = (i, spells, is)
-asks actor (Send target message) text i spells is = (i, spells, is)
-asks actor (MakeDir name) text i spells is = (i, spells, is)
-asks actor Tick text i spells is = tt
+pub asks : (actor : ℕ) (act : Act Global) (line : List ℕ) → SpellsAct line act → AsksFor (request_of actor act) line
+asks actor (Scan listing) line spells = tt
+asks actor (Scanctl order) line spells = spells
+asks actor (Svc name letters) line spells = spells
+asks actor (Started sid generation pid) line spells = tt
+asks actor (StartFailed sid generation) line spells = tt
+asks actor (Notify sid generation bytes) line spells = tt
+asks actor (Death sid generation exit) line spells = tt
+asks actor (FinishEnded sid generation exit) line spells = tt
+asks actor (Status name) line spells = spells
+asks actor (Tally name) line spells = spells
+asks actor (Permafailon name seconds count list) line spells = spells
+asks actor (Wait condition mode timeout names) line spells =
+    seated (actor == last_client) (Wait condition mode timeout names) line spells
+asks actor (Cancel id) line spells = spells
+asks actor (Subscribe target pattern repeats) line spells =
+    seated (actor == last_client) (Subscribe target pattern repeats) line spells
+asks actor (Unsubscribe id) line spells = spells
+asks actor (Send target message) line spells = spells
+asks actor (MakeDir name) line spells = spells
+asks actor Tick line spells = tt
 
 -- what is refused as busy is a wait or a subscription on the last seat
 busy_act : (actor : ℕ) (act : Act Global) → request_of actor act ≡ request.Refused own.Busy → (actor ≡ last_client) × IsWaiting act
 busy_act actor act = search rules
 
-pub busy : (actor : ℕ) (act : Act Global) (text : List ℕ) (i : Input Global) → Spells text i → i.act ≡ act
-    → request_of actor act ≡ request.Refused own.Busy → WaitsOnLastSeat actor text
-busy actor act text i spells is refused =
-    let why = busy_act actor act refused in (why.0, (i, spells, subst (λ (a : Act Global). IsWaiting a) (sym is) why.1))
+pub busy : (actor : ℕ) (act : Act Global) (line : List ℕ) → SpellsAct line act → request_of actor act ≡ request.Refused own.Busy
+    → WaitsOnLastSeat actor line
+busy actor act line spells refused =
+    let why = busy_act actor act refused in (why.0, (act, spells, why.1))

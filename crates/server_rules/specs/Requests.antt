@@ -1,10 +1,9 @@
 -- What a line of a client asks for.
-use Rattle.std.specs.Prelude.{◌≡◌, ◌==◌, ℕ, List, ◌∷◌, ◌++◌, codes, decimal, if◌then◌else◌}
+use Rattle.std.specs.Prelude.{◌≡◌, ◌==◌, ℕ, List, codes, if◌then◌else◌}
 use Rattle.std.specs.declared.alloc.Global.{Global}
-use Rattle.s6_script.specs.Spelling.{Spells}
+use Rattle.s6_script.specs.Spelling.{SpellsAct}
 use Rattle.tree_core.specs.declared.input.Act.{Act}
 use Rattle.tree_core.specs.declared.input.Act.TheVariants.{Scan, Started, StartFailed, Notify, Death, FinishEnded, Status, Wait, Subscribe, Tick}
-use Rattle.tree_core.specs.declared.input.Input.{Input}
 use Rattle.server_rules.specs.declared.own_answer.OwnAnswer.TheVariants as own
 use Rattle.server_rules.specs.declared.requests.Request.{Request}
 use Rattle.server_rules.specs.declared.requests.Request.TheVariants as request
@@ -12,10 +11,6 @@ use Rattle.server_rules.specs.declared.requests.Request.TheVariants as request
 -- the request for a scan, for which the server reads the scan directory itself
 abbrev pub scan_word : List ℕ
 scan_word = codes "scanctl a"
-
--- a client's line with its moment and its actor before it: the line of a script
-abbrev pub script_line : ℕ → ℕ → List ℕ → List ℕ
-script_line at actor line = decimal at ++ (32 ∷ decimal actor) ++ (32 ∷ line)
 
 -- the acts that clients may not ask for: reports, listings and ticks
 abbrev pub IsOwnAct : {A : Type 0} → Act A → Type 0
@@ -58,7 +53,7 @@ IsWaiting act = ⊥
 
 -- the line of the last seat spells such an act
 abbrev pub WaitsOnLastSeat : ℕ → List ℕ → Type 0
-WaitsOnLastSeat actor text = (actor ≡ last_client) × ((i : Input Global) × Spells text i × IsWaiting i.act)
+WaitsOnLastSeat actor line = (actor ≡ last_client) × ((act : Act Global) × SpellsAct line act × IsWaiting act)
 
 -- no step after which a client waits
 abbrev pub IsShort : Request → Type 0
@@ -68,6 +63,6 @@ IsShort r = Unit {0}
 
 -- a status or a step is what the line spells
 abbrev pub AsksFor : Request → List ℕ → Type 0
-AsksFor (request.Status name) text = (i : Input Global) × Spells text i × (i.act ≡ Status name)
-AsksFor (request.Step act) text = (i : Input Global) × Spells text i × (i.act ≡ act)
-AsksFor r text = Unit {0}
+AsksFor (request.Status name) line = SpellsAct {A = Global} line (Status name)
+AsksFor (request.Step act) line = SpellsAct line act
+AsksFor r line = Unit {0}

@@ -4,7 +4,7 @@ use crate::clock::ServerClock;
 use crate::scan_desk::ScanDesk;
 use child_runner::Bell;
 use line_server::{Answers, Mailbox, Next};
-use s6_events::{At, Name};
+use s6_events::Name;
 use server_rules::{OwnAnswer, Request, RowCache, client_actor, read_request};
 use std::alloc::Global;
 use std::sync::Wait;
@@ -28,8 +28,7 @@ impl Answers for Shared {
         let (Some(caller), Some(actor)) = (self.callers.get(seat), client_actor(seat)) else {
             return Next::Close;
         };
-        // The moment of a step is that at which it is handed in.
-        match read_request(self.alloc, At::zero(), actor, line) {
+        match read_request(self.alloc, actor, line) {
             Request::Status(name) => self.answer_status(rt, caller, name, mailbox),
             Request::Step(act) => self.call(rt, caller, Call::Step(act)),
             Request::Scan => self.call(rt, caller, Call::Scan),

@@ -1,42 +1,51 @@
-use Rattle.std.proofs.Common.{◌≡◌, ◌∙◌, sym, ap}
-use Rattle.std.specs.Prelude.{true}
-use Rattle.std.specs.Cmp.Lexicographic.{bytes_decides}
-use Rattle.s6_script.specs.Spelling.{spelling}
-use Rattle.s6_script.specs.Unbuilt.{input_read}
-use Rattle.s6_script.proofs.Building.{line_reads, built_found, built_only, unbuilt_line, unbuilt_pattern}
+use Rattle.std.proofs.Common.{◌≡◌, ◌∙◌, [], ap, drop}
+use Rattle.std.specs.Prelude.{slice_index_or, Err}
+use Rattle.std.proofs.lemmas.Option.{same_Some}
+use Rattle.s6_script.specs.declared.parse.LineFault.TheVariants.{Line, Pattern}
+use Rattle.s6_script.proofs.Heads.{is_cut, line_words, line_spelled, spells_line}
 use Rattle.s6_script.proofs.parse.parse_with.Goals as goal
 
-pub returns-then-eq-clause-found : goal.returns-then-eq-clause-found
-returns-then-eq-clause-found g c =
-    let same : c.as_slice.result.now ≡ c.args.line.now =
-    (bytes_decides c.as_slice.result.now c.args.line.now).0 (sym c.eq.ensures ∙ c.if-eq.true) in
-    built_found c.args.line.now c.in_ok-input.input c.build.result
-    (record { at = c.in_ok-input.ensures.at; actor = c.in_ok-input.ensures.actor; act = c.in_ok-input.ensures.act })
-    c.build.ensures.ok c.build.ensures.fits (sym same ∙ (c.as_slice.ensures.value ∙ c.in_ok-spell.ensures))
+pub returns-in_default-clause-line : goal.returns-in_default-clause-line
+returns-in_default-clause-line g c = λ _ i s.
+    let words = c.of-words.ensures ∙ line_words c.args.line.now i s in
+    let none = c.in_default.ensures.spelled i.at s.spelt.at (c.take_next.ensures.word ∙ ap (λ ws. slice_index_or ws 0 []) words) in
+    cc none
 
-pub returns-then-eq-clause-only : goal.returns-then-eq-clause-only
-returns-then-eq-clause-only g c =
-    built_only c.args.line.now c.in_ok-input.input c.build.result c.build.ensures.ok
-    (line_reads c.args.line.now _ c.in_ok-input.input c.of.ensures c.in_ok-input.ensures.spelled)
+pub returns-in_default-actor_of-clause-line : goal.returns-in_default-actor_of-clause-line
+returns-in_default-actor_of-clause-line g c = λ _ i s.
+    let words = c.of-words.ensures ∙ line_words c.args.line.now i s in
+    let left = c.take_next.ensures.rest ∙ ap (drop 1) words in
+    let none = c.in_default-actor_of.ensures.spelled i.actor s.spelt.actor (c.take_next-2.ensures.word ∙ ap (λ ws. slice_index_or ws 0 []) left) in
+    cc none
 
-pub returns-then-eq-clause-line : goal.returns-then-eq-clause-line
-returns-then-eq-clause-line g c =
-    unbuilt_line c.args.line.now c.in_ok-input.input c.build.result c.build.ensures.line
-    (line_reads c.args.line.now _ c.in_ok-input.input c.of.ensures c.in_ok-input.ensures.spelled)
+pub returns-in-Ok-clause-found : goal.returns-in-Ok-clause-found
+returns-in-Ok-clause-found g c =
+    let cut = is_cut c.args.line.now _ _ _ _ _ _ c.of-words.ensures c.take_next.ensures.word c.take_next.ensures.rest c.take_next-2.ensures.word
+    c.take_next-2.ensures.rest c.rest.ensures in
+    spells_line c.args.line.now _ _ _ _ _ c.in-Ok.act cut c.in-Some.ensures.only c.in-Some-actor_of.ensures.only c.in-Ok.ensures.found
 
-pub returns-then-eq-clause-pattern : goal.returns-then-eq-clause-pattern
-returns-then-eq-clause-pattern g c =
-    let same : c.as_slice.result.now ≡ c.args.line.now =
-    (bytes_decides c.as_slice.result.now c.args.line.now).0 (sym c.eq.ensures ∙ c.if-eq.true) in
-    unbuilt_pattern c.args.line.now c.in_ok-input.input c.build.result
-    (record { at = c.in_ok-input.ensures.at; actor = c.in_ok-input.ensures.actor; act = c.in_ok-input.ensures.act })
-    c.build.ensures.fits c.build.ensures.pattern (sym same ∙ (c.as_slice.ensures.value ∙ c.in_ok-spell.ensures))
+pub returns-in-Ok-clause-only : goal.returns-in-Ok-clause-only
+returns-in-Ok-clause-only g c = λ i s.
+    let cut = is_cut c.args.line.now _ _ _ _ _ _ c.of-words.ensures c.take_next.ensures.word c.take_next.ensures.rest c.take_next-2.ensures.word
+    c.take_next-2.ensures.rest c.rest.ensures in
+    let parts = line_spelled c.args.line.now _ _ _ i cut s in
+    let at : c.in-Some.at ≡ i.at = same_Some c.in-Some.at i.at (c.in-Some.ensures.spelled i.at s.spelt.at parts.0) in
+    let actor : c.in-Some-actor_of.actor ≡ i.actor =
+    same_Some c.in-Some-actor_of.actor i.actor (c.in-Some-actor_of.ensures.spelled i.actor s.spelt.actor parts.1) in
+    let act : c.in-Ok.act ≡ i.act = c.in-Ok.ensures.only i.act parts.2 in
+    λ k. record { actor = actor k; at = at k; act = act k }
 
-pub returns-else-eq-clause-line : goal.returns-else-eq-clause-line
-returns-else-eq-clause-line g c = λ _ i s.
-    let found : input_read c.in_ok-input.input ≡ i =
-    line_reads c.args.line.now _ c.in_ok-input.input c.of.ensures c.in_ok-input.ensures.spelled i s in
-    let again : c.spell.new.text.items ≡ c.args.line.now = c.in_ok-spell.ensures ∙ ap spelling found ∙ sym s.text_is in
-    let same : c.as_slice.result.now ≡ c.args.line.now = c.as_slice.ensures.value ∙ again in
-    let test : c.eq.result ≡ true = c.eq.ensures ∙ (bytes_decides c.as_slice.result.now c.args.line.now).1 same in
-    cc
+pub returns-in-Err-clause-line : goal.returns-in-Err-clause-line
+returns-in-Err-clause-line g c = λ e i s.
+    let cut = is_cut c.args.line.now _ _ _ _ _ _ c.of-words.ensures c.take_next.ensures.word c.take_next.ensures.rest c.take_next-2.ensures.word
+    c.take_next-2.ensures.rest c.rest.ensures in
+    let fault : c.in-Err.fault ≡ Line = cc e in
+    c.in-Err.ensures.line (ap (λ f. Err f) fault) i.act (line_spelled c.args.line.now _ _ _ i cut s).2
+
+pub returns-in-Err-clause-pattern : goal.returns-in-Err-clause-pattern
+returns-in-Err-clause-pattern g c = λ e.
+    let cut = is_cut c.args.line.now _ _ _ _ _ _ c.of-words.ensures c.take_next.ensures.word c.take_next.ensures.rest c.take_next-2.ensures.word
+    c.take_next-2.ensures.rest c.rest.ensures in
+    let fault : c.in-Err.fault ≡ Pattern = cc e in
+    let found = c.in-Err.ensures.pattern (ap (λ f. Err f) fault) in
+    (_, spells_line c.args.line.now _ _ _ _ _ found.0 cut c.in-Some.ensures.only c.in-Some-actor_of.ensures.only found.1, found.2)
