@@ -146,7 +146,7 @@ const LINES: &str = "0 1 scan web:finish,kill=7 other
 0 1 permafailon web 1 1 1-2,SIGHUP
 0 1 wait U o 9 web log
 0 1 subscribe dir q repeat u.*u d
-0 1 send dir q ud";
+0 1 send dir q udududududududududududududududud";
 
 // What is done on a heap.
 #[derive(Clone, Copy)]
