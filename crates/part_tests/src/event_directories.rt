@@ -4,7 +4,7 @@ ghost use Rattle.std.specs.Prelude.{◌≡◌, ◌≤◌, ◌<◌, ◌+◌, ◌^
 use crate::shared::{Counts, letter, new_heap};
 use event_directory::{
     Directories, Directory, DirectoryAnswer, DirectoryChange, DirectoryFault, Finds, Hit, Message,
-    Pattern, PatternFault, Source, State,
+    Pattern, Source, State,
 };
 use linked_list_allocator::LocalHeap;
 use s6_events::{Letter, Mark, Moment, Name, NoMemory, Sid, SubId};
@@ -147,46 +147,6 @@ fn a_pattern_matches_again_after_its_match(rt: HostRuntime) {
     }
     directory.unsubscribe(SubId(7));
     assert!(rt; directory.list(SubId(7)).is_none());
-}
-
-fn wants_pattern<R: Abort>(rt: &R, alloc: Global, text: &str, fault: Option<PatternFault>) {
-    let found = Pattern::build(alloc, text).err();
-    assert_eq!(rt; found, fault, "{text}");
-}
-
-fn long_text<R: Abort>(rt: &R, alloc: Global, count: u32) -> String {
-    let mut text = String::new(alloc);
-    for _ in 0..count {
-        text.push('a').expect(rt, "memory");
-    }
-    text
-}
-
-#[test]
-fn builds_what_it_can(rt: HostRuntime) {
-    let alloc = rt.alloc();
-    let long = long_text(&rt, alloc, 256);
-    let longer = long_text(&rt, alloc, 257);
-    wants_pattern(&rt, alloc, "", Some(PatternFault::Length));
-    wants_pattern(&rt, alloc, "a\n", Some(PatternFault::Length));
-    wants_pattern(&rt, alloc, "\u{7f}", Some(PatternFault::Length));
-    wants_pattern(&rt, alloc, "é", Some(PatternFault::Length));
-    wants_pattern(&rt, alloc, &longer, Some(PatternFault::Length));
-    wants_pattern(&rt, alloc, "(", Some(PatternFault::Refused));
-    wants_pattern(&rt, alloc, "a b~", None);
-    wants_pattern(&rt, alloc, &long, None);
-}
-
-// A pattern has at most 256 states that read a letter, and its tables take at most 16,384 bytes: `.` takes some 200 of them.
-#[test]
-fn a_pattern_past_the_limits_is_refused(rt: HostRuntime) {
-    let alloc = rt.alloc();
-    wants_pattern(&rt, alloc, "a{256}", None);
-    wants_pattern(&rt, alloc, "a{257}", Some(PatternFault::Refused));
-    wants_pattern(&rt, alloc, "((a?){30}){30}b", Some(PatternFault::Refused));
-    wants_pattern(&rt, alloc, ".{64}", None);
-    wants_pattern(&rt, alloc, ".{128}", Some(PatternFault::Refused));
-    wants_pattern(&rt, alloc, "\\w", None);
 }
 
 // Hears a letter, and then two of one step, as far as memory goes; whether each was answered.

@@ -6,6 +6,8 @@ mod event_directories;
 #[cfg(test)]
 mod events;
 #[cfg(test)]
+mod patterns;
+#[cfg(test)]
 mod restarts;
 #[cfg(test)]
 mod shared;

@@ -1,5 +1,6 @@
 //! What the server of a tree decides, with no thread of its own: what a line asks for, whose an actor is, when a tick or a scan is wanted,
-//! what stands of a connection, which rows may be told, what a scan directory says, and which socket is whose.
+//! what stands of a connection, which rows may be told, what a scan directory says, which socket is whose,
+//! and what is told of a tree that did not run to its end.
 #![tactic(auto)]
 
 mod full_services;
@@ -9,6 +10,7 @@ mod places;
 mod plans;
 mod requests;
 mod row_cache;
+mod serve_fault;
 mod service_files;
 mod socket_rules;
 mod standing;
@@ -21,5 +23,6 @@ pub use places::{Place, client_actor, place_of};
 pub use plans::{Askers, Plans, Wanted};
 pub use requests::{Request, read_request};
 pub use row_cache::{RowCache, STATUS_AGE};
+pub use serve_fault::{ServeFault, refuse_usage, tell_serve_fault};
 pub use socket_rules::{FileIdentity, says_abandoned};
 pub use standing::{Ending, Standing};

@@ -9,7 +9,6 @@ mod delivery;
 mod driver_state;
 mod driving;
 mod ending;
-mod fault;
 mod lanes;
 mod options;
 mod outcome;
@@ -26,7 +25,7 @@ mod shared;
 mod socket;
 mod threads;
 
-pub use fault::{ServeFault, refuse_usage, tell_serve_fault};
 pub use options::{HANDOVER, ServeOptions};
 pub use serve::run_tree;
+pub use server_rules::{ServeFault, refuse_usage, tell_serve_fault};
 pub use service_lanes::{ServiceLanes, TreeLanes, open_service_lanes};

@@ -1,5 +1,5 @@
 //! How a tree came to its end.
-use crate::fault::ServeFault;
+use server_rules::ServeFault;
 use std::sync::{Mutex, Wait};
 
 /// How a tree came to its end, as the thread that drives it notes it.

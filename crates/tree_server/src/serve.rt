@@ -2,7 +2,6 @@
 use crate::calls::new_callers;
 use crate::clock::ServerClock;
 use crate::connecting::{end_connections, start_listener};
-use crate::fault::ServeFault;
 use crate::options::ServeOptions;
 use crate::outcome::Outcome;
 use crate::recorder::{Recorder, create_recorder};
@@ -16,7 +15,7 @@ use child_runner::{Bell, LaneLink, ShellProbe};
 use error_notes::{NoteWriter, Notes};
 use line_server::{Seats, Server};
 use order_lanes::Backend;
-use server_rules::{RowCache, read_listing};
+use server_rules::{RowCache, ServeFault, read_listing};
 use std::alloc::Global;
 use std::fs::File;
 use std::io::{self, BufWriter, ErrorKind, Write};

@@ -31,12 +31,8 @@ say 'a permanent failure' "$(outcome client svlisten -R fails -- "$program" svc 
 tell permafailon fails 60 1 1
 tell permafailon fails 60 1 2
 
-# A daemon that was ready is killed, and is ready again. Between two lives a status has -1, which `kill` takes for every process.
-daemon=$(client svstat -o pid three)
-case $daemon in
-'' | 0* | 1 | *[!0-9]*) say 'killed, and ready again' "no process: $daemon" ;;
-*) say 'killed, and ready again' "$(outcome client svlisten -R three -- kill -9 "$daemon")" ;;
-esac
+# A daemon that was ready is killed, and is ready again. The tree sends the signal, so no number of a status goes to `kill`.
+say 'killed, and ready again' "$(outcome client svlisten -R three -- "$program" svc "$socket" -k three)"
 tell svstat -o up,ready three
 
 # Free event directories, and those of services.

@@ -1,6 +1,6 @@
 //! Why a tree did not run to its end, and what is told of it.
 ghost use Rattle.std.specs.Prelude.{◌≡◌};
-ghost use Rattle.tree_server.specs.Faults.{fault_text};
+ghost use Rattle.server_rules.specs.Faults.{fault_text};
 
 use std::io::Write;
 

@@ -1,7 +1,7 @@
 -- What is told of a tree that did not run to its end.
 use Rattle.std.specs.Prelude.{ℕ, List, codes}
-use Rattle.tree_server.specs.declared.fault.ServeFault.{ServeFault}
-use Rattle.tree_server.specs.declared.fault.ServeFault.TheVariants as fault
+use Rattle.server_rules.specs.declared.serve_fault.ServeFault.{ServeFault}
+use Rattle.server_rules.specs.declared.serve_fault.ServeFault.TheVariants as fault
 
 abbrev pub fault_text : ServeFault → List ℕ
 fault_text fault.Shell = codes "svscan: no shell\n"
