@@ -2,14 +2,20 @@
 //! written in order, at the reader's own pace.
 #![tactic(auto)]
 
+mod accepting;
+mod conversing;
 mod line_buffer;
 mod mailbox;
 mod outbox;
 mod seats;
 mod server;
+mod silence;
+mod work_desk;
 
+pub use accepting::serve;
 pub use line_buffer::{LINE_LIMIT, LineBuffer, LineStatus};
 pub use mailbox::Mailbox;
 pub use outbox::{OUTBOX_LIMIT, Outbox, PostFault};
-pub use seats::{SEAT_COUNT, Seats};
-pub use server::{Answers, Next, Server, serve};
+pub use seats::{LAST_SEAT, SEAT_COUNT, Seats};
+pub use server::{Answers, Next, Server};
+pub use silence::{SILENCE_LIMIT, SeatUse};

@@ -1,15 +1,34 @@
 //! Who is connected: a seat for each connection.
 use crate::mailbox::Mailbox;
+use crate::silence::{SeatUse, first_silent};
 use std::alloc::{AllocError, Global};
 use std::sync::{Arc, Wait};
 
 /// The most connections at one time.
 pub const SEAT_COUNT: usize = 11;
 
-/// A mailbox for each connection, and whether more may come.
+/// The seat whose threads are there from the start, so that a connection can come where the system has no thread for it.
+pub const LAST_SEAT: usize = SEAT_COUNT - 1;
+
+/// A connection on its seat.
+#[derive(Drop)]
+struct Sitting {
+    mailbox: Arc<Mailbox>,
+    doing: SeatUse,
+}
+
+// What the connection of a seat does; it is needed where somebody keeps it, and a free seat gives nothing away.
+fn use_of(sitting: &Option<Sitting>, is_kept: bool) -> SeatUse {
+    match sitting {
+        Some(sitting) if !is_kept => sitting.doing,
+        _ => SeatUse::Needed,
+    }
+}
+
+/// The connection of each seat, and whether more may come.
 #[derive(Drop)]
 pub struct Seats {
-    mailboxes: Vec<Option<Arc<Mailbox>>>,
+    sittings: Vec<Option<Sitting>>,
     freed: u64,
     is_ending: bool,
 }
@@ -17,32 +36,83 @@ pub struct Seats {
 impl Seats {
     /// All seats are free. Afterwards no call takes memory.
     pub fn new(alloc: Global) -> Result<Seats, AllocError> {
-        let mut mailboxes = Vec::with_capacity(alloc, SEAT_COUNT)?;
+        let mut sittings = Vec::with_capacity(alloc, SEAT_COUNT)?;
         for _ in 0..SEAT_COUNT {
-            mailboxes.push(None)?;
+            sittings.push(None)?;
         }
         Ok(Seats {
-            mailboxes,
+            sittings,
             freed: 0,
             is_ending: false,
         })
     }
 
-    /// The connection takes the first free seat; None where none is free, or all is ending.
-    pub fn take(&mut self, mailbox: Arc<Mailbox>) -> Option<usize> {
-        if self.is_ending {
+    /// The connection takes the first free seat but the last, and is silent since this moment, in milliseconds; None where none is free, or
+    /// all is ending.
+    pub fn take(&mut self, mailbox: Arc<Mailbox>, now: u64) -> Option<usize> {
+        let sittings = self.sittings.as_slice();
+        let seat = sittings.iter().position(|taken| taken.is_none())?;
+        if seat >= LAST_SEAT || !self.take_at(seat, mailbox, now) {
             return None;
         }
-        let seats = self.mailboxes.as_slice();
-        let seat = seats.iter().position(|taken| taken.is_none())?;
-        let place = self.mailboxes.get_mut(seat)?;
-        *place = Some(mailbox);
         Some(seat)
+    }
+
+    /// The connection takes the last seat. False where that is not free, or all is ending.
+    pub fn take_last(&mut self, mailbox: Arc<Mailbox>, now: u64) -> bool {
+        self.take_at(LAST_SEAT, mailbox, now)
+    }
+
+    fn take_at(&mut self, seat: usize, mailbox: Arc<Mailbox>, now: u64) -> bool {
+        if self.is_ending {
+            return false;
+        }
+        match self.sittings.get_mut(seat) {
+            Some(place) if place.is_none() => {
+                let doing = SeatUse::SilentSince(now);
+                *place = Some(Sitting { mailbox, doing });
+                true
+            }
+            _ => false,
+        }
+    }
+
+    /// What the connection on this seat does now.
+    pub fn note(&mut self, seat: usize, doing: SeatUse) {
+        if let Some(Some(sitting)) = self.sittings.get_mut(seat) {
+            sitting.doing = doing;
+        }
+    }
+
+    /// Ends the first connection that has been silent for two seconds at this moment, of those that nobody keeps: its seat will be free.
+    pub fn end_silent<R: Wait>(&mut self, rt: &R, kept: &[bool; SEAT_COUNT], now: u64) {
+        let mut uses = [SeatUse::Needed; SEAT_COUNT];
+        let sittings = self.sittings.as_slice();
+        for ((place, sitting), is_kept) in uses.iter_mut().zip(sittings).zip(kept) {
+            *place = use_of(sitting, *is_kept);
+        }
+        let Some(seat) = first_silent(&uses, now) else {
+            return;
+        };
+        if let Some(Some(sitting)) = self.sittings.get_mut(seat) {
+            sitting.doing = SeatUse::Leaving;
+            sitting.mailbox.end(rt);
+        }
+    }
+
+    /// Whether no seat is free, and one will be soon.
+    pub fn is_about_to_be_free(&self) -> bool {
+        let sittings = self.sittings.as_slice();
+        sittings.iter().all(|taken| taken.is_some())
+            && sittings
+                .iter()
+                .flatten()
+                .any(|sitting| sitting.doing == SeatUse::Leaving)
     }
 
     /// The seat is free again.
     pub fn free(&mut self, seat: usize) {
-        if let Some(place) = self.mailboxes.get_mut(seat) {
+        if let Some(place) = self.sittings.get_mut(seat) {
             *place = None;
         }
         self.freed = self.freed.wrapping_add(1);
@@ -55,8 +125,8 @@ impl Seats {
 
     /// The mailbox of the connection on this seat, if one is there.
     pub fn mailbox(&self, seat: usize) -> Option<Arc<Mailbox>> {
-        match self.mailboxes.get(seat) {
-            Some(Some(mailbox)) => mailbox.clone().ok(),
+        match self.sittings.get(seat) {
+            Some(Some(sitting)) => sitting.mailbox.clone().ok(),
             _ => None,
         }
     }
@@ -69,8 +139,8 @@ impl Seats {
     /// No connection is taken any more, and each that is there is ended at once.
     pub fn end_all<R: Wait>(&mut self, rt: &R) {
         self.is_ending = true;
-        for mailbox in self.mailboxes.as_slice().iter().flatten() {
-            mailbox.end(rt);
+        for sitting in self.sittings.as_slice().iter().flatten() {
+            sitting.mailbox.end(rt);
         }
     }
 }

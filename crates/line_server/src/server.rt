@@ -1,23 +1,22 @@
-//! The threads of a server: one accepts, and each connection has one that reads and one that writes.
-use crate::line_buffer::{LineBuffer, LineStatus};
+//! A server of lines: who is connected, and who answers.
 use crate::mailbox::Mailbox;
-use crate::seats::Seats;
-use std::alloc::Global;
-use std::io::{ErrorKind, Read, Write};
+use crate::seats::{LAST_SEAT, SEAT_COUNT, Seats};
+use crate::silence::SeatUse;
+use crate::work_desk::WorkDesk;
+use std::alloc::{AllocError, Global};
+use std::io::{self, ErrorKind};
 use std::net::Shutdown;
 use std::os::fd::OwnedFd;
 use std::os::unix::net::{UnixListener, UnixStream};
 use std::sync::{Arc, Condvar, Mutex, Wait};
-use std::thread::{Builder, Scope, Threads};
 use std::time::{Clock, Duration};
-use std::{io, thread};
-
-/// The stack of a thread that reads or writes one connection, in bytes.
-const STACK_SIZE: usize = 256 * 1024;
 
 /// How long no connection is accepted where the system lacks something for it, such as descriptors, and no other one ends, in
 /// milliseconds.
 const ACCEPT_WAIT: u64 = 100;
+
+/// How long a connection that knocks waits for a seat that will be free, in milliseconds.
+const KNOCK_WAIT: u64 = 100;
 
 /// What becomes of a connection once a line was answered.
 #[derive(Clone, Copy, Debug, PartialEq, Eq)]
@@ -36,26 +35,46 @@ pub trait Answers {
     /// A line of more than 8,192 bytes is coming on this seat. What is posted is written, and the connection ends.
     fn refuse_long_line<R: Wait>(&self, rt: &R, seat: usize, mailbox: &Mailbox);
 
+    /// Whether the connection of this seat stays though it says nothing: something is still to be told to it.
+    fn keeps<R: Wait>(&self, rt: &R, seat: usize) -> bool;
+
     /// The connection of this seat has ended, and no line of it is being answered. The seat is free afterwards.
     fn leave<R: Wait>(&self, rt: &R, seat: usize);
 }
 
-/// A server of lines: at most 11 connections at one time. A further one is sent `busy` and a newline, and closed.
+/// The present moment of the system's clock, in milliseconds; 0 where the system has none.
+pub fn millis_of<R: Clock>(rt: &R) -> u64 {
+    match rt.monotonic() {
+        Ok(passed) => u64::try_from(passed.as_millis()).unwrap_or(u64::MAX),
+        Err(_) => 0,
+    }
+}
+
+/// A server of lines: at most 11 connections at one time. A further one is sent `busy` and a newline, and closed, unless one of the 11 has
+/// said nothing for two seconds, and waits for nothing: that one is closed, and its seat is given to whoever knocks.
+///
+/// The threads of the last seat are there from the start, and one descriptor is kept: where the system has no thread, or no descriptor, for a
+/// connection, one can come all the same.
 #[derive(Drop)]
 pub struct Server<W: Answers> {
-    alloc: Global,
-    listener: UnixListener,
+    pub(crate) alloc: Global,
+    pub(crate) listener: UnixListener,
     // The listener once more, to end it by: at the end there may be no descriptor to make one.
     waker: UnixStream,
-    seats: Mutex<Seats>,
+    // A descriptor that is given up where a connection can't be accepted for want of one.
+    spare: Mutex<Option<UnixListener>>,
+    pub(crate) seats: Mutex<Seats>,
     // Where a seat became free, or all is ending.
     changed: Condvar,
-    answers: W,
+    // What the two threads of the last seat work on: one reads the connection, and one writes it.
+    pub(crate) last_read: WorkDesk<Arc<Mailbox>>,
+    pub(crate) last_written: WorkDesk<Arc<Mailbox>>,
+    pub(crate) answers: W,
 }
 
 impl<W: Answers> Server<W> {
-    /// Over a listener from which nothing was accepted, with free seats. It takes one descriptor more; where the system has none that is an
-    /// error, and the listener is closed.
+    /// Over a listener from which nothing was accepted, with free seats. It takes two descriptors more; where the system has none that is
+    /// an error, and the listener is closed.
     pub fn new(
         alloc: Global,
         listener: UnixListener,
@@ -66,12 +85,16 @@ impl<W: Answers> Server<W> {
         W: Drop,
     {
         let waker = UnixStream::from(OwnedFd::from(listener.try_clone()?));
+        let spare = listener.try_clone()?;
         Ok(Server {
             alloc,
             listener,
             waker,
+            spare: Mutex::new(Some(spare)),
             seats: Mutex::new(seats),
             changed: Condvar::new(),
+            last_read: WorkDesk::new(),
+            last_written: WorkDesk::new(),
             answers,
         })
     }
@@ -86,36 +109,95 @@ impl<W: Answers> Server<W> {
         self.seats.lock(rt).mailbox(seat)
     }
 
-    // A seat for a connection; where none is free the connection is sent `busy` and closed.
-    fn take_seat<R: Wait>(&self, rt: &R, stream: UnixStream) -> Option<usize> {
-        let mailbox = Arc::new(self.alloc, Mailbox::new(self.alloc, stream)).ok()?;
+    // A seat for a connection, but the last; None where none is free.
+    pub(crate) fn take_seat<R: Wait + Clock>(
+        &self,
+        rt: &R,
+        mailbox: &Arc<Mailbox>,
+    ) -> Option<usize> {
         let own = mailbox.clone().ok()?;
-        let seat = self.seats.lock(rt).take(own);
-        if seat.is_none() {
-            let _ = mailbox.stream().write_all(b"busy\n");
+        self.seats.lock(rt).take(own, millis_of(rt))
+    }
+
+    // The last seat for a connection, whose threads begin with it. False where it is not free.
+    pub(crate) fn take_last_seat<R: Wait + Clock>(&self, rt: &R, mailbox: &Arc<Mailbox>) -> bool {
+        matches!(self.begin_last_seat(rt, mailbox), Ok(true))
+    }
+
+    fn begin_last_seat<R: Wait + Clock>(
+        &self,
+        rt: &R,
+        mailbox: &Arc<Mailbox>,
+    ) -> Result<bool, AllocError> {
+        let (own, read) = (mailbox.clone()?, mailbox.clone()?);
+        if !self.seats.lock(rt).take_last(own, millis_of(rt)) {
+            return Ok(false);
         }
-        seat
+        if self.last_read.give(rt, read).is_err() {
+            self.free_seat(rt, LAST_SEAT);
+            return Ok(false);
+        }
+        Ok(true)
+    }
+
+    // Has a connection leave that has been silent for long, if there is one, and waits for a seat that will be free, but not for long.
+    pub(crate) fn make_way<R: Wait + Clock>(&self, rt: &R) {
+        let mut kept = [true; SEAT_COUNT];
+        for (seat, is_kept) in kept.iter_mut().enumerate() {
+            *is_kept = self.answers.keeps(rt, seat);
+        }
+        let mut seats = self.seats.lock(rt);
+        seats.end_silent(rt, &kept, millis_of(rt));
+        let time = Duration::from_millis(KNOCK_WAIT);
+        let _seats = self.changed.wait_timeout_while(rt, seats, time, |seats| {
+            !seats.is_ending() && seats.is_about_to_be_free()
+        });
+    }
+
+    // What the connection on this seat does now.
+    pub(crate) fn note<R: Wait>(&self, rt: &R, seat: usize, doing: SeatUse) {
+        self.seats.lock(rt).note(seat, doing);
     }
 
     // The seat is free again.
-    fn free_seat<R: Wait>(&self, rt: &R, seat: usize) {
+    pub(crate) fn free_seat<R: Wait>(&self, rt: &R, seat: usize) {
         self.seats.lock(rt).free(seat);
         self.changed.notify_all();
     }
 
-    // Waits after a connection could not be accepted. Where the system lacks something for it, a connection that ends may give it back:
-    // one that ended since the count of `freed` is awaited, but not for long. The count then, or None where all is ending.
-    fn wait_to_accept<R: Wait + Clock>(
+    // Gives the spare descriptor up. Whether there was one.
+    fn give_up_spare<R: Wait>(&self, rt: &R) -> bool {
+        self.spare.lock(rt).take().is_some()
+    }
+
+    // Takes a spare descriptor again, if the system has one.
+    pub(crate) fn keep_spare<R: Wait>(&self, rt: &R) {
+        let mut spare = self.spare.lock(rt);
+        if spare.is_none() {
+            *spare = self.listener.try_clone().ok();
+        }
+    }
+
+    // Waits after a connection could not be accepted. Where the system lacks something for it, the spare descriptor is given up, or a
+    // connection that ends may give it back: one that ended since the count of `freed` is awaited, but not for long. The count then, or
+    // None where all is ending.
+    pub(crate) fn wait_to_accept<R: Wait + Clock>(
         &self,
         rt: &R,
         error: &io::Error,
         freed: u64,
     ) -> Option<u64> {
-        let seats = self.seats.lock(rt);
-        let time = match error.kind() {
-            ErrorKind::ConnectionAborted | ErrorKind::Interrupted => Duration::from_millis(0),
-            _ => Duration::from_millis(ACCEPT_WAIT),
+        let is_passing = matches!(
+            error.kind(),
+            ErrorKind::ConnectionAborted | ErrorKind::Interrupted
+        );
+        let millis = if is_passing || self.give_up_spare(rt) {
+            0
+        } else {
+            ACCEPT_WAIT
         };
+        let seats = self.seats.lock(rt);
+        let time = Duration::from_millis(millis);
         let (seats, _late) = self.changed.wait_timeout_while(rt, seats, time, |seats| {
             !seats.is_ending() && seats.freed() == freed
         });
@@ -129,176 +211,7 @@ impl<W: Answers> Server<W> {
     pub fn end<R: Wait>(&self, rt: &R) {
         self.seats.lock(rt).end_all(rt);
         self.changed.notify_all();
+        self.last_read.end(rt);
         let _ = self.waker.shutdown(Shutdown::Both);
     }
-}
-
-/// Accepts and serves connections until `Server::end` is called. All of its threads have ended when it comes back.
-pub fn serve<W: Answers + Sync, R: Threads + Wait + Clock + Sync>(rt: &R, server: &Server<W>) {
-    thread::scope(
-        thread::scope_env(),
-        rt,
-        |scope| accept_all(scope, rt, server),
-    );
-}
-
-// Accepts connections until the server ends. Each gets a seat and a thread that reads it.
-fn accept_all<'s, E, W: Answers + Sync, R: Threads + Wait + Clock + Sync>(
-    scope: &Scope<'s, E>,
-    rt: &'s R,
-    server: &'s Server<W>,
-) {
-    let mut freed = 0;
-    for stream in server.listener.incoming() {
-        match stream {
-            Ok(stream) => seat_one(scope, rt, server, stream),
-            Err(error) => {
-                let Some(now) = server.wait_to_accept(rt, &error, freed) else {
-                    break;
-                };
-                freed = now;
-            }
-        }
-    }
-}
-
-// A connection gets a seat, if one is free, and a thread that reads it.
-fn seat_one<'s, E, W: Answers + Sync, R: Threads + Wait + Clock + Sync>(
-    scope: &Scope<'s, E>,
-    rt: &'s R,
-    server: &'s Server<W>,
-    stream: UnixStream,
-) {
-    let Some(seat) = server.take_seat(rt, stream) else {
-        return;
-    };
-    if !start_reader(scope, rt, server, seat) {
-        server.free_seat(rt, seat);
-    }
-}
-
-// The thread that reads a connection. Whether it runs.
-fn start_reader<'s, E, W: Answers + Sync, R: Threads + Wait + Clock + Sync>(
-    scope: &Scope<'s, E>,
-    rt: &'s R,
-    server: &'s Server<W>,
-    seat: usize,
-) -> bool {
-    Builder::new()
-        .stack_size(STACK_SIZE)
-        .spawn_scoped(scope, move || converse_at(rt, server, seat))
-        .is_ok()
-}
-
-// The connection of a seat to its end.
-fn converse_at<W: Answers + Sync, R: Threads + Wait + Clock + Sync>(
-    rt: &R,
-    server: &Server<W>,
-    seat: usize,
-) {
-    if let Some(mailbox) = server.mailbox(rt, seat) {
-        converse(rt, server, seat, &mailbox);
-    }
-    server.answers.leave(rt, seat);
-    server.free_seat(rt, seat);
-}
-
-// One connection to its end: its lines are read and answered here, and what is posted is written by a thread beside this one.
-fn converse<W: Answers + Sync, R: Threads + Wait + Clock + Sync>(
-    rt: &R,
-    server: &Server<W>,
-    seat: usize,
-    mailbox: &Mailbox,
-) {
-    thread::scope(thread::scope_env(), rt, |scope| {
-        if start_writer(scope, rt, server.alloc, mailbox) {
-            read_all(rt, server, seat, mailbox);
-        }
-        mailbox.close(rt);
-    });
-    mailbox.end(rt);
-}
-
-// The thread that writes a connection. Whether it runs.
-fn start_writer<'s, E, R: Threads + Wait + Sync>(
-    scope: &Scope<'s, E>,
-    rt: &'s R,
-    alloc: Global,
-    mailbox: &'s Mailbox,
-) -> bool {
-    Builder::new()
-        .stack_size(STACK_SIZE)
-        .spawn_scoped(scope, move || write_all(rt, alloc, mailbox))
-        .is_ok()
-}
-
-// Writes what is posted until nothing more will be, or the connection takes nothing more.
-fn write_all<R: Wait>(rt: &R, alloc: Global, mailbox: &Mailbox) {
-    let mut text = Vec::new(alloc);
-    for _ in rt.forever() {
-        if !mailbox.wait_for_text(rt, &mut text) {
-            break;
-        }
-        if mailbox.stream().write_all(text.as_slice()).is_err() {
-            mailbox.end(rt);
-            break;
-        }
-    }
-}
-
-// Reads the connection to its end, and answers each whole line.
-fn read_all<W: Answers, R: Wait + Clock>(
-    rt: &R,
-    server: &Server<W>,
-    seat: usize,
-    mailbox: &Mailbox,
-) {
-    let mut buffer = LineBuffer::new(server.alloc);
-    let mut line = Vec::new(server.alloc);
-    for _ in rt.forever() {
-        if !read_some(mailbox.stream(), &mut buffer) {
-            break;
-        }
-        if answer_lines(rt, server, seat, &mut buffer, &mut line, mailbox) == Next::Close {
-            break;
-        }
-    }
-}
-
-// Reads what has come. Whether more may come.
-fn read_some(mut stream: &UnixStream, buffer: &mut LineBuffer<Global>) -> bool {
-    let mut bytes = [0u8; 1024];
-    match stream.read(&mut bytes) {
-        Ok(0) => false,
-        Ok(count) => buffer.add(&bytes[..count]).is_ok(),
-        Err(error) => error.kind() == ErrorKind::Interrupted,
-    }
-}
-
-// Answers each whole line that has come.
-fn answer_lines<W: Answers, R: Wait + Clock>(
-    rt: &R,
-    server: &Server<W>,
-    seat: usize,
-    buffer: &mut LineBuffer<Global>,
-    line: &mut Vec<u8>,
-    mailbox: &Mailbox,
-) -> Next {
-    for _ in rt.forever() {
-        match buffer.next_line(line) {
-            Ok(LineStatus::Whole) => {
-                let next = server.answers.answer(rt, seat, line.as_slice(), mailbox);
-                if next == Next::Close {
-                    return Next::Close;
-                }
-            }
-            Ok(LineStatus::Part) => return Next::GoOn,
-            Ok(LineStatus::TooLong) => {
-                server.answers.refuse_long_line(rt, seat, mailbox);
-                return Next::Close;
-            }
-            Err(_) => return Next::Close,
-        }
-    }
-    Next::Close
 }

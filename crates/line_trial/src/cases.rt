@@ -3,7 +3,7 @@ use crate::client::read_bytes;
 use crate::echo::Echo;
 use crate::half_close::reads_late;
 use crate::trial::{Trial, tell};
-use line_server::{SEAT_COUNT, Seats, Server, serve};
+use line_server::{SEAT_COUNT, SILENCE_LIMIT, Seats, Server, serve};
 use std::alloc::{AllocError, Global};
 use std::io::Write;
 use std::net::{Net, Shutdown};
@@ -104,6 +104,11 @@ fn try_cases<R: Net + Wait + Clock>(
     )?;
     tell(
         told,
+        "one that is silent for two seconds makes way, unless it is kept",
+        silent_house(trial, server),
+    )?;
+    tell(
+        told,
         "one that half-closes and reads late gets each answer",
         half_closed(trial, server),
     )?;
@@ -136,22 +141,43 @@ fn long_lines<R: Net + Clock>(trial: &Trial<R>) -> io::Result<bool> {
     Ok(is_longest_answered && is_longer_refused)
 }
 
-fn full_house<R: Net + Clock>(trial: &Trial<R>) -> io::Result<bool> {
+// Takes all seats. None where one does not get free in time.
+fn fill_house<R: Net + Clock>(trial: &Trial<R>) -> io::Result<Option<Vec<UnixStream>>> {
     let mut streams = Vec::new(trial.alloc);
-    fill_house(trial, &mut streams)
-}
-
-// Takes all seats, tries one more, and then a seat that gets free.
-fn fill_house<R: Net + Clock>(trial: &Trial<R>, streams: &mut Vec<UnixStream>) -> io::Result<bool> {
     for _ in 0..SEAT_COUNT {
         let Some(stream) = trial.take_free_seat() else {
-            return Ok(false);
+            return Ok(None);
         };
         streams.push(stream)?;
     }
+    Ok(Some(streams))
+}
+
+// Takes all seats, tries one more, and then a seat that gets free.
+fn full_house<R: Net + Clock>(trial: &Trial<R>) -> io::Result<bool> {
+    let Some(mut streams) = fill_house(trial)? else {
+        return Ok(false);
+    };
     let is_busy = is_told_busy(trial)?;
     drop(streams.pop());
     Ok(trial.take_free_seat().is_some() && is_busy)
+}
+
+// Takes all seats, and after two seconds tries one more: while all are kept it is busy, and then it gets the seat of one of them.
+fn silent_house<R: Net + Wait + Clock>(
+    trial: &Trial<R>,
+    server: &Server<Echo>,
+) -> io::Result<bool> {
+    let Some(streams) = fill_house(trial)? else {
+        return Ok(false);
+    };
+    thread::sleep(&trial.rt, Duration::from_millis(SILENCE_LIMIT + 100));
+    server.answers().keep_all(&trial.rt, true);
+    let is_busy = is_told_busy(trial)?;
+    server.answers().keep_all(&trial.rt, false);
+    let is_served = trial.take_seat().is_some();
+    drop(streams);
+    Ok(is_busy && is_served)
 }
 
 fn is_told_busy<R: Net + Clock>(trial: &Trial<R>) -> io::Result<bool> {

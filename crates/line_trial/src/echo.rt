@@ -11,6 +11,8 @@ pub struct Counts {
     pub floods: u32,
     /// The seat on which the last line came.
     pub last_seat: usize,
+    /// Whether all connections stay though they say nothing.
+    pub are_kept: bool,
 }
 
 /// Echoes lines.
@@ -28,6 +30,7 @@ impl Echo {
                 lines: 0,
                 floods: 0,
                 last_seat: 0,
+                are_kept: false,
             }),
             changed: Condvar::new(),
         }
@@ -36,6 +39,11 @@ impl Echo {
     /// What came so far.
     pub fn counts<R: Wait>(&self, rt: &R) -> Counts {
         *self.counts.lock(rt)
+    }
+
+    /// From now on all connections stay though they say nothing, or none does.
+    pub fn keep_all<R: Wait>(&self, rt: &R, are_kept: bool) {
+        self.counts.lock(rt).are_kept = are_kept;
     }
 
     // Notes that so much was posted that the connection is closed.
@@ -109,6 +117,10 @@ impl Answers for Echo {
 
     fn refuse_long_line<R: Wait>(&self, rt: &R, _seat: usize, mailbox: &Mailbox) {
         let _ = mailbox.post(rt, b"too long\n\n");
+    }
+
+    fn keeps<R: Wait>(&self, rt: &R, _seat: usize) -> bool {
+        self.counts.lock(rt).are_kept
     }
 
     fn leave<R: Wait>(&self, _rt: &R, _seat: usize) {}

@@ -45,8 +45,8 @@ impl<R: Net + Clock> Trial<R> {
         Ok(self.converse(pieces)?.as_slice() == answer)
     }
 
-    // A connection that was answered once, so that it has its seat.
-    fn take_seat(&self) -> Option<UnixStream> {
+    /// A connection that was answered once, so that it has its seat; None where there is no seat for it.
+    pub fn take_seat(&self) -> Option<UnixStream> {
         let stream = self.connect().ok()?;
         let is_seated = is_answered(self.alloc, &stream, b"x\n", b"echo x\n\n");
         matches!(is_seated, Ok(true)).then_some(stream)

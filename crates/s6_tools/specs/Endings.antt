@@ -1,5 +1,6 @@
 -- The status with which a tool ends.
-use Rattle.std.specs.Prelude.{ℕ}
+use Rattle.std.specs.Prelude.{ℕ, Bool, true, false, codes}
+use Rattle.std.specs.Str.{bytes_eq}
 use Rattle.s6_tools.specs.declared.answer.Outcome.{Outcome}
 use Rattle.s6_tools.specs.declared.answer.Outcome.TheVariants as outcome
 use Rattle.s6_tools.specs.declared.tool.Tool.{Tool}
@@ -25,3 +26,9 @@ abbrev pub status_of_fault : Tool → ToolFault → ℕ
 status_of_fault t fault.Usage = 100
 status_of_fault t (fault.Refused reason) = status_of_refusal t
 status_of_fault t f = 111
+
+-- the server had no room, and nothing was done
+abbrev pub is_busy : ToolFault → Bool
+is_busy fault.Busy = true
+is_busy (fault.Refused reason) = bytes_eq reason (codes "Busy")
+is_busy f = false

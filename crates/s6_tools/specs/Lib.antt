@@ -1,6 +1,7 @@
 pub mod Answers
 pub mod Endings
 pub mod FaultLines
+pub mod Patience
 pub mod Requests
 pub mod StatusLine
 pub mod Targets

@@ -1,11 +1,70 @@
 //! A tool's connection to the server of a tree.
 use crate::answer::{Answer, read_answer};
+use crate::patience::{Patience, TRY_TIME};
 use crate::request::set_request_line;
 use crate::tool_fault::ToolFault;
 use std::alloc::Global;
 use std::io::{BufRead, BufReader, Write};
 use std::net::Net;
 use std::os::unix::net::UnixStream;
+use std::thread;
+use std::time::{Clock, Duration};
+
+/// Asks the server at this path, on a new connection, and reads its reply. Where it is busy it is asked again, for ten seconds at most.
+pub fn ask_server<R: Net + Clock>(
+    rt: &R,
+    alloc: Global,
+    path: &str,
+    request: &[u8],
+) -> Result<(Connection, Answer), ToolFault> {
+    ask_within(rt, alloc, path, request, &mut Patience::of(Some(TRY_TIME)))
+}
+
+/// Asks as `ask_server` does, for as long as the patience lasts.
+pub fn ask_within<R: Net + Clock>(
+    rt: &R,
+    alloc: Global,
+    path: &str,
+    request: &[u8],
+    patience: &mut Patience,
+) -> Result<(Connection, Answer), ToolFault> {
+    for _ in 0..u64::MAX {
+        match ask_once(rt, alloc, path, request) {
+            Err(fault) => await_room(rt, fault, patience)?,
+            asked => return asked,
+        }
+    }
+    Err(ToolFault::Busy)
+}
+
+/// Waits before a request is tried again for which the server had no room. Another fault comes back, and that one too once the patience
+/// has ended.
+pub fn await_room<R: Clock>(
+    rt: &R,
+    fault: ToolFault,
+    patience: &mut Patience,
+) -> Result<(), ToolFault> {
+    if !fault.is_busy() {
+        return Err(fault);
+    }
+    let Some(pause) = patience.next_pause() else {
+        return Err(fault);
+    };
+    thread::sleep(rt, Duration::from_millis(pause));
+    Ok(())
+}
+
+/// Asks the server at this path once, on a new connection, and reads its reply.
+pub fn ask_once<R: Net>(
+    rt: &R,
+    alloc: Global,
+    path: &str,
+    request: &[u8],
+) -> Result<(Connection, Answer), ToolFault> {
+    let mut connection = Connection::open(rt, alloc, path)?;
+    let answer = connection.ask(request)?;
+    Ok((connection, answer))
+}
 
 /// A connection, and what came on it and isn't read yet.
 #[derive(Drop)]

@@ -3,13 +3,15 @@ ghost use Rattle.std.specs.Prelude.{◌≡◌, All, IfOk, IsOk, option_map};
 ghost use Rattle.s6_tools.specs.Targets.{before_event, target_of, IsPrintable};
 
 use crate::answer::Answer;
-use crate::connection::Connection;
+use crate::connection::{ask_server, ask_within};
+use crate::patience::Patience;
 use crate::request::{make_directory_request, send_request, subscribe_request};
 use crate::tool_fault::ToolFault;
 use s6_events::Name;
 use std::alloc::Global;
 use std::io::Write;
 use std::net::Net;
+use std::time::Clock;
 use tree_core::{Message, Target};
 
 // What stands before `/event`, where a word ends so.
@@ -52,7 +54,7 @@ fn read_pattern(word: &str) -> Result<&str, ToolFault>
 }
 
 /// Makes a free event directory. Page `s6-mkfifodir`.
-pub fn run_mkfifodir<R: Net>(
+pub fn run_mkfifodir<R: Net + Clock>(
     rt: &R,
     alloc: Global,
     socket: &str,
@@ -62,13 +64,12 @@ pub fn run_mkfifodir<R: Net>(
         return Err(ToolFault::Usage);
     };
     let request = make_directory_request(alloc, &name_of(name)?)?;
-    let mut connection = Connection::open(rt, alloc, socket)?;
-    connection.ask(request.as_slice())?;
+    ask_server(rt, alloc, socket, request.as_slice())?;
     Ok(0)
 }
 
 /// Sends letters to an event directory. Page `s6-ftrig-notify`.
-pub fn run_ftrig_notify<R: Net>(
+pub fn run_ftrig_notify<R: Net + Clock>(
     rt: &R,
     alloc: Global,
     socket: &str,
@@ -80,13 +81,12 @@ pub fn run_ftrig_notify<R: Net>(
     let target = read_target(target)?;
     let message = Message::new(message.as_bytes()).ok_or(ToolFault::Usage)?;
     let request = send_request(alloc, &target, &message)?;
-    let mut connection = Connection::open(rt, alloc, socket)?;
-    connection.ask(request.as_slice())?;
+    ask_server(rt, alloc, socket, request.as_slice())?;
     Ok(0)
 }
 
 /// Waits until the letters of an event directory match a pattern, and prints the letter that made them match. Page `s6-ftrig-wait`.
-pub fn run_ftrig_wait<R: Net, W: Write>(
+pub fn run_ftrig_wait<R: Net + Clock, W: Write>(
     rt: &R,
     alloc: Global,
     socket: &str,
@@ -98,11 +98,11 @@ pub fn run_ftrig_wait<R: Net, W: Write>(
     };
     let (target, pattern) = (read_target(target)?, read_pattern(pattern)?);
     let request = subscribe_request(alloc, &target, pattern)?;
-    let mut connection = Connection::open(rt, alloc, socket)?;
-    match connection.ask(request.as_slice())? {
-        Answer::Subscription => {}
-        _ => return Err(ToolFault::Socket),
-    }
+    let mut patience = Patience::of(None);
+    let asked = ask_within(rt, alloc, socket, request.as_slice(), &mut patience)?;
+    let (mut connection, Answer::Subscription) = asked else {
+        return Err(ToolFault::Socket);
+    };
     match connection.answer()? {
         Answer::Matched(letter) => {
             if output.write_all(&[letter, b'\n']).is_err() || output.flush().is_err() {

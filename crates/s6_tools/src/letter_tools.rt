@@ -1,13 +1,14 @@
 //! `svc` and `svscanctl`.
-use crate::connection::Connection;
+use crate::connection::ask_server;
 use crate::request::{scan_request, svc_request};
 use crate::tool_fault::ToolFault;
 use std::alloc::Global;
 use std::net::Net;
+use std::time::Clock;
 use svc_commands::{compile_svc, compile_svscanctl};
 
 /// Sends letters to a service. Page `s6-svc`.
-pub fn run_svc<R: Net>(
+pub fn run_svc<R: Net + Clock>(
     rt: &R,
     alloc: Global,
     socket: &str,
@@ -15,21 +16,23 @@ pub fn run_svc<R: Net>(
 ) -> Result<u8, ToolFault> {
     let command = compile_svc(words)?;
     let request = svc_request(alloc, &command)?;
-    let mut connection = Connection::open(rt, alloc, socket)?;
-    connection.ask(request.as_slice())?;
+    ask_server(rt, alloc, socket, request.as_slice())?;
     Ok(0)
 }
 
 /// Tells the supervisor of the scan directory what to do, letter by letter; the first refusal ends it. Page `s6-svscanctl`.
-pub fn run_svscanctl<R: Net>(
+pub fn run_svscanctl<R: Net + Clock>(
     rt: &R,
     alloc: Global,
     socket: &str,
     words: &[&str],
 ) -> Result<u8, ToolFault> {
     let command = compile_svscanctl(words)?;
-    let mut connection = Connection::open(rt, alloc, socket)?;
-    for letter in &command.letters {
+    let Some((first, further)) = command.letters.as_slice().split_first() else {
+        return Ok(0);
+    };
+    let (mut connection, _answer) = ask_server(rt, alloc, socket, scan_request(*first))?;
+    for letter in further {
         connection.ask(scan_request(*letter))?;
     }
     Ok(0)

@@ -7,6 +7,7 @@ mod ending;
 mod event_tools;
 mod help_texts;
 mod letter_tools;
+mod patience;
 mod reason;
 mod request;
 mod status_line;

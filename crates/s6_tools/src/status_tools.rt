@@ -1,19 +1,20 @@
 //! `svstat` and `permafailon`.
 use crate::answer::Answer;
-use crate::connection::Connection;
+use crate::connection::ask_server;
 use crate::request::{permafailon_request, status_request};
 use crate::status_line::svstat_line;
 use crate::tool_fault::ToolFault;
 use std::alloc::Global;
 use std::io::Write;
 use std::net::Net;
+use std::time::Clock;
 use svc_commands::{compile_permafailon, compile_svstat};
 
 /// The status of `permafailon` where the service fails for good.
 const PERMANENT_FAILURE: u8 = 125;
 
 /// Prints fields of the status of a service. Page `s6-svstat`.
-pub fn run_svstat<R: Net, W: Write>(
+pub fn run_svstat<R: Net + Clock, W: Write>(
     rt: &R,
     alloc: Global,
     socket: &str,
@@ -22,10 +23,9 @@ pub fn run_svstat<R: Net, W: Write>(
 ) -> Result<u8, ToolFault> {
     let command = compile_svstat(alloc, words)?;
     let request = status_request(alloc, &command.name)?;
-    let mut connection = Connection::open(rt, alloc, socket)?;
-    match connection.ask(request.as_slice())? {
-        Answer::Row => {}
-        _ => return Err(ToolFault::Socket),
+    let (connection, answer) = ask_server(rt, alloc, socket, request.as_slice())?;
+    if !matches!(answer, Answer::Row) {
+        return Err(ToolFault::Socket);
     }
     let mut line = svstat_line(alloc, connection.line(), command.fields.as_slice())?;
     line.extend_from_slice(b"\n")?;
@@ -36,7 +36,7 @@ pub fn run_svstat<R: Net, W: Write>(
 }
 
 /// Tells by its status whether a service fails for good. Page `s6-permafailon`.
-pub fn run_permafailon<R: Net>(
+pub fn run_permafailon<R: Net + Clock>(
     rt: &R,
     alloc: Global,
     socket: &str,
@@ -44,8 +44,8 @@ pub fn run_permafailon<R: Net>(
 ) -> Result<u8, ToolFault> {
     let command = compile_permafailon(alloc, words)?;
     let request = permafailon_request(alloc, &command)?;
-    let mut connection = Connection::open(rt, alloc, socket)?;
-    match connection.ask(request.as_slice())? {
+    let (_connection, answer) = ask_server(rt, alloc, socket, request.as_slice())?;
+    match answer {
         Answer::PermanentFailure(true) => Ok(PERMANENT_FAILURE),
         Answer::PermanentFailure(false) => Ok(0),
         _ => Err(ToolFault::Socket),

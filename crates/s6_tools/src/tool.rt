@@ -13,6 +13,7 @@ use std::alloc::Global;
 use std::io::Write;
 use std::net::Net;
 use std::process::Processes;
+use std::time::Clock;
 
 /// A tool that is a client of a running tree.
 #[derive(Clone, Copy, Debug, PartialEq, Eq)]
@@ -75,7 +76,7 @@ pub fn tool_named(name: &str) -> Option<Tool> {
 
 /// Runs a client: the words are those behind its name, the path of the socket first, or `--help` alone. Answers its exit status. Where
 /// that isn't one of a result, a line on `errors` says why. Each line that it writes is one write.
-pub fn run_client<R: Net + Processes, W: Write, E: Write>(
+pub fn run_client<R: Net + Processes + Clock, W: Write, E: Write>(
     rt: &R,
     alloc: Global,
     tool: Tool,
@@ -102,7 +103,7 @@ fn print_help<W: Write>(tool: Tool, output: &mut W) -> Result<u8, ToolFault> {
     Ok(0)
 }
 
-fn run<R: Net + Processes, W: Write>(
+fn run<R: Net + Processes + Clock, W: Write>(
     rt: &R,
     alloc: Global,
     tool: Tool,

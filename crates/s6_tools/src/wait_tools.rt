@@ -3,12 +3,14 @@ ghost use Rattle.std.specs.Prelude.{◌≡◌};
 ghost use Rattle.s6_tools.specs.Endings.{status_of_outcome};
 
 use crate::answer::{Answer, Outcome};
-use crate::connection::Connection;
+use crate::connection::{Connection, ask_once, await_room};
+use crate::patience::Patience;
 use crate::request::wait_request;
 use crate::tool_fault::ToolFault;
 use std::alloc::Global;
 use std::net::Net;
 use std::process::{Command, Processes};
+use std::time::Clock;
 use svc_commands::{WaitCommand, compile_svlisten, compile_svwait};
 
 // The status for a waiter that was released so.
@@ -23,19 +25,25 @@ fn status_of(outcome: Outcome) -> u8
     }
 }
 
-// Subscribes a waiter. The reply has come when this comes back.
-fn subscribe<R: Net>(
+// Subscribes a waiter. The reply has come when this comes back: None where the time was up before the server had room for it.
+fn subscribe<R: Net + Clock>(
     rt: &R,
     alloc: Global,
     socket: &str,
-    command: &WaitCommand,
-) -> Result<Connection, ToolFault> {
-    let request = wait_request(alloc, command)?;
-    let mut connection = Connection::open(rt, alloc, socket)?;
-    match connection.ask(request.as_slice())? {
-        Answer::Waiter => Ok(connection),
-        _ => Err(ToolFault::Socket),
+    command: &mut WaitCommand,
+) -> Result<Option<Connection>, ToolFault> {
+    let mut patience = Patience::of_wait(command.timeout);
+    for _ in 0..u64::MAX {
+        command.timeout = patience.timeout_left();
+        let request = wait_request(alloc, command)?;
+        match ask_once(rt, alloc, socket, request.as_slice()) {
+            Ok((connection, Answer::Waiter)) => return Ok(Some(connection)),
+            Ok(_) => return Err(ToolFault::Socket),
+            Err(fault) if fault.is_busy() && patience.is_over() => return Ok(None),
+            Err(fault) => await_room(rt, fault, &mut patience)?,
+        }
     }
+    Ok(None)
 }
 
 // Waits until the waiter is released.
@@ -46,27 +54,32 @@ fn await_release(connection: &mut Connection) -> Result<u8, ToolFault> {
     }
 }
 
-/// Waits for services. Page `s6-svwait`.
-pub fn run_svwait<R: Net>(
+/// Waits for services; while the server has no room for that, it is asked again, as long as may be waited. Page `s6-svwait`.
+pub fn run_svwait<R: Net + Clock>(
     rt: &R,
     alloc: Global,
     socket: &str,
     words: &[&str],
 ) -> Result<u8, ToolFault> {
-    let command = compile_svwait(alloc, words)?;
-    let mut connection = subscribe(rt, alloc, socket, &command)?;
-    await_release(&mut connection)
+    let mut command = compile_svwait(alloc, words)?;
+    match subscribe(rt, alloc, socket, &mut command)? {
+        Some(mut connection) => await_release(&mut connection),
+        None => Ok(status_of(Outcome::TimedOut)),
+    }
 }
 
-/// Subscribes, starts a program, and waits for services. Page `s6-svlisten`.
-pub fn run_svlisten<R: Net + Processes>(
+/// Subscribes, starts a program, and waits for services. Where the time was up before the server had room, no program is started. Page
+/// `s6-svlisten`.
+pub fn run_svlisten<R: Net + Processes + Clock>(
     rt: &R,
     alloc: Global,
     socket: &str,
     words: &[&str],
 ) -> Result<u8, ToolFault> {
-    let command = compile_svlisten(alloc, words)?;
-    let mut connection = subscribe(rt, alloc, socket, &command.wait)?;
+    let mut command = compile_svlisten(alloc, words)?;
+    let Some(mut connection) = subscribe(rt, alloc, socket, &mut command.wait)? else {
+        return Ok(status_of(Outcome::TimedOut));
+    };
     start_program(rt, alloc, command.program)?;
     await_release(&mut connection)
 }

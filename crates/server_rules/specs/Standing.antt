@@ -1,14 +1,17 @@
 -- What stands of a connection, and what ends it.
-use Rattle.std.specs.Prelude.{◌≡◌, List, [], ◌∷◌, ◌++◌, ◌==◌, filter, not, Option, Some, None}
+use Rattle.std.specs.Prelude.{◌≡◌, ◌⊎◌, ℕ, ◌-◌, List, [], ◌∷◌, ◌++◌, ◌==◌, ◌&&◌, Bool, filter, length, not, nat_lt, nat_le, Option, Some, None, if◌then◌else◌}
 use Rattle.std.specs.declared.alloc.Global.{Global}
 use Rattle.s6_events.specs.declared.ids.WaitId.{WaitId}
 use Rattle.s6_events.specs.declared.ids.SubId.{SubId}
 use Rattle.tree_core.specs.declared.input.Act.{Act}
-use Rattle.tree_core.specs.declared.input.Act.TheVariants.{Cancel, Unsubscribe}
+use Rattle.tree_core.specs.declared.input.Act.TheVariants.{Cancel, Subscribe, Unsubscribe, Wait}
 use Rattle.tree_core.specs.declared.reply.Reply.{Reply}
 use Rattle.tree_core.specs.declared.reply.Reply.TheVariants as reply
+use Rattle.server_rules.specs.declared.standing.Admission.{Admission}
+use Rattle.server_rules.specs.declared.standing.Admission.TheVariants as admission
 use Rattle.server_rules.specs.declared.standing.Ending.{Ending}
 use Rattle.server_rules.specs.declared.standing.Ending.TheVariants as ending
+use Rattle.server_rules.specs.declared.standing.Standing.{Standing}
 
 -- the waiter that a reply tells of
 abbrev pub waiters_of : Reply Global → List WaitId
@@ -20,15 +23,62 @@ abbrev pub subscriptions_of : Reply Global → List SubId
 subscriptions_of (reply.Subscription id) = id ∷ []
 subscriptions_of r = []
 
--- the act ends the waiter that stands last, or where none stands the subscription, and that stands no more
-abbrev pub Ends : Option (Act Global) → (waiters : List WaitId) → (subscriptions : List SubId)
-    → (waiters' : List WaitId) → (subscriptions' : List SubId) → Type 0
-Ends (Some (Cancel id)) waiters subscriptions waiters' subscriptions' =
-    (waiters ≡ waiters' ++ id ∷ []) × (subscriptions' ≡ subscriptions)
-Ends (Some (Unsubscribe id)) waiters subscriptions waiters' subscriptions' =
-    (waiters ≡ []) × (waiters' ≡ []) × (subscriptions ≡ subscriptions' ++ id ∷ [])
-Ends None waiters subscriptions waiters' subscriptions' = (waiters ≡ []) × (subscriptions ≡ [])
-Ends (Some act) waiters subscriptions waiters' subscriptions' = ⊥
+-- what a connection made and stands: the waiters that wait, those whose release was told, and the subscriptions
+pub record Made : Type 0 where
+  pub waiters : List WaitId
+  pub released : List WaitId
+  pub subscriptions : List SubId
+
+abbrev pub made_of : Standing → Made
+made_of s = record { waiters = s.waiters.items; released = s.released.items; subscriptions = s.subscriptions.items }
+
+-- nothing is still to be told
+abbrev pub is_nothing_awaited : Made → Bool
+is_nothing_awaited made = (length made.waiters == 0) && (length made.subscriptions == 0)
+
+-- the most waiters, and the most subscriptions, of one connection
+abbrev pub waiter_limit : ℕ
+waiter_limit = 64
+
+abbrev pub subscription_limit : ℕ
+subscription_limit = 32
+
+-- a waiter has a place, or gets that of a released one, or is refused
+abbrev pub waiter_admission : Made → Admission
+waiter_admission made =
+    if nat_lt (length made.waiters) (waiter_limit - length made.released) then admission.Admitted else
+    if length made.released == 0 then admission.Refused else admission.AfterReleased
+
+-- what comes of an act
+abbrev pub admission_of : Act Global → Made → Admission
+admission_of (Wait condition mode timeout names) made = waiter_admission made
+admission_of (Subscribe target pattern repeats) made =
+    if nat_le subscription_limit (length made.subscriptions) then admission.Refused else admission.Admitted
+admission_of act made = admission.Admitted
+
+-- nothing stands
+abbrev pub nothing_made : Made
+nothing_made = record { waiters = []; released = []; subscriptions = [] }
+
+-- the act ends the waiter that was told of its release last
+abbrev pub EndsReleased : Option (Act Global) → (before after : Made) → Type 0
+EndsReleased (Some (Cancel id)) before after = (before.released ≡ after.released ++ id ∷ [])
+    × (after.waiters ≡ before.waiters) × (after.subscriptions ≡ before.subscriptions)
+EndsReleased None before after = (before.released ≡ []) × (after ≡ before)
+EndsReleased (Some act) before after = ⊥
+
+-- the act ends the waiter that stands last, of those that were not released
+abbrev pub EndsWaiter : WaitId → (before after : Made) → Type 0
+EndsWaiter id before after = (before.released ≡ []) × (after.released ≡ [])
+    × (before.waiters ≡ after.waiters ++ id ∷ []) × (after.subscriptions ≡ before.subscriptions)
+
+-- the act ends a released waiter, or where there is none one that waits, or where there is none a subscription, and that stands no more
+abbrev pub Ends : Option (Act Global) → (before after : Made) → Type 0
+Ends (Some (Cancel id)) before after = EndsReleased (Some (Cancel id)) before after ⊎ EndsWaiter id before after
+Ends (Some (Unsubscribe id)) before after = (before.released ≡ []) × (after.released ≡ [])
+    × (before.waiters ≡ []) × (after.waiters ≡ []) × (before.subscriptions ≡ after.subscriptions ++ id ∷ [])
+Ends None before after = (before ≡ nothing_made) × (after ≡ nothing_made)
+Ends (Some act) before after = ⊥
 
 -- what an act ends once it is done
 abbrev pub ending_of : Act Global → Ending

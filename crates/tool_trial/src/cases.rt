@@ -2,17 +2,17 @@
 use crate::counted::CountedText;
 use crate::table::TableServer;
 use crate::whole_requests::come_whole;
-use line_server::{Seats, Server, serve};
+use line_server::{SEAT_COUNT, Seats, Server, serve};
 use s6_tools::{run_client, tool_named};
 use std::alloc::Global;
-use std::io::Write;
+use std::io::{Read, Write};
 use std::net::Net;
-use std::os::unix::net::UnixListener;
+use std::os::unix::net::{UnixListener, UnixStream};
 use std::process::Processes;
 use std::rt::Files;
 use std::sync::Wait;
 use std::thread::{self, Scope, Threads};
-use std::time::Clock;
+use std::time::{Clock, Duration};
 use std::{fs, io};
 
 /// The words of each case, a line for each; the socket's path stands behind the first.
@@ -126,7 +126,7 @@ fn serve_while<R: Net + Processes + Threads + Wait + Clock + Sync>(
         if !start_server(scope, rt, server) {
             return Err(io::Error::from(io::ErrorKind::OutOfMemory));
         }
-        let done = try_cases(rt, alloc, path, told);
+        let done = try_beside(rt, alloc, path, told);
         server.end(rt);
         done
     })
@@ -142,7 +142,54 @@ fn start_server<'s, E, R: Threads + Wait + Clock + Sync>(
         .is_ok()
 }
 
-fn try_cases<R: Net + Processes>(
+// The cases, and then two while all seats are taken.
+fn try_beside<R: Net + Processes + Threads + Wait + Clock + Sync>(
+    rt: &R,
+    alloc: Global,
+    path: &str,
+    told: &mut Told,
+) -> io::Result<()> {
+    try_cases(rt, alloc, path, told)?;
+    let streams = take_all_seats(rt, alloc, path)?;
+    told.text.extend_from_slice(b"with no free seat: ")?;
+    try_one(rt, alloc, path, "svwait -t 100 web", told)?;
+    told.text.extend_from_slice(b"until a seat is free: ")?;
+    thread::scope(thread::scope_env(), rt, |scope| {
+        if !start_leaving(scope, rt, streams) {
+            return Err(io::Error::from(io::ErrorKind::OutOfMemory));
+        }
+        try_one(rt, alloc, path, "svc -o web", told)
+    })
+}
+
+// Connections that have all seats, since each was answered.
+fn take_all_seats<R: Net>(rt: &R, alloc: Global, path: &str) -> io::Result<Vec<UnixStream>> {
+    let mut streams = Vec::new(alloc);
+    for _ in 0..SEAT_COUNT {
+        let mut stream = UnixStream::connect(rt, path)?;
+        stream.write_all(b"mkdir queue\n")?;
+        let mut answer = [0; 6];
+        stream.read_exact(&mut answer)?;
+        streams.push(stream)?;
+    }
+    Ok(streams)
+}
+
+// These connections leave a little later. Whether they will.
+fn start_leaving<'s, E, R: Threads + Wait + Clock + Sync>(
+    scope: &Scope<'s, E>,
+    rt: &'s R,
+    streams: Vec<UnixStream>,
+) -> bool {
+    thread::Builder::new()
+        .spawn_scoped(scope, move || {
+            thread::sleep(rt, Duration::from_millis(100));
+            drop(streams);
+        })
+        .is_ok()
+}
+
+fn try_cases<R: Net + Processes + Clock>(
     rt: &R,
     alloc: Global,
     path: &str,
@@ -154,7 +201,7 @@ fn try_cases<R: Net + Processes>(
     Ok(())
 }
 
-fn try_one<R: Net + Processes>(
+fn try_one<R: Net + Processes + Clock>(
     rt: &R,
     alloc: Global,
     path: &str,
@@ -170,7 +217,7 @@ fn try_one<R: Net + Processes>(
 }
 
 // Runs the client of a case. Its status.
-fn run_case<R: Net + Processes>(
+fn run_case<R: Net + Processes + Clock>(
     rt: &R,
     alloc: Global,
     path: &str,

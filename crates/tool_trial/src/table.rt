@@ -61,5 +61,9 @@ impl Answers for TableServer {
         let _ = mailbox.post(rt, b"refused Line\n\n");
     }
 
+    fn keeps<R: Wait>(&self, _rt: &R, _seat: usize) -> bool {
+        false
+    }
+
     fn leave<R: Wait>(&self, _rt: &R, _seat: usize) {}
 }

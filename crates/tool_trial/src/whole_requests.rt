@@ -46,7 +46,7 @@ fn serve_and_send<R: Net + Processes + Threads + Wait + Clock + Sync>(
     are_whole.load(Ordering::SeqCst)
 }
 
-fn send_letters<R: Net + Processes>(rt: &R, alloc: Global, path: &str) {
+fn send_letters<R: Net + Processes + Clock>(rt: &R, alloc: Global, path: &str) {
     let words = [path, LETTERS];
     let mut output = Vec::new(alloc);
     let mut errors = Vec::new(alloc);

@@ -8,6 +8,7 @@ use std::env::Env;
 use std::io::Write;
 use std::net::Net;
 use std::process::Processes;
+use std::time::Clock;
 use std::{env, io};
 use tree_server::{ServeOptions, refuse_usage};
 
@@ -50,7 +51,7 @@ pub enum Asked {
 
 /// Does what the command line asks for, with these outputs, but for a tree and a replay, which its caller runs. Where it was not done one
 /// line on `errors` says why. Without memory for its words a replay is done all the same, since it needs none for them.
-pub fn run_words<R: Env + Net + Processes, W: Write, E: Write>(
+pub fn run_words<R: Env + Net + Processes + Clock, W: Write, E: Write>(
     rt: &R,
     alloc: Global,
     output: &mut W,

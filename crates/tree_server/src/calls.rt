@@ -27,6 +27,8 @@ struct Turn {
     is_begun: bool,
     /// Whether a connection is there, and has asked for something.
     is_here: bool,
+    /// Whether something is still to be told to it, though it asks nothing.
+    is_kept: bool,
     is_over: bool,
 }
 
@@ -51,6 +53,7 @@ impl Caller {
                 asked: None,
                 is_begun: false,
                 is_here: false,
+                is_kept: false,
                 is_over: false,
             }),
             changed: Condvar::new(),
@@ -69,6 +72,16 @@ impl Caller {
     /// Notes that a connection is there which was answered without a call.
     pub fn note_here<R: Wait>(&self, rt: &R) {
         self.turn.lock(rt).is_here = true;
+    }
+
+    /// Notes whether something is still to be told to the connection, though it asks nothing.
+    pub fn keep<R: Wait>(&self, rt: &R, is_kept: bool) {
+        self.turn.lock(rt).is_kept = is_kept;
+    }
+
+    /// Whether something is still to be told to the connection, though it asks nothing.
+    pub fn is_kept<R: Wait>(&self, rt: &R) -> bool {
+        self.turn.lock(rt).is_kept
     }
 
     /// Waits until the call is answered, or the tree has ended.
@@ -101,7 +114,9 @@ impl Caller {
 
     /// Notes that the connection has ended, and all that was posted to it is written.
     pub fn note_left<R: Wait>(&self, rt: &R) {
-        self.turn.lock(rt).is_here = false;
+        let mut turn = self.turn.lock(rt);
+        turn.is_here = false;
+        turn.is_kept = false;
         self.changed.notify_all();
     }
 

@@ -56,8 +56,9 @@ fn deliver_next<C: Channels + Lanes, D: Board<C>, B: Backend, R: Wait, E: Write>
         Place::Lane(_) => {}
         Place::Client(seat) => answer_client(rt, server, state, seat, &effect.reply),
     }
-    tell_others(rt, server, state.lasting.connections.as_slice(), &effect);
+    tell_others(rt, server, &mut state.lasting.connections, &effect);
     if let Place::Client(seat) = place_of(actor) {
+        keep_connection(rt, server, state, seat);
         finish_step(rt, server, state, seat);
     }
     Ok(true)
@@ -116,6 +117,22 @@ fn answer_client<C: Channels, R: Wait>(
     }
 }
 
+// Whether something is still to be told to the connection on this seat.
+fn keep_connection<C: Channels, R: Wait>(
+    rt: &R,
+    server: &Server<Shared>,
+    state: &DriverState<C>,
+    seat: usize,
+) {
+    let connections = state.lasting.connections.as_slice();
+    if let (Some(caller), Some(connection)) = (
+        server.answers().callers.get(seat),
+        connections.get(seat),
+    ) {
+        caller.keep(rt, connection.standing.is_waiting());
+    }
+}
+
 // What was asked is answered, and the connection may ask on.
 fn finish_step<C: Channels, R: Wait>(
     rt: &R,
@@ -129,8 +146,8 @@ fn finish_step<C: Channels, R: Wait>(
     match mem::replace(&mut connection.purpose, Purpose::None) {
         Purpose::Request(_) => finish_call(rt, server, seat),
         Purpose::Status(name) => answer_status(rt, server, state, seat, &name),
-        // The next one is ended when connections are looked at again.
-        Purpose::End | Purpose::None => {}
+        // The next one is ended, or what was put off is handed in, when connections are looked at again.
+        Purpose::End | Purpose::Replacement | Purpose::None => {}
     }
 }
 
@@ -145,11 +162,11 @@ fn forget(connections: &mut Vec<Connection>, ending: &Ending) {
 fn tell_others<R: Wait>(
     rt: &R,
     server: &Server<Shared>,
-    connections: &[Connection],
+    connections: &mut Vec<Connection>,
     effect: &Effect<Global>,
 ) {
     for found in effect.matched.as_slice() {
-        tell_match(rt, server, connections, found);
+        tell_match(rt, server, connections.as_slice(), found);
     }
     for release in effect.released.as_slice() {
         tell_release(rt, server, connections, release);
@@ -169,20 +186,22 @@ fn tell_match<R: Wait>(rt: &R, server: &Server<Shared>, connections: &[Connectio
     }
 }
 
+// A waiter that was released waits no more.
 fn tell_release<R: Wait>(
     rt: &R,
     server: &Server<Shared>,
-    connections: &[Connection],
+    connections: &mut Vec<Connection>,
     release: &Release,
 ) {
-    for (seat, connection) in connections.iter().enumerate() {
+    for (seat, connection) in connections.iter_mut().enumerate() {
         if connection.standing.has_waiter(release.waiter) {
-            post(
-                rt,
-                server,
-                seat,
-                &release_lines(server.answers().alloc, release),
-            );
+            let text = release_lines(server.answers().alloc, release);
+            post(rt, server, seat, &text);
+            // There is room: it was made with that for the waiter.
+            let _ = connection.standing.note_release(release.waiter);
+            if let Some(caller) = server.answers().callers.get(seat) {
+                caller.keep(rt, connection.standing.is_waiting());
+            }
         }
     }
 }

@@ -36,6 +36,8 @@ pub enum Purpose {
     Status(Name),
     /// The end of something that stands of a connection that has left.
     End,
+    /// The end of a released waiter, in whose place the connection gets what it asked for.
+    Replacement,
 }
 
 /// A connection as the thread that drives sees it.
@@ -43,6 +45,8 @@ pub enum Purpose {
 pub struct Connection {
     pub purpose: Purpose,
     pub standing: Standing,
+    /// What it asked for, and is handed in once a released waiter was cancelled.
+    pub postponed: Option<Act<Global>>,
     /// Whether it has ended, and what stands of it is to be ended.
     pub is_leaving: bool,
 }
@@ -74,6 +78,7 @@ impl Lasting {
             connections.push(Connection {
                 purpose: Purpose::None,
                 standing: Standing::new(alloc),
+                postponed: None,
                 is_leaving: false,
             })?;
         }

@@ -103,7 +103,7 @@ fn drive_once<C: Channels + Lanes, D: Board<C>, B: Backend, R: Wait + Clock, E: 
     if halt == Halt::Idle {
         state.lasting.plans.due = office.next_due(rt);
     }
-    let has_more = is_open && (is_full || has_more_to_end(state));
+    let has_more = is_open && (is_full || has_more_to_begin(state));
     match halt {
         Halt::Full => After::Stop(RunEnd::Full),
         Halt::Idle if office.ended(rt) => After::Stop(RunEnd::Ended),
@@ -237,10 +237,13 @@ fn note_steps<C: Channels + Lanes, D: Board<C>, B: Backend, R: Wait>(
     }
 }
 
-// Whether a connection that has left has more that stands, and none of it under way.
-fn has_more_to_end<C: Channels>(state: &DriverState<C>) -> bool {
-    state.lasting.connections.as_slice().iter().any(|connection| connection.is_leaving
-        && matches!(connection.purpose, Purpose::None))
+// Whether something is to be handed in for a connection, and nothing of it is under way: what it put off, or, where it has left, the end
+// of what stands.
+fn has_more_to_begin<C: Channels>(state: &DriverState<C>) -> bool {
+    state.lasting.connections.as_slice().iter().any(|connection| {
+        (connection.is_leaving || connection.postponed.is_some())
+            && matches!(connection.purpose, Purpose::None)
+    })
 }
 
 // How many milliseconds it waits at most: until a timer or a deadline is due, where a tick may be handed in then.

@@ -6,7 +6,7 @@ use crate::shared::Shared;
 use channel_names::Channels;
 use line_server::{SEAT_COUNT, Server};
 use s6_events::Name;
-use server_rules::{Ending, OwnAnswer, STATUS_AGE};
+use server_rules::{Admission, Ending, OwnAnswer, STATUS_AGE};
 use std::alloc::Global;
 use std::sync::Wait;
 use tree_core::Act;
@@ -25,6 +25,7 @@ pub fn begin_all<C: Channels, R: Wait>(
         if let Some(call) = caller.begin(rt) {
             begin(rt, server, state, seat, now, call);
         }
+        begin_postponed(rt, server, state, seat, now);
         end_next(rt, server, state, seat, now);
     }
 }
@@ -51,7 +52,7 @@ fn begin<C: Channels, R: Wait>(
     }
 }
 
-// Hands in a request. There is room then to note what it makes.
+// Hands in a request, if the connection may ask for it, once there is room to note what it makes.
 fn begin_step<C: Channels, R: Wait>(
     rt: &R,
     server: &Server<Shared>,
@@ -60,18 +61,88 @@ fn begin_step<C: Channels, R: Wait>(
     now: u64,
     act: Act<Global>,
 ) {
-    let is_ready = match state.lasting.connections.get_mut(seat) {
-        Some(connection) => connection.standing.make_room().is_ok(),
-        None => false,
-    };
-    if !is_ready {
-        refuse_call(rt, server, seat, OwnAnswer::NoMemory);
+    let Some(connection) = state.lasting.connections.get_mut(seat) else {
         return;
+    };
+    match connection.standing.admission(&act) {
+        Admission::Refused => refuse_call(rt, server, seat, OwnAnswer::Busy),
+        Admission::AfterReleased => replace_released(rt, server, state, seat, now, act),
+        Admission::Admitted if connection.standing.make_room().is_err() => {
+            refuse_call(rt, server, seat, OwnAnswer::NoMemory);
+        }
+        Admission::Admitted => {
+            let purpose = Purpose::Request(Ending::of(&act));
+            if !state.submit(seat, now, act, purpose) {
+                refuse_call(rt, server, seat, OwnAnswer::Full);
+            }
+        }
     }
-    let purpose = Purpose::Request(Ending::of(&act));
-    if !state.submit(seat, now, act, purpose) {
+}
+
+// Hands in the end of a released waiter of the connection; what it asked for comes after that.
+fn replace_released<C: Channels, R: Wait>(
+    rt: &R,
+    server: &Server<Shared>,
+    state: &mut DriverState<C>,
+    seat: usize,
+    now: u64,
+    act: Act<Global>,
+) {
+    let Some(connection) = state.lasting.connections.get_mut(seat) else {
+        return;
+    };
+    let Some(end) = connection.standing.take_released() else {
+        refuse_call(rt, server, seat, OwnAnswer::Busy);
+        return;
+    };
+    connection.postponed = Some(act);
+    if !submit_end(state, seat, now, end, Purpose::Replacement) {
+        drop_postponed(state, seat);
         refuse_call(rt, server, seat, OwnAnswer::Full);
     }
+}
+
+fn drop_postponed<C: Channels>(state: &mut DriverState<C>, seat: usize) {
+    if let Some(connection) = state.lasting.connections.get_mut(seat) {
+        connection.postponed = None;
+    }
+}
+
+// Hands in what was put off, once the step before it is done.
+fn begin_postponed<C: Channels, R: Wait>(
+    rt: &R,
+    server: &Server<Shared>,
+    state: &mut DriverState<C>,
+    seat: usize,
+    now: u64,
+) {
+    let Some(connection) = state.lasting.connections.get_mut(seat) else {
+        return;
+    };
+    if !matches!(connection.purpose, Purpose::None) {
+        return;
+    }
+    if let Some(act) = connection.postponed.take() {
+        begin_step(rt, server, state, seat, now, act);
+    }
+}
+
+// Hands in the end of something that stands. Whether it was taken; else that stands again.
+fn submit_end<C: Channels>(
+    state: &mut DriverState<C>,
+    seat: usize,
+    now: u64,
+    end: Act<Global>,
+    purpose: Purpose,
+) -> bool {
+    let ending = Ending::of(&end);
+    let is_taken = state.submit(seat, now, end, purpose);
+    if !is_taken {
+        if let Some(connection) = state.lasting.connections.get_mut(seat) {
+            let _ = connection.standing.restore(&ending);
+        }
+    }
+    is_taken
 }
 
 // A status for which the rows that were last read are no good: they are read anew, after a tick where the tree's clock is too old to
@@ -132,10 +203,5 @@ fn end_next<C: Channels, R: Wait>(
         finish_call(rt, server, seat);
         return;
     };
-    let ending = Ending::of(&act);
-    if !state.submit(seat, now, act, Purpose::End) {
-        if let Some(connection) = state.lasting.connections.get_mut(seat) {
-            let _ = connection.standing.restore(&ending);
-        }
-    }
+    let _ = submit_end(state, seat, now, act, Purpose::End);
 }

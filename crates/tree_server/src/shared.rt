@@ -43,6 +43,13 @@ impl Answers for Shared {
         let _ = mailbox.post(rt, OwnAnswer::Line.text());
     }
 
+    fn keeps<R: Wait>(&self, rt: &R, seat: usize) -> bool {
+        match self.callers.get(seat) {
+            Some(caller) => caller.is_kept(rt),
+            None => false,
+        }
+    }
+
     fn leave<R: Wait>(&self, rt: &R, seat: usize) {
         if let Some(caller) = self.callers.get(seat) {
             self.call(rt, caller, Call::EndAll);

@@ -21,36 +21,49 @@ printf 'svc web d' >"$root/half"
 whether 'half a line ends' ends_after "$root/half"
 tell svstat -o up,wantedup web
 
-# Eleven connections, and one more. A seat is free again once a connection has ended.
-seats=0
-for number in $(seq 1000); do
-    [ $seats -lt 11 ] || break
-    open seat
-    ask seat 'tally web'
-    if grep -q '^tally' "$root/seat.out"; then
-        seats=$((seats + 1))
-        mv "$root/seat.in" "$root/seat$seats.in"
-        mv "$root/seat.out" "$root/seat$seats.out"
-        eval "client_seat$seats=$client_seat"
-    else
-        close seat
-    fi
+# Opens a connection of this name, where the server has a seat for it, and asks this, whose reply begins so.
+seat() {
+    open "$1"
+    ask "$1" "$2"
+    grep -q "^$3" "$root/$1.out" && return
+    close "$1"
+    false
+}
+
+# Ten connections that wait, an eleventh, which may not, and one more.
+for number in $(seq 10); do
+    soon seat seat$number 'wait D a 0 web' wait
 done
-say connections $seats
+soon seat seat11 'tally web' tally
 say 'one more' "$(connect </dev/null)"
-for seat in $(seq 11); do
-    request seat$seat 'wait D a 0 web'
-done
-for seat in $(seq 11); do
-    soon has_replies seat$seat 2
-done
-say 'of eleven that wait, refused' "$(cat "$root"/seat*.out | grep -c '^refused Busy$')"
+request seat11 'wait D a 0 web'
+soon has_replies seat11 2
+say 'a wait on the last seat' "$(tail -n 2 "$root/seat11.out" | joined)"
+
+# The eleventh says nothing, and makes way for a client; the others wait, and stay.
+tell svstat -o up three
+whether 'a silent connection makes way' soon has_ended "$client_seat11"
 close seat11
+say 'still there' "$(for number in $(seq 10); do eval "is_child \$client_seat$number" && echo $number; done | joined)"
+close seat10
 whether 'a seat is free again' soon comes_to 0 svc -u web
-for seat in $(seq 10); do
-    close seat$seat
+for number in $(seq 9); do
+    close seat$number
 done
 whether 'all have left' soon has_at_most $before
+
+# A waiter that holds at once, and 64 that wait, on one connection: the last of these gets the place of the first. One more is refused.
+open many
+{
+    echo 'wait u a 0 web'
+    for number in $(seq 65); do
+        echo 'wait D a 0 web'
+    done
+} >"$root/many.in"
+soon has_replies many 67
+say 'waiters of one connection' "$(grep -c '^wait ' "$root/many.out"), and refused: $(grep -c '^refused Busy$' "$root/many.out")"
+close many
+whether 'its waiters are gone' soon has_at_most $before
 
 # A client that asks for 12,000 rows, ends its half, and reads late, while another one sends what it has subscribed to.
 client mkfifodir half

@@ -1,0 +1,113 @@
+//! The thread that accepts connections.
+use crate::conversing::{converse_at, read_last, write_last};
+use crate::mailbox::Mailbox;
+use crate::server::{Answers, Server};
+use std::io::Write;
+use std::os::unix::net::UnixStream;
+use std::sync::{Arc, Wait};
+use std::thread::{self, Builder, Scope, Threads};
+use std::time::Clock;
+
+/// The stack of a thread that reads or writes one connection, in bytes.
+pub const STACK_SIZE: usize = 256 * 1024;
+
+/// Accepts and serves connections until `Server::end` is called. All of its threads have ended when it comes back.
+pub fn serve<W: Answers + Sync, R: Threads + Wait + Clock + Sync>(rt: &R, server: &Server<W>) {
+    thread::scope(thread::scope_env(), rt, |scope| {
+        if !start_last(scope, rt, server) {
+            server.last_read.end(rt);
+        }
+        accept_all(scope, rt, server);
+    });
+}
+
+// The two threads of the last seat. Whether both run.
+fn start_last<'s, E, W: Answers + Sync, R: Threads + Wait + Clock + Sync>(
+    scope: &Scope<'s, E>,
+    rt: &'s R,
+    server: &'s Server<W>,
+) -> bool {
+    let writes = Builder::new()
+        .stack_size(STACK_SIZE)
+        .spawn_scoped(scope, move || write_last(rt, server))
+        .is_ok();
+    let reads = Builder::new()
+        .stack_size(STACK_SIZE)
+        .spawn_scoped(scope, move || read_last(rt, server))
+        .is_ok();
+    if !reads {
+        server.last_written.end(rt);
+    }
+    writes && reads
+}
+
+// Accepts connections until the server ends.
+fn accept_all<'s, E, W: Answers + Sync, R: Threads + Wait + Clock + Sync>(
+    scope: &Scope<'s, E>,
+    rt: &'s R,
+    server: &'s Server<W>,
+) {
+    let mut freed = 0;
+    for stream in server.listener.incoming() {
+        match stream {
+            Ok(stream) => {
+                seat_one(scope, rt, server, stream);
+                server.keep_spare(rt);
+            }
+            Err(error) => {
+                let Some(now) = server.wait_to_accept(rt, &error, freed) else {
+                    break;
+                };
+                freed = now;
+            }
+        }
+    }
+}
+
+// A connection gets a seat, if one is free or will be soon; else it is sent `busy` and closed.
+fn seat_one<'s, E, W: Answers + Sync, R: Threads + Wait + Clock + Sync>(
+    scope: &Scope<'s, E>,
+    rt: &'s R,
+    server: &'s Server<W>,
+    stream: UnixStream,
+) {
+    let Ok(mailbox) = Arc::new(server.alloc, Mailbox::new(server.alloc, stream)) else {
+        return;
+    };
+    if is_seated(scope, rt, server, &mailbox) {
+        return;
+    }
+    server.make_way(rt);
+    if !is_seated(scope, rt, server, &mailbox) {
+        let _ = mailbox.stream().write_all(b"busy\n");
+    }
+}
+
+// Gives a connection a seat with a thread that reads it; where there is none, the last seat. Whether it has one.
+fn is_seated<'s, E, W: Answers + Sync, R: Threads + Wait + Clock + Sync>(
+    scope: &Scope<'s, E>,
+    rt: &'s R,
+    server: &'s Server<W>,
+    mailbox: &Arc<Mailbox>,
+) -> bool {
+    if let Some(seat) = server.take_seat(rt, mailbox) {
+        if start_reader(scope, rt, server, seat) {
+            return true;
+        }
+        server.free_seat(rt, seat);
+    }
+    server.take_last_seat(rt, mailbox)
+}
+
+// The thread that reads a connection. Whether it runs.
+fn start_reader<'s, E, W: Answers + Sync, R: Threads + Wait + Clock + Sync>(
+    scope: &Scope<'s, E>,
+    rt: &'s R,
+    server: &'s Server<W>,
+    seat: usize,
+) -> bool {
+    Builder::new()
+        .stack_size(STACK_SIZE)
+        .spawn_scoped(scope, move || converse_at(rt, server, seat))
+        .is_ok()
+}

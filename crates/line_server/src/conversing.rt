@@ -1,0 +1,192 @@
+//! A connection from its first line to its end: one thread reads it and answers, and one writes what is posted.
+use crate::accepting::STACK_SIZE;
+use crate::line_buffer::{LineBuffer, LineStatus};
+use crate::mailbox::Mailbox;
+use crate::seats::LAST_SEAT;
+use crate::server::{Answers, Next, Server, millis_of};
+use crate::silence::SeatUse;
+use std::alloc::Global;
+use std::io::{ErrorKind, Read, Write};
+use std::os::unix::net::UnixStream;
+use std::sync::{Arc, Wait};
+use std::thread::{self, Builder, Scope, Threads};
+use std::time::Clock;
+
+/// The connection of a seat to its end. Where the system has no thread to write it, it goes on at the last seat.
+pub fn converse_at<W: Answers + Sync, R: Threads + Wait + Clock + Sync>(
+    rt: &R,
+    server: &Server<W>,
+    seat: usize,
+) {
+    let Some(mailbox) = server.mailbox(rt, seat) else {
+        server.free_seat(rt, seat);
+        return;
+    };
+    if is_conversed(rt, server, seat, &mailbox) {
+        leave_seat(rt, server, seat);
+        return;
+    }
+    server.free_seat(rt, seat);
+    if !server.take_last_seat(rt, &mailbox) {
+        let _ = mailbox.stream().write_all(b"busy\n");
+    }
+}
+
+// What stands of the connection ends, and then its seat is free.
+fn leave_seat<W: Answers, R: Wait>(rt: &R, server: &Server<W>, seat: usize) {
+    server.answers.leave(rt, seat);
+    server.free_seat(rt, seat);
+}
+
+// One connection to its end: its lines are read and answered here, and what is posted is written by a thread beside this one. False where
+// there is no such thread; then nothing was read.
+fn is_conversed<W: Answers + Sync, R: Threads + Wait + Clock + Sync>(
+    rt: &R,
+    server: &Server<W>,
+    seat: usize,
+    mailbox: &Mailbox,
+) -> bool {
+    let is_written = thread::scope(thread::scope_env(), rt, |scope| {
+        let is_written = start_writer(scope, rt, server.alloc, mailbox);
+        if is_written {
+            read_all(rt, server, seat, mailbox);
+            mailbox.close(rt);
+        }
+        is_written
+    });
+    if is_written {
+        mailbox.end(rt);
+    }
+    is_written
+}
+
+// The thread that writes a connection. Whether it runs.
+fn start_writer<'s, E, R: Threads + Wait + Sync>(
+    scope: &Scope<'s, E>,
+    rt: &'s R,
+    alloc: Global,
+    mailbox: &'s Mailbox,
+) -> bool {
+    Builder::new()
+        .stack_size(STACK_SIZE)
+        .spawn_scoped(scope, move || write_all(rt, alloc, mailbox))
+        .is_ok()
+}
+
+/// Reads the connections of the last seat, one after the other, until the server ends.
+pub fn read_last<W: Answers, R: Wait + Clock>(rt: &R, server: &Server<W>) {
+    for _ in rt.forever() {
+        let Some(mailbox) = server.last_read.take(rt) else {
+            break;
+        };
+        converse_last(rt, server, &mailbox);
+        drop(mailbox);
+        server.last_read.finish(rt);
+        leave_seat(rt, server, LAST_SEAT);
+    }
+    server.last_written.end(rt);
+}
+
+fn converse_last<W: Answers, R: Wait + Clock>(rt: &R, server: &Server<W>, mailbox: &Arc<Mailbox>) {
+    let Ok(own) = mailbox.clone() else {
+        return;
+    };
+    if server.last_written.give(rt, own).is_ok() {
+        read_all(rt, server, LAST_SEAT, mailbox);
+        mailbox.close(rt);
+        server.last_written.await_done(rt);
+    }
+    mailbox.end(rt);
+}
+
+/// Writes what is posted to the connections of the last seat, until the server ends.
+pub fn write_last<W: Answers, R: Wait>(rt: &R, server: &Server<W>) {
+    for _ in rt.forever() {
+        let Some(mailbox) = server.last_written.take(rt) else {
+            break;
+        };
+        write_all(rt, server.alloc, &mailbox);
+        drop(mailbox);
+        server.last_written.finish(rt);
+    }
+}
+
+// Writes what is posted until nothing more will be, or the connection takes nothing more.
+fn write_all<R: Wait>(rt: &R, alloc: Global, mailbox: &Mailbox) {
+    let mut text = Vec::new(alloc);
+    for _ in rt.forever() {
+        if !mailbox.wait_for_text(rt, &mut text) {
+            break;
+        }
+        if mailbox.stream().write_all(text.as_slice()).is_err() {
+            mailbox.end(rt);
+            break;
+        }
+    }
+}
+
+// Reads the connection to its end, and answers each whole line.
+fn read_all<W: Answers, R: Wait + Clock>(
+    rt: &R,
+    server: &Server<W>,
+    seat: usize,
+    mailbox: &Mailbox,
+) {
+    let mut buffer = LineBuffer::new(server.alloc);
+    let mut line = Vec::new(server.alloc);
+    for _ in rt.forever() {
+        if !read_some(mailbox.stream(), &mut buffer) {
+            break;
+        }
+        if answer_lines(rt, server, seat, &mut buffer, &mut line, mailbox) == Next::Close {
+            break;
+        }
+    }
+    server.note(rt, seat, SeatUse::Leaving);
+}
+
+// Reads what has come. Whether more may come.
+fn read_some(mut stream: &UnixStream, buffer: &mut LineBuffer<Global>) -> bool {
+    let mut bytes = [0u8; 1024];
+    match stream.read(&mut bytes) {
+        Ok(0) => false,
+        Ok(count) => buffer.add(&bytes[..count]).is_ok(),
+        Err(error) => error.kind() == ErrorKind::Interrupted,
+    }
+}
+
+// Answers each whole line that has come. Meanwhile the connection is needed, and then it is silent.
+fn answer_lines<W: Answers, R: Wait + Clock>(
+    rt: &R,
+    server: &Server<W>,
+    seat: usize,
+    buffer: &mut LineBuffer<Global>,
+    line: &mut Vec<u8>,
+    mailbox: &Mailbox,
+) -> Next {
+    let mut has_asked = false;
+    for _ in rt.forever() {
+        match buffer.next_line(line) {
+            Ok(LineStatus::Whole) => {
+                if !has_asked {
+                    has_asked = true;
+                    server.note(rt, seat, SeatUse::Needed);
+                }
+                let next = server.answers.answer(rt, seat, line.as_slice(), mailbox);
+                if next == Next::Close {
+                    return Next::Close;
+                }
+            }
+            Ok(LineStatus::Part) => break,
+            Ok(LineStatus::TooLong) => {
+                server.answers.refuse_long_line(rt, seat, mailbox);
+                return Next::Close;
+            }
+            Err(_) => return Next::Close,
+        }
+    }
+    if has_asked {
+        server.note(rt, seat, SeatUse::SilentSince(millis_of(rt)));
+    }
+    Next::GoOn
+}

@@ -1,0 +1,71 @@
+//! Where a thread that is there from the start gets one thing after another to work on.
+use std::sync::{Condvar, Mutex, Wait};
+
+#[derive(Drop)]
+struct Work<T> {
+    given: Option<T>,
+    is_under_way: bool,
+    is_over: bool,
+}
+
+/// Gives a thread one thing at a time to work on.
+#[derive(Drop)]
+pub struct WorkDesk<T> {
+    work: Mutex<Work<T>>,
+    changed: Condvar,
+}
+
+impl<T: Drop> WorkDesk<T> {
+    /// Nothing was given.
+    pub fn new() -> WorkDesk<T> {
+        WorkDesk {
+            work: Mutex::new(Work {
+                given: None,
+                is_under_way: false,
+                is_over: false,
+            }),
+            changed: Condvar::new(),
+        }
+    }
+
+    /// Gives a thing to work on. It comes back where the one before is not done, or nothing more is worked on.
+    pub fn give<R: Wait>(&self, rt: &R, thing: T) -> Result<(), T> {
+        let mut work = self.work.lock(rt);
+        if work.is_over || work.is_under_way || work.given.is_some() {
+            return Err(thing);
+        }
+        work.given = Some(thing);
+        self.changed.notify_all();
+        Ok(())
+    }
+
+    /// Waits for the next thing, which is then worked on; None once nothing more comes.
+    pub fn take<R: Wait>(&self, rt: &R) -> Option<T> {
+        let mut work = self.changed.wait_while(rt, self.work.lock(rt), |work| {
+            !work.is_over && work.given.is_none()
+        });
+        let thing = work.given.take()?;
+        work.is_under_way = true;
+        Some(thing)
+    }
+
+    /// The thing that was taken is done.
+    pub fn finish<R: Wait>(&self, rt: &R) {
+        self.work.lock(rt).is_under_way = false;
+        self.changed.notify_all();
+    }
+
+    /// Waits until all that was given is done.
+    pub fn await_done<R: Wait>(&self, rt: &R) {
+        let _work = self.changed.wait_while(rt, self.work.lock(rt), |work| {
+            work.is_under_way || (work.given.is_some() && !work.is_over)
+        });
+    }
+
+    /// Nothing more is worked on.
+    pub fn end<R: Wait>(&self, rt: &R) {
+        let mut work = self.work.lock(rt);
+        work.is_over = true;
+        self.changed.notify_all();
+    }
+}

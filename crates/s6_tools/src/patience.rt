@@ -1,0 +1,79 @@
+//! How long a tool tries again where the server has no room for it.
+ghost use Rattle.std.specs.Prelude.{◌≡◌, is_none};
+ghost use Rattle.s6_tools.specs.Patience.{first_pause, time_of_wait, timeout_within, pause_of, after_pause};
+
+/// How long a tool first waits before it tries again, in milliseconds.
+pub const FIRST_PAUSE: u64 = 20;
+
+/// How long a tool waits at most before it tries again, in milliseconds.
+pub const LONGEST_PAUSE: u64 = 500;
+
+/// How long a tool tries at most that doesn't wait for anything, in milliseconds.
+pub const TRY_TIME: u64 = 10_000;
+
+/// How long a tool still tries again where the server is busy: first after 20 milliseconds, then ever later, up to half a second.
+#[derive(Clone, Copy, PartialEq, Eq, Debug)]
+pub struct Patience {
+    /// The next pause, in milliseconds.
+    pub pause: u64,
+    /// The milliseconds that are left; None where there is no end.
+    pub left: Option<u64>,
+}
+
+impl Patience {
+    /// Of a tool that may try for so many milliseconds, or without end.
+    pub fn of(left: Option<u64>) -> Patience
+        ensures { result ≡ record { pause = first_pause; left = left } }
+    {
+        Patience {
+            pause: FIRST_PAUSE,
+            left,
+        }
+    }
+
+    /// Of a wait with this timeout in milliseconds, where 0 is none.
+    pub fn of_wait(timeout: u32) -> Patience
+        ensures { result ≡ record { pause = first_pause; left = time_of_wait timeout } }
+    {
+        if timeout == 0 {
+            Patience::of(None)
+        } else {
+            Patience::of(Some(u64::from(timeout)))
+        }
+    }
+
+    /// The timeout of a wait that is still to come, in milliseconds, where 0 is none.
+    pub fn timeout_left(&self) -> u32
+        ensures { result ≡ timeout_within self.now.left }
+    {
+        match self.left {
+            None => 0,
+            Some(left) => left.clamp(1, 4_294_967_295) as u32,
+        }
+    }
+
+    /// Whether no time is left.
+    pub fn is_over(&self) -> bool
+        ensures { result ≡ is_none (pause_of self.now) }
+    {
+        self.left == Some(0)
+    }
+
+    /// How many milliseconds to wait before the next try, at most those that are left; None where none is left.
+    pub fn next_pause(&mut self) -> Option<u64>
+        ensures pause { result ≡ pause_of self.old }
+        ensures after { self.new ≡ after_pause self.old }
+    {
+        let pause = match self.left {
+            None => self.pause,
+            Some(0) => return None,
+            Some(left) => self.pause.min(left),
+        };
+        self.left = match self.left {
+            None => None,
+            Some(left) => Some(left.saturating_sub(pause)),
+        };
+        self.pause = self.pause.saturating_mul(2).min(LONGEST_PAUSE);
+        Some(pause)
+    }
+}
