@@ -140,14 +140,19 @@ impl<W: Answers> Server<W> {
         Ok(true)
     }
 
-    // Has a connection leave that has been silent for long, if there is one, and waits for a seat that will be free, but not for long.
-    pub(crate) fn make_way<R: Wait + Clock>(&self, rt: &R) {
+    // Has a connection leave that has been silent for long, if there is one.
+    fn end_silent<R: Wait + Clock>(&self, rt: &R) {
         let mut kept = [true; SEAT_COUNT];
         for (seat, is_kept) in kept.iter_mut().enumerate() {
             *is_kept = self.answers.keeps(rt, seat);
         }
-        let mut seats = self.seats.lock(rt);
-        seats.end_silent(rt, &kept, millis_of(rt));
+        self.seats.lock(rt).end_silent(rt, &kept, millis_of(rt));
+    }
+
+    // Has a connection leave that has been silent for long, if there is one, and waits for a seat that will be free, but not for long.
+    pub(crate) fn make_way<R: Wait + Clock>(&self, rt: &R) {
+        self.end_silent(rt);
+        let seats = self.seats.lock(rt);
         let time = Duration::from_millis(KNOCK_WAIT);
         let _seats = self.changed.wait_timeout_while(rt, seats, time, |seats| {
             !seats.is_ending() && seats.is_about_to_be_free()
@@ -178,23 +183,22 @@ impl<W: Answers> Server<W> {
         }
     }
 
-    // Waits after a connection could not be accepted. Where the system lacks something for it, the spare descriptor is given up, or a
-    // connection that ends may give it back: one that ended since the count of `freed` is awaited, but not for long. The count then, or
-    // None where all is ending.
+    // Waits after a connection could not be accepted. Where the system lacks something for it, the spare descriptor is given up; where there
+    // is none, a connection that is silent for long has to leave, and one that ended since the count of `freed` is awaited, but not for
+    // long. The count then, or None where all is ending.
     pub(crate) fn wait_to_accept<R: Wait + Clock>(
         &self,
         rt: &R,
         error: &io::Error,
         freed: u64,
     ) -> Option<u64> {
-        let is_passing = matches!(
-            error.kind(),
-            ErrorKind::ConnectionAborted | ErrorKind::Interrupted
-        );
-        let millis = if is_passing || self.give_up_spare(rt) {
-            0
-        } else {
-            ACCEPT_WAIT
+        let millis = match error.kind() {
+            ErrorKind::ConnectionAborted | ErrorKind::Interrupted => 0,
+            _ if self.give_up_spare(rt) => 0,
+            _ => {
+                self.end_silent(rt);
+                ACCEPT_WAIT
+            }
         };
         let seats = self.seats.lock(rt);
         let time = Duration::from_millis(millis);
