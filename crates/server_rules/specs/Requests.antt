@@ -7,10 +7,15 @@ use Rattle.tree_core.specs.declared.input.Act.TheVariants.{Scan, Started, StartF
 use Rattle.server_rules.specs.declared.own_answer.OwnAnswer.TheVariants as own
 use Rattle.server_rules.specs.declared.requests.Request.{Request}
 use Rattle.server_rules.specs.declared.requests.Request.TheVariants as request
+use Rattle.server_rules.specs.declared.status.Subject.TheVariants as subject
 
 -- the request for a scan, for which the server reads the scan directory itself
 abbrev pub scan_word : List ℕ
 scan_word = codes "scanctl a"
+
+-- the request for the status of all services
+abbrev pub rows_word : List ℕ
+rows_word = codes "rows"
 
 -- the acts that clients may not ask for: reports, listings and ticks
 abbrev pub IsOwnAct : {A : Type 0} → Act A → Type 0
@@ -40,7 +45,7 @@ request_of actor (Notify sid generation bytes) = request.Refused own.Line
 request_of actor (Death sid generation exit) = request.Refused own.Line
 request_of actor (FinishEnded sid generation exit) = request.Refused own.Line
 request_of actor Tick = request.Refused own.Line
-request_of actor (Status name) = request.Status name
+request_of actor (Status name) = request.Status (subject.One name)
 request_of actor (Wait condition mode timeout names) = waiting_request actor (Wait condition mode timeout names)
 request_of actor (Subscribe target pattern repeats) = waiting_request actor (Subscribe target pattern repeats)
 request_of actor act = request.Step act
@@ -63,6 +68,6 @@ IsShort r = Unit {0}
 
 -- a status or a step is what the line spells
 abbrev pub AsksFor : Request → List ℕ → Type 0
-AsksFor (request.Status name) line = SpellsAct {A = Global} line (Status name)
+AsksFor (request.Status (subject.One name)) line = SpellsAct {A = Global} line (Status name)
 AsksFor (request.Step act) line = SpellsAct line act
 AsksFor r line = Unit {0}

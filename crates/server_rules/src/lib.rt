@@ -26,3 +26,4 @@ pub use row_cache::{RowCache, STATUS_AGE};
 pub use serve_fault::{ServeFault, refuse_usage, tell_serve_fault};
 pub use socket_rules::{FileIdentity, says_abandoned};
 pub use standing::{Admission, Ending, SUBSCRIPTION_LIMIT, Standing, WAITER_LIMIT};
+pub use status::Subject;

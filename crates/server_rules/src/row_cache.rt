@@ -1,11 +1,11 @@
 //! The rows of the board as they were last read, for the threads of connections.
 ghost use Rattle.std.specs.Prelude.{◌≡◌, IfOk, IfSome, None, Some};
 ghost use Rattle.status_board.specs.Board.{last_shot};
-ghost use Rattle.server_rules.specs.Status.{status_text, is_fresh};
+ghost use Rattle.server_rules.specs.Status.{told_text, is_fresh};
 
-use crate::status::push_status;
+use crate::status::{Subject, push_told};
 use channel_names::Channels;
-use s6_events::{Name, NoMemory};
+use s6_events::NoMemory;
 use status_board::{BoardReader, Shot};
 use std::alloc::{AllocError, Global};
 use std::sync::{Mutex, Wait};
@@ -31,13 +31,13 @@ impl CachedRows {
         }
     }
 
-    // The status of this service.
-    fn status(&self, alloc: Global, name: &Name) -> Result<Vec<u8>, AllocError>
+    // The status of these services.
+    fn status(&self, alloc: Global, subject: &Subject) -> Result<Vec<u8>, AllocError>
         ensures { IfOk result
-            (λ text. text.items ≡ status_text self.now.shot.value.rows.items name.now) }
+            (λ text. text.items ≡ told_text subject.now self.now.shot.value.rows.items) }
     {
         let mut text = Vec::new(alloc);
-        push_status(&mut text, self.shot.rows.as_slice(), name)?;
+        push_told(&mut text, self.shot.rows.as_slice(), subject)?;
         Ok(text)
     }
 
@@ -85,34 +85,34 @@ impl RowCache {
         self.rows.lock(rt).forget();
     }
 
-    /// The status of this service at this moment, in milliseconds; None where a step was made since the rows were read, or the last one
+    /// The status of these services at this moment, in milliseconds; None where a step was made since the rows were read, or the last one
     /// is so old that no age can be told from it.
     pub fn status<R: Wait>(
         &self,
         rt: &R,
         alloc: Global,
         now: u64,
-        name: &Name,
+        subject: &Subject,
     ) -> Option<Result<Vec<u8>, AllocError>> {
         let rows = self.rows.lock(rt);
         if !rows.is_fresh(now) {
             return None;
         }
-        Some(rows.status(alloc, name))
+        Some(rows.status(alloc, subject))
     }
 
     /// Reads the board anew, after a last step at this moment, in milliseconds; None where the board doesn't show that step yet. The
-    /// status of this service then.
+    /// status of these services then.
     pub fn read<C: Channels, R: Wait>(
         &self,
         rt: &R,
         alloc: Global,
         reader: &mut BoardReader<C>,
         step: Option<u64>,
-        name: &Name,
+        subject: &Subject,
     ) -> Result<Vec<u8>, AllocError> {
         let mut rows = self.rows.lock(rt);
         rows.read(reader, step);
-        rows.status(alloc, name)
+        rows.status(alloc, subject)
     }
 }

@@ -1,6 +1,7 @@
 //! What connections ask of the thread that drives.
 use line_server::SEAT_COUNT;
-use s6_events::{Name, NoMemory};
+use s6_events::NoMemory;
+use server_rules::Subject;
 use std::alloc::Global;
 use std::sync::{Condvar, Mutex, Wait};
 use std::time::{Clock, Duration};
@@ -9,8 +10,8 @@ use tree_core::Act;
 /// What a connection asks of the thread that drives.
 #[derive(Drop)]
 pub enum Call {
-    /// The status of a service.
-    Status(Name),
+    /// The status of a service, or of all.
+    Status(Subject),
     /// A scan of the directory.
     Scan,
     /// A step with this act.

@@ -145,7 +145,7 @@ fn finish_step<C: Channels, R: Wait>(
     };
     match mem::replace(&mut connection.purpose, Purpose::None) {
         Purpose::Request(_) => finish_call(rt, server, seat),
-        Purpose::Status(name) => answer_status(rt, server, state, seat, &name),
+        Purpose::Status(subject) => answer_status(rt, server, state, seat, &subject),
         // The next one is ended, or what was put off is handed in, when connections are looked at again.
         Purpose::End | Purpose::Replacement | Purpose::None => {}
     }

@@ -4,8 +4,8 @@ use channel_names::Channels;
 use inbox::Seat;
 use line_server::SEAT_COUNT;
 use order_lanes::Report;
-use s6_events::{Name, NoMemory};
-use server_rules::{Ending, FullServices, Plans, Standing};
+use s6_events::NoMemory;
+use server_rules::{Ending, FullServices, Plans, Standing, Subject};
 use status_board::BoardReader;
 use std::alloc::Global;
 use tree_core::{Act, Listing};
@@ -32,8 +32,8 @@ pub enum Purpose {
     None,
     /// A request, which ends this once it is done: its reply goes to the connection.
     Request(Ending),
-    /// The ages in the status of this service, which goes to the connection.
-    Status(Name),
+    /// The ages in the status of these services, which goes to the connection.
+    Status(Subject),
     /// The end of something that stands of a connection that has left.
     End,
     /// The end of a released waiter, in whose place the connection gets what it asked for.

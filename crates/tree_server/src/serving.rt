@@ -5,8 +5,7 @@ use crate::posting::{finish_call, post, post_own, refuse_call};
 use crate::shared::Shared;
 use channel_names::Channels;
 use line_server::{SEAT_COUNT, Server};
-use s6_events::Name;
-use server_rules::{Admission, Ending, OwnAnswer, STATUS_AGE};
+use server_rules::{Admission, Ending, OwnAnswer, STATUS_AGE, Subject};
 use std::alloc::Global;
 use std::sync::Wait;
 use tree_core::Act;
@@ -39,7 +38,7 @@ fn begin<C: Channels, R: Wait>(
     call: Call,
 ) {
     match call {
-        Call::Status(name) => begin_status(rt, server, state, seat, now, name),
+        Call::Status(subject) => begin_status(rt, server, state, seat, now, subject),
         Call::Scan => {
             let _ = state.lasting.plans.askers.try_push(seat);
         }
@@ -153,28 +152,28 @@ fn begin_status<C: Channels, R: Wait>(
     state: &mut DriverState<C>,
     seat: usize,
     now: u64,
-    name: Name,
+    subject: Subject,
 ) {
     let age = now.saturating_sub(state.lasting.now);
-    if age >= STATUS_AGE && state.submit(seat, now, Act::Tick, Purpose::Status(name)) {
+    if age >= STATUS_AGE && state.submit(seat, now, Act::Tick, Purpose::Status(subject)) {
         return;
     }
-    answer_status(rt, server, state, seat, &name);
+    answer_status(rt, server, state, seat, &subject);
 }
 
-/// Answers the status of this service from the board.
+/// Answers the status of these services from the board.
 pub fn answer_status<C: Channels, R: Wait>(
     rt: &R,
     server: &Server<Shared>,
     state: &mut DriverState<C>,
     seat: usize,
-    name: &Name,
+    subject: &Subject,
 ) {
     let shared = server.answers();
     let moment = state.shown_moment();
     let text = shared
         .rows
-        .read(rt, shared.alloc, &mut state.reader, moment, name);
+        .read(rt, shared.alloc, &mut state.reader, moment, subject);
     if text.is_ok() {
         post(rt, server, seat, &text);
     } else {

@@ -4,8 +4,7 @@ use crate::clock::ServerClock;
 use crate::scan_desk::ScanDesk;
 use child_runner::Bell;
 use line_server::{Answers, Mailbox, Next};
-use s6_events::Name;
-use server_rules::{OwnAnswer, Request, RowCache, client_actor, read_request};
+use server_rules::{OwnAnswer, Request, RowCache, Subject, client_actor, read_request};
 use std::alloc::Global;
 use std::sync::Wait;
 use std::time::Clock;
@@ -29,7 +28,7 @@ impl Answers for Shared {
             return Next::Close;
         };
         match read_request(self.alloc, actor, line) {
-            Request::Status(name) => self.answer_status(rt, caller, name, mailbox),
+            Request::Status(subject) => self.answer_status(rt, caller, subject, mailbox),
             Request::Step(act) => self.call(rt, caller, Call::Step(act)),
             Request::Scan => self.call(rt, caller, Call::Scan),
             Request::Refused(answer) => {
@@ -64,12 +63,12 @@ impl Shared {
         &self,
         rt: &R,
         caller: &Caller,
-        name: Name,
+        subject: Subject,
         mailbox: &Mailbox,
     ) {
         let now = self.clock.millis(rt);
-        let Some(text) = self.rows.status(rt, self.alloc, now, &name) else {
-            self.call(rt, caller, Call::Status(name));
+        let Some(text) = self.rows.status(rt, self.alloc, now, &subject) else {
+            self.call(rt, caller, Call::Status(subject));
             return;
         };
         caller.note_here(rt);
