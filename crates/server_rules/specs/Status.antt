@@ -25,7 +25,11 @@ abbrev pub told_text : Subject → List Row → List ℕ
 told_text (One name) rows = status_text rows name
 told_text All rows = flat_map row_line rows ++ 10 ∷ []
 
--- rows that were read after the last step are told from while that step is less than a second old
+-- the last step is less than a second old
+abbrev pub is_recent : ℕ → ℕ → Bool
+is_recent step now = nat_lt (now - step) 1000
+
+-- rows that were read after the last step are told from while that step is recent
 abbrev pub is_fresh : Option ℕ → ℕ → Bool
-is_fresh (Some step) now = nat_lt (now - step) 1000
+is_fresh (Some step) now = is_recent step now
 is_fresh None now = false

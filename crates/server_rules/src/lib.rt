@@ -19,10 +19,12 @@ mod status;
 pub use full_services::FullServices;
 pub use listing::read_listing;
 pub use own_answer::OwnAnswer;
-pub use places::{Place, client_actor, place_of};
+pub use places::{
+    ACTOR_COUNT, FIRST_CLIENT, FIRST_LANE, LANE_COUNT, Place, SCANNER, client_actor, place_of,
+};
 pub use plans::{Askers, Plans, Wanted};
 pub use requests::{Request, read_request};
-pub use row_cache::{RowCache, STATUS_AGE};
+pub use row_cache::{RowCache, is_recent};
 pub use serve_fault::{ServeFault, refuse_usage, tell_serve_fault};
 pub use socket_rules::{FileIdentity, says_abandoned};
 pub use standing::{Admission, Ending, SUBSCRIPTION_LIMIT, Standing, WAITER_LIMIT};

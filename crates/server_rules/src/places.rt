@@ -2,13 +2,26 @@
 ghost use Rattle.std.specs.Prelude.{◌≡◌};
 ghost use Rattle.server_rules.specs.Places.{place_of, client_actor};
 
+use line_server::SEAT_COUNT;
 use s6_events::Actor;
 
-/// The actor of the first connection; those of the others follow.
-pub const FIRST_CLIENT: u8 = 5;
+/// How many lanes there are.
+pub const LANE_COUNT: usize = 4;
 
-/// The actor of the last connection, whose seat is kept for short requests.
-pub const LAST_CLIENT: u8 = 15;
+/// The actor of scans and ticks.
+pub const SCANNER: usize = 0;
+
+/// The actor of the first lane; those of the others follow.
+pub const FIRST_LANE: usize = 1;
+
+/// The actor of the connection on the first seat; those of the others follow.
+pub const FIRST_CLIENT: usize = FIRST_LANE + LANE_COUNT;
+
+/// How many actors there are.
+pub const ACTOR_COUNT: usize = FIRST_CLIENT + SEAT_COUNT;
+
+/// The actor of the connection on the last seat, which is kept for short requests.
+pub const LAST_CLIENT: usize = ACTOR_COUNT - 1;
 
 /// Whose inputs an actor's are.
 #[derive(Clone, Copy, PartialEq, Eq, Debug)]
@@ -25,13 +38,13 @@ pub enum Place {
 pub fn place_of(actor: Actor) -> Place
     ensures { result ≡ place_of actor }
 {
-    let number = actor.number();
-    if number == 0 {
+    let number = usize::from(actor.number());
+    if number == SCANNER {
         Place::Scanner
     } else if number < FIRST_CLIENT {
-        Place::Lane(usize::from(number - 1))
+        Place::Lane(number - FIRST_LANE)
     } else {
-        Place::Client(usize::from(number - FIRST_CLIENT))
+        Place::Client(number - FIRST_CLIENT)
     }
 }
 
@@ -39,8 +52,8 @@ pub fn place_of(actor: Actor) -> Place
 pub fn client_actor(seat: usize) -> Option<Actor>
     ensures { result ≡ client_actor seat }
 {
-    if seat < 11 {
-        Actor::new(FIRST_CLIENT + seat as u8)
+    if seat < SEAT_COUNT {
+        Actor::new((FIRST_CLIENT + seat) as u8)
     } else {
         None
     }

@@ -71,7 +71,7 @@ fn request_of(actor: Actor, act: Act<Global>) -> Request
         | Act::Death(..)
         | Act::FinishEnded(..)
         | Act::Tick => Request::Refused(OwnAnswer::Line),
-        Act::Wait(..) | Act::Subscribe(..) if actor.number() == LAST_CLIENT => {
+        Act::Wait(..) | Act::Subscribe(..) if usize::from(actor.number()) == LAST_CLIENT => {
             Request::Refused(OwnAnswer::Busy)
         }
         act => Request::Step(act),

@@ -1,7 +1,7 @@
 //! The rows of the board as they were last read, for the threads of connections.
 ghost use Rattle.std.specs.Prelude.{◌≡◌, IfOk, IfSome, None, Some};
 ghost use Rattle.status_board.specs.Board.{last_shot};
-ghost use Rattle.server_rules.specs.Status.{told_text, is_fresh};
+ghost use Rattle.server_rules.specs.Status.{told_text, is_fresh, is_recent};
 
 use crate::status::{Subject, push_told};
 use channel_names::Channels;
@@ -11,7 +11,14 @@ use std::alloc::{AllocError, Global};
 use std::sync::{Mutex, Wait};
 
 /// How old the last step may be for a status to be told from it, in milliseconds.
-pub const STATUS_AGE: u64 = 1000;
+const STATUS_AGE: u64 = 1000;
+
+/// Whether the last step, at this moment, is so recent that a status may be told from it now; both are in milliseconds.
+pub fn is_recent(step: u64, now: u64) -> bool
+    ensures { result ≡ is_recent step now }
+{
+    now.saturating_sub(step) < STATUS_AGE
+}
 
 /// Rows, and the moment of the last step before they were read, in milliseconds; None where they may not be those of the board.
 #[derive(Drop)]
@@ -26,7 +33,7 @@ impl CachedRows {
         ensures { result ≡ is_fresh self.now.step now }
     {
         match self.step {
-            Some(step) => now.saturating_sub(step) < STATUS_AGE,
+            Some(step) => is_recent(step, now),
             None => false,
         }
     }

@@ -5,25 +5,12 @@ use inbox::Seat;
 use line_server::SEAT_COUNT;
 use order_lanes::Report;
 use s6_events::NoMemory;
-use server_rules::{Ending, FullServices, Plans, Standing, Subject};
+use server_rules::{
+    Ending, FIRST_CLIENT, FullServices, LANE_COUNT, Plans, SCANNER, Standing, Subject,
+};
 use status_board::BoardReader;
 use std::alloc::Global;
 use tree_core::{Act, Listing};
-
-/// How many lanes there are.
-pub const LANE_COUNT: usize = 4;
-
-/// The actor of scans and ticks.
-pub const SCANNER: usize = 0;
-
-/// The actor of the first lane.
-pub const FIRST_LANE: usize = 1;
-
-/// The actor of the first connection.
-pub const FIRST_CLIENT: usize = 5;
-
-/// How many actors there are: one for scans and ticks, one for each lane, and one for each connection.
-pub const ACTOR_COUNT: usize = 16;
 
 /// What the step under way of a connection's actor is for.
 #[derive(Clone, Copy)]

@@ -1,6 +1,6 @@
 //! The thread that drives a run.
 use crate::delivery::deliver_all;
-use crate::driver_state::{DriverState, Purpose, SCANNER};
+use crate::driver_state::{DriverState, Purpose};
 use crate::lanes::{carry_all, hand_in_reports};
 use crate::posting::refuse_call;
 use crate::scan_desk::Found;
@@ -11,7 +11,7 @@ use line_server::Server;
 use locked_services::{DriveStop, Driven};
 use office::Office;
 use order_lanes::{Backend, Lanes};
-use server_rules::{OwnAnswer, Wanted};
+use server_rules::{OwnAnswer, SCANNER, Wanted};
 use status_board::Board;
 use std::io::Write;
 use std::sync::Wait;

@@ -1,5 +1,5 @@
 //! The end of a tree that can't go on: its services are ended in order.
-use crate::driver_state::{DriverState, SCANNER};
+use crate::driver_state::DriverState;
 use crate::driving::{Halt, RETRY_WAIT, drive_some, hand_in_due, wait_for_bell};
 use crate::lanes::{carry_all, hand_in_reports};
 use crate::shared::Shared;
@@ -7,6 +7,7 @@ use channel_names::Channels;
 use line_server::Server;
 use office::Office;
 use order_lanes::{Backend, Lanes};
+use server_rules::SCANNER;
 use status_board::Board;
 use std::io::Write;
 use std::sync::Wait;

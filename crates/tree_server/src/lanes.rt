@@ -1,8 +1,9 @@
 //! The lanes, as the thread that drives sees them: what they carry, and what comes back.
-use crate::driver_state::{DriverState, FIRST_LANE, LANE_COUNT};
+use crate::driver_state::DriverState;
 use channel_names::Channels;
 use office::Office;
 use order_lanes::{Backend, Carried, Lanes, Report, act_of};
+use server_rules::{FIRST_LANE, LANE_COUNT};
 use status_board::Board;
 use std::sync::Wait;
 

@@ -2,7 +2,7 @@
 ghost use Rattle.std.specs.Prelude.{◌≡◌, ℕ, slice_get};
 ghost use Rattle.office.specs.Names.{ring_of, lane_ring_of, asked_of};
 
-use crate::driver_state::{ACTOR_COUNT, DriverState, Lasting};
+use crate::driver_state::{DriverState, Lasting};
 use crate::driving::{RETRY_WAIT, RunEnd, drive_run, wait_for_bell};
 use crate::ending::end_services;
 use crate::recorder::{RecordFault, Recorder};
@@ -15,7 +15,7 @@ use locked_services::Closed;
 use log::{Log, info};
 use office::{NewOffice, Office, OpenFault, Opened};
 use order_lanes::{Backend, Lanes};
-use server_rules::ServeFault;
+use server_rules::{ACTOR_COUNT, ServeFault};
 use status_board::Board;
 use std::alloc::Global;
 use std::io::Write;

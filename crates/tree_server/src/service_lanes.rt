@@ -1,8 +1,8 @@
 //! The lanes of a tree: what its runs hand orders to, and who carries them out.
-use crate::driver_state::LANE_COUNT;
 use child_runner::{Keeper, LaneLink, LinkedBackend, ProcessBackend};
 use error_notes::Notes;
 use s6_events::NoMemory;
+use server_rules::LANE_COUNT;
 use std::alloc::Global;
 use std::sync::{Arc, Wait};
 

@@ -5,7 +5,7 @@ use crate::posting::{finish_call, post, post_own, refuse_call};
 use crate::shared::Shared;
 use channel_names::Channels;
 use line_server::{SEAT_COUNT, Server};
-use server_rules::{Admission, Ending, OwnAnswer, STATUS_AGE, Subject};
+use server_rules::{Admission, Ending, OwnAnswer, Subject, is_recent};
 use std::alloc::Global;
 use std::sync::Wait;
 use tree_core::Act;
@@ -154,8 +154,8 @@ fn begin_status<C: Channels, R: Wait>(
     now: u64,
     subject: Subject,
 ) {
-    let age = now.saturating_sub(state.lasting.now);
-    if age >= STATUS_AGE && state.submit(seat, now, Act::Tick, Purpose::Status(subject)) {
+    let is_old = !is_recent(state.lasting.now, now);
+    if is_old && state.submit(seat, now, Act::Tick, Purpose::Status(subject)) {
         return;
     }
     answer_status(rt, server, state, seat, &subject);
