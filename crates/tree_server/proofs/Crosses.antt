@@ -39,7 +39,7 @@ turn_send =
     let T = Turn.the_type in
     recorded_send _ _ _ T.to_one (struct_send (shape T) (
       search (call_send, option.the_field_send, crosses, sendable) depth 60 fits 20000,
-      (flag_send, (flag_send, (flag_send, tt))),
+      (flag_send, (flag_send, (flag_send, (flag_send, tt)))),
     ))
 
 caller_sync : IsSync Caller.the_row
