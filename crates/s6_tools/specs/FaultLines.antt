@@ -9,6 +9,7 @@ use Rattle.s6_tools.specs.declared.tool_fault.ToolFault.TheVariants as fault
 abbrev pub name_of : Tool → List ℕ
 name_of tool.Svc = codes "svc"
 name_of tool.Svstat = codes "svstat"
+name_of tool.List = codes "list"
 name_of tool.Svwait = codes "svwait"
 name_of tool.Svlisten = codes "svlisten"
 name_of tool.Svscanctl = codes "svscanctl"

@@ -1,8 +1,14 @@
+pub mod Ages
 pub mod Answers
 pub mod Endings
 pub mod FaultLines
+pub mod JsonLines
+pub mod Listing
 pub mod Patience
 pub mod Requests
+pub mod ServiceRows
+pub mod States
 pub mod StatusLine
+pub mod Tables
 pub mod Targets
 pub mod Words

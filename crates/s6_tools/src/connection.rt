@@ -2,13 +2,15 @@
 use crate::answer::{Answer, read_answer};
 use crate::patience::{Patience, TRY_TIME};
 use crate::request::set_request_line;
+use crate::service_row::row_of;
 use crate::tool_fault::ToolFault;
 use std::alloc::Global;
-use std::io::{BufRead, BufReader, Write};
+use std::io::{self, BufRead, BufReader, Write};
 use std::net::Net;
 use std::os::unix::net::UnixStream;
 use std::thread;
 use std::time::{Clock, Duration};
+use supervise_core::Row;
 
 /// Asks the server at this path, on a new connection, and reads its reply. Where it is busy it is asked again, for ten seconds at most.
 pub fn ask_server<R: Net + Clock>(
@@ -87,9 +89,7 @@ impl Connection {
     /// Sends a request, by one write, and reads its reply. A refusal, and a server without a seat, are faults. At `NoMemory` nothing may
     /// have been sent.
     pub fn ask(&mut self, request: &[u8]) -> Result<Answer, ToolFault> {
-        set_request_line(&mut self.line, request)?;
-        let mut writer = self.reader.get_ref();
-        let sent = writer.write_all(self.line.as_slice());
+        let sent = self.send(request)?;
         let answer = self.answer();
         match answer {
             Ok(Answer::Busy) | Ok(Answer::Refused(_)) => {}
@@ -99,6 +99,47 @@ impl Connection {
             Answer::Refused(reason) => Err(ToolFault::Refused(reason)),
             Answer::Busy => Err(ToolFault::Busy),
             answer => Ok(answer),
+        }
+    }
+
+    // Sends a request, by one write. What came of the write is told apart: a server that has no seat may have answered before.
+    fn send(&mut self, request: &[u8]) -> Result<io::Result<()>, ToolFault> {
+        set_request_line(&mut self.line, request)?;
+        let mut writer = self.reader.get_ref();
+        Ok(writer.write_all(self.line.as_slice()))
+    }
+
+    /// Sends a request that is answered by rows, and reads them up to the empty line. A refusal, and a server without a seat, are faults.
+    pub fn ask_rows(&mut self, alloc: Global, request: &[u8]) -> Result<Vec<Row>, ToolFault> {
+        let sent = self.send(request)?;
+        let rows = self.read_rows(alloc)?;
+        sent?;
+        Ok(rows)
+    }
+
+    fn read_rows(&mut self, alloc: Global) -> Result<Vec<Row>, ToolFault> {
+        let mut rows = Vec::new(alloc);
+        for _ in 0..u64::MAX {
+            match self.read_row()? {
+                Some(row) => push_row(&mut rows, row)?,
+                None => return Ok(rows),
+            }
+        }
+        Err(ToolFault::Socket)
+    }
+
+    // The row of the next line; None where that is empty.
+    fn read_row(&mut self) -> Result<Option<Row>, ToolFault> {
+        self.read_line()?;
+        let line = self.line.as_slice();
+        if line.is_empty() {
+            return Ok(None);
+        }
+        match read_answer(line) {
+            Answer::Row => Ok(Some(row_of(line).ok_or(ToolFault::Socket)?)),
+            Answer::Refused(reason) => Err(ToolFault::Refused(reason)),
+            Answer::Busy => Err(ToolFault::Busy),
+            _ => Err(ToolFault::Socket),
         }
     }
 
@@ -127,4 +168,8 @@ impl Connection {
     pub fn line(&self) -> &[u8] {
         self.line.as_slice()
     }
+}
+
+fn push_row(rows: &mut Vec<Row>, row: Row) -> Result<(), ToolFault> {
+    rows.push(row).map_err(|_| ToolFault::NoMemory)
 }

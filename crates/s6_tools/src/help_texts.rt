@@ -6,6 +6,7 @@ pub fn help_of(tool: Tool) -> &'static str {
     match tool {
         Tool::Svc => SVC,
         Tool::Svstat => SVSTAT,
+        Tool::List => LIST,
         Tool::Svwait => SVWAIT,
         Tool::Svlisten => SVLISTEN,
         Tool::Svscanctl => SVSCANCTL,
@@ -45,6 +46,38 @@ fields, with commas between them:
 exit status:
   0           done
   1           the server refused it: the reason is on standard error
+  100         wrong usage
+  111         no server, or the system refused something
+";
+
+const LIST: &str = "usage: s6_tree list SOCKET [--json] [--] [NAME..]
+
+Prints a line for each service of the tree, or for those of these names.
+
+columns:
+  NAME        its name
+  STATE       its state in one word
+  PID         the number of its process, while it is up
+  SINCE       for how long it has been up, or down
+  READY       for how long it has been ready, while it is up
+  LAST-EXIT   how its last run ended, while it is down: code 1, signal 9
+  WANTED      up: it is to be started when it is down; else down
+states:
+  ready       it is up, and has said that it is ready
+  up          it is up, and has not said that
+  paused      it is up, and was stopped by SIGSTOP
+  finishing   it has died, and its finish is not done
+  restarting  its finish is done: it starts once its pause is over
+  starting    it is to start, and has not run yet
+  down        it is down, and stays so
+With --json each line is an object: name serial state up wantedup
+normallyup ready paused pid exitcode signal updownfor readyfor. Ages are
+in seconds, and null is what there is not.
+
+exit status:
+  0           done
+  1           a NAME is no service of the tree: the others are printed;
+              or the server refused it: the reason is on standard error
   100         wrong usage
   111         no server, or the system refused something
 ";

@@ -1,24 +1,35 @@
 //! The tools of a running tree: each turns its words into requests, sends them over the tree's socket, and ends as the answer says.
 #![tactic(auto)]
 
+mod age;
 mod answer;
 mod connection;
 mod ending;
 mod event_tools;
 mod help_texts;
+mod json_line;
 mod letter_tools;
+mod list_command;
+mod list_tool;
 mod patience;
 mod reason;
 mod request;
+mod service_row;
+mod service_state;
 mod status_line;
 mod status_tools;
+mod table;
 mod tool;
 mod tool_fault;
 mod wait_tools;
 mod words;
 
 pub use answer::{Answer, Outcome, read_answer};
+pub use json_line::json_lines;
 pub use reason::Reason;
+pub use service_row::row_of;
+pub use service_state::{ServiceState, state_of};
 pub use status_line::svstat_line;
+pub use table::table_of;
 pub use tool::{Tool, run_client, tool_named};
 pub use tool_fault::ToolFault;

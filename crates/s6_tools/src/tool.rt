@@ -6,6 +6,7 @@ use crate::ending::tell_fault;
 use crate::event_tools::{run_ftrig_notify, run_ftrig_wait, run_mkfifodir};
 use crate::help_texts::help_of;
 use crate::letter_tools::{run_svc, run_svscanctl};
+use crate::list_tool::run_list;
 use crate::status_tools::{run_permafailon, run_svstat};
 use crate::tool_fault::ToolFault;
 use crate::wait_tools::{run_svlisten, run_svwait};
@@ -22,6 +23,8 @@ pub enum Tool {
     Svc,
     /// `svstat`: fields of its status. Page `s6-svstat`.
     Svstat,
+    /// `list`: the status of all services. Chosen here.
+    List,
     /// `svwait`: waits for services. Page `s6-svwait`.
     Svwait,
     /// `svlisten`: starts a program, and waits for services. Page `s6-svlisten`.
@@ -38,9 +41,10 @@ pub enum Tool {
     Permafailon,
 }
 
-const ALL: [Tool; 9] = [
+const ALL: [Tool; 10] = [
     Tool::Svc,
     Tool::Svstat,
+    Tool::List,
     Tool::Svwait,
     Tool::Svlisten,
     Tool::Svscanctl,
@@ -58,6 +62,7 @@ impl Tool {
         match self {
             Tool::Svc => "svc",
             Tool::Svstat => "svstat",
+            Tool::List => "list",
             Tool::Svwait => "svwait",
             Tool::Svlisten => "svlisten",
             Tool::Svscanctl => "svscanctl",
@@ -119,6 +124,7 @@ fn run<R: Net + Processes + Clock, W: Write>(
     match tool {
         Tool::Svc => run_svc(rt, alloc, socket, words),
         Tool::Svstat => run_svstat(rt, alloc, socket, words, output),
+        Tool::List => run_list(rt, alloc, socket, words, output),
         Tool::Svwait => run_svwait(rt, alloc, socket, words),
         Tool::Svlisten => run_svlisten(rt, alloc, socket, words),
         Tool::Svscanctl => run_svscanctl(rt, alloc, socket, words),

@@ -23,6 +23,12 @@ svstat -o up,pid web
 svstat -o exitcode,readyfor,up web
 svstat -o up nobody
 svstat -o what web
+list
+list --json
+list web nobody
+list --json -- nobody log
+list --what
+list .web
 svwait web
 svwait -U web log
 svwait -d -o web
@@ -232,7 +238,9 @@ fn run_case<R: Net + Processes + Clock>(
     let mut words = Vec::new(alloc);
     words.push(path)?;
     for word in others.split(' ') {
-        words.push(word)?;
+        if !word.is_empty() {
+            words.push(word)?;
+        }
     }
     Ok(run_client(rt, alloc, tool, words.as_slice(), output, errors))
 }

@@ -1,0 +1,85 @@
+//! The words of `list`.
+ghost use Rattle.std.specs.Prelude.{◌≡◌, filter};
+ghost use Rattle.s6_tools.specs.Listing.{is_among, is_asked, is_there, are_there};
+
+use crate::tool_fault::ToolFault;
+use s6_events::Name;
+use std::alloc::Global;
+use supervise_core::Row;
+
+/// What is asked of `list`: services of these names, where no name is all services.
+#[derive(Debug, Drop)]
+pub struct ListCommand {
+    pub is_json: bool,
+    pub names: Vec<Name>,
+}
+
+/// Reads the words behind `list`: options and names in any order. A word that begins with `-` is an option, and behind `--` a name.
+pub fn compile_list(alloc: Global, words: &[&str]) -> Result<ListCommand, ToolFault> {
+    let mut command = ListCommand {
+        is_json: false,
+        names: Vec::new(alloc),
+    };
+    let mut are_options_over = false;
+    for word in words {
+        if are_options_over {
+            command.add_name(word)?;
+        } else if *word == "--" {
+            are_options_over = true;
+        } else {
+            command.add_word(word)?;
+        }
+    }
+    Ok(command)
+}
+
+impl ListCommand {
+    fn add_word(&mut self, word: &str) -> Result<(), ToolFault> {
+        if word == "--json" {
+            self.is_json = true;
+            return Ok(());
+        }
+        if word.starts_with('-') {
+            return Err(ToolFault::Usage);
+        }
+        self.add_name(word)
+    }
+
+    fn add_name(&mut self, word: &str) -> Result<(), ToolFault> {
+        let name = Name::new(word.as_bytes()).ok_or(ToolFault::Usage)?;
+        self.names.push(name).map_err(|_| ToolFault::NoMemory)
+    }
+}
+
+fn is_among(names: &[Name], name: &Name) -> bool
+    ensures { result ≡ is_among names.now name.now }
+{
+    names.iter().any(|known| known == name)
+}
+
+// Whether a service is asked for.
+fn is_asked(names: &[Name], row: &Row) -> bool
+    ensures { result ≡ is_asked names.now row.now }
+{
+    names.is_empty() || is_among(names, &row.name)
+}
+
+/// Leaves the services that are asked for, as they stand.
+pub fn keep_asked(rows: &mut Vec<Row>, names: &[Name])
+    ensures { rows.new.items ≡ filter (is_asked names.now) rows.old.items }
+{
+    rows.retain(|row| is_asked(names, row));
+}
+
+fn is_there(rows: &[Row], name: &Name) -> bool
+    ensures { result ≡ is_there rows.now name.now }
+{
+    rows.iter().any(|row| row.name == *name)
+}
+
+/// Whether there is a service of each name.
+pub fn are_there(rows: &[Row], names: &[Name]) -> bool
+    ensures { result ≡ are_there rows.now names.now }
+{
+    names.iter().all(|name| is_there(rows, name))
+}

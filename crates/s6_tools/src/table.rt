@@ -1,0 +1,241 @@
+//! The services as a table.
+ghost use Rattle.std.specs.Prelude.{◌≡◌, ◌++◌, ◌∷◌, IfOk, OnOk, None, map, replicate, if◌then◌else◌};
+ghost use Rattle.std.specs.List.{flat_map};
+ghost use Rattle.s6_tools.specs.Tables.{heading, cell, number_cell, age_cell, exit_cell, wanted_cell, width_of, padded, heading_line, row_line, sized_column, padded_columns, table_text};
+
+use crate::age::push_age;
+use crate::service_state::state_of;
+use s6_events::Exit;
+use s6_script::push_number;
+use std::alloc::{AllocError, Global};
+use supervise_core::Row;
+
+/// A column of the table.
+#[derive(Clone, Copy, Debug, PartialEq, Eq)]
+pub enum Column {
+    /// NAME: the name of the service.
+    Name,
+    /// STATE: the word of its state.
+    State,
+    /// PID: the process number of `run`, while it is there.
+    Pid,
+    /// SINCE: for how long it has been up, or down.
+    Since,
+    /// READY: for how long it has been ready, while it is up.
+    Ready,
+    /// LAST-EXIT: how its last run ended, while it is down.
+    LastExit,
+    /// WANTED: `up` where it is to be started again when it is down, else `down`.
+    Wanted,
+}
+
+// The columns with spaces behind them: all but WANTED.
+const PADDED_COLUMNS: [Column; 6] = [
+    Column::Name,
+    Column::State,
+    Column::Pid,
+    Column::Since,
+    Column::Ready,
+    Column::LastExit,
+];
+
+// A column, and the bytes of its widest cell.
+#[derive(Clone, Copy, Debug, PartialEq, Eq)]
+struct SizedColumn {
+    column: Column,
+    width: usize,
+}
+
+impl Column {
+    // Its head.
+    fn heading(self) -> &'static [u8]
+        ensures { result.now ≡ heading self }
+    {
+        match self {
+            Column::Name => b"NAME",
+            Column::State => b"STATE",
+            Column::Pid => b"PID",
+            Column::Since => b"SINCE",
+            Column::Ready => b"READY",
+            Column::LastExit => b"LAST-EXIT",
+            Column::Wanted => b"WANTED",
+        }
+    }
+}
+
+fn push_number_cell(text: &mut Vec<u8>, number: Option<u32>) -> Result<(), AllocError>
+    ensures { OnOk result (text.new.items ≡ text.old.items ++ number_cell number) }
+{
+    match number {
+        Some(number) => push_number(text, u64::from(number)),
+        None => text.extend_from_slice(b"-"),
+    }
+}
+
+fn push_age_cell(text: &mut Vec<u8>, seconds: Option<u64>) -> Result<(), AllocError>
+    ensures { OnOk result (text.new.items ≡ text.old.items ++ age_cell seconds) }
+{
+    match seconds {
+        Some(seconds) => push_age(text, seconds),
+        None => text.extend_from_slice(b"-"),
+    }
+}
+
+fn push_exit_cell(text: &mut Vec<u8>, exit: Option<Exit>) -> Result<(), AllocError>
+    ensures { OnOk result (text.new.items ≡ text.old.items ++ exit_cell exit) }
+{
+    match exit {
+        Some(Exit::Code(code)) => {
+            text.extend_from_slice(b"code ")?;
+            push_number(text, u64::from(code))
+        }
+        Some(Exit::Killed(signal)) => {
+            text.extend_from_slice(b"signal ")?;
+            push_number(text, u64::from(signal))
+        }
+        None => text.extend_from_slice(b"-"),
+    }
+}
+
+fn wanted_word(row: &Row) -> &'static [u8]
+    ensures { result.now ≡ wanted_cell row.now.wanted_up }
+{
+    if row.wanted_up { b"up" } else { b"down" }
+}
+
+// For how long it has been ready, while it is up.
+fn up_and_ready_for(row: &Row) -> Option<u64>
+    ensures { result ≡ (if row.now.up then row.now.ready_for else None) }
+{
+    if row.up { row.ready_for } else { None }
+}
+
+// Adds the cell of a service in a column.
+fn push_cell(text: &mut Vec<u8>, row: &Row, column: Column) -> Result<(), AllocError>
+    ensures { OnOk result (text.new.items ≡ text.old.items ++ cell row.now column) }
+{
+    match column {
+        Column::Name => text.extend_from_slice(row.name.as_bytes()),
+        Column::State => text.extend_from_slice(state_of(row).word()),
+        Column::Pid => push_number_cell(text, row.pid),
+        Column::Since => push_age_cell(text, row.up_down_for),
+        Column::Ready => push_age_cell(text, up_and_ready_for(row)),
+        Column::LastExit => push_exit_cell(text, row.exit),
+        Column::Wanted => text.extend_from_slice(wanted_word(row)),
+    }
+}
+
+fn cell_of(alloc: Global, row: &Row, column: Column) -> Result<Vec<u8>, AllocError>
+    ensures { IfOk result (λ text. text.items ≡ cell row.now column) }
+{
+    let mut text = Vec::new(alloc);
+    push_cell(&mut text, row, column)?;
+    Ok(text)
+}
+
+// The bytes of the widest cell of a column, its head among them.
+fn width_of(alloc: Global, rows: &[Row], column: Column) -> Result<usize, AllocError>
+    ensures { IfOk result (λ width. width ≡ width_of rows.now column) }
+{
+    let mut width = column.heading().len();
+    for row in rows {
+        width = width.max(cell_of(alloc, row, column)?.len());
+    }
+    Ok(width)
+}
+
+fn sized(alloc: Global, rows: &[Row]) -> Result<Vec<SizedColumn>, AllocError>
+    ensures { IfOk result
+        (λ columns. columns.items ≡ map (sized_column rows.now) padded_columns) }
+{
+    let mut columns = Vec::new(alloc);
+    for column in PADDED_COLUMNS.as_slice() {
+        let width = width_of(alloc, rows, *column)?;
+        columns.push(SizedColumn {
+            column: *column,
+            width,
+        })?;
+    }
+    Ok(columns)
+}
+
+// Adds a cell, spaces up to the width of its column, and two more.
+fn push_padded(text: &mut Vec<u8>, cell: &[u8], width: usize) -> Result<(), AllocError>
+    ensures { OnOk result (text.new.items ≡ text.old.items ++ padded width cell.now) }
+{
+    text.extend_from_slice(cell)?;
+    push_spaces(text, width.saturating_sub(cell.len()))?;
+    text.extend_from_slice(b"  ")
+}
+
+fn push_spaces(text: &mut Vec<u8>, count: usize) -> Result<(), AllocError>
+    ensures { OnOk result (text.new.items ≡ text.old.items ++ replicate count 32) }
+{
+    for _ in 0..count {
+        text.push(b' ')?;
+    }
+    Ok(())
+}
+
+fn push_padded_cell(
+    alloc: Global,
+    text: &mut Vec<u8>,
+    row: &Row,
+    sized: SizedColumn,
+) -> Result<(), AllocError>
+    ensures { OnOk result (text.new.items
+        ≡ text.old.items ++ padded sized.width (cell row.now sized.column)) }
+{
+    let cell = cell_of(alloc, row, sized.column)?;
+    push_padded(text, cell.as_slice(), sized.width)
+}
+
+fn push_heading_line(text: &mut Vec<u8>, columns: &[SizedColumn]) -> Result<(), AllocError>
+    ensures { OnOk result (text.new.items ≡ text.old.items ++ heading_line columns.now) }
+{
+    for sized in columns {
+        push_padded(text, sized.column.heading(), sized.width)?;
+    }
+    text.extend_from_slice(b"WANTED\n")
+}
+
+fn push_row_line(
+    alloc: Global,
+    text: &mut Vec<u8>,
+    columns: &[SizedColumn],
+    row: &Row,
+) -> Result<(), AllocError>
+    ensures { OnOk result (text.new.items ≡ text.old.items ++ row_line columns.now row.now) }
+{
+    for sized in columns {
+        push_padded_cell(alloc, text, row, *sized)?;
+    }
+    text.extend_from_slice(wanted_word(row))?;
+    text.extend_from_slice(b"\n")
+}
+
+fn push_row_lines(
+    alloc: Global,
+    text: &mut Vec<u8>,
+    columns: &[SizedColumn],
+    rows: &[Row],
+) -> Result<(), AllocError>
+    ensures { OnOk result (text.new.items
+        ≡ text.old.items ++ flat_map (row_line columns.now) rows.now) }
+{
+    for row in rows {
+        push_row_line(alloc, text, columns, row)?;
+    }
+    Ok(())
+}
+
+/// The services, each by a line, below a line of heads.
+pub fn table_of(alloc: Global, rows: &[Row]) -> Result<Vec<u8>, AllocError>
+    ensures { IfOk result (λ text. text.items ≡ table_text rows.now) }
+{
+    let columns = sized(alloc, rows)?;
+    let mut text = Vec::new(alloc);
+    push_heading_line(&mut text, columns.as_slice())?;
+    push_row_lines(alloc, &mut text, columns.as_slice(), rows)?;
+    Ok(text)
+}
