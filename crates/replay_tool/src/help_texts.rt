@@ -11,6 +11,7 @@ tools:
   svscan        run a supervision tree, and serve its clients
   svc           send letters to a service
   svstat        print the status of a service
+  list          print the state of all services
   svwait        wait for services
   svlisten      wait for services, with a program started meanwhile
   svscanctl     tell the tree to scan or to end
