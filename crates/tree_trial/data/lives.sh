@@ -35,6 +35,10 @@ tell permafailon fails 60 1 2
 say 'killed, and ready again' "$(outcome client svlisten -R three -- "$program" svc "$socket" -k three)"
 tell svstat -o up,ready three
 
+# All services, without their ages and process numbers.
+client list --json | sed 's/"pid":[1-9][0-9]*/"pid":N/; s/downfor":[0-9][0-9]*/downfor":N/; s/readyfor":[0-9][0-9]*/readyfor":N/'
+tell list nobody
+
 # Free event directories, and those of services.
 tell_each <<'END'
 mkfifodir queue
