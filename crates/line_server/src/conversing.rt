@@ -12,6 +12,9 @@ use std::sync::{Arc, Wait};
 use std::thread::{self, Builder, Scope, Threads};
 use std::time::Clock;
 
+/// How many bytes of a connection are read at once. The lines in them are answered before more is read.
+const READ_SIZE: usize = 4_096;
+
 /// The connection of a seat to its end. Where the system has no thread to write it, it goes on at the last seat.
 pub fn converse_at<W: Answers + Sync, R: Threads + Wait + Clock + Sync>(
     rt: &R,
@@ -147,7 +150,7 @@ fn read_all<W: Answers, R: Wait + Clock>(
 
 // Reads what has come. Whether more may come.
 fn read_some(mut stream: &UnixStream, buffer: &mut LineBuffer<Global>) -> bool {
-    let mut bytes = [0u8; 1024];
+    let mut bytes = [0u8; READ_SIZE];
     match stream.read(&mut bytes) {
         Ok(0) => false,
         Ok(count) => buffer.add(&bytes[..count]).is_ok(),
@@ -155,7 +158,7 @@ fn read_some(mut stream: &UnixStream, buffer: &mut LineBuffer<Global>) -> bool {
     }
 }
 
-// Answers each whole line that has come. Meanwhile the connection is needed, and then it is silent.
+// Answers each whole line that has come. Until all are answered the connection is needed, and then it is silent.
 fn answer_lines<W: Answers, R: Wait + Clock>(
     rt: &R,
     server: &Server<W>,
@@ -165,28 +168,30 @@ fn answer_lines<W: Answers, R: Wait + Clock>(
     mailbox: &Mailbox,
 ) -> Next {
     let mut has_asked = false;
+    let mut next = Next::GoOn;
     for _ in rt.forever() {
         match buffer.next_line(line) {
+            Ok(LineStatus::Part) => break,
             Ok(LineStatus::Whole) => {
                 if !has_asked {
                     has_asked = true;
                     server.note(rt, seat, SeatUse::Needed);
                 }
-                let next = server.answers.answer(rt, seat, line.as_slice(), mailbox);
-                if next == Next::Close {
-                    return Next::Close;
-                }
+                next = server.answers.answer(rt, seat, line.as_slice(), mailbox);
             }
-            Ok(LineStatus::Part) => break,
             Ok(LineStatus::TooLong) => {
                 server.answers.refuse_long_line(rt, seat, mailbox);
-                return Next::Close;
+                next = Next::Close;
             }
-            Err(_) => return Next::Close,
+            Err(_) => next = Next::Close,
+        }
+        if next == Next::Close {
+            break;
         }
     }
     if has_asked {
+        server.answers.settle(rt, seat);
         server.note(rt, seat, SeatUse::SilentSince(millis_of(rt)));
     }
-    Next::GoOn
+    next
 }

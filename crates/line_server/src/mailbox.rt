@@ -32,12 +32,24 @@ impl Mailbox {
     /// Posts a text, which is written behind all that was posted before. It waits for no reader. `Full` and `NoMemory` end the connection
     /// at once, since its texts could not be whole any more. `Closed` leaves it alone: what was posted before is still written.
     pub fn post<R: Wait>(&self, rt: &R, text: &[u8]) -> Result<(), PostFault> {
+        let posted = self.add(rt, text);
+        self.wake();
+        posted
+    }
+
+    /// The same, but whoever writes is not woken: call `wake` once several texts are posted.
+    pub fn add<R: Wait>(&self, rt: &R, text: &[u8]) -> Result<(), PostFault> {
         let posted = self.outbox.lock(rt).post(text);
         match posted {
             Err(fault) if fault.ends_connection() => self.end(rt),
-            _ => self.changed.notify_all(),
+            _ => {}
         }
         posted
+    }
+
+    /// Wakes whoever writes.
+    pub fn wake(&self) {
+        self.changed.notify_all();
     }
 
     /// Nothing more is posted. What was posted is still written.

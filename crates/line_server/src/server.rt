@@ -29,10 +29,15 @@ pub enum Next {
 
 /// Who answers the lines of connections. Its calls for one seat come one after the other, those for two seats at the same time.
 pub trait Answers {
-    /// A line has come on this seat, without its newline. What is posted to the mailbox now or later is written in that order.
+    /// A line has come on this seat, without its newline. It may be answered later: what is posted to the mailbox is written in that
+    /// order.
     fn answer<R: Wait + Clock>(&self, rt: &R, seat: usize, line: &[u8], mailbox: &Mailbox) -> Next;
 
-    /// A line of more than 8,192 bytes is coming on this seat. What is posted is written, and the connection ends.
+    /// Comes back once each line of this seat that was given is answered. No other line of it is read before.
+    fn settle<R: Wait>(&self, rt: &R, seat: usize);
+
+    /// A line of more than 8,192 bytes is coming on this seat, behind those that were given. What is posted is written, and the connection
+    /// ends.
     fn refuse_long_line<R: Wait>(&self, rt: &R, seat: usize, mailbox: &Mailbox);
 
     /// Whether the connection of this seat stays though it says nothing: something is still to be told to it.

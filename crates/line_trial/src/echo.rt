@@ -119,6 +119,8 @@ impl Answers for Echo {
         let _ = mailbox.post(rt, b"too long\n\n");
     }
 
+    fn settle<R: Wait>(&self, _rt: &R, _seat: usize) {}
+
     fn keeps<R: Wait>(&self, rt: &R, _seat: usize) -> bool {
         self.counts.lock(rt).are_kept
     }

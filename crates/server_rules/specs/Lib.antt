@@ -1,8 +1,10 @@
 pub mod Answers
+pub mod Connection
 pub mod Faults
 pub mod Files
 pub mod Places
 pub mod Plans
+pub mod Recipients
 pub mod Requests
 pub mod Scanning
 pub mod Sockets

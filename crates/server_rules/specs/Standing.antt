@@ -1,5 +1,6 @@
--- What stands of a connection, and what ends it.
-use Rattle.std.specs.Prelude.{◌≡◌, ◌⊎◌, ℕ, ◌-◌, List, [], ◌∷◌, ◌++◌, ◌==◌, ◌&&◌, Bool, filter, length, not, nat_lt, nat_le, Option, Some, None, if◌then◌else◌}
+-- What stands of a connection, and what a request of it may make.
+use Rattle.std.specs.Prelude.{ℕ, ◌+◌, ◌==◌, ◌&&◌, List, [], ◌∷◌, ◌++◌, Bool, true, filter, length, not, nat_lt, Option, Some, None, if◌then◌else◌}
+use Rattle.std.specs.List.{list_any}
 use Rattle.std.specs.declared.alloc.Global.{Global}
 use Rattle.s6_events.specs.declared.ids.WaitId.{WaitId}
 use Rattle.s6_events.specs.declared.ids.SubId.{SubId}
@@ -9,32 +10,22 @@ use Rattle.tree_core.specs.declared.reply.Reply.{Reply}
 use Rattle.tree_core.specs.declared.reply.Reply.TheVariants as reply
 use Rattle.server_rules.specs.declared.standing.Admission.{Admission}
 use Rattle.server_rules.specs.declared.standing.Admission.TheVariants as admission
-use Rattle.server_rules.specs.declared.standing.Ending.{Ending}
-use Rattle.server_rules.specs.declared.standing.Ending.TheVariants as ending
-use Rattle.server_rules.specs.declared.standing.Standing.{Standing}
+use Rattle.server_rules.specs.declared.standing.StandingChange.{StandingChange}
+use Rattle.server_rules.specs.declared.standing.StandingChange.TheVariants as change
 
--- the waiter that a reply tells of
-abbrev pub waiters_of : Reply Global → List WaitId
-waiters_of (reply.Waiter id) = id ∷ []
-waiters_of r = []
-
--- the subscription that a reply tells of
-abbrev pub subscriptions_of : Reply Global → List SubId
-subscriptions_of (reply.Subscription id) = id ∷ []
-subscriptions_of r = []
-
--- what a connection made and stands: the waiters that wait, those whose release was told, and the subscriptions
+-- what a connection made and stands: the waiters that wait, those whose release was told, and the subscriptions; each in the order made
 pub record Made : Type 0 where
-  pub waiters : List WaitId
-  pub released : List WaitId
-  pub subscriptions : List SubId
+  pub waiters : List ℕ
+  pub released : List ℕ
+  pub subscriptions : List ℕ
 
-abbrev pub made_of : Standing → Made
-made_of s = record { waiters = s.waiters.items; released = s.released.items; subscriptions = s.subscriptions.items }
+-- nothing stands
+abbrev pub nothing_made : Made
+nothing_made = record { waiters = []; released = []; subscriptions = [] }
 
--- nothing is still to be told
-abbrev pub is_nothing_awaited : Made → Bool
-is_nothing_awaited made = (length made.waiters == 0) && (length made.subscriptions == 0)
+-- something is still to be told
+abbrev pub is_told_more : Made → Bool
+is_told_more made = not ((length made.waiters == 0) && (length made.subscriptions == 0))
 
 -- the most waiters, and the most subscriptions, of one connection
 abbrev pub waiter_limit : ℕ
@@ -43,65 +34,72 @@ waiter_limit = 64
 abbrev pub subscription_limit : ℕ
 subscription_limit = 32
 
+-- one waiter, or one subscription, more has a place
+abbrev pub has_place : Made → Bool
+has_place made = nat_lt (length made.waiters + length made.released) waiter_limit
+
+abbrev pub has_subscription_place : Made → Bool
+has_subscription_place made = nat_lt (length made.subscriptions) subscription_limit
+
 -- a waiter has a place, or gets that of a released one, or is refused
 abbrev pub waiter_admission : Made → Admission
 waiter_admission made =
-    if nat_lt (length made.waiters) (waiter_limit - length made.released) then admission.Admitted else
+    if has_place made then admission.Admitted else
     if length made.released == 0 then admission.Refused else admission.AfterReleased
 
 -- what comes of an act
 abbrev pub admission_of : Act Global → Made → Admission
 admission_of (Wait condition mode timeout names) made = waiter_admission made
-admission_of (Subscribe target pattern repeats) made =
-    if nat_le subscription_limit (length made.subscriptions) then admission.Refused else admission.Admitted
+admission_of (Subscribe target pattern repeats) made = if has_subscription_place made then admission.Admitted else admission.Refused
 admission_of act made = admission.Admitted
 
--- nothing stands
-abbrev pub nothing_made : Made
-nothing_made = record { waiters = []; released = []; subscriptions = [] }
+-- what an act changes of it, once it is done
+abbrev pub change_of : Act Global → StandingChange
+change_of (Wait condition mode timeout names) = change.MakesWaiter
+change_of (Subscribe target pattern repeats) = change.MakesSubscription
+change_of (Cancel id) = change.EndsWaiter id
+change_of (Unsubscribe id) = change.EndsSubscription id
+change_of act = change.Other
 
--- the act ends the waiter that was told of its release last
-abbrev pub EndsReleased : Option (Act Global) → (before after : Made) → Type 0
-EndsReleased (Some (Cancel id)) before after = (before.released ≡ after.released ++ id ∷ [])
-    × (after.waiters ≡ before.waiters) × (after.subscriptions ≡ before.subscriptions)
-EndsReleased None before after = (before.released ≡ []) × (after ≡ before)
-EndsReleased (Some act) before after = ⊥
+-- all but this one
+abbrev pub without : ℕ → List ℕ → List ℕ
+without id ids = filter (λ other. not (other == id)) ids
 
--- the act ends the waiter that stands last, of those that were not released
-abbrev pub EndsWaiter : WaitId → (before after : Made) → Type 0
-EndsWaiter id before after = (before.released ≡ []) × (after.released ≡ [])
-    × (before.waiters ≡ after.waiters ++ id ∷ []) × (after.subscriptions ≡ before.subscriptions)
+-- what stands once the reply is there to an act that changes so much
+abbrev pub after_reply : StandingChange → Reply Global → Made → Made
+after_reply change.MakesWaiter (reply.Waiter id) made = record made { waiters = made.waiters ++ id ∷ [] }
+after_reply change.MakesSubscription (reply.Subscription id) made = record made { subscriptions = made.subscriptions ++ id ∷ [] }
+after_reply (change.EndsWaiter id) reply.Done made = record made { waiters = without id made.waiters; released = without id made.released }
+after_reply (change.EndsSubscription id) reply.Done made = record made { subscriptions = without id made.subscriptions }
+after_reply a r made = made
 
--- the act ends a released waiter, or where there is none one that waits, or where there is none a subscription, and that stands no more
-abbrev pub Ends : Option (Act Global) → (before after : Made) → Type 0
-Ends (Some (Cancel id)) before after = EndsReleased (Some (Cancel id)) before after ⊎ EndsWaiter id before after
-Ends (Some (Unsubscribe id)) before after = (before.released ≡ []) × (after.released ≡ [])
-    × (before.waiters ≡ []) × (after.waiters ≡ []) × (before.subscriptions ≡ after.subscriptions ++ id ∷ [])
-Ends None before after = (before ≡ nothing_made) × (after ≡ nothing_made)
-Ends (Some act) before after = ⊥
+-- what stands once the release of a waiter was told: it waits no more
+abbrev pub after_release : ℕ → Made → Made
+after_release id made = record made { waiters = without id made.waiters; released = made.released ++ id ∷ [] }
 
--- what an act ends once it is done
-abbrev pub ending_of : Act Global → Ending
-ending_of (Cancel id) = ending.Waiter id
-ending_of (Unsubscribe id) = ending.Subscription id
-ending_of act = ending.Nothing
+-- whether it is one of these
+abbrev pub is_among : ℕ → List ℕ → Bool
+is_among id ids = list_any (λ other. other == id) ids
 
--- the waiter that this ends
-abbrev pub waiters_ended : Ending → List WaitId
-waiters_ended (ending.Waiter id) = id ∷ []
-waiters_ended e = []
+-- one more may be made of what a step under way makes
+abbrev pub has_room_for : StandingChange → Made → Bool
+has_room_for change.MakesWaiter made = has_place made
+has_room_for change.MakesSubscription made = has_subscription_place made
+has_room_for c made = true
 
--- the subscription that this ends
-abbrev pub subscriptions_ended : Ending → List SubId
-subscriptions_ended (ending.Subscription id) = id ∷ []
-subscriptions_ended e = []
+-- the act that ends what is ended next, and what stands then: the released waiters go first, then the others, then the subscriptions
+pub record Ended : Type 0 where
+  pub act : Act Global
+  pub made : Made
 
--- the waiters that still stand once this has ended
-abbrev pub waiters_left : Ending → List WaitId → List WaitId
-waiters_left (ending.Waiter id) waiters = filter (λ w. not (w == id)) waiters
-waiters_left e waiters = waiters
+abbrev pub next_ended : (released waiters subscriptions : List ℕ) → Option Ended
+next_ended (id ∷ released) waiters subscriptions =
+    Some (record { act = Cancel id; made = record { waiters = waiters; released = released; subscriptions = subscriptions } })
+next_ended [] (id ∷ waiters) subscriptions =
+    Some (record { act = Cancel id; made = record { waiters = waiters; released = []; subscriptions = subscriptions } })
+next_ended [] [] (id ∷ subscriptions) =
+    Some (record { act = Unsubscribe id; made = record { waiters = []; released = []; subscriptions = subscriptions } })
+next_ended [] [] [] = None
 
--- the subscriptions that still stand once this has ended
-abbrev pub subscriptions_left : Ending → List SubId → List SubId
-subscriptions_left (ending.Subscription id) subscriptions = filter (λ s. not (s == id)) subscriptions
-subscriptions_left e subscriptions = subscriptions
+abbrev pub next_end : Made → Option Ended
+next_end made = next_ended made.released made.waiters made.subscriptions

@@ -1,13 +1,16 @@
 //! What the server of a tree decides, with no thread of its own: what a line asks for, whose an actor is, when a tick or a scan is wanted,
-//! what stands of a connection, which rows may be told, what a scan directory says, which socket is whose,
+//! what is done for a connection at each event, who is posted what of a step, which rows may be told, what a scan directory says, which socket is whose,
 //! and what is told of a tree that did not run to its end.
 #![tactic(auto)]
 
+mod connection;
 mod full_services;
 mod listing;
 mod own_answer;
+mod phase;
 mod places;
 mod plans;
+mod recipients;
 mod requests;
 mod row_cache;
 mod serve_fault;
@@ -15,17 +18,24 @@ mod service_files;
 mod socket_rules;
 mod standing;
 mod status;
+mod texts;
+mod todo;
 
+pub use connection::Connection;
 pub use full_services::FullServices;
 pub use listing::read_listing;
 pub use own_answer::OwnAnswer;
+pub use phase::{Errand, Phase};
 pub use places::{
     ACTOR_COUNT, FIRST_CLIENT, FIRST_LANE, LANE_COUNT, Place, SCANNER, client_actor, place_of,
 };
 pub use plans::{Askers, Plans, Wanted};
+pub use recipients::{Line, Post, hand_out};
 pub use requests::{Request, read_request};
 pub use row_cache::{RowCache, is_recent};
 pub use serve_fault::{ServeFault, refuse_usage, tell_serve_fault};
 pub use socket_rules::{FileIdentity, says_abandoned};
-pub use standing::{Admission, Ending, SUBSCRIPTION_LIMIT, Standing, WAITER_LIMIT};
+pub use standing::{Admission, SUBSCRIPTION_LIMIT, Standing, StandingChange, WAITER_LIMIT};
 pub use status::Subject;
+pub use texts::{news_lines, reply_lines};
+pub use todo::{Answer, News, Todo};

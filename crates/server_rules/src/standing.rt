@@ -1,38 +1,43 @@
 //! What stands of a connection: the waiters and the subscriptions that it made.
-ghost use Rattle.std.specs.Prelude.{◌≡◌, ◌++◌, ◌∷◌, ◌==◌, [], filter, not, OnOk, OnErr, IsTrue, IsFalse};
-ghost use Rattle.std.specs.List.{Contains};
-ghost use Rattle.server_rules.specs.Standing.{waiters_of, subscriptions_of, Ends, ending_of, waiters_ended, subscriptions_ended, waiters_left, subscriptions_left, admission_of, made_of, is_nothing_awaited, waiter_admission, EndsReleased};
+ghost use Rattle.std.specs.Prelude.{◌≡◌, ◌∷◌, [], true, OnOk, IfSome, IfNone, option_map, length, filter, not, ◌==◌};
+ghost use Rattle.server_rules.specs.Standing.{admission_of, after_release, after_reply, change_of, has_place, has_room_for, is_among, is_told_more, next_end, nothing_made, waiter_admission, without};
 
+use arrayvec::ArrayVec;
 use s6_events::{SubId, WaitId};
-use std::alloc::{AllocError, Global};
+use std::alloc::Global;
+use std::marker::Model;
 use tree_core::{Act, Reply};
-
-/// What an act ends, once it is done.
-#[derive(Clone, Copy, PartialEq, Eq, Debug)]
-pub enum Ending {
-    Nothing,
-    Waiter(WaitId),
-    Subscription(SubId),
-}
-
-impl Ending {
-    /// What this act ends, once it is done.
-    pub fn of(act: &Act<Global>) -> Ending
-        ensures { result ≡ ending_of act.now }
-    {
-        match act {
-            Act::Cancel(id) => Ending::Waiter(*id),
-            Act::Unsubscribe(id) => Ending::Subscription(*id),
-            _ => Ending::Nothing,
-        }
-    }
-}
 
 /// The most waiters of one connection that stand at one time.
 pub const WAITER_LIMIT: usize = 64;
 
 /// The most subscriptions of one connection that stand at one time.
 pub const SUBSCRIPTION_LIMIT: usize = 32;
+
+/// What an act changes of what stands, once it is done.
+#[derive(Clone, Copy, PartialEq, Eq, Debug)]
+pub enum StandingChange {
+    Other,
+    MakesWaiter,
+    MakesSubscription,
+    EndsWaiter(WaitId),
+    EndsSubscription(SubId),
+}
+
+impl StandingChange {
+    /// What this act changes, once it is done.
+    pub fn of(act: &Act<Global>) -> StandingChange
+        ensures { result ≡ change_of act.now }
+    {
+        match act {
+            Act::Wait(..) => StandingChange::MakesWaiter,
+            Act::Subscribe(..) => StandingChange::MakesSubscription,
+            Act::Cancel(id) => StandingChange::EndsWaiter(*id),
+            Act::Unsubscribe(id) => StandingChange::EndsSubscription(*id),
+            _ => StandingChange::Other,
+        }
+    }
+}
 
 /// What comes of an act, by what stands of the connection that asks for it.
 #[derive(Clone, Copy, PartialEq, Eq, Debug)]
@@ -45,62 +50,76 @@ pub enum Admission {
     Refused,
 }
 
-// Takes this waiter out.
-fn drop_waiter(waiters: &mut Vec<WaitId>, ended: WaitId)
-    ensures { waiters.new.items ≡ filter (λ w. not (w == ended)) waiters.old.items }
-{
-    waiters.retain(|waiter| *waiter != ended);
-}
-
-// Takes this subscription out.
-fn drop_subscription(subscriptions: &mut Vec<SubId>, ended: SubId)
-    ensures { subscriptions.new.items ≡ filter (λ s. not (s == ended)) subscriptions.old.items }
-{
-    subscriptions.retain(|made| *made != ended);
-}
-
-/// The waiters and the subscriptions that a connection made. One that is over stands too: it counts for the limits of the tree until it
-/// is cancelled.
+/// The waiters and the subscriptions that a connection made, each in the order made. One that is over stands too: it counts for the
+/// limits of the tree until it is cancelled.
 #[derive(Drop)]
 pub struct Standing {
-    /// The waiters that wait still.
-    pub waiters: Vec<WaitId>,
-    /// The waiters whose release was told.
-    pub released: Vec<WaitId>,
-    pub subscriptions: Vec<SubId>,
+    /// The serials of the waiters that wait still.
+    waiters: ArrayVec<u64, WAITER_LIMIT>,
+    /// The serials of the waiters whose release was told.
+    released: ArrayVec<u64, WAITER_LIMIT>,
+    /// The serials of the subscriptions.
+    subscriptions: ArrayVec<u64, SUBSCRIPTION_LIMIT>,
+}
+
+impl Model for Standing {
+    ghost use Rattle.std.specs.Prelude.{◌+◌, ◌≤◌, length};
+    ghost use Rattle.server_rules.specs.Standing.{Made};
+
+    ghost Value = { Made };
+
+    ghost view = { λ s. record {
+      waiters = s.waiters.items;
+      released = s.released.items;
+      subscriptions = s.subscriptions.items;
+    } };
+
+    ghost invariant = { λ s. length s.waiters.items + length s.released.items ≤ 64 };
+}
+
+// Takes this serial out.
+fn drop_serial<const CAP: usize>(serials: &mut ArrayVec<u64, CAP>, ended: u64)
+    ensures { serials.new.items ≡ without ended serials.old.items }
+{
+    serials.retain(|serial| *serial != ended);
+}
+
+// Takes the first serial out.
+fn take_first<const CAP: usize>(serials: &mut ArrayVec<u64, CAP>) -> Option<u64>
+    ensures first { IfSome result (λ serial. serials.old.items ≡ serial ∷ serials.new.items) }
+    ensures none { IfNone result (serials.old.items ≡ []) }
+    ensures same { IfNone result (serials.new ≡ serials.old) }
+{
+    serials.pop_at(0)
 }
 
 impl Standing {
     /// Nothing stands.
-    pub fn new(alloc: Global) -> Standing
-        ensures waiters { result.waiters.items ≡ [] }
-        ensures released { result.released.items ≡ [] }
-        ensures subscriptions { result.subscriptions.items ≡ [] }
+    pub fn new() -> Standing
+        ensures { result ≡ nothing_made }
     {
         Standing {
-            waiters: Vec::new(alloc),
-            released: Vec::new(alloc),
-            subscriptions: Vec::new(alloc),
+            waiters: ArrayVec::new(),
+            released: ArrayVec::new(),
+            subscriptions: ArrayVec::new(),
         }
     }
 
     /// What comes of an act of this connection, by what stands.
     pub fn admission(&self, act: &Act<Global>) -> Admission
-        ensures { result ≡ admission_of act.now (made_of self.now) }
+        ensures { result ≡ admission_of act.now self.now }
     {
         match act {
             Act::Wait(..) => self.admission_of_waiter(),
-            Act::Subscribe(..) if self.subscriptions.len() >= SUBSCRIPTION_LIMIT => {
-                Admission::Refused
-            }
+            Act::Subscribe(..) if self.subscriptions.is_full() => Admission::Refused,
             _ => Admission::Admitted,
         }
     }
 
     fn admission_of_waiter(&self) -> Admission
-        ensures { result ≡ waiter_admission (made_of self.now) }
+        ensures { result ≡ waiter_admission self.now }
     {
-        if self.waiters.len() < WAITER_LIMIT.saturating_sub(self.released.len()) {
+        if self.waiters.len() + self.released.len() < WAITER_LIMIT {
             Admission::Admitted
         } else if self.released.is_empty() {
             Admission::Refused
@@ -110,127 +129,94 @@ impl Standing {
     }
 
     /// Whether something is still to be told to the connection: a waiter waits, or a subscription stands.
-    pub fn is_waiting(&self) -> bool
-        ensures { result ≡ not (is_nothing_awaited (made_of self.now)) }
+    pub fn is_told_more(&self) -> bool
+        ensures { result ≡ is_told_more self.now }
     {
         !(self.waiters.is_empty() && self.subscriptions.is_empty())
     }
 
-    /// Makes room for one waiter and one subscription more, so that the next one that is made can be noted, and its release too.
-    pub fn make_room(&mut self) -> Result<(), AllocError>
-        ensures { made_of self.new ≡ made_of self.old }
+    /// Notes what the reply to an act says of what it makes or ends.
+    pub fn note_reply(&mut self, change: StandingChange, reply: &Reply<Global>)
+        requires { has_room_for change self.old ≡ true }
+        ensures { self.new ≡ after_reply change reply.now self.old }
     {
-        self.waiters.reserve(1)?;
-        self.released.reserve(self.waiters.len().saturating_add(1))?;
-        self.subscriptions.reserve(1)
-    }
-
-    /// Notes the waiter, or the subscription, that a reply tells of. A growth is refused only where no room was made.
-    pub fn note(&mut self, reply: &Reply<Global>) -> Result<(), AllocError>
-        ensures waiters { OnOk result
-            (self.new.waiters.items ≡ self.old.waiters.items ++ waiters_of reply.now) }
-        ensures subscriptions { OnOk result
-            (self.new.subscriptions.items
-            ≡ self.old.subscriptions.items ++ subscriptions_of reply.now) }
-        ensures released { self.new.released.items ≡ self.old.released.items }
-        ensures refused { OnErr result ((self.new.waiters.items ≡ self.old.waiters.items)
-            × (self.new.subscriptions.items ≡ self.old.subscriptions.items)) }
-    {
-        match reply {
-            Reply::Waiter(id) => self.waiters.push(*id)?,
-            Reply::Subscription(id) => self.subscriptions.push(*id)?,
-            _ => {}
-        }
-        Ok(())
-    }
-
-    /// What has ended stands no more.
-    pub fn forget(&mut self, ending: &Ending)
-        ensures waiters { self.new.waiters.items ≡ waiters_left ending.now self.old.waiters.items }
-        ensures released { self.new.released.items
-            ≡ waiters_left ending.now self.old.released.items }
-        ensures subscriptions { self.new.subscriptions.items
-            ≡ subscriptions_left ending.now self.old.subscriptions.items }
-    {
-        match ending {
-            Ending::Nothing => {}
-            Ending::Waiter(id) => {
-                drop_waiter(&mut self.waiters, *id);
-                drop_waiter(&mut self.released, *id);
+        match change {
+            StandingChange::Other => {}
+            StandingChange::MakesWaiter => {
+                if let Reply::Waiter(id) = reply {
+                    self.waiters.push(id.0);
+                }
             }
-            Ending::Subscription(id) => drop_subscription(&mut self.subscriptions, *id),
+            StandingChange::MakesSubscription => {
+                if let Reply::Subscription(id) = reply {
+                    self.subscriptions.push(id.0);
+                }
+            }
+            StandingChange::EndsWaiter(id) => {
+                if let Reply::Done = reply {
+                    drop_serial(&mut self.waiters, id.0);
+                    drop_serial(&mut self.released, id.0);
+                }
+            }
+            StandingChange::EndsSubscription(id) => {
+                if let Reply::Done = reply {
+                    drop_serial(&mut self.subscriptions, id.0);
+                }
+            }
         }
     }
 
-    /// Whether it is a subscription of this connection.
-    pub fn has_subscription(&self, id: SubId) -> bool
-        ensures yes { IsTrue result → Contains self.now.subscriptions.items id }
-        ensures no { IsFalse result → Contains self.now.subscriptions.items id → ⊥ }
+    /// The release of this waiter of the connection was told: it waits no more.
+    pub fn note_release(&mut self, id: WaitId)
+        requires { is_among id self.old.waiters ≡ true }
+        ensures { self.new ≡ after_release id self.old }
     {
-        self.subscriptions.as_slice().contains(&id)
-    }
-
-    /// The release of this waiter of the connection was told: it waits no more. A growth is refused only where no room was made.
-    pub fn note_release(&mut self, id: WaitId) -> Result<(), AllocError>
-        ensures waiters { OnOk result
-            (self.new.waiters.items ≡ filter (λ w. not (w == id)) self.old.waiters.items) }
-        ensures released { OnOk result
-            (self.new.released.items ≡ self.old.released.items ++ id ∷ []) }
-        ensures subscriptions { self.new.subscriptions.items ≡ self.old.subscriptions.items }
-        ensures refused { OnErr result (made_of self.new ≡ made_of self.old) }
-    {
-        self.released.push(id)?;
-        drop_waiter(&mut self.waiters, id);
-        Ok(())
+        drop_serial(&mut self.waiters, id.0);
+        self.released.push(id.0);
     }
 
     /// Whether it is a waiter of this connection that waits still.
     pub fn has_waiter(&self, id: WaitId) -> bool
-        ensures yes { IsTrue result → Contains self.now.waiters.items id }
-        ensures no { IsFalse result → Contains self.now.waiters.items id → ⊥ }
+        ensures { result ≡ is_among id self.now.waiters }
     {
-        self.waiters.as_slice().contains(&id)
+        self.waiters.iter().any(|other| *other == id.0)
     }
 
-    /// What this ends stands again, since its end could not be handed in. There is room: `take_last` took it out.
-    pub fn restore(&mut self, ending: &Ending) -> Result<(), AllocError>
-        ensures waiters { OnOk result
-            (self.new.waiters.items ≡ self.old.waiters.items ++ waiters_ended ending.now) }
-        ensures subscriptions { OnOk result
-            (self.new.subscriptions.items
-            ≡ self.old.subscriptions.items ++ subscriptions_ended ending.now) }
-        ensures released { self.new.released.items ≡ self.old.released.items }
+    /// Whether it is a subscription of this connection.
+    pub fn has_subscription(&self, id: SubId) -> bool
+        ensures { result ≡ is_among id self.now.subscriptions }
     {
-        match ending {
-            Ending::Waiter(id) => self.waiters.push(*id)?,
-            Ending::Subscription(id) => self.subscriptions.push(*id)?,
-            Ending::Nothing => {}
-        }
-        Ok(())
+        self.subscriptions.iter().any(|other| *other == id.0)
     }
 
-    /// The act that ends the waiter that was told of its release last; None where none was.
-    pub fn take_released(&mut self) -> Option<Act<Global>>
-        ensures { EndsReleased result (made_of self.old) (made_of self.new) }
+    /// Takes out the waiter that was released first; None where none was.
+    pub fn take_released(&mut self) -> Option<WaitId>
+        ensures first { IfSome result (λ id. self.old ≡ record self.new { released = id ∷ self.new.released }) }
+        ensures none { IfNone result (self.old.released ≡ []) }
+        ensures same { IfNone result (self.new ≡ self.old) }
+        ensures room { IfSome result (λ id. has_place self.new ≡ true) }
     {
-        match self.released.pop() {
-            Some(id) => Some(Act::Cancel(id)),
+        match take_first(&mut self.released) {
+            Some(id) => Some(WaitId(id)),
             None => None,
         }
     }
 
-    /// The act that ends what was made last, of the released waiters first, and then of the others; None where nothing stands.
-    pub fn take_last(&mut self) -> Option<Act<Global>>
-        ensures { Ends result (made_of self.old) (made_of self.new) }
+    /// The act that ends what is ended next: the released waiters first, then the others, then the subscriptions, each in the order
+    /// made; None where nothing stands.
+    pub fn take_next(&mut self) -> Option<Act<Global>>
+        ensures act { result ≡ option_map (λ e. e.act) (next_end self.old) }
+        ensures made { IfSome result (λ act. option_map (λ e. e.made) (next_end self.old) ≡ Some self.new) }
+        ensures none { IfNone result (self.new ≡ self.old) }
     {
-        if let Some(act) = self.take_released() {
-            return Some(act);
+        if let Some(id) = take_first(&mut self.released) {
+            return Some(Act::Cancel(WaitId(id)));
         }
-        if let Some(id) = self.waiters.pop() {
-            return Some(Act::Cancel(id));
+        if let Some(id) = take_first(&mut self.waiters) {
+            return Some(Act::Cancel(WaitId(id)));
         }
-        match self.subscriptions.pop() {
-            Some(id) => Some(Act::Unsubscribe(id)),
+        match take_first(&mut self.subscriptions) {
+            Some(id) => Some(Act::Unsubscribe(SubId(id))),
             None => None,
         }
     }

@@ -64,6 +64,8 @@ impl Answers for TableServer {
         let _ = mailbox.post(rt, b"refused Line\n\n");
     }
 
+    fn settle<R: Wait>(&self, _rt: &R, _seat: usize) {}
+
     fn keeps<R: Wait>(&self, _rt: &R, _seat: usize) -> bool {
         false
     }

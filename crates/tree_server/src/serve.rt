@@ -1,21 +1,18 @@
 //! A tree that runs, from its first scan to its end.
-use crate::calls::new_callers;
-use crate::clock::ServerClock;
-use crate::connecting::{end_connections, start_listener};
+use crate::lane::service_lanes::TreeLanes;
 use crate::options::ServeOptions;
-use crate::outcome::Outcome;
-use crate::recorder::{Recorder, create_recorder};
-use crate::scan_desk::ScanDesk;
-use crate::scanning::attend;
-use crate::service_lanes::TreeLanes;
-use crate::shared::Shared;
-use crate::socket::{SocketFile, listen};
+use crate::run::outcome::Outcome;
+use crate::run::recorder::{Recorder, create_recorder};
 use crate::threads::{DriverParts, start_driver, start_lane};
 use child_runner::{Bell, LaneLink, ShellProbe};
 use error_notes::{NoteWriter, Notes};
 use line_server::{Seats, Server};
 use order_lanes::Backend;
 use server_rules::{RowCache, ServeFault, read_listing};
+use server_threads::{
+    ScanDesk, ServerClock, Shared, SocketFile, attend, end_connections, listen, new_callers,
+    start_listener,
+};
 use std::alloc::Global;
 use std::fs::File;
 use std::io::{self, BufWriter, ErrorKind, Write};

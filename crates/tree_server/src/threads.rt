@@ -1,12 +1,12 @@
 //! The threads of a tree, from its first run to its last.
-use crate::outcome::Outcome;
-use crate::recorder::Recorder;
-use crate::runs::run_all;
-use crate::shared::Shared;
+use crate::run::outcome::Outcome;
+use crate::run::recorder::Recorder;
+use crate::run::runs::{Runs, run_all};
 use child_runner::{LaneLink, serve_lane};
 use error_notes::{NoteWriter, Notes};
 use line_server::Server;
 use order_lanes::Backend;
+use server_threads::{Context, Shared};
 use std::alloc::Global;
 use std::io::Write;
 use std::sync::Wait;
@@ -67,16 +67,14 @@ fn drive_all<B: Backend, W: Write + Drop, R: Wait + Clock + Copy + Drop>(
     } = parts;
     let log = NoteWriter::new(rt, notes);
     let mut errors = NoteWriter::new(rt, notes);
-    let done = run_all(
-        rt,
-        server,
-        backends,
-        first,
+    let mut runs = Runs {
+        context: Context { rt, server },
         handover,
-        &mut recorder,
-        &mut errors,
-        &log,
-    );
+        recorder: &mut recorder,
+        errors: &mut errors,
+        log: &log,
+    };
+    let done = run_all(&mut runs, backends, first);
     outcome.note(rt, done);
     server.answers().scans.end(rt);
 }

@@ -1,0 +1,96 @@
+-- Laws of every list of events of a connection.
+use Rattle.std.specs.Prelude.{◌≡◌, ◌≤◌, ℕ, Bool, true, false, List, [], ◌∷◌, ◌++◌, ◌⊎◌, All, length}
+use Rattle.std.specs.List.{Contains, flat_map}
+use Rattle.std.specs.declared.alloc.Global.{Global}
+use Rattle.tree_core.specs.declared.input.Act.{Act}
+use Rattle.server_rules.specs.declared.phase.Errand.{Errand}
+use Rattle.server_rules.specs.declared.phase.Errand.TheVariants as errand
+use Rattle.server_rules.specs.declared.phase.Phase.{Phase}
+use Rattle.server_rules.specs.declared.phase.Phase.TheVariants.{Idle, Stepping, UnderWay, PutOff, LeftStepping, Left, Leaving, Cancelling, Gone}
+use Rattle.server_rules.specs.declared.requests.Request.{Request}
+use Rattle.server_rules.specs.declared.requests.Request.TheVariants.{Step, Status, Scan, Refused}
+use Rattle.server_rules.specs.declared.todo.Answer.{Answer}
+use Rattle.server_rules.specs.declared.todo.Answer.TheVariants as answer
+use Rattle.server_rules.specs.declared.todo.News.{News}
+use Rattle.server_rules.specs.declared.todo.News.TheVariants as news
+use Rattle.server_rules.specs.declared.todo.Todo.{Todo}
+use Rattle.server_rules.specs.declared.todo.Todo.TheVariants.{Nothing, Submit, Give, Tell, Free}
+use Rattle.server_rules.specs.declared.todo.Todo.TheVariants as todo
+use Rattle.server_rules.specs.Connection.{is_here}
+use Rattle.server_rules.specs.Standing.{nothing_made}
+use Rattle.connection_laws.specs.History.{Done, Event, History, Leave, Told, opened, run}
+
+-- what was answered
+abbrev pub answered_by : Todo → List Answer
+answered_by (Give a) = a ∷ []
+answered_by t = []
+
+abbrev pub answers : List Done → List Answer
+answers done = flat_map (λ d. answered_by d.todo) done
+
+-- a step and a scan are answered by their reply, a status by that of the same services, and each may be refused by the server itself
+abbrev pub Answers : Request → Answer → Type 0
+Answers request (answer.Own o) = Unit {0}
+Answers (Step act) answer.TheReply = Unit {0}
+Answers Scan answer.TheReply = Unit {0}
+Answers (Status subject) (answer.Status told) = told ≡ subject
+Answers request a = ⊥
+
+-- the answers are those of the requests, one to one and in order, and these requests are left
+abbrev pub AreAnswered : List Request → List Answer → List Request → Type 0
+AreAnswered requests [] left = requests ≡ left
+AreAnswered [] (a ∷ given) left = ⊥
+AreAnswered (r ∷ requests) (a ∷ given) left = Answers r a × AreAnswered requests given left
+
+-- the requests that are begun and not answered, of one that stands so
+abbrev pub IsStep : Request → Type 0
+IsStep (Step act) = Unit {0}
+IsStep r = ⊥
+
+abbrev pub IsBegunOn : Errand → List Request → Type 0
+IsBegunOn (errand.Step ch) begun = (act : Act Global) × (begun ≡ Step act ∷ [])
+IsBegunOn (errand.Status subject) begun = begun ≡ Status subject ∷ []
+IsBegunOn errand.Scan begun = begun ≡ Scan ∷ []
+IsBegunOn (errand.Replacement act) begun = begun ≡ Step act ∷ []
+
+abbrev pub IsBegun : Phase → List Request → Type 0
+IsBegun Idle begun = begun ≡ []
+IsBegun (Stepping n) begun = (1 ≤ n) × (length begun ≡ n) × All IsStep begun
+IsBegun (UnderWay e) begun = IsBegunOn e begun
+IsBegun (PutOff act) begun = begun ≡ Step act ∷ []
+IsBegun phase begun = Unit {0}
+
+-- the requests that were taken are answered one to one, in the order asked; while the client is there those left are begun, or wait
+pub record Pending (h : History) (left : List Request) : Type 0 where
+  pub begun : List Request
+  pub are : left ≡ begun ++ h.now.asked
+  pub is_begun : IsBegun h.now.phase begun
+
+pub record AnsweredInOrder (h : History) : Type 0 where
+  pub left : List Request
+  pub answered : AreAnswered h.taken (answers h.done) left
+  pub pending : is_here h.now.phase ≡ true → Pending h left
+
+-- after the client left nothing is posted any more
+abbrev pub posted_of : Todo → List Todo
+posted_of (Give a) = Give a ∷ []
+posted_of Tell = Tell ∷ []
+posted_of t = []
+
+abbrev pub posts : List Done → List Todo
+posts done = flat_map (λ d. posted_of d.todo) done
+
+abbrev pub SilentOnceLeft : List Event → List Event → Type 0
+SilentOnceLeft before after = posts (run (before ++ Leave ∷ after) opened).done ≡ posts (run before opened).done
+
+-- news that were told were of what it made
+abbrev pub WasMade : News → History → Type 0
+WasMade (news.Match m) h = Contains h.subscriptions m.subscription
+WasMade (news.Release r) h = Contains h.waiters r.waiter
+
+abbrev pub ToldItsOwn : History → Type 0
+ToldItsOwn h = (n : News) → Contains h.done (record { event = Told n; todo = Tell }) → WasMade n h
+
+-- one that is gone left nothing that stands
+abbrev pub NothingIsLeft : History → Type 0
+NothingIsLeft h = h.now.phase ≡ Gone → h.now.made ≡ nothing_made

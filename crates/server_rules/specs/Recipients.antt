@@ -1,0 +1,88 @@
+-- Who is posted what of a step, and in which order.
+use Rattle.std.specs.Prelude.{ℕ, List, [], ◌∷◌, ◌++◌, slice_get, slice_set, Option, Some, None}
+use Rattle.std.specs.List.{position}
+use Rattle.std.specs.declared.alloc.Global.{Global}
+use Rattle.s6_replay.specs.Transcript.{match_line, release_line, reply_text}
+use Rattle.tree_core.specs.Machine.{Outcome}
+use Rattle.tree_core.specs.declared.effect.Match.{Match}
+use Rattle.tree_core.specs.declared.effect.Release.{Release}
+use Rattle.tree_core.specs.declared.reply.Reply.{Reply}
+use Rattle.server_rules.specs.declared.recipients.Line.TheVariants as line
+use Rattle.server_rules.specs.declared.recipients.Post.{Post}
+use Rattle.server_rules.specs.declared.todo.News.{News}
+use Rattle.server_rules.specs.declared.todo.News.TheVariants as news
+use Rattle.server_rules.specs.declared.todo.Todo.{Todo}
+use Rattle.server_rules.specs.declared.todo.Todo.TheVariants as todo
+use Rattle.server_rules.specs.Connection.{View, Moved, answered_move, is_for, told_move}
+
+-- the connections, by their seats, and what was posted, in order
+pub record Handed : Type 0 where
+  pub connections : List View
+  pub posts : List Post
+
+abbrev pub untouched : List View → Handed
+untouched cs = record { connections = cs; posts = [] }
+
+-- what a connection is posted: an answer, or the news
+abbrev pub posts_of : ℕ → Option News → Todo → List Post
+posts_of seat n (todo.Give answer) = record { seat = seat; line = line.Answer answer } ∷ []
+posts_of seat (Some n) todo.Tell = record { seat = seat; line = line.News n } ∷ []
+posts_of seat n t = []
+
+abbrev pub moved_at : ℕ → Option News → Moved → List View → Handed
+moved_at seat n m cs = record { connections = slice_set cs seat m.next; posts = posts_of seat n m.todo }
+
+-- the reply goes to the connection of this seat
+abbrev pub answer_in : Option View → Reply Global → ℕ → List View → Handed
+answer_in (Some c) reply seat cs = moved_at seat None (answered_move reply c) cs
+answer_in None reply seat cs = untouched cs
+
+abbrev pub answer_at : Reply Global → ℕ → List View → Handed
+answer_at reply seat cs = answer_in (slice_get cs seat) reply seat cs
+
+-- news go to the connection that made what they are of, while its client is there
+abbrev pub tell_in : Option View → News → ℕ → List View → Handed
+tell_in (Some c) n seat cs = moved_at seat (Some n) (told_move n c) cs
+tell_in None n seat cs = untouched cs
+
+abbrev pub tell_at : Option ℕ → News → List View → Handed
+tell_at (Some seat) n cs = tell_in (slice_get cs seat) n seat cs
+tell_at None n cs = untouched cs
+
+abbrev pub tell : News → List View → Handed
+tell n cs = tell_at (position (is_for n) cs) n cs
+
+abbrev pub tell_match : Match → List View → Handed
+tell_match found cs = tell (news.Match found) cs
+
+abbrev pub tell_release : Release → List View → Handed
+tell_release release cs = tell (news.Release release) cs
+
+-- one after the other
+abbrev pub followed_by : Handed → Handed → Handed
+followed_by a b = record { connections = b.connections; posts = a.posts ++ b.posts }
+
+abbrev pub hand_all : {X : Type 0} → (X → List View → Handed) → List X → List View → Handed
+hand_all hand [] cs = untouched cs
+hand_all hand (x ∷ xs) cs = followed_by (hand x cs) (hand_all hand xs (hand x cs).connections)
+
+-- of a step: first the reply to those who asked for it, then its matches, then its releases
+abbrev pub with_answers : List ℕ → Outcome Global → List View → Handed
+with_answers seats o cs = hand_all (answer_at o.reply) seats cs
+
+abbrev pub with_matches : Outcome Global → Handed → Handed
+with_matches o h = followed_by h (hand_all tell_match o.matched h.connections)
+
+abbrev pub with_releases : Outcome Global → Handed → Handed
+with_releases o h = followed_by h (hand_all tell_release o.released h.connections)
+
+abbrev pub handed_out : List ℕ → Outcome Global → List View → Handed
+handed_out seats o cs = with_releases o (with_matches o (with_answers seats o cs))
+
+-- what is posted, each with the empty line behind it
+abbrev pub reply_lines : Reply Global → List ℕ
+reply_lines reply = reply_text reply ++ (10 ∷ 10 ∷ [])
+
+abbrev pub news_lines : News → List ℕ
+news_lines (news.Match found) = match_line found ++ 10 ∷ []
+news_lines (news.Release release) = release_line release ++ 10 ∷ []

@@ -1,0 +1,363 @@
+//! A connection: what it asked, what is under way for it, and what it made. docs/COMMANDS.md has its rules.
+ghost use Rattle.std.specs.Prelude.{◌≡◌, ◌∷◌, [], true, IfSome, IfNone};
+ghost use Rattle.tree_core.specs.declared.input.Act.{Act};
+ghost use Rattle.server_rules.specs.Connection.{View, new_view, answered_move, answered_errand, ask_next, begin_admitted, begin_beside, begin_first, begin_move, begin_request, ends_by, has_room_on, hands_in, is_for, is_ready, is_step_first, steps_in, leave_next, left_unasked, refuse_next_move, refuse_scan_move, told_move};
+ghost use Rattle.server_rules.specs.Standing.{admission_of, has_room_for, is_told_more, next_end};
+ghost use Rattle.server_rules.specs.declared.phase.Errand.TheVariants as errand;
+ghost use Rattle.server_rules.specs.declared.phase.Phase.TheVariants as phase;
+ghost use Rattle.server_rules.specs.declared.requests.Request.TheVariants as request;
+
+use crate::own_answer::OwnAnswer;
+use crate::phase::{Errand, Phase};
+use crate::requests::Request;
+use crate::row_cache::is_recent;
+use crate::standing::{Admission, Standing, StandingChange};
+use crate::status::Subject;
+use crate::todo::{Answer, News, Todo};
+use std::alloc::Global;
+use std::collections::VecDeque;
+use std::marker::Model;
+use std::mem;
+use tree_core::{Act, Reply};
+
+/// How many steps of a connection may be under way together: as many as its ring takes.
+const STEP_LIMIT: usize = 64;
+
+/// A connection. Each of its calls takes one thing that happens, and answers what is to be done.
+#[derive(Drop)]
+pub struct Connection {
+    phase: Phase,
+    /// What it asked and what isn't begun, in the order asked.
+    asked: VecDeque<Request, Global>,
+    standing: Standing,
+}
+
+impl Model for Connection {
+    ghost use Rattle.std.specs.Prelude.{◌≡◌, true};
+    ghost use Rattle.server_rules.specs.Connection.{View, has_room_in};
+
+    ghost Value = { View };
+
+    ghost view = { λ c. record {
+      phase = c.phase;
+      asked = c.asked.items;
+      made = c.standing;
+    } };
+
+    ghost invariant = { λ c. has_room_in c.phase c.standing ≡ true };
+}
+
+impl Connection {
+    /// One that has asked nothing.
+    pub fn new(alloc: Global) -> Connection
+        ensures { result ≡ new_view }
+    {
+        Connection {
+            phase: Phase::Idle,
+            asked: VecDeque::new(alloc),
+            standing: Standing::new(),
+        }
+    }
+
+    /// Takes the requests that have come, in the order asked, if all that it asked before is begun and the client is there. Else they
+    /// stay where they are.
+    pub fn ask(&mut self, coming: &mut Vec<Request>)
+        ensures next { self.new ≡ ask_next coming.old.items self.old }
+        ensures left { coming.new.items ≡ left_unasked coming.old.items self.old }
+    {
+        if self.phase.is_here() && self.asked.is_empty() {
+            let none = Vec::new(*coming.allocator());
+            self.asked = VecDeque::from_vec(mem::replace(coming, none));
+        }
+    }
+
+    /// Begins what comes next, if what is under way allows it. The moments of the last step and of now are in milliseconds.
+    pub fn begin(&mut self, last_step: u64, now: u64) -> Todo
+        ensures next { self.new ≡ (begin_move last_step now self.old).next }
+        ensures todo { result ≡ (begin_move last_step now self.old).todo }
+    {
+        match mem::replace(&mut self.phase, Phase::Gone) {
+            Phase::Idle => {
+                self.phase = Phase::Idle;
+                self.begin_first(last_step, now)
+            }
+            Phase::Stepping(count) => {
+                self.phase = Phase::Stepping(count);
+                self.begin_beside(count)
+            }
+            Phase::PutOff(act) => {
+                self.phase = Phase::UnderWay(Errand::Step(StandingChange::MakesWaiter));
+                Todo::Submit(act)
+            }
+            Phase::Leaving => self.end_next(),
+            phase => {
+                self.phase = phase;
+                Todo::Nothing
+            }
+        }
+    }
+
+    // Begins the request that was asked first.
+    fn begin_first(&mut self, last_step: u64, now: u64) -> Todo
+        ensures next { self.new ≡ (begin_first self.old.asked last_step now self.old).next }
+        ensures todo { result ≡ (begin_first self.old.asked last_step now self.old).todo }
+    {
+        let Some(request) = self.asked.pop_front() else {
+            return Todo::Nothing;
+        };
+        match request {
+            Request::Step(act) => self.begin_step(act),
+            Request::Status(subject) => self.begin_status(subject, last_step, now),
+            Request::Scan => {
+                self.phase = Phase::UnderWay(Errand::Scan);
+                Todo::Scan
+            }
+            Request::Refused(own) => Todo::Give(Answer::Own(own)),
+        }
+    }
+
+    fn begin_step(&mut self, act: Act<Global>) -> Todo
+        ensures next { self.new ≡ (begin_admitted (admission_of act self.old.made) act self.old).next }
+        ensures todo { result ≡ (begin_admitted (admission_of act self.old.made) act self.old).todo }
+    {
+        match self.standing.admission(&act) {
+            Admission::Admitted => self.step_in(StandingChange::of(&act), act),
+            Admission::AfterReleased => match self.standing.take_released() {
+                Some(id) => self.hand_in(Errand::Replacement(act), Act::Cancel(id)),
+                None => Todo::Give(Answer::Own(OwnAnswer::Busy)),
+            },
+            Admission::Refused => Todo::Give(Answer::Own(OwnAnswer::Busy)),
+        }
+    }
+
+    fn step_in(&mut self, change: StandingChange, act: Act<Global>) -> Todo
+        requires { has_room_for change self.old.made ≡ true }
+        ensures next { self.new ≡ (steps_in change 0 act self.old).next }
+        ensures todo { result ≡ (steps_in change 0 act self.old).todo }
+    {
+        if change == StandingChange::Other {
+            self.phase = Phase::Stepping(1);
+            return Todo::Submit(act);
+        }
+        self.hand_in(Errand::Step(change), act)
+    }
+
+    // Begins the next request, if it is a step that changes nothing of what stands, beside so many that are under way.
+    fn begin_beside(&mut self, count: usize) -> Todo
+        requires { self.old.phase ≡ phase.Stepping count }
+        ensures next { self.new ≡ (begin_beside count self.old).next }
+        ensures todo { result ≡ (begin_beside count self.old).todo }
+    {
+        if count >= STEP_LIMIT || !self.is_step_next() {
+            return Todo::Nothing;
+        }
+        let Some(Request::Step(act)) = self.asked.pop_front() else {
+            unreachable!()
+        };
+        self.phase = Phase::Stepping(count + 1);
+        Todo::Submit(act)
+    }
+
+    // Whether the next request is a step that changes nothing of what stands.
+    fn is_step_next(&self) -> bool
+        ensures { result ≡ is_step_first self.now.asked }
+    {
+        match self.asked.front() {
+            Some(Request::Step(act)) => StandingChange::of(act) == StandingChange::Other,
+            _ => false,
+        }
+    }
+
+    fn begin_status(&mut self, subject: Subject, last_step: u64, now: u64) -> Todo
+        ensures next { self.new ≡ (begin_request (request.Status subject) last_step now self.old).next }
+        ensures todo { result ≡ (begin_request (request.Status subject) last_step now self.old).todo }
+    {
+        if is_recent(last_step, now) {
+            return Todo::Give(Answer::Status(subject));
+        }
+        self.hand_in(Errand::Status(subject), Act::Tick)
+    }
+
+    fn hand_in(&mut self, errand: Errand, act: Act<Global>) -> Todo
+        requires { has_room_on errand self.old.made ≡ true }
+        ensures next { self.new ≡ (hands_in errand act self.old).next }
+        ensures todo { result ≡ (hands_in errand act self.old).todo }
+    {
+        self.phase = Phase::UnderWay(errand);
+        Todo::Submit(act)
+    }
+
+    // Ends what it made, one after the other; where nothing stands, it is gone.
+    fn end_next(&mut self) -> Todo
+        ensures next { self.new ≡ (ends_by (next_end self.old.made) self.old).next }
+        ensures todo { result ≡ (ends_by (next_end self.old.made) self.old).todo }
+    {
+        match self.standing.take_next() {
+            Some(act) => {
+                self.phase = Phase::Cancelling;
+                Todo::Submit(act)
+            }
+            None => {
+                self.phase = Phase::Gone;
+                Todo::Free
+            }
+        }
+    }
+
+    /// The step, or the scan, that was under way is answered.
+    pub fn answered(&mut self, reply: &Reply<Global>) -> Todo
+        ensures next { self.new ≡ (answered_move reply.now self.old).next }
+        ensures todo { result ≡ (answered_move reply.now self.old).todo }
+    {
+        match mem::replace(&mut self.phase, Phase::Gone) {
+            Phase::Stepping(count) => {
+                self.phase = if count < 2 {
+                    Phase::Idle
+                } else {
+                    Phase::Stepping(count - 1)
+                };
+                Todo::Give(Answer::TheReply)
+            }
+            Phase::UnderWay(errand) => self.finish(errand, reply),
+            Phase::LeftStepping(count) => {
+                self.phase = if count < 2 {
+                    Phase::Leaving
+                } else {
+                    Phase::LeftStepping(count - 1)
+                };
+                Todo::Nothing
+            }
+            Phase::Left(errand) => {
+                self.phase = Phase::Leaving;
+                if let Errand::Step(change) = &errand {
+                    self.standing.note_reply(*change, reply);
+                }
+                Todo::Nothing
+            }
+            Phase::Cancelling => {
+                self.phase = Phase::Leaving;
+                Todo::Nothing
+            }
+            phase => {
+                self.phase = phase;
+                Todo::Nothing
+            }
+        }
+    }
+
+    fn finish(&mut self, errand: Errand, reply: &Reply<Global>) -> Todo
+        requires { has_room_on errand self.old.made ≡ true }
+        ensures next { self.new ≡ (answered_errand errand reply.now self.old).next }
+        ensures todo { result ≡ (answered_errand errand reply.now self.old).todo }
+    {
+        self.phase = Phase::Idle;
+        match errand {
+            Errand::Step(change) => {
+                self.standing.note_reply(change, reply);
+                Todo::Give(Answer::TheReply)
+            }
+            Errand::Scan => Todo::Give(Answer::TheReply),
+            Errand::Status(subject) => Todo::Give(Answer::Status(subject)),
+            Errand::Replacement(act) => {
+                self.phase = Phase::PutOff(act);
+                Todo::Nothing
+            }
+        }
+    }
+
+    /// The scan that is under way is not made, for this reason.
+    pub fn refuse_scan(&mut self, reason: OwnAnswer) -> Todo
+        ensures next { self.new ≡ (refuse_scan_move reason self.old).next }
+        ensures todo { result ≡ (refuse_scan_move reason self.old).todo }
+    {
+        match self.phase {
+            Phase::UnderWay(Errand::Scan) => {
+                self.phase = Phase::Idle;
+                Todo::Give(Answer::Own(reason))
+            }
+            Phase::Left(Errand::Scan) => {
+                self.phase = Phase::Leaving;
+                Todo::Nothing
+            }
+            _ => Todo::Nothing,
+        }
+    }
+
+    /// No step can be made now, for this reason: the request that was asked first is answered by it, unless something is under way.
+    pub fn refuse_next(&mut self, reason: OwnAnswer) -> Todo
+        ensures next { self.new ≡ (refuse_next_move reason self.old).next }
+        ensures todo { result ≡ (refuse_next_move reason self.old).todo }
+    {
+        if !matches!(self.phase, Phase::Idle) {
+            return Todo::Nothing;
+        }
+        match self.asked.pop_front() {
+            Some(_) => Todo::Give(Answer::Own(reason)),
+            None => Todo::Nothing,
+        }
+    }
+
+    /// Whether the news are of what it made, and it is there to be told.
+    pub fn is_for(&self, news: &News) -> bool
+        ensures { result ≡ is_for news.now self.now }
+    {
+        self.phase.is_here()
+            && match news {
+                News::Match(found) => self.standing.has_subscription(found.subscription),
+                News::Release(release) => self.standing.has_waiter(release.waiter),
+            }
+    }
+
+    /// There are news, of whatever anybody made. A waiter whose release is told waits no more.
+    pub fn told(&mut self, news: &News) -> Todo
+        ensures next { self.new ≡ (told_move news.now self.old).next }
+        ensures todo { result ≡ (told_move news.now self.old).todo }
+    {
+        if !self.is_for(news) {
+            return Todo::Nothing;
+        }
+        if let News::Release(release) = news {
+            self.standing.note_release(release.waiter);
+        }
+        Todo::Tell
+    }
+
+    /// The client leaves. What it asked and what isn't begun is asked no more.
+    pub fn leave(&mut self)
+        ensures { self.new ≡ leave_next self.old }
+    {
+        match mem::replace(&mut self.phase, Phase::Gone) {
+            Phase::Idle | Phase::PutOff(_) => {
+                self.asked.clear();
+                self.phase = Phase::Leaving;
+            }
+            Phase::Stepping(count) => {
+                self.asked.clear();
+                self.phase = Phase::LeftStepping(count);
+            }
+            Phase::UnderWay(errand) => {
+                self.asked.clear();
+                self.phase = Phase::Left(errand);
+            }
+            phase => self.phase = phase,
+        }
+    }
+
+    /// Whether there is something to begin.
+    pub fn is_ready(&self) -> bool
+        ensures { result ≡ is_ready self.now }
+    {
+        match self.phase {
+            Phase::Idle => !self.asked.is_empty(),
+            Phase::PutOff(_) | Phase::Leaving => true,
+            _ => false,
+        }
+    }
+
+    /// Whether something is still to be told to it, though it asks nothing.
+    pub fn is_told_more(&self) -> bool
+        ensures { result ≡ is_told_more self.now.made }
+    {
+        self.standing.is_told_more()
+    }
+}

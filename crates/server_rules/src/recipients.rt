@@ -1,0 +1,159 @@
+//! Who is posted what of a step, and in which order.
+ghost use Rattle.std.specs.Prelude.{◌≡◌, ◌++◌, ◌+◌, ◌≤◌, ◌<◌, length, vec_capacity, OnOk, OnErr};
+ghost use Rattle.std.specs.List.{position};
+ghost use Rattle.tree_core.specs.Effect.{outcome_of};
+ghost use Rattle.server_rules.specs.Connection.{is_for};
+ghost use Rattle.server_rules.specs.Recipients.{answer_at, hand_all, handed_out, posts_of, tell, tell_match, tell_release};
+
+use crate::connection::Connection;
+use crate::todo::{Answer, News, Todo};
+use s6_events::NoMemory;
+use std::alloc::Global;
+use tree_core::{Effect, Match, Release, Reply};
+
+/// What is posted to a connection.
+#[derive(Clone, Copy, PartialEq, Eq, Debug)]
+pub enum Line {
+    Answer(Answer),
+    News(News),
+}
+
+/// What is posted, and to the connection of which seat.
+#[derive(Clone, Copy, PartialEq, Eq, Debug)]
+pub struct Post {
+    pub seat: usize,
+    pub line: Line,
+}
+
+/// Hands a step's result to the connections, by their seats, and adds what is posted, in order: the reply to the connections of these
+/// seats, which asked for it; then its matches and its releases to those that made what they are of. At `NoMemory` nothing was handed out.
+pub fn hand_out(
+    seats: &[usize],
+    effect: &Effect<Global>,
+    connections: &mut Vec<Connection>,
+    posts: &mut Vec<Post>,
+) -> Result<(), NoMemory>
+    ensures connections { OnOk result (connections.new.items
+        ≡ (handed_out seats.now (outcome_of effect.now) connections.old.items).connections) }
+    ensures posts { OnOk result (posts.new.items ≡ posts.old.items
+        ++ (handed_out seats.now (outcome_of effect.now) connections.old.items).posts) }
+    ensures refused { OnErr result ((connections.new ≡ connections.old)
+        × (posts.new.items ≡ posts.old.items)) }
+{
+    let (matched, released) = (effect.matched.as_slice(), effect.released.as_slice());
+    posts.reserve(
+        seats
+            .len()
+            .saturating_add(matched.len().saturating_add(released.len())),
+    )?;
+    answer_all(seats, &effect.reply, connections, posts);
+    tell_matches(matched, connections, posts);
+    tell_releases(released, connections, posts);
+    Ok(())
+}
+
+// The reply goes to the connections of these seats.
+fn answer_all(
+    seats: &[usize],
+    reply: &Reply<Global>,
+    connections: &mut Vec<Connection>,
+    posts: &mut Vec<Post>,
+)
+    requires { length posts.old.items + length seats.now ≤ vec_capacity posts.old }
+    ensures connections { connections.new.items
+        ≡ (hand_all (answer_at reply.now) seats.now connections.old.items).connections }
+    ensures posts { posts.new.items ≡ posts.old.items
+        ++ (hand_all (answer_at reply.now) seats.now connections.old.items).posts }
+    ensures room { vec_capacity posts.new ≡ vec_capacity posts.old }
+    ensures count { length posts.new.items ≤ length posts.old.items + length seats.now }
+{
+    for seat in seats {
+        answer_one(*seat, reply, connections, posts);
+    }
+}
+
+// The reply goes to the connection of this seat.
+fn answer_one(
+    seat: usize,
+    reply: &Reply<Global>,
+    connections: &mut Vec<Connection>,
+    posts: &mut Vec<Post>,
+)
+    requires { length posts.old.items < vec_capacity posts.old }
+    ensures connections { connections.new.items
+        ≡ (answer_at reply.now seat connections.old.items).connections }
+    ensures posts { posts.new.items ≡ posts.old.items
+        ++ (answer_at reply.now seat connections.old.items).posts }
+    ensures room { vec_capacity posts.new ≡ vec_capacity posts.old }
+    ensures count { length posts.new.items ≤ length posts.old.items + 1 }
+{
+    let Some(connection) = connections.get_mut(seat) else {
+        return;
+    };
+    add_post(seat, connection.answered(reply), None, posts);
+}
+
+fn tell_matches(matched: &[Match], connections: &mut Vec<Connection>, posts: &mut Vec<Post>)
+    requires { length posts.old.items + length matched.now ≤ vec_capacity posts.old }
+    ensures connections { connections.new.items
+        ≡ (hand_all tell_match matched.now connections.old.items).connections }
+    ensures posts { posts.new.items ≡ posts.old.items
+        ++ (hand_all tell_match matched.now connections.old.items).posts }
+    ensures room { vec_capacity posts.new ≡ vec_capacity posts.old }
+    ensures count { length posts.new.items ≤ length posts.old.items + length matched.now }
+{
+    for found in matched {
+        tell_one(News::Match(*found), connections, posts);
+    }
+}
+
+fn tell_releases(released: &[Release], connections: &mut Vec<Connection>, posts: &mut Vec<Post>)
+    requires { length posts.old.items + length released.now ≤ vec_capacity posts.old }
+    ensures connections { connections.new.items
+        ≡ (hand_all tell_release released.now connections.old.items).connections }
+    ensures posts { posts.new.items ≡ posts.old.items
+        ++ (hand_all tell_release released.now connections.old.items).posts }
+{
+    for release in released {
+        tell_one(News::Release(*release), connections, posts);
+    }
+}
+
+// News go to the connection that made what they are of.
+fn tell_one(news: News, connections: &mut Vec<Connection>, posts: &mut Vec<Post>)
+    requires { length posts.old.items < vec_capacity posts.old }
+    ensures connections { connections.new.items ≡ (tell news connections.old.items).connections }
+    ensures posts { posts.new.items ≡ posts.old.items ++ (tell news connections.old.items).posts }
+    ensures room { vec_capacity posts.new ≡ vec_capacity posts.old }
+    ensures count { length posts.new.items ≤ length posts.old.items + 1 }
+{
+    let Some(seat) = maker_of(connections, &news) else {
+        return;
+    };
+    let Some(connection) = connections.get_mut(seat) else {
+        return;
+    };
+    add_post(seat, connection.told(&news), Some(news), posts);
+}
+
+// The seat of the connection that made what the news are of, while its client is there.
+fn maker_of(connections: &[Connection], news: &News) -> Option<usize>
+    ensures { result ≡ position (is_for news.now) connections.now }
+{
+    connections.iter().position(|one| one.is_for(news))
+}
+
+// Adds what a connection is posted: an answer, or the news.
+fn add_post(seat: usize, todo: Todo, news: Option<News>, posts: &mut Vec<Post>)
+    requires { length posts.old.items < vec_capacity posts.old }
+    ensures posts { posts.new.items ≡ posts.old.items ++ posts_of seat news todo }
+    ensures room { vec_capacity posts.new ≡ vec_capacity posts.old }
+    ensures count { length posts.new.items ≤ length posts.old.items + 1 }
+{
+    let line = match (todo, news) {
+        (Todo::Give(answer), _) => Line::Answer(answer),
+        (Todo::Tell, Some(news)) => Line::News(news),
+        _ => return,
+    };
+    posts.push_reserved(Post { seat, line });
+}

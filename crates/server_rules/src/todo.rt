@@ -1,0 +1,41 @@
+//! What is to be done for a connection.
+use crate::own_answer::OwnAnswer;
+use crate::status::Subject;
+use std::alloc::Global;
+use tree_core::{Act, Match, Release};
+
+/// What answers a request.
+#[derive(Clone, Copy, PartialEq, Eq, Debug)]
+pub enum Answer {
+    /// The reply to the step, or to the scan, that was under way.
+    TheReply,
+    /// The status of these services.
+    Status(Subject),
+    /// An answer of the server's own.
+    Own(OwnAnswer),
+}
+
+/// What is told of a step to the connection that made what it is of.
+#[derive(Clone, Copy, PartialEq, Eq, Debug)]
+pub enum News {
+    /// A message matched a subscription.
+    Match(Match),
+    /// A waiter was released.
+    Release(Release),
+}
+
+/// What is to be done for a connection.
+#[derive(Drop)]
+pub enum Todo {
+    Nothing,
+    /// A step with this act is handed in.
+    Submit(Act<Global>),
+    /// The directory is read, and a scan handed in.
+    Scan,
+    /// This is posted: the request that was asked first is answered.
+    Give(Answer),
+    /// The news are posted.
+    Tell,
+    /// Its seat is free.
+    Free,
+}

@@ -1,0 +1,48 @@
+-- What the threads of a running tree share may be shared.
+use denote.Struct.Declared.{shape}
+use denote.Struct.Field.{u64-field, bool-field}
+use denote.Param.Send.{IsSend, IsSync, recorded_send, struct_send, sendable}
+use Rattle.std.proofs.Crossing.{crosses}
+use Rattle.std.proofs.option.Option.TheSendSync as option
+use Rattle.event_directory.proofs.Crosses.{pattern_send}
+use Rattle.child_runner.proofs.bell.Bell.TheSendSync as bell
+use Rattle.child_runner.specs.contracts.bell.Bell as Bell
+use Rattle.line_server.proofs.server.Server.TheSendSync as server
+use Rattle.line_server.specs.contracts.server.Server as Server
+use Rattle.server_rules.specs.contracts.requests.Request as Request
+use Rattle.server_threads.specs.contracts.caller.Caller as Caller
+use Rattle.server_threads.specs.contracts.caller.Turn as Turn
+use Rattle.server_threads.specs.contracts.scan_desk.ScanDesk as ScanDesk
+use Rattle.server_threads.specs.contracts.shared.Shared as Shared
+
+number_send : IsSend u64-field.row
+number_send = search sendable
+
+flag_send : IsSend bool-field.row
+flag_send = search sendable
+
+bell_sync : IsSync Bell.the_row
+bell_sync = search (bell.the_sync, crosses, sendable) depth 60 fits 20000
+
+request_send : IsSend Request.the_row
+request_send = search (pattern_send, option.the_field_send, crosses, sendable) depth 60 fits 20000
+
+turn_send : IsSend Turn.the_row
+turn_send =
+    let T = Turn.the_type in
+    recorded_send _ _ _ T.to_one (struct_send (shape T) (
+      search (request_send, crosses, sendable) depth 60 fits 20000,
+      (number_send, (flag_send, (flag_send, (flag_send, (flag_send, tt))))),
+    ))
+
+caller_sync : IsSync Caller.the_row
+caller_sync = search (turn_send, crosses, sendable) depth 60 fits 20000
+
+desk_sync : IsSync ScanDesk.the_row
+desk_sync = search (option.the_field_send, crosses, sendable) depth 60 fits 20000
+
+pub shared_sync : IsSync Shared.the_row
+shared_sync = search (caller_sync, crosses, sendable) depth 60 fits 20000
+
+pub server_sync : IsSync (Server.the_row Shared.the_row)
+server_sync = search (shared_sync, server.the_sync, crosses, sendable) depth 60 fits 20000

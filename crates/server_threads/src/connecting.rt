@@ -1,0 +1,49 @@
+//! The thread that accepts connections, and their end.
+use crate::shared::Shared;
+use line_server::{SEAT_COUNT, Server, serve as serve_lines};
+use std::net::Shutdown;
+use std::sync::Wait;
+use std::thread::{Builder, Scope, Threads};
+use std::time::{Clock, Duration};
+
+/// The stack of the thread that accepts connections, in bytes.
+const LISTENER_STACK: usize = 1024 * 1024;
+
+/// How long a connection may take to read what was posted to it before the end, in milliseconds.
+const END_WAIT: u64 = 1000;
+
+/// Starts the thread that accepts connections. Whether it runs.
+pub fn start_listener<'s, S, R: Threads + Wait + Clock + Sync>(
+    scope: &Scope<'s, S>,
+    rt: &'s R,
+    server: &'s Server<Shared>,
+) -> bool {
+    Builder::new()
+        .stack_size(LISTENER_STACK)
+        .spawn_scoped(scope, move || serve_all(rt, server))
+        .is_ok()
+}
+
+// Serves connections until the server ends.
+fn serve_all<R: Threads + Wait + Clock + Sync>(rt: &R, server: &Server<Shared>) {
+    serve_lines(rt, server);
+}
+
+/// Answers nothing more, and ends the server. No connection is read any more; what was posted is still written, to those that read it
+/// in time.
+pub fn end_connections<R: Wait + Clock>(rt: &R, server: &Server<Shared>) {
+    let callers = &server.answers().callers;
+    for caller in callers {
+        caller.end(rt);
+    }
+    for seat in 0..SEAT_COUNT {
+        if let Some(mailbox) = server.mailbox(rt, seat) {
+            mailbox.close(rt);
+            let _ = mailbox.stream().shutdown(Shutdown::Read);
+        }
+    }
+    for caller in callers {
+        caller.await_nobody(rt, Duration::from_millis(END_WAIT));
+    }
+    server.end(rt);
+}

@@ -1,0 +1,50 @@
+//! What every part of a running tree works with.
+use crate::caller::Caller;
+use crate::shared::Shared;
+use line_server::Server;
+use std::alloc::{AllocError, Global};
+use std::sync::Wait;
+
+/// The threads and clocks of the system, and the server whose connections are answered.
+#[derive(Drop)]
+pub struct Context<'a, R> {
+    pub rt: &'a R,
+    pub server: &'a Server<Shared>,
+}
+
+impl<'a, R: Wait> Context<'a, R> {
+    /// What all threads share.
+    pub fn shared(&self) -> &'a Shared {
+        self.server.answers()
+    }
+
+    pub fn alloc(&self) -> Global {
+        self.server.answers().alloc
+    }
+
+    /// What the connection on this seat asks.
+    pub fn caller(&self, seat: usize) -> Option<&'a Caller> {
+        self.server.answers().callers.get(seat)
+    }
+
+    /// Posts a text to the connection on this seat; it is written once that is woken. Where there is no memory for it the connection is
+    /// ended, since its texts could not be whole any more.
+    pub fn post(&self, seat: usize, text: Result<&[u8], AllocError>) {
+        let Some(mailbox) = self.server.mailbox(self.rt, seat) else {
+            return;
+        };
+        match text {
+            Ok(text) => {
+                let _ = mailbox.add(self.rt, text);
+            }
+            Err(_) => mailbox.end(self.rt),
+        }
+    }
+
+    /// Has all written that was posted to the connection on this seat.
+    pub fn wake(&self, seat: usize) {
+        if let Some(mailbox) = self.server.mailbox(self.rt, seat) {
+            mailbox.wake();
+        }
+    }
+}

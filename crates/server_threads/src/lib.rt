@@ -1,0 +1,21 @@
+//! The threads of a running tree that wait for the world: those of its connections, and the one that reads the scan directory. What they
+//! share with the thread that drives the tree, and the socket.
+#![tactic(auto)]
+
+mod caller;
+mod clock;
+mod connecting;
+mod context;
+mod scan_desk;
+mod scanning;
+mod shared;
+mod socket;
+
+pub use caller::{Caller, new_callers};
+pub use clock::{ServerClock, moment_of};
+pub use connecting::{end_connections, start_listener};
+pub use context::Context;
+pub use scan_desk::{ReadScan, ScanDesk};
+pub use scanning::attend;
+pub use shared::Shared;
+pub use socket::{SocketFile, listen};

@@ -1,0 +1,127 @@
+//! What the threads of a running tree share, from its first run to its last.
+use crate::caller::Caller;
+use crate::clock::ServerClock;
+use crate::scan_desk::ScanDesk;
+use child_runner::Bell;
+use line_server::{Answers, Mailbox, Next};
+use server_rules::{OwnAnswer, Request, RowCache, Subject, client_actor, read_request};
+use std::alloc::Global;
+use std::sync::Wait;
+use std::time::Clock;
+
+/// What the threads of a running tree share, from its first run to its last.
+#[derive(Drop)]
+pub struct Shared {
+    pub alloc: Global,
+    pub clock: ServerClock,
+    /// What each connection asks, by its seat.
+    pub callers: Vec<Caller>,
+    pub scans: ScanDesk,
+    pub rows: RowCache,
+    /// Rings where something was asked or read, and where a lane has a report, or room for orders again.
+    pub driver: Bell,
+}
+
+impl Answers for Shared {
+    fn answer<R: Wait + Clock>(&self, rt: &R, seat: usize, line: &[u8], mailbox: &Mailbox) -> Next {
+        let (Some(caller), Some(actor)) = (self.callers.get(seat), client_actor(seat)) else {
+            return Next::Close;
+        };
+        let request = read_request(self.alloc, actor, line);
+        if !self.is_answered_at_once(rt, caller, &request, mailbox) {
+            self.ask(rt, caller, request, mailbox);
+        }
+        Next::GoOn
+    }
+
+    fn settle<R: Wait>(&self, rt: &R, seat: usize) {
+        if let Some(caller) = self.callers.get(seat) {
+            self.await_answers(rt, caller);
+        }
+    }
+
+    fn refuse_long_line<R: Wait>(&self, rt: &R, seat: usize, mailbox: &Mailbox) {
+        self.settle(rt, seat);
+        let _ = mailbox.post(rt, OwnAnswer::Line.text());
+    }
+
+    fn keeps<R: Wait>(&self, rt: &R, seat: usize) -> bool {
+        match self.callers.get(seat) {
+            Some(caller) => caller.is_kept(rt),
+            None => false,
+        }
+    }
+
+    fn leave<R: Wait>(&self, rt: &R, seat: usize) {
+        if let Some(caller) = self.callers.get(seat) {
+            caller.leave(rt);
+            self.driver.ring(rt);
+            caller.await_end(rt);
+        }
+    }
+}
+
+impl Shared {
+    // Answers a request for which the thread that drives isn't needed: a status of rows that are fresh, or one that is refused. Not while
+    // an earlier one is not answered.
+    fn is_answered_at_once<R: Wait + Clock>(
+        &self,
+        rt: &R,
+        caller: &Caller,
+        request: &Request,
+        mailbox: &Mailbox,
+    ) -> bool {
+        if !caller.is_answered(rt) {
+            return false;
+        }
+        match request {
+            Request::Status(subject) => self.is_status_told(rt, caller, subject, mailbox),
+            Request::Refused(reason) => {
+                caller.note_here(rt);
+                let _ = mailbox.post(rt, reason.text());
+                true
+            }
+            Request::Scan | Request::Step(_) => false,
+        }
+    }
+
+    // Tells a status from the rows that were last read. False where they are not fresh.
+    fn is_status_told<R: Wait + Clock>(
+        &self,
+        rt: &R,
+        caller: &Caller,
+        subject: &Subject,
+        mailbox: &Mailbox,
+    ) -> bool {
+        let now = self.clock.millis(rt);
+        let Some(text) = self.rows.status(rt, self.alloc, now, subject) else {
+            return false;
+        };
+        caller.note_here(rt);
+        let _ = match text {
+            Ok(text) => mailbox.post(rt, text.as_slice()),
+            Err(_) => mailbox.post(rt, OwnAnswer::NoMemory.text()),
+        };
+        true
+    }
+
+    // Asks the thread that drives. Where it has been asked as much as may wait, all of that is answered first.
+    fn ask<R: Wait>(&self, rt: &R, caller: &Caller, request: Request, mailbox: &Mailbox) {
+        match caller.ask(rt, request) {
+            Ok(true) => {}
+            Ok(false) => self.await_answers(rt, caller),
+            Err(_) => {
+                self.await_answers(rt, caller);
+                let _ = mailbox.post(rt, OwnAnswer::NoMemory.text());
+            }
+        }
+    }
+
+    // Wakes the thread that drives, and waits until all that was asked is answered.
+    fn await_answers<R: Wait>(&self, rt: &R, caller: &Caller) {
+        if !caller.is_answered(rt) {
+            self.driver.ring(rt);
+            caller.await_answers(rt);
+        }
+    }
+}

@@ -1,0 +1,4 @@
+//! Connections: what they ask, and what they are posted.
+pub mod delivery;
+pub mod posting;
+pub mod serving;
