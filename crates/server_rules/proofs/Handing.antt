@@ -1,5 +1,5 @@
 -- What was handed out after one more.
-use Rattle.std.proofs.Common.{rules, refl, sym, ap, ◌∙◌, ◌≡◌, ◌<◌, ◌+◌, ◌++◌, [], ◌∷◌, ℕ, zero, suc, List, append_assoc, arith, length, take, slice_index_or}
+use Rattle.std.proofs.Common.{rules, sym, ap, ◌∙◌, ◌≡◌, ◌<◌, ◌+◌, ◌++◌, [], ◌∷◌, ℕ, zero, suc, List, append_assoc, arith, length, take, slice_index_or}
 use Rattle.std.proofs.lemmas.List.{append-nil}
 use Rattle.server_rules.specs.declared.recipients.Post.{Post}
 use Rattle.server_rules.specs.Connection.{View}

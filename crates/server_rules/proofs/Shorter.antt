@@ -2,8 +2,6 @@
 use Rattle.std.proofs.Common.{rules, refl, subst, ◌&&◌, ◌≡◌, ◌==◌, ◌<◌, ◌≤◌, ◌+◌, ◌||◌, ℕ, suc, List, [], ◌∷◌, ◌++◌, Bool, true, false, not, length, cond, arith}
 use Rattle.std.proofs.lemmas.Bool.{ltb-true, lt-ltb}
 use Rattle.std.proofs.lemmas.List.{length-append}
-use Rattle.std.specs.declared.alloc.Global.{Global}
-use Rattle.tree_core.specs.declared.input.Act.{Act}
 use Rattle.server_rules.specs.declared.phase.Errand.{Errand}
 use Rattle.server_rules.specs.declared.phase.Errand.TheVariants as errand
 use Rattle.server_rules.specs.declared.phase.Phase.{Phase}

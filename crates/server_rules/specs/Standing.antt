@@ -2,8 +2,6 @@
 use Rattle.std.specs.Prelude.{ℕ, ◌+◌, ◌==◌, ◌&&◌, List, [], ◌∷◌, ◌++◌, Bool, true, filter, length, not, nat_lt, Option, Some, None, if◌then◌else◌}
 use Rattle.std.specs.List.{list_any}
 use Rattle.std.specs.declared.alloc.Global.{Global}
-use Rattle.s6_events.specs.declared.ids.WaitId.{WaitId}
-use Rattle.s6_events.specs.declared.ids.SubId.{SubId}
 use Rattle.tree_core.specs.declared.input.Act.{Act}
 use Rattle.tree_core.specs.declared.input.Act.TheVariants.{Cancel, Subscribe, Unsubscribe, Wait}
 use Rattle.tree_core.specs.declared.reply.Reply.{Reply}

@@ -1,4 +1,4 @@
-use Rattle.std.proofs.Common.{rules, sym, ◌∙◌, arith}
+use Rattle.std.proofs.Common.{◌∙◌, arith}
 use Rattle.server_rules.specs.Recipients.{answer_at}
 use Rattle.server_rules.proofs.Handing.{more}
 use Rattle.server_rules.proofs.recipients.answer_all.Goals as goal

@@ -1,4 +1,4 @@
-use Rattle.std.proofs.Common.{rules, refl, sym, ap, ◌∙◌, ◌≡◌, ◌++◌, slice_get, Some, None}
+use Rattle.std.proofs.Common.{rules, refl, sym, ap, ◌∙◌, ◌++◌, None}
 use Rattle.std.proofs.lemmas.List.{append-nil}
 use Rattle.std.proofs.lemmas.Option.{slice_get_past, slice_get_read}
 use Rattle.server_rules.specs.Recipients.{posts_of}

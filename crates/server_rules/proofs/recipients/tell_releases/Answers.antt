@@ -1,4 +1,4 @@
-use Rattle.std.proofs.Common.{rules, sym, ◌∙◌, arith}
+use Rattle.std.proofs.Common.{sym, ◌∙◌, arith}
 use Rattle.server_rules.specs.Recipients.{tell_release}
 use Rattle.server_rules.proofs.Handing.{more}
 use Rattle.server_rules.proofs.recipients.tell_releases.Goals as goal

@@ -1,4 +1,4 @@
-use Rattle.std.proofs.Common.{rules, sym, subst, ◌∙◌, ◌≡◌, true}
+use Rattle.std.proofs.Common.{sym, subst, ◌∙◌, ◌≡◌, true}
 use Rattle.server_rules.specs.Connection.{View}
 use Rattle.server_rules.specs.Standing.{is_among}
 use Rattle.server_rules.proofs.Shorter.{room_stays, told_stands}

@@ -1,4 +1,3 @@
-use Rattle.std.proofs.Common.{rules}
 use Rattle.server_rules.proofs.Shorter.{ended_fits}
 use Rattle.server_rules.proofs.standing.Standing.note_reply.Goals as goal
 

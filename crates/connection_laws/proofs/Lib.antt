@@ -1,0 +1,3 @@
+pub mod Away
+pub mod InOrder
+pub mod Silence

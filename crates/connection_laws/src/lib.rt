@@ -1,0 +1,18 @@
+//! Laws of every list of events of a connection. Each is the contract of a function that does nothing, so that its statement is proved; it is
+//! proved of the chart in `server_rules`, which each call of `Connection` cites.
+#![tactic(auto)]
+
+ghost use Rattle.std.specs.Prelude.{List};
+ghost use Rattle.connection_laws.specs.History.{Event, opened, run};
+ghost use Rattle.connection_laws.specs.Laws.{AnsweredInOrder, SilentOnceLeft};
+
+/// Each request that a connection took is answered once, in the order asked, whatever comes between; while its client is there, those that
+/// are not answered are begun, or wait.
+pub fn answered_in_order()
+    ensures { (events : List Event) → AnsweredInOrder (run events opened) }
+{}
+
+/// Once the client has left nothing is posted to it any more.
+pub fn silent_once_left()
+    ensures { (before : List Event) → (after : List Event) → SilentOnceLeft before after }
+{}
