@@ -1,14 +1,11 @@
 -- A client that is no more there asks nothing, and nothing is posted to it.
 use Rattle.std.proofs.Common.{rules, refl, ◌≡◌, [], ◌∷◌, ℕ, List, Bool, true, false, nat_lt, if◌then◌else◌}
-use Rattle.std.specs.declared.alloc.Global.{Global}
-use Rattle.tree_core.specs.declared.reply.Reply.{Reply}
 use Rattle.server_rules.specs.declared.phase.Errand.{Errand}
 use Rattle.server_rules.specs.declared.phase.Errand.TheVariants as errand
 use Rattle.server_rules.specs.declared.phase.Phase.{Phase}
 use Rattle.server_rules.specs.declared.phase.Phase.TheVariants.{Idle, Stepping, UnderWay, PutOff, LeftStepping, Left, Leaving, Cancelling, Gone}
 use Rattle.server_rules.specs.declared.requests.Request.{Request}
-use Rattle.server_rules.specs.declared.todo.Todo.TheVariants as todo
-use Rattle.server_rules.specs.Connection.{View, Moved, ends_by, fewer, is_here}
+use Rattle.server_rules.specs.Connection.{View, Moved, ends_by, is_here}
 use Rattle.server_rules.specs.Standing.{Made, next_ended}
 use Rattle.connection_laws.specs.History.{Event, Ask, Begin, Answered, RefuseScan, RefuseNext, Told, Leave, moved_by, taken_by}
 use Rattle.connection_laws.specs.Laws.{posted_of}

@@ -1,5 +1,5 @@
 -- Each event keeps that requests are answered in order.
-use Rattle.std.proofs.Common.{rules, arith, refl, sym, ap, subst, ◌∙◌, ◌≡◌, ◌≤◌, ◌+◌, ◌-◌, ◌++◌, [], ◌∷◌, ℕ, suc, List, Bool, true, false, All, append_assoc, length, nat_lt, if◌then◌else◌}
+use Rattle.std.proofs.Common.{rules, arith, refl, sym, ap, subst, ◌∙◌, ◌≡◌, ◌≤◌, ◌-◌, ◌++◌, [], ◌∷◌, ℕ, suc, List, Bool, true, false, All, append_assoc, length, nat_lt, if◌then◌else◌}
 use Rattle.std.proofs.lemmas.Bool.{ltb-true, ltb-false}
 use Rattle.std.proofs.lemmas.Grind.{flat_map-append}
 use Rattle.std.proofs.lemmas.List.{append-nil, length-append}
@@ -26,7 +26,7 @@ use Rattle.server_rules.specs.declared.todo.Answer.TheVariants as answer
 use Rattle.server_rules.specs.declared.todo.News.{News}
 use Rattle.server_rules.specs.declared.todo.Todo.{Todo}
 use Rattle.server_rules.specs.declared.todo.Todo.TheVariants as todo
-use Rattle.server_rules.specs.Connection.{View, Moved, answers_by, begin_admitted, begin_beside, begin_next, begin_request, fewer, hands_in, is_for, is_here, joins, replaces, stays, step_limit, steps_in, told_move}
+use Rattle.server_rules.specs.Connection.{View, Moved, answers_by, begin_admitted, begin_next, fewer, hands_in, is_for, is_here, joins, replaces, stays, step_limit, steps_in}
 use Rattle.server_rules.specs.Standing.{Made, admission_of, change_of}
 use Rattle.server_rules.specs.Status.{is_recent}
 use Rattle.connection_laws.specs.History.{Done, Event, Ask, Begin, Answered, RefuseScan, RefuseNext, Told, Leave, History, happens, moved_by, opened, run, taken_by}

@@ -1,3 +1,4 @@
 pub mod Away
 pub mod InOrder
 pub mod Silence
+pub mod Telling

@@ -1,8 +1,7 @@
 -- After a client left nothing is posted.
-use Rattle.std.proofs.Common.{rules, refl, ap, ◌∙◌, ◌≡◌, ◌++◌, [], ◌∷◌, List, false}
+use Rattle.std.proofs.Common.{refl, ap, ◌∙◌, ◌≡◌, ◌++◌, [], ◌∷◌, List, false}
 use Rattle.std.proofs.lemmas.List.{append-nil}
 use Rattle.std.proofs.lemmas.Grind.{flat_map-append}
-use Rattle.std.specs.declared.alloc.Global.{Global}
 use Rattle.server_rules.specs.declared.phase.Phase.{Phase}
 use Rattle.server_rules.specs.declared.phase.Phase.TheVariants.{Idle, Stepping, UnderWay, PutOff, LeftStepping, Left, Leaving, Cancelling, Gone}
 use Rattle.server_rules.specs.declared.requests.Request.{Request}

@@ -1,23 +1,22 @@
 -- Laws of every list of events of a connection.
-use Rattle.std.specs.Prelude.{◌≡◌, ◌≤◌, ℕ, Bool, true, false, List, [], ◌∷◌, ◌++◌, ◌⊎◌, All, length}
+use Rattle.std.specs.Prelude.{◌≡◌, ◌≤◌, Bool, true, List, [], ◌∷◌, ◌++◌, All, length}
 use Rattle.std.specs.List.{Contains, flat_map}
 use Rattle.std.specs.declared.alloc.Global.{Global}
 use Rattle.tree_core.specs.declared.input.Act.{Act}
 use Rattle.server_rules.specs.declared.phase.Errand.{Errand}
 use Rattle.server_rules.specs.declared.phase.Errand.TheVariants as errand
 use Rattle.server_rules.specs.declared.phase.Phase.{Phase}
-use Rattle.server_rules.specs.declared.phase.Phase.TheVariants.{Idle, Stepping, UnderWay, PutOff, LeftStepping, Left, Leaving, Cancelling, Gone}
+use Rattle.server_rules.specs.declared.phase.Phase.TheVariants.{Idle, Stepping, UnderWay, PutOff}
 use Rattle.server_rules.specs.declared.requests.Request.{Request}
-use Rattle.server_rules.specs.declared.requests.Request.TheVariants.{Step, Status, Scan, Refused}
+use Rattle.server_rules.specs.declared.requests.Request.TheVariants.{Step, Status, Scan}
 use Rattle.server_rules.specs.declared.todo.Answer.{Answer}
 use Rattle.server_rules.specs.declared.todo.Answer.TheVariants as answer
 use Rattle.server_rules.specs.declared.todo.News.{News}
 use Rattle.server_rules.specs.declared.todo.News.TheVariants as news
 use Rattle.server_rules.specs.declared.todo.Todo.{Todo}
-use Rattle.server_rules.specs.declared.todo.Todo.TheVariants.{Nothing, Submit, Give, Tell, Free}
-use Rattle.server_rules.specs.declared.todo.Todo.TheVariants as todo
+use Rattle.server_rules.specs.declared.todo.Todo.TheVariants.{Give, Tell}
 use Rattle.server_rules.specs.Connection.{is_here}
-use Rattle.server_rules.specs.Standing.{nothing_made}
+use Rattle.server_rules.specs.Standing.{is_among}
 use Rattle.connection_laws.specs.History.{Done, Event, History, Leave, Told, opened, run}
 
 -- what was answered
@@ -84,13 +83,9 @@ abbrev pub SilentOnceLeft : List Event → List Event → Type 0
 SilentOnceLeft before after = posts (run (before ++ Leave ∷ after) opened).done ≡ posts (run before opened).done
 
 -- news that were told were of what it made
-abbrev pub WasMade : News → History → Type 0
-WasMade (news.Match m) h = Contains h.subscriptions m.subscription
-WasMade (news.Release r) h = Contains h.waiters r.waiter
+abbrev pub was_made : News → History → Bool
+was_made (news.Match m) h = is_among m.subscription h.subscriptions
+was_made (news.Release r) h = is_among r.waiter h.waiters
 
 abbrev pub ToldItsOwn : History → Type 0
-ToldItsOwn h = (n : News) → Contains h.done (record { event = Told n; todo = Tell }) → WasMade n h
-
--- one that is gone left nothing that stands
-abbrev pub NothingIsLeft : History → Type 0
-NothingIsLeft h = h.now.phase ≡ Gone → h.now.made ≡ nothing_made
+ToldItsOwn h = (n : News) → Contains h.done (record { event = Told n; todo = Tell }) → was_made n h ≡ true

@@ -4,7 +4,7 @@
 
 ghost use Rattle.std.specs.Prelude.{List};
 ghost use Rattle.connection_laws.specs.History.{Event, opened, run};
-ghost use Rattle.connection_laws.specs.Laws.{AnsweredInOrder, SilentOnceLeft};
+ghost use Rattle.connection_laws.specs.Laws.{AnsweredInOrder, SilentOnceLeft, ToldItsOwn};
 
 /// Each request that a connection took is answered once, in the order asked, whatever comes between; while its client is there, those that
 /// are not answered are begun, or wait.
@@ -15,4 +15,9 @@ pub fn answered_in_order()
 /// Once the client has left nothing is posted to it any more.
 pub fn silent_once_left()
     ensures { (before : List Event) → (after : List Event) → SilentOnceLeft before after }
+{}
+
+/// News that a connection was told are of a waiter or a subscription that it made.
+pub fn told_its_own()
+    ensures { (events : List Event) → ToldItsOwn (run events opened) }
 {}

@@ -17,6 +17,13 @@ soon has_replies waiter 3
 tail -n 2 "$root/waiter.out"
 whether 'a long line ends its connection' soon has_ended "$client_waiter"
 close waiter
+
+# Many requests that are sent at once, each answered in its place; a waiter that holds is released before the next reply.
+for number in $(seq 200); do
+    printf '%s\n' 'tally web' 'svc nobody d' 'wait u a 0 web' 'permafailon web 1 1 0' 'cancel 99999'
+done >"$root/batch"
+say 'many at once' "$(connect <"$root/batch" | sed '/^$/d; s/^tally.*/tally/; s/ [0-9][0-9]*/ N/g' |
+    paste -d , - - - - - - | sort | uniq -c | sed 's/^ *//' | joined)"
 printf 'svc web d' >"$root/half"
 whether 'half a line ends' ends_after "$root/half"
 tell svstat -o up,wantedup web
