@@ -6,7 +6,7 @@ use Rattle.tree_core.specs.declared.input.Act.{Act}
 use Rattle.server_rules.specs.declared.phase.Errand.{Errand}
 use Rattle.server_rules.specs.declared.phase.Errand.TheVariants as errand
 use Rattle.server_rules.specs.declared.phase.Phase.{Phase}
-use Rattle.server_rules.specs.declared.phase.Phase.TheVariants.{Idle, Stepping, UnderWay, PutOff}
+use Rattle.server_rules.specs.declared.phase.Phase.TheVariants.{Idle, Stepping, UnderWay, PutOff, Gone}
 use Rattle.server_rules.specs.declared.requests.Request.{Request}
 use Rattle.server_rules.specs.declared.requests.Request.TheVariants.{Step, Status, Scan}
 use Rattle.server_rules.specs.declared.todo.Answer.{Answer}
@@ -16,7 +16,7 @@ use Rattle.server_rules.specs.declared.todo.News.TheVariants as news
 use Rattle.server_rules.specs.declared.todo.Todo.{Todo}
 use Rattle.server_rules.specs.declared.todo.Todo.TheVariants.{Give, Tell}
 use Rattle.server_rules.specs.Connection.{is_here}
-use Rattle.server_rules.specs.Standing.{is_among}
+use Rattle.server_rules.specs.Standing.{is_among, nothing_made}
 use Rattle.connection_laws.specs.History.{Done, Event, History, Leave, Told, opened, run}
 
 -- what was answered
@@ -89,3 +89,7 @@ was_made (news.Release r) h = is_among r.waiter h.waiters
 
 abbrev pub ToldItsOwn : History → Type 0
 ToldItsOwn h = (n : News) → Contains h.done (record { event = Told n; todo = Tell }) → was_made n h ≡ true
+
+-- of one that is gone nothing stands
+abbrev pub NothingIsLeft : History → Type 0
+NothingIsLeft h = h.now.phase ≡ Gone → h.now.made ≡ nothing_made

@@ -4,7 +4,7 @@
 
 ghost use Rattle.std.specs.Prelude.{List};
 ghost use Rattle.connection_laws.specs.History.{Event, opened, run};
-ghost use Rattle.connection_laws.specs.Laws.{AnsweredInOrder, SilentOnceLeft, ToldItsOwn};
+ghost use Rattle.connection_laws.specs.Laws.{AnsweredInOrder, NothingIsLeft, SilentOnceLeft, ToldItsOwn};
 
 /// Each request that a connection took is answered once, in the order asked, whatever comes between; while its client is there, those that
 /// are not answered are begun, or wait.
@@ -20,4 +20,9 @@ pub fn silent_once_left()
 /// News that a connection was told are of a waiter or a subscription that it made.
 pub fn told_its_own()
     ensures { (events : List Event) → ToldItsOwn (run events opened) }
+{}
+
+/// Once a connection is gone nothing that it made stands any more.
+pub fn nothing_is_left()
+    ensures { (events : List Event) → NothingIsLeft (run events opened) }
 {}
