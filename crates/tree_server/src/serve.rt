@@ -3,6 +3,7 @@ use crate::lane::service_lanes::TreeLanes;
 use crate::options::ServeOptions;
 use crate::run::outcome::Outcome;
 use crate::run::recorder::{Recorder, create_recorder};
+use crate::run::runs::RunSettings;
 use crate::threads::{DriverParts, start_driver, start_lane};
 use child_runner::{Bell, LaneLink, ShellProbe};
 use error_notes::{NoteWriter, Notes};
@@ -146,8 +147,10 @@ fn serve<
     let driver = DriverParts {
         backends,
         first,
-        recorder,
-        handover: options.handover,
+        settings: RunSettings {
+            handover: options.handover,
+            recorder,
+        },
     };
     let outcome = Outcome::new();
     let mut errors = NoteWriter::new(rt, notes);

@@ -1,7 +1,6 @@
 //! The threads of a tree, from its first run to its last.
 use crate::run::outcome::Outcome;
-use crate::run::recorder::Recorder;
-use crate::run::runs::{Runs, run_all};
+use crate::run::runs::{RunSettings, run_all};
 use child_runner::{LaneLink, serve_lane};
 use error_notes::{NoteWriter, Notes};
 use line_server::Server;
@@ -25,8 +24,7 @@ const LANE_STACK: usize = 1024 * 1024;
 pub struct DriverParts<B, W> {
     pub backends: Vec<B>,
     pub first: Listing<Global>,
-    pub recorder: Recorder<W>,
-    pub handover: u64,
+    pub settings: RunSettings<W>,
 }
 
 /// Starts the thread that drives the tree. Whether it runs.
@@ -62,19 +60,12 @@ fn drive_all<B: Backend, W: Write + Drop, R: Wait + Clock + Copy + Drop>(
     let DriverParts {
         backends,
         first,
-        mut recorder,
-        handover,
+        mut settings,
     } = parts;
     let log = NoteWriter::new(rt, notes);
     let mut errors = NoteWriter::new(rt, notes);
-    let mut runs = Runs {
-        context: Context { rt, server },
-        handover,
-        recorder: &mut recorder,
-        errors: &mut errors,
-        log: &log,
-    };
-    let done = run_all(&mut runs, backends, first);
+    let context = Context { rt, server };
+    let done = run_all(&context, &mut settings, &mut errors, &log, backends, first);
     outcome.note(rt, done);
     server.answers().scans.end(rt);
 }

@@ -23,16 +23,12 @@ use std::sync::Wait;
 use std::time::Clock;
 use tree_core::{Listing, Tree};
 
-/// What all runs of a tree have, beside the tree and its backends.
+/// How runs go on from one another, and where they are recorded.
 #[derive(Drop)]
-pub struct Runs<'a, R, W, E, L> {
-    pub context: Context<'a, R>,
+pub struct RunSettings<W> {
     /// After how many steps the next run goes on.
     pub handover: u64,
-    pub recorder: &'a mut Recorder<W>,
-    pub errors: &'a mut E,
-    /// Where each new run is noted.
-    pub log: &'a L,
+    pub recorder: Recorder<W>,
 }
 
 /// What comes after a run.
@@ -44,13 +40,16 @@ enum AfterRun<B: Drop> {
     Next(Box<Tree<Global>>, Vec<B>, Lasting),
 }
 
-/// Runs a tree from its first scan to its end, one run after the other.
+/// Runs a tree from its first scan to its end, one run after the other. Each new run is noted by `log`.
 pub fn run_all<B: Backend, R: Wait + Clock + Copy + Drop, W: Write + Drop, E: Write, L: Log>(
-    runs: &mut Runs<'_, R, W, E, L>,
+    context: &Context<'_, R>,
+    settings: &mut RunSettings<W>,
+    errors: &mut E,
+    log: &L,
     backends: Vec<B>,
     first: Listing<Global>,
 ) -> Result<(), ServeFault> {
-    let alloc = runs.context.alloc();
+    let alloc = context.alloc();
     let (Ok(lasting), Ok(tree)) = (
         Lasting::new(alloc, first),
         Box::new(alloc, Tree::new(alloc)),
@@ -58,11 +57,11 @@ pub fn run_all<B: Backend, R: Wait + Clock + Copy + Drop, W: Write + Drop, E: Wr
         return Err(ServeFault::NoMemory);
     };
     let mut next = AfterRun::Next(tree, backends, lasting);
-    for _ in runs.context.rt.forever() {
+    for _ in context.rt.forever() {
         match next {
             AfterRun::Over(done) => return done,
             AfterRun::Next(tree, backends, lasting) => {
-                next = run_once(runs, tree, backends, lasting);
+                next = run_once(context, settings, errors, log, tree, backends, lasting);
             }
         }
     }
@@ -71,14 +70,19 @@ pub fn run_all<B: Backend, R: Wait + Clock + Copy + Drop, W: Write + Drop, E: Wr
 
 // Makes a new office of the tree, once there is memory; for its first run it has to be there.
 fn run_once<B: Backend, R: Wait + Clock + Copy + Drop, W: Write + Drop, E: Write, L: Log>(
-    runs: &mut Runs<'_, R, W, E, L>,
+    context: &Context<'_, R>,
+    settings: &mut RunSettings<W>,
+    errors: &mut E,
+    log: &L,
     tree: Box<Tree<Global>>,
     backends: Vec<B>,
     lasting: Lasting,
 ) -> AfterRun<B> {
-    match NewOffice::new(runs.context.alloc(), tree, ACTOR_COUNT, backends) {
-        Ok(office) => run_named::<B, Brand, R, W, E, L>(runs, office, lasting),
-        Err((fault, tree, backends)) => wait_or_end(&runs.context, fault, tree, backends, lasting),
+    match NewOffice::new(context.alloc(), tree, ACTOR_COUNT, backends) {
+        Ok(office) => run_named::<B, Brand, R, W, E, L>(
+            context, settings, errors, log, office, lasting,
+        ),
+        Err((fault, tree, backends)) => wait_or_end(context, fault, tree, backends, lasting),
     }
 }
 
@@ -117,9 +121,9 @@ fn run_named<
     requires lanes { (k : ℕ) → C.lane_ring k ≡ lane_ring_of (slice_get office.lane_rings k) }
     requires before { (k : ℕ) → C.asked_before k ≡ asked_of B.asked (slice_get office.backends k) }
 {
-    match office.open::<C, R>(runs.context.alloc(), *runs.context.rt) {
-        Ok(opened) => run_opened(runs, opened, lasting),
-        Err((fault, tree, backends)) => wait_or_end(&runs.context, fault, tree, backends, lasting),
+    match office.open::<C, R>(context.alloc(), *context.rt) {
+        Ok(opened) => run_opened(context, settings, errors, log, opened, lasting),
+        Err((fault, tree, backends)) => wait_or_end(context, fault, tree, backends, lasting),
     }
 }
 
@@ -142,20 +146,14 @@ fn run_opened<
     let Some(reader) = readers.into_iter().next() else {
         return AfterRun::Over(Err(ServeFault::NoMemory));
     };
-    let mut state = DriverState::new(runs.context.alloc(), seats, reader, lasting);
-    let finishes = take_memory(&runs.context, &mut state.lasting, runs.recorder);
-    let end = drive_run(
-        &runs.context,
-        &office,
-        &mut state,
-        runs.handover,
-        runs.errors,
-    );
-    let recorded = record(&runs.context, &office, &mut state.lasting, runs.recorder);
+    let mut state = DriverState::new(context.alloc(), seats, reader, lasting);
+    let finishes = take_memory(context, &mut state.lasting, &mut settings.recorder);
+    let end = drive_run(context, &office, &mut state, settings.handover, errors);
+    let recorded = record(context, &office, &mut state.lasting, &mut settings.recorder);
     match (end, recorded) {
-        (RunEnd::Handover, Ok(())) => close(office, state, finishes, runs.log),
+        (RunEnd::Handover, Ok(())) => close(office, state, finishes, log),
         (RunEnd::Handover, Err(fault)) => {
-            end_services(&runs.context, &office, &mut state, runs.errors);
+            end_services(context, &office, &mut state, errors);
             AfterRun::Over(Err(fault))
         }
         (RunEnd::Ended, recorded) => AfterRun::Over(recorded),
