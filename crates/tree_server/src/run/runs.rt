@@ -115,7 +115,14 @@ fn run_named<
     W: Write + Drop,
     E: Write,
     L: Log,
->(runs: &mut Runs<'_, R, W, E, L>, office: NewOffice<B>, lasting: Lasting) -> AfterRun<B>
+>(
+    context: &Context<'_, R>,
+    settings: &mut RunSettings<W>,
+    errors: &mut E,
+    log: &L,
+    office: NewOffice<B>,
+    lasting: Lasting,
+) -> AfterRun<B>
     requires seats { (k : ℕ) → C.seat_ring k ≡ ring_of (slice_get office.rings k) }
     requires board { C.board ≡ office.board }
     requires lanes { (k : ℕ) → C.lane_ring k ≡ lane_ring_of (slice_get office.lane_rings k) }
@@ -136,7 +143,14 @@ fn run_opened<
     W: Write + Drop,
     E: Write,
     L: Log,
->(runs: &mut Runs<'_, R, W, E, L>, opened: Opened<C, D, B>, lasting: Lasting) -> AfterRun<B> {
+>(
+    context: &Context<'_, R>,
+    settings: &mut RunSettings<W>,
+    errors: &mut E,
+    log: &L,
+    opened: Opened<C, D, B>,
+    lasting: Lasting,
+) -> AfterRun<B> {
     let Opened {
         office,
         seats,
