@@ -19,7 +19,7 @@ SECONDS = {
     "supervise_core": 178, "deadlines": 59, "text_matcher": 60, "svscan_core": 341, "event_directory": 494, "wait_conditions": 276,
     "tree_core": 342, "s6_script": 294, "s6_replay": 363,
     "replay_tool": 53, "inbox": 85, "order_lanes": 90, "status_board": 120, "child_runner": 342, "line_server": 180, "run_records": 88,
-    "locked_services": 328, "office": 388, "server_rules": 137, "tree_server": 600, "s6_tools": 270, "tree_front": 42, "s6_tree": 216,
+    "locked_services": 328, "office": 388, "server_rules": 220, "server_threads": 150, "tree_server": 500, "s6_tools": 270, "tree_front": 42, "s6_tree": 216,
     "channel_names": 10, "error_notes": 30,
 }
 USUAL_SECONDS = 60
