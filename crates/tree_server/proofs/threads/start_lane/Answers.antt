@@ -3,7 +3,7 @@ use denote.Exit.{no}
 use denote.Param.Send.{param_send, param_sync, arg_send, shr_send}
 use Rattle.tree_core.proofs.Crosses.{closure_send}
 use Rattle.child_runner.proofs.Crosses.{link_sync}
-use Rattle.tree_server.proofs.Crosses.{shared_sync}
+use Rattle.server_threads.proofs.Crosses.{shared_sync}
 use Rattle.tree_server.proofs.threads.start_lane.Goals as goal
 
 -- the backend goes with it, and all else is shared
