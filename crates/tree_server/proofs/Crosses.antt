@@ -5,8 +5,8 @@ use denote.Struct.Field.{u64-field}
 use denote.Param.Send.{IsSend, IsSync, recorded_send, struct_send, sendable}
 use Rattle.std.proofs.Crossing.{crosses}
 use Rattle.tree_server.proofs.run.recorder.Recorder.TheSendSync as recorder
+use Rattle.tree_server.proofs.run.runs.RunSettings.TheSendSync as settings
 use Rattle.tree_server.specs.contracts.run.outcome.Outcome as Outcome
-use Rattle.tree_server.specs.contracts.run.runs.RunSettings as RunSettings
 use Rattle.tree_server.specs.contracts.threads.DriverParts as DriverParts
 
 number_send : IsSend u64-field.row
@@ -15,14 +15,6 @@ number_send = search sendable
 pub outcome_sync : IsSync Outcome.the_row
 outcome_sync = search (crosses, sendable) depth 60 fits 20000
 
-settings_send : (W : RattleType) → IsSend W → IsSend (RunSettings.the_row W)
-settings_send W w =
-    let T = RunSettings.the_type W in
-    recorded_send _ _ _ T.to_one (struct_send (shape T) (
-      number_send,
-      (search (recorder.the_field_send, w, crosses, sendable) depth 60 fits 20000, tt),
-    ))
-
 pub parts_send : (B W : RattleType) → IsSend B → IsSend W → IsSend (DriverParts.the_row B W)
 parts_send B W b w =
     let T = DriverParts.the_type B W in
@@ -30,6 +22,6 @@ parts_send B W b w =
       search (b, crosses, sendable) depth 60 fits 20000,
       (
         search (crosses, sendable) depth 60 fits 20000,
-        (settings_send W w, tt),
+        (search (settings.the_field_send, recorder.the_field_send, w, number_send, crosses, sendable) depth 60 fits 20000, tt),
       ),
     ))
