@@ -59,18 +59,19 @@ IsBegun (UnderWay e) begun = IsBegunOn e begun
 IsBegun (PutOff act) begun = begun ≡ Step act ∷ []
 IsBegun phase begun = Unit {0}
 
--- the requests that were taken are answered one to one, in the order asked; while the client is there those left are begun, or wait
+-- the requests that are left are begun, or wait
 pub record Pending (h : History) (left : List Request) : Type 0 where
   pub begun : List Request
   pub are : left ≡ begun ++ h.now.asked
   pub is_begun : IsBegun h.now.phase begun
 
+-- the requests that were taken are answered one to one, in the order asked; while the client is there those that are left are pending
 pub record AnsweredInOrder (h : History) : Type 0 where
   pub left : List Request
   pub answered : AreAnswered h.taken (answers h.done) left
   pub pending : is_here h.now.phase ≡ true → Pending h left
 
--- after the client left nothing is posted any more
+-- what is posted
 abbrev pub posted_of : Todo → List Todo
 posted_of (Give a) = Give a ∷ []
 posted_of Tell = Tell ∷ []
@@ -79,6 +80,7 @@ posted_of t = []
 abbrev pub posts : List Done → List Todo
 posts done = flat_map (λ d. posted_of d.todo) done
 
+-- after the client left nothing is posted any more
 abbrev pub SilentOnceLeft : List Event → List Event → Type 0
 SilentOnceLeft before after = posts (run (before ++ Leave ∷ after) opened).done ≡ posts (run before opened).done
 
