@@ -3,11 +3,12 @@ pub mod Answers
 pub mod Endings
 pub mod FaultLines
 pub mod JsonLines
+pub mod Letters
+pub mod ListEntries
 pub mod Listing
 pub mod Patience
 pub mod Requests
 pub mod ServiceRows
-pub mod States
 pub mod StatusLine
 pub mod Tables
 pub mod Targets

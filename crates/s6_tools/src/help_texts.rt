@@ -7,6 +7,8 @@ pub fn help_of(tool: Tool) -> &'static str {
         Tool::Svc => SVC,
         Tool::Svstat => SVSTAT,
         Tool::List => LIST,
+        Tool::Follow => FOLLOW,
+        Tool::Record => RECORD,
         Tool::Svwait => SVWAIT,
         Tool::Svlisten => SVLISTEN,
         Tool::Svscanctl => SVSCANCTL,
@@ -81,6 +83,10 @@ exit status:
   100         wrong usage
   111         no server, or the system refused something
 ";
+
+const FOLLOW: &str = "";
+
+const RECORD: &str = "";
 
 const SVWAIT: &str = "usage: s6_tree svwait SOCKET [-u | -U | -d | -D] [-a | -o] [-t MS] NAME..
 
