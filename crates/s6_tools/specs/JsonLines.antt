@@ -96,8 +96,11 @@ no_truths_text =
 abbrev pub no_run_text : List ℕ
 no_run_text = null_member (codes "pid") ++ null_member (codes "exitcode") ++ null_member (codes "signal")
 
+abbrev pub no_ages_text : List ℕ
+no_ages_text = null_member (codes "updownfor") ++ null_member (codes "readyfor")
+
 abbrev pub no_times_text : List ℕ
-no_times_text = null_member (codes "updownfor") ++ null_member (codes "readyfor") ++ null_member (codes "since")
+no_times_text = no_ages_text ++ null_member (codes "since")
 
 unfoldable pub unread_line : List ℕ → List ℕ → List ℕ
 unread_line name fault = (123 ∷ unread_head name) ++ no_truths_text ++ no_run_text ++ no_times_text ++ end_text (Some fault)

@@ -1,7 +1,7 @@
 //! The services as lines of JSON.
 ghost use Rattle.std.specs.Prelude.{◌≡◌, ◌++◌, ◌∷◌, IfOk, OnOk, option_map};
 ghost use Rattle.std.specs.List.{flat_map};
-ghost use Rattle.s6_tools.specs.JsonLines.{truth_text, number_text, key_text, quoted, truth_member, number_member, exit_code, signal_number, head_text, truths_text, run_text, ages_text, word_text, times_text, end_text, service_line, unread_head, no_truths_text, no_run_text, no_times_text, unread_line, json_line};
+ghost use Rattle.s6_tools.specs.JsonLines.{truth_text, number_text, key_text, quoted, truth_member, number_member, exit_code, signal_number, head_text, truths_text, run_text, ages_text, word_text, times_text, end_text, service_line, unread_head, no_truths_text, no_run_text, no_ages_text, no_times_text, unread_line, json_line};
 
 use crate::list_entry::{ListEntry, ListedService};
 use crate::told_word::ToldWord;
@@ -190,12 +190,19 @@ fn push_no_run(text: &mut Vec<u8>) -> Result<(), AllocError>
     push_member(text, b"signal", None)
 }
 
+// Adds the members for the ages of a service.
+fn push_no_ages(text: &mut Vec<u8>) -> Result<(), AllocError>
+    ensures { OnOk result (text.new.items ≡ text.old.items ++ no_ages_text) }
+{
+    push_member(text, b"updownfor", None)?;
+    push_member(text, b"readyfor", None)
+}
+
 // Adds the members for the times of a service.
 fn push_no_times(text: &mut Vec<u8>) -> Result<(), AllocError>
     ensures { OnOk result (text.new.items ≡ text.old.items ++ no_times_text) }
 {
-    push_member(text, b"updownfor", None)?;
-    push_member(text, b"readyfor", None)?;
+    push_no_ages(text)?;
     push_member(text, b"since", None)
 }
 
