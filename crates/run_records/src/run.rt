@@ -223,11 +223,7 @@ fn no_places(alloc: Global) -> Result<Vec<StepPlaces>, NoMemory>
 }
 
 // Fills an effect with what a record says that its step gave.
-fn fill_effect(
-    orders: &[Order],
-    one: &Record,
-    effect: &mut Effect<Global>,
-) -> Result<(), NoMemory>
+fn fill_effect(orders: &[Order], one: &Record, effect: &mut Effect<Global>) -> Result<(), NoMemory>
     requires { IsWithin orders.now one.now }
     ensures { OnOk result (outcome_of effect.new ≡ (step_of orders.now one.now).outcome) }
 {

@@ -45,7 +45,11 @@ impl<A: Allocator> StandingRows<A> {
     {
         shot.at = self.at;
         shot.rows.clear();
-        if shot.rows.try_extend_from_slice(self.rows.as_slice()).is_err() {
+        if shot
+            .rows
+            .try_extend_from_slice(self.rows.as_slice())
+            .is_err()
+        {
             unreachable!()
         }
     }

@@ -35,7 +35,12 @@ pub fn deliver_all<C: Channels + Lanes, D: Board<C>, B: Backend, R: Wait, E: Wri
     if state.lasting.roster.len() > ROSTER_LIMIT {
         let moment = state.shown_moment();
         let rows = &context.shared().rows;
-        rows.forget_gone(context.rt, &mut state.reader, moment, &mut state.lasting.roster);
+        rows.forget_gone(
+            context.rt,
+            &mut state.reader,
+            moment,
+            &mut state.lasting.roster,
+        );
     }
     true
 }
@@ -116,7 +121,10 @@ fn note_step<C: Channels>(
     }
     if !effect.events.is_empty() {
         let roster = &mut state.lasting.roster;
-        roster.note(later_of(state.lasting.noted_clock, moment), effect.events.as_slice());
+        roster.note(
+            later_of(state.lasting.noted_clock, moment),
+            effect.events.as_slice(),
+        );
     }
     state.lasting.noted_clock = later_of(state.lasting.noted_clock, moment);
     state.noted = number;
@@ -159,7 +167,14 @@ fn hand_out_of<C: Channels>(
     } = &mut state.lasting;
     match place {
         Place::Scanner if is_scan => {
-            hand_out(plans.served.as_slice(), at, roster, effect, connections, posts)
+            hand_out(
+                plans.served.as_slice(),
+                at,
+                roster,
+                effect,
+                connections,
+                posts,
+            )
         }
         Place::Client(seat) => hand_out(&[seat], at, roster, effect, connections, posts),
         Place::Scanner | Place::Lane(_) => hand_out(&[], at, roster, effect, connections, posts),
