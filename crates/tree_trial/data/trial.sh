@@ -166,6 +166,6 @@ ask() {
     soon has_replies "$1" 1
 }
 
-for part in lives looking connections crowd endings handovers starts records scans waiting; do
+for part in lives connections crowd endings handovers starts records scans waiting looking; do
     . "$scripts/$part.sh"
 done
