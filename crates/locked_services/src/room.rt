@@ -6,7 +6,7 @@ ghost use Rattle.tree_core.specs.Limits.{order_limit};
 ghost use Rattle.tree_core.specs.Machine.{Machine};
 ghost use Rattle.tree_core.specs.NextDue.{next_due};
 ghost use Rattle.tree_core.specs.StandsFor.{StandsFor};
-ghost use Rattle.run_records.specs.Runs.{RunStep, end_of, actor_at, outcome_at, reply_at};
+ghost use Rattle.run_records.specs.Runs.{RunStep, end_of, actor_at, moment_at, outcome_at, reply_at};
 ghost use Rattle.run_records.specs.RunText.{IsWritten, StopsWriting};
 ghost use Rattle.locked_services.specs.Closing.{AreComplete, AreDone, AreSameDesks, AreServed, IsClosed, IsFault, IsSameRoom};
 ghost use Rattle.locked_services.specs.Submissions.{NoneSeen};
@@ -25,7 +25,7 @@ use channel_names::Channels;
 use inbox::{Finished, Ticket};
 use order_lanes::{Backend, Desk, Lanes};
 use run_records::RunFault;
-use s6_events::{Actor, NoMemory};
+use s6_events::{Actor, At, NoMemory};
 use status_board::{Board, Told};
 use std::alloc::Global;
 use std::io::Write;
@@ -140,6 +140,13 @@ impl<C: Channels + Lanes, D: Board<C>> Room<C, D> {
         ensures { result ≡ actor_at number self.now.running.steps }
     {
         self.running.actor(number)
+    }
+
+    /// The moment at which the input of the step of this number was handed in, from 1; None where there are fewer.
+    pub fn moment(&self, number: u64) -> Option<At>
+        ensures { result ≡ moment_at number self.now.running.steps }
+    {
+        self.running.moment(number)
     }
 
     /// Writes the run as a recorded script, behind the head line if `head`: for each step the line of its input, and that of its reply.

@@ -6,7 +6,7 @@ ghost use Rattle.tree_core.specs.Limits.{order_limit};
 ghost use Rattle.tree_core.specs.Machine.{Machine};
 ghost use Rattle.tree_core.specs.NextDue.{next_due};
 ghost use Rattle.tree_core.specs.StandsFor.{StandsFor};
-ghost use Rattle.run_records.specs.Runs.{RunStep, end_of, actor_at, outcome_at, reply_at};
+ghost use Rattle.run_records.specs.Runs.{RunStep, end_of, actor_at, moment_at, outcome_at, reply_at};
 ghost use Rattle.run_records.specs.RunText.{IsWritten, StopsWriting};
 ghost use Rattle.locked_services.specs.Submissions.{AreNumbered, NoneSeen, taken_from};
 ghost use Rattle.locked_services.specs.Running.{run_limit, IsSoundRunning};
@@ -25,7 +25,7 @@ use channel_names::Channels;
 use inbox::{Drain, Finished, Ticket};
 use order_lanes::{Backend, Desk, Lane, Lanes, blocked_lane, send_all};
 use run_records::{RUN_LIMIT, Run, RunFault};
-use s6_events::{Actor, NoMemory};
+use s6_events::{Actor, At, NoMemory};
 use status_board::Shot;
 use std::alloc::Global;
 use std::io::Write;
@@ -231,6 +231,13 @@ impl<C: Channels + Lanes> RunningTree<C> {
         ensures { result ≡ actor_at number self.now.steps }
     {
         self.run.actor(number)
+    }
+
+    /// The moment at which the input of the step of this number was handed in, from 1; None where there are fewer.
+    pub fn moment(&self, number: u64) -> Option<At>
+        ensures { result ≡ moment_at number self.now.steps }
+    {
+        self.run.moment(number)
     }
 
     /// Writes the steps as a recorded script, as `Run::write` does.

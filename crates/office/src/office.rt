@@ -5,7 +5,7 @@ ghost use Rattle.tree_core.specs.Ended.{has_ended};
 ghost use Rattle.tree_core.specs.Machine.{Machine};
 ghost use Rattle.tree_core.specs.NextDue.{next_due};
 ghost use Rattle.tree_core.specs.StandsFor.{StandsFor};
-ghost use Rattle.run_records.specs.Runs.{end_of, actor_at, outcome_at, reply_at};
+ghost use Rattle.run_records.specs.Runs.{end_of, actor_at, moment_at, outcome_at, reply_at};
 ghost use Rattle.run_records.specs.RunText.{IsWritten, StopsWriting};
 ghost use Rattle.locked_services.specs.Closing.{IsClosed, IsFault};
 ghost use Rattle.locked_services.specs.Shots.{RoomView, IsSoundHistory};
@@ -20,7 +20,7 @@ use inbox::{Finished, Ticket};
 use locked_services::{CloseFault, Closed, Driven, NotClosed, Room};
 use order_lanes::{Backend, Carried, Desk, Lanes, Report};
 use run_records::RunFault;
-use s6_events::{Actor, NoMemory};
+use s6_events::{Actor, At, NoMemory};
 use status_board::{Board, Told};
 use std::alloc::Global;
 use std::io::Write;
@@ -127,6 +127,15 @@ impl<C: Channels + Lanes, D: Board<C>, B: Backend> Office<C, D, B> {
         let room = self.room.lock(rt);
         let _steps = room.steps();
         room.actor(number)
+    }
+
+    /// The moment at which the input of the step of this number was handed in, from 1; None where there are fewer.
+    pub fn moment<W: Wait>(&self, rt: &W, number: u64) -> Option<At>
+        ensures { (v : RoomView) × IsSoundHistory v × (result ≡ moment_at number v.running.steps) }
+    {
+        let room = self.room.lock(rt);
+        let _steps = room.steps();
+        room.moment(number)
     }
 
     /// How many steps the run has.

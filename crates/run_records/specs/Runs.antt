@@ -73,6 +73,11 @@ abbrev pub actor_at : ℕ → List RunStep → Option ℕ
 actor_at zero steps = None
 actor_at (suc n) steps = option_map (λ s. s.input.actor) (slice_get steps n)
 
+-- at which moment the input of the step of this number was handed in, from 1, if there is one
+abbrev pub moment_at : ℕ → List RunStep → Option ℕ
+moment_at zero steps = None
+moment_at (suc n) steps = option_map (λ s. s.input.at) (slice_get steps n)
+
 -- this actor's steps, in order
 abbrev pub steps_of : ℕ → List RunStep → List RunStep
 steps_of actor steps = filter (λ s. s.input.actor == actor) steps

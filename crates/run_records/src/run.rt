@@ -2,13 +2,13 @@
 ghost use Rattle.std.specs.Prelude.{◌≡◌, ◌-◌, ◌<◌, ◌≤◌, [], ◌∷◌, ◌++◌, length, OnOk, IfErr, IfOk, IfSome, slice_get, option_map};
 ghost use Rattle.tree_core.specs.Effect.{outcome_of};
 ghost use Rattle.tree_core.specs.Limits.{order_limit};
-ghost use Rattle.run_records.specs.Runs.{AreEmpty, IsWithin, HasRoom, step_of, actor_at, outcome_at, reply_at};
+ghost use Rattle.run_records.specs.Runs.{AreEmpty, IsWithin, HasRoom, step_of, actor_at, moment_at, outcome_at, reply_at};
 ghost use Rattle.run_records.specs.RunText.{IsWritten, StopsWriting};
 
 use crate::record::Record;
 use crate::step_places::StepPlaces;
 use crate::writing::{RunFault, write_head, write_step};
-use s6_events::{Actor, NoMemory, Order};
+use s6_events::{Actor, At, NoMemory, Order};
 use std::alloc::Global;
 use std::io::Write;
 use std::marker::Model;
@@ -132,6 +132,20 @@ impl Run {
             return None;
         }
         Some(self.records[place].input.actor)
+    }
+
+    /// The moment at which the input of the step of this number was handed in, from 1; None where there are fewer.
+    pub fn moment(&self, number: u64) -> Option<At>
+        ensures { result ≡ moment_at number self.now.steps }
+    {
+        if number == 0 {
+            return None;
+        }
+        let place = (number - 1) as usize;
+        if place >= self.records.len() {
+            return None;
+        }
+        Some(self.records[place].input.at)
     }
 
     /// The reply to this actor's input of this number, from 1; None where there are fewer. `NoMemory` where a growth was refused.

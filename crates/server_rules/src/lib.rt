@@ -4,6 +4,7 @@
 #![tactic(auto)]
 
 mod connection;
+mod found;
 mod full_services;
 mod listing;
 mod own_answer;
@@ -22,6 +23,7 @@ mod texts;
 mod todo;
 
 pub use connection::Connection;
+pub use found::{Found, Remark, fault_word};
 pub use full_services::FullServices;
 pub use listing::read_listing;
 pub use own_answer::OwnAnswer;

@@ -3,6 +3,7 @@ ghost use Rattle.std.specs.Prelude.{IfOk};
 ghost use Rattle.s6_replay.specs.Recording.{FitsLine};
 ghost use Rattle.server_rules.specs.Scanning.{scan_at, last_moment};
 
+use crate::found::{Found, Remark, fault_word};
 use crate::service_files::ServiceFiles;
 use s6_events::{Actor, At, Name};
 use s6_replay::{SpellFault, write_input};
@@ -12,6 +13,13 @@ use std::io::{BufRead, BufReader, ErrorKind, Write};
 use std::rt::Files;
 use std::{ascii, io, str};
 use tree_core::{Entry, Listing, PlainAct, PlainInput};
+
+// What was read of the entries so far.
+#[derive(Drop)]
+struct ReadEntries {
+    entries: Vec<Entry>,
+    remarks: Vec<Remark>,
+}
 
 /// The last moment that an input can have, in milliseconds: no other takes more bytes in a script.
 const LAST_MOMENT: u64 = 1_000_000_000_000_000;
@@ -23,16 +31,18 @@ pub fn read_listing<R: Files + Copy + Drop, E: Write>(
     alloc: Global,
     directory: &str,
     errors: &mut E,
-) -> io::Result<Listing<Global>>
-    ensures fits { IfOk result (λ listing. FitsLine (scan_at last_moment listing)) }
+) -> io::Result<Found>
+    ensures fits { IfOk result (λ found. FitsLine (scan_at last_moment found.listing)) }
 {
-    let entries = read_entries(rt, alloc, directory, errors)?;
+    let ReadEntries { entries, remarks } = read_entries(rt, alloc, directory, errors)?;
     match listing_of(alloc, entries) {
-        Err(error) if error.kind() == ErrorKind::InvalidData => {
-            let _ = errors.write_all(b"svscan: the listing is longer than a line of a script\n");
+        Ok(listing) => Ok(Found { listing, remarks }),
+        Err(error) => {
+            if error.kind() == ErrorKind::InvalidData {
+                let _ = errors.write_all(b"svscan: the listing is longer than a line of a script\n");
+            }
             Err(error)
         }
-        done => done,
     }
 }
 
@@ -71,21 +81,22 @@ fn read_entries<R: Files + Copy + Drop, E: Write>(
     alloc: Global,
     directory: &str,
     errors: &mut E,
-) -> io::Result<Vec<Entry>> {
+) -> io::Result<ReadEntries> {
     // Behind a slash a link to a directory is followed.
     let path = format!(in alloc; "{directory}/")?;
     let mut names = BufReader::new(alloc, rt.open_dir(path.as_str())?)?;
-    let mut entries = Vec::new(alloc);
+    let mut read = ReadEntries {
+        entries: Vec::new(alloc),
+        remarks: Vec::new(alloc),
+    };
     let mut name = Vec::new(alloc);
     for _ in 0..u64::MAX {
         if !read_name(&mut names, &mut name)? {
             break;
         }
-        if let Some(entry) = read_entry(rt, alloc, directory, name.as_slice(), errors)? {
-            entries.push(entry)?;
-        }
+        read_entry(rt, alloc, directory, name.as_slice(), &mut read, errors)?;
     }
-    Ok(entries)
+    Ok(read)
 }
 
 // Reads the next name. Whether there was one more.
@@ -95,27 +106,25 @@ fn read_name<N: BufRead>(names: &mut N, name: &mut Vec<u8>) -> io::Result<bool> 
     Ok(name.pop().is_some())
 }
 
-// The entry of this name; None where it is no service.
+// Reads the entry of this name, if it is that of a service.
 fn read_entry<R: Files, E: Write>(
     rt: &R,
     alloc: Global,
     directory: &str,
     name: &[u8],
+    read: &mut ReadEntries,
     errors: &mut E,
-) -> Result<Option<Entry>, AllocError> {
+) -> Result<(), AllocError> {
     match service_of(name) {
         Seen::Service(service) => {
-            let config = read_service(rt, alloc, directory, service, errors)?;
-            Ok(Some(Entry {
+            let config = read_service(rt, alloc, directory, service, read, errors)?;
+            read.entries.push(Entry {
                 name: service,
                 config,
-            }))
+            })
         }
-        Seen::Hidden => Ok(None),
-        Seen::Bad => {
-            tell_bad_name(alloc, name, errors)?;
-            Ok(None)
-        }
+        Seen::Hidden => Ok(()),
+        Seen::Bad => tell_bad_name(alloc, name, errors),
     }
 }
 
@@ -142,29 +151,32 @@ fn tell_bad_name<E: Write>(alloc: Global, name: &[u8], errors: &mut E) -> Result
     Ok(())
 }
 
-// The configuration of a service; None where its directory has a fault.
+// The configuration of a service; None where its directory can't be used.
 fn read_service<R: Files, E: Write>(
     rt: &R,
     alloc: Global,
     directory: &str,
     name: Name,
+    read_entries: &mut ReadEntries,
     errors: &mut E,
 ) -> Result<Option<Config>, AllocError> {
     let text = str::from_utf8(name.as_bytes()).unwrap_or("-");
     let path = format!(in alloc; "{directory}/{text}")?;
     let mut files = ServiceFiles::of(rt, alloc, path.as_str());
-    match read(alloc, &mut files, name) {
-        Ok(found) => {
-            if let Some(note) = found.note {
-                tell_fault(alloc, text, note, errors)?;
-            }
-            Ok(Some(found.config))
-        }
-        Err(fault) => {
-            tell_fault(alloc, text, fault, errors)?;
-            Ok(None)
-        }
+    let (config, fault) = match read(alloc, &mut files, name) {
+        Ok(found) => (Some(found.config), found.note),
+        Err(fault) => (None, Some(fault)),
+    };
+    if let Some(fault) = fault {
+        let is_unread = config.is_none();
+        read_entries.remarks.push(Remark {
+            name,
+            fault,
+            is_unread,
+        })?;
+        tell_fault(alloc, text, fault, errors)?;
     }
+    Ok(config)
 }
 
 fn tell_fault<E: Write>(
@@ -173,14 +185,7 @@ fn tell_fault<E: Write>(
     fault: DirFault,
     errors: &mut E,
 ) -> Result<(), AllocError> {
-    let word = match fault {
-        DirFault::NoRun => "NoRun",
-        DirFault::NotLongrun => "NotLongrun",
-        DirFault::NotifyFd => "NotifyFd",
-        DirFault::Io => "Io",
-        DirFault::BadName => "BadName",
-        DirFault::NoMemory => "NoMemory",
-    };
+    let word = fault_word(fault);
     let line = format!(in alloc; "svscan: {name} {word}\n")?;
     let _ = errors.write_all(line.as_bytes());
     Ok(())

@@ -1,0 +1,60 @@
+//! What was found in a scan directory.
+ghost use Rattle.std.specs.Prelude.{◌≡◌, ◌++◌, ◌∷◌, [], OnOk, filter};
+ghost use Rattle.std.specs.List.{flat_map};
+ghost use Rattle.server_rules.specs.Found.{fault_word, is_unread, unread_line};
+
+use s6_events::Name;
+use servicedir::DirFault;
+use std::alloc::{AllocError, Global};
+use tree_core::Listing;
+
+/// What is not as it should be in a service's directory.
+#[derive(Clone, Copy, Debug, PartialEq, Eq)]
+pub struct Remark {
+    pub name: Name,
+    pub fault: DirFault,
+    /// Whether the directory can't be used, so that its service is told as unread; else the service runs all the same.
+    pub is_unread: bool,
+}
+
+/// What was found in a scan directory: its listing, and what is not as it should be, in the order read.
+#[derive(Drop)]
+pub struct Found {
+    pub listing: Listing<Global>,
+    pub remarks: Vec<Remark>,
+}
+
+/// The word of a fault, as lines on standard error and `unread` lines have it.
+pub fn fault_word(fault: DirFault) -> &'static str
+    ensures { result.now ≡ fault_word fault }
+{
+    match fault {
+        DirFault::NoRun => "NoRun",
+        DirFault::NotLongrun => "NotLongrun",
+        DirFault::NotifyFd => "NotifyFd",
+        DirFault::Io => "Io",
+        DirFault::BadName => "BadName",
+        DirFault::NoMemory => "NoMemory",
+    }
+}
+
+// Adds the line of a service whose directory can't be used.
+fn push_unread(text: &mut Vec<u8>, remark: &Remark) -> Result<(), AllocError>
+    ensures { OnOk result (text.new.items ≡ text.old.items ++ unread_line remark.now) }
+{
+    text.extend_from_slice(b"unread ")?;
+    text.extend_from_slice(remark.name.as_bytes())?;
+    text.extend_from_slice(b" ")?;
+    text.extend_from_slice(fault_word(remark.fault).as_bytes())?;
+    text.extend_from_slice(b"\n")
+}
+
+/// Adds a line for each service whose directory can't be used.
+pub fn push_all_unread(text: &mut Vec<u8>, unread: &[Remark]) -> Result<(), AllocError>
+    ensures { OnOk result (text.new.items ≡ text.old.items ++ flat_map unread_line unread.now) }
+{
+    for remark in unread {
+        push_unread(text, remark)?;
+    }
+    Ok(())
+}
