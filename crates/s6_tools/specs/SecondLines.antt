@@ -9,11 +9,14 @@ use Rattle.s6_tools.specs.FaultLines.{fault_line, name_of}
 use Rattle.s6_tools.specs.Sentences.{complaint_of, misuse_word, refusal_of_subject, refusal_of_tree, right_of}
 use Rattle.s6_tools.specs.Told.{escaped, named}
 
+-- what would be right, and where to read on
+abbrev pub advice_text : Tool → Misuse → List ℕ
+advice_text t m = codes ": " ++ (right_of t m ++ (codes "; see s6_tree " ++ (name_of t ++ codes " --help")))
+
 -- what is wrong with the words of a tool: which word, what would be right, and where to read on
 abbrev pub misuse_text : Tool → Misuse → Option (List ℕ) → List ℕ
 misuse_text t m word =
-    misuse_word m ++ (codes ": " ++ (named (codes "a word") word ++ (complaint_of t m ++ (codes ": " ++ (right_of t m
-    ++ (codes "; see s6_tree " ++ (name_of t ++ codes " --help")))))))
+    misuse_word m ++ (codes ": " ++ (named (codes "a word") word ++ (complaint_of t m ++ advice_text t m)))
 
 -- what a reason says: of the word that the request names, or of the tree
 abbrev pub refusal_by : Option (List ℕ) → List ℕ → Option (List ℕ) → List ℕ

@@ -2,7 +2,8 @@
 ghost use Rattle.std.specs.Prelude.{◌≡◌, ◌++◌, IfOk, OnOk, map, option_map};
 ghost use Rattle.s6_tools.specs.Endings.{status_of_fault};
 ghost use Rattle.s6_tools.specs.FaultLines.{fault_line, reason_of};
-ghost use Rattle.s6_tools.specs.SecondLines.{escaped, misuse_text, refusal_text, hint_of, told_text};
+ghost use Rattle.s6_tools.specs.SecondLines.{advice_text, misuse_text, refusal_text, hint_of, told_text};
+ghost use Rattle.s6_tools.specs.Told.{escaped};
 
 use crate::culprit::{culprit_of, program_of, subject_of};
 use crate::misuse::Misuse;
@@ -172,6 +173,13 @@ fn add_misuse(
     told.try_extend_from_slice(b": ")?;
     add_named(told, b"a word", word)?;
     told.try_extend_from_slice(complaint_of(tool, misuse).as_bytes())?;
+    add_advice(told, tool, misuse)
+}
+
+// What would be right, and where to read on.
+fn add_advice(told: &mut Told, tool: Tool, misuse: Misuse) -> Result<(), CapacityError>
+    ensures { OnOk result (told.new.items ≡ told.old.items ++ advice_text tool misuse) }
+{
     told.try_extend_from_slice(b": ")?;
     told.try_extend_from_slice(right_of(tool, misuse).as_bytes())?;
     told.try_extend_from_slice(b"; see s6_tree ")?;

@@ -31,6 +31,7 @@ mod words;
 mod wrong_word;
 
 pub use answer::{Answer, Outcome, read_answer};
+pub use help_texts::help_of;
 pub use json_line::json_lines;
 pub use misuse::Misuse;
 pub use reason::Reason;
