@@ -1,5 +1,5 @@
 -- Each event keeps that requests are answered in order.
-use Rattle.std.proofs.Common.{rules, arith, refl, sym, ap, subst, ◌∙◌, ◌≡◌, ◌≤◌, ◌-◌, ◌++◌, [], ◌∷◌, ℕ, suc, List, Bool, true, false, All, append_assoc, length, nat_lt, if◌then◌else◌}
+use Rattle.std.proofs.Common.{rules, arith, refl, sym, ap, subst, ◌∙◌, ◌≡◌, ◌≤◌, ◌-◌, ◌++◌, [], ◌∷◌, ℕ, suc, List, Bool, true, false, All, Option, Some, None, append_assoc, length, nat_lt, if◌then◌else◌}
 use Rattle.std.proofs.lemmas.Bool.{ltb-true, ltb-false}
 use Rattle.std.proofs.lemmas.Grind.{flat_map-append}
 use Rattle.std.proofs.lemmas.List.{append-nil, length-append}
@@ -15,7 +15,7 @@ use Rattle.server_rules.specs.declared.phase.Errand.TheVariants as errand
 use Rattle.server_rules.specs.declared.phase.Phase.{Phase}
 use Rattle.server_rules.specs.declared.phase.Phase.TheVariants.{Idle, Stepping, UnderWay, PutOff, LeftStepping, Left, Leaving, Cancelling, Gone}
 use Rattle.server_rules.specs.declared.requests.Request.{Request}
-use Rattle.server_rules.specs.declared.requests.Request.TheVariants.{Step, Status, Scan, Refused}
+use Rattle.server_rules.specs.declared.requests.Request.TheVariants.{Step, Status, Scan, Record, Follow, Clock, Refused}
 use Rattle.server_rules.specs.declared.standing.Admission.{Admission}
 use Rattle.server_rules.specs.declared.standing.Admission.TheVariants as admission
 use Rattle.server_rules.specs.declared.standing.StandingChange.{StandingChange}
@@ -26,10 +26,10 @@ use Rattle.server_rules.specs.declared.todo.Answer.TheVariants as answer
 use Rattle.server_rules.specs.declared.todo.News.{News}
 use Rattle.server_rules.specs.declared.todo.Todo.{Todo}
 use Rattle.server_rules.specs.declared.todo.Todo.TheVariants as todo
-use Rattle.server_rules.specs.Connection.{View, Moved, answers_by, begin_admitted, begin_next, fewer, hands_in, is_for, is_here, joins, replaces, stays, step_limit, steps_in}
+use Rattle.server_rules.specs.Connection.{View, Moved, answers_by, begin_admitted, begin_next, begin_put_off, fewer, hands_in, is_for, is_here, joins, replaces, stays, step_limit, steps_in}
 use Rattle.server_rules.specs.Standing.{Made, admission_of, change_of}
 use Rattle.server_rules.specs.Status.{is_recent}
-use Rattle.connection_laws.specs.History.{Done, Event, Ask, Begin, Answered, RefuseScan, RefuseNext, Told, Leave, History, happens, moved_by, opened, run, taken_by}
+use Rattle.connection_laws.specs.History.{Done, Event, Ask, Begin, Answered, Recorded, RefuseErrand, RefuseNext, Told, Leave, History, happens, moved_by, opened, run, taken_by}
 use Rattle.connection_laws.specs.Laws.{AnsweredInOrder, Answers, AreAnswered, IsBegun, IsBegunOn, IsStep, Pending, answered_by, answers, posted_of}
 use Rattle.connection_laws.proofs.Away.{away, takes_nothing}
 
@@ -78,6 +78,9 @@ own_answers : (r : Request) (o : OwnAnswer) → Answers r (answer.Own o)
 own_answers (Step act) o = tt
 own_answers (Status subject) o = tt
 own_answers Scan o = tt
+own_answers Record o = tt
+own_answers (Follow services) o = tt
+own_answers Clock o = tt
 own_answers (Refused why) o = tt
 
 -- what posts nothing answers nothing
@@ -85,14 +88,15 @@ no_answer : (t : Todo) → posted_of t ≡ [] → answered_by t ≡ []
 no_answer todo.Nothing silent = refl
 no_answer (todo.Submit act) silent = refl
 no_answer todo.Scan silent = refl
+no_answer todo.Record silent = refl
 no_answer (todo.Give a) silent = search rules
 no_answer todo.Tell silent = refl
 no_answer todo.Free silent = refl
 
 -- a request that is answered at once
-at_once : (r : Request) (a : Answer) (rest : List Request) (made : Made) → AreAnswered (r ∷ []) (a ∷ []) []
-    → Turn (record { phase = Idle; asked = r ∷ rest; made = made }) [] (answers_by a (record { phase = Idle; asked = rest; made = made }))
-at_once r a rest made is = Here refl (λ begun none. record {
+at_once : (r : Request) (a : Answer) (rest : List Request) (made made' : Made) → AreAnswered (r ∷ []) (a ∷ []) []
+    → Turn (record { phase = Idle; asked = r ∷ rest; made = made }) [] (answers_by a (record { phase = Idle; asked = rest; made = made' }))
+at_once r a rest made made' is = Here refl (λ begun none. record {
   later = [];
   answered = rw none (is.0, append-nil rest);
   is_begun = refl;
@@ -120,20 +124,20 @@ steps_turn (change.EndsSubscription id) act rest made = begins (Step act) _ (tod
 
 replaces_turn : (released : List ℕ) (act : Act Global) (rest : List Request) (made : Made)
     → Turn (record { phase = Idle; asked = Step act ∷ rest; made = made }) [] (replaces released act (record { phase = Idle; asked = rest; made = made }))
-replaces_turn [] act rest made = at_once (Step act) (answer.Own own.Busy) rest made (tt, refl)
-replaces_turn (id ∷ released) act rest made = begins (Step act) _ _ rest made _ refl refl
+replaces_turn [] act rest made = at_once (Step act) (answer.Own own.Busy) rest made made (tt, refl)
+replaces_turn (id ∷ released) act rest made = begins (Step act) _ _ rest made _ refl (act, refl)
 
 admitted_turn : (a : Admission) (act : Act Global) (rest : List Request) (made : Made)
     → Turn (record { phase = Idle; asked = Step act ∷ rest; made = made }) [] (begin_admitted a act (record { phase = Idle; asked = rest; made = made }))
 admitted_turn admission.Admitted act rest made = steps_turn (change_of act) act rest made
 admitted_turn admission.AfterReleased act rest made = replaces_turn made.released act rest made
-admitted_turn admission.Refused act rest made = at_once (Step act) (answer.Own own.Busy) rest made (tt, refl)
+admitted_turn admission.Refused act rest made = at_once (Step act) (answer.Own own.Busy) rest made made (tt, refl)
 
 status_turn : (recent : Bool) (subject : Subject) (rest : List Request) (made : Made)
     → Turn (record { phase = Idle; asked = Status subject ∷ rest; made = made }) []
     (if recent then answers_by (answer.Status subject) (record { phase = Idle; asked = rest; made = made })
     else hands_in (errand.Status subject) Tick (record { phase = Idle; asked = rest; made = made }))
-status_turn true subject rest made = at_once (Status subject) (answer.Status subject) rest made (refl, refl)
+status_turn true subject rest made = at_once (Status subject) (answer.Status subject) rest made made (refl, refl)
 status_turn false subject rest made = begins (Status subject) _ _ rest made made refl refl
 
 idle_turn : (asked : List Request) (made : Made) (last_step now : ℕ)
@@ -142,7 +146,10 @@ idle_turn [] made last_step now = stays_turn _ refl
 idle_turn (Step act ∷ rest) made last_step now = admitted_turn (admission_of act made) act rest made
 idle_turn (Status subject ∷ rest) made last_step now = status_turn (is_recent last_step now) subject rest made
 idle_turn (Scan ∷ rest) made last_step now = begins Scan (UnderWay errand.Scan) todo.Scan rest made made refl refl
-idle_turn (Refused o ∷ rest) made last_step now = at_once (Refused o) (answer.Own o) rest made (tt, refl)
+idle_turn (Record ∷ rest) made last_step now = begins Record (UnderWay errand.Record) todo.Record rest made made refl refl
+idle_turn (Follow services ∷ rest) made last_step now = at_once (Follow services) answer.Following rest made _ (tt, refl)
+idle_turn (Clock ∷ rest) made last_step now = at_once Clock answer.Clock rest made made (tt, refl)
+idle_turn (Refused o ∷ rest) made last_step now = at_once (Refused o) (answer.Own o) rest made made (tt, refl)
 
 -- beside steps that are under way, one more
 grown : (begun : List Request) (act : Act Global) (rest : List Request)
@@ -174,6 +181,9 @@ beside_turn true n [] made = stays_turn _ refl
 beside_turn true n (Step act ∷ rest) made = joins_turn (change_of act) n act rest made
 beside_turn true n (Status subject ∷ rest) made = stays_turn _ refl
 beside_turn true n (Scan ∷ rest) made = stays_turn _ refl
+beside_turn true n (Record ∷ rest) made = stays_turn _ refl
+beside_turn true n (Follow services ∷ rest) made = stays_turn _ refl
+beside_turn true n (Clock ∷ rest) made = stays_turn _ refl
 beside_turn true n (Refused o ∷ rest) made = stays_turn _ refl
 
 -- where not fewer than two are under way, one is left over
@@ -193,6 +203,9 @@ one_less false n (Step act) begun asked made small count all = record {
 }
 one_less few n (Status subject) begun asked made small count all = absurd (All-head IsStep (Status subject) begun all)
 one_less few n Scan begun asked made small count all = absurd (All-head IsStep Scan begun all)
+one_less few n Record begun asked made small count all = absurd (All-head IsStep Record begun all)
+one_less few n (Follow services) begun asked made small count all = absurd (All-head IsStep (Follow services) begun all)
+one_less few n Clock begun asked made small count all = absurd (All-head IsStep Clock begun all)
 one_less few n (Refused o) begun asked made small count all = absurd (All-head IsStep (Refused o) begun all)
 
 stepped : (n : ℕ) (begun asked : List Request) (made : Made) → IsBegun (Stepping n) begun
@@ -212,20 +225,37 @@ finished : (e : Errand) (r : Reply Global) (begun asked : List Request) (made : 
 finished (errand.Step ch) r begun asked made is = alone (Step is.0) answer.TheReply begun asked _ _ is.1 refl (tt, refl)
 finished (errand.Status subject) r begun asked made is = alone (Status subject) (answer.Status subject) begun asked _ _ is refl (refl, refl)
 finished errand.Scan r begun asked made is = alone Scan answer.TheReply begun asked _ _ is refl (tt, refl)
-finished (errand.Replacement act) r begun asked made is = record { later = begun; answered = append-nil (begun ++ asked); is_begun = is }
+finished errand.Record r begun asked made is = record { later = begun; answered = append-nil (begun ++ asked); is_begun = is }
+finished errand.Replacement r begun asked made is = record { later = begun; answered = append-nil (begun ++ asked); is_begun = is }
 
 unscanned : (e : Errand) (o : OwnAnswer) (asked : List Request) (made : Made)
     → Turn (record { phase = UnderWay e; asked = asked; made = made }) []
-    (moved_by (RefuseScan o) (record { phase = UnderWay e; asked = asked; made = made }))
+    (moved_by (RefuseErrand o) (record { phase = UnderWay e; asked = asked; made = made }))
 unscanned (errand.Step ch) o asked made = stays_turn _ refl
 unscanned (errand.Status subject) o asked made = stays_turn _ refl
 unscanned errand.Scan o asked made = Here refl (λ begun is. alone Scan (answer.Own o) begun asked _ _ is refl (tt, refl))
-unscanned (errand.Replacement act) o asked made = stays_turn _ refl
+unscanned errand.Record o asked made = Here refl (λ begun is. alone Record (answer.Own o) begun asked _ _ is refl (tt, refl))
+unscanned errand.Replacement o asked made = stays_turn _ refl
+
+recorded : (e : Errand) (steps : ℕ) (asked : List Request) (made : Made)
+    → Turn (record { phase = UnderWay e; asked = asked; made = made }) []
+    (moved_by (Recorded steps) (record { phase = UnderWay e; asked = asked; made = made }))
+recorded (errand.Step ch) steps asked made = stays_turn _ refl
+recorded (errand.Status subject) steps asked made = stays_turn _ refl
+recorded errand.Scan steps asked made = stays_turn _ refl
+recorded errand.Record steps asked made = Here refl (λ begun is. alone Record (answer.Recorded steps) begun asked _ _ is refl (tt, refl))
+recorded errand.Replacement steps asked made = stays_turn _ refl
+
+-- a wait that was put off is handed in
+put_off : (act : Option (Act Global)) (asked : List Request) (made : Made)
+    → Turn (record { phase = PutOff; asked = asked; made = made }) [] (begin_put_off act (record { phase = PutOff; asked = asked; made = made }))
+put_off (Some act) asked made = Here refl (λ begun is. record { later = begun; answered = append-nil (begun ++ asked); is_begun = is })
+put_off None asked made = Here refl (λ begun is. alone (Step is.0) (answer.Own own.Busy) begun asked _ _ is.1 refl (tt, refl))
 
 refused_turn : (asked : List Request) (made : Made) (o : OwnAnswer)
     → Turn (record { phase = Idle; asked = asked; made = made }) [] (moved_by (RefuseNext o) (record { phase = Idle; asked = asked; made = made }))
 refused_turn [] made o = stays_turn _ refl
-refused_turn (r ∷ rest) made o = at_once r (answer.Own o) rest made (own_answers r o, refl)
+refused_turn (r ∷ rest) made o = at_once r (answer.Own o) rest made made (own_answers r o, refl)
 
 told_turn : (for : Bool) (n : News) (c : View) (made : Made) → is_here c.phase ≡ true
     → Turn c [] (if for then record { next = record c { made = made }; todo = todo.Tell } else stays c)
@@ -243,32 +273,35 @@ turn_in : (phase : Phase) (asked : List Request) (made : Made) (event : Event)
 turn_in Idle asked made (Ask coming) = asks_turn Idle asked coming made refl
 turn_in Idle asked made (Begin last_step now) = idle_turn asked made last_step now
 turn_in Idle asked made (Answered r) = stays_turn _ refl
-turn_in Idle asked made (RefuseScan o) = stays_turn _ refl
+turn_in Idle asked made (Recorded steps) = stays_turn _ refl
+turn_in Idle asked made (RefuseErrand o) = stays_turn _ refl
 turn_in Idle asked made (RefuseNext o) = refused_turn asked made o
 turn_in Idle asked made (Told n) = told_turn (is_for n (record { phase = Idle; asked = asked; made = made })) n _ _ refl
 turn_in Idle asked made Leave = Away refl refl refl
 turn_in (Stepping k) asked made (Ask coming) = asks_turn (Stepping k) asked coming made refl
 turn_in (Stepping k) asked made (Begin last_step now) = beside_turn (nat_lt k step_limit) k asked made
 turn_in (Stepping k) asked made (Answered r) = Here refl (λ begun is. stepped k begun asked made is)
-turn_in (Stepping k) asked made (RefuseScan o) = stays_turn _ refl
+turn_in (Stepping k) asked made (Recorded steps) = stays_turn _ refl
+turn_in (Stepping k) asked made (RefuseErrand o) = stays_turn _ refl
 turn_in (Stepping k) asked made (RefuseNext o) = stays_turn _ refl
 turn_in (Stepping k) asked made (Told n) = told_turn (is_for n (record { phase = Stepping k; asked = asked; made = made })) n _ _ refl
 turn_in (Stepping k) asked made Leave = Away refl refl refl
 turn_in (UnderWay e) asked made (Ask coming) = asks_turn (UnderWay e) asked coming made refl
 turn_in (UnderWay e) asked made (Begin last_step now) = stays_turn _ refl
 turn_in (UnderWay e) asked made (Answered r) = Here refl (λ begun is. finished e r begun asked made is)
-turn_in (UnderWay e) asked made (RefuseScan o) = unscanned e o asked made
+turn_in (UnderWay e) asked made (Recorded steps) = recorded e steps asked made
+turn_in (UnderWay e) asked made (RefuseErrand o) = unscanned e o asked made
 turn_in (UnderWay e) asked made (RefuseNext o) = stays_turn _ refl
 turn_in (UnderWay e) asked made (Told n) = told_turn (is_for n (record { phase = UnderWay e; asked = asked; made = made })) n _ _ refl
 turn_in (UnderWay e) asked made Leave = Away refl refl refl
-turn_in (PutOff act) asked made (Ask coming) = asks_turn (PutOff act) asked coming made refl
-turn_in (PutOff act) asked made (Begin last_step now) =
-    Here refl (λ begun is. record { later = begun; answered = append-nil (begun ++ asked); is_begun = (act, is) })
-turn_in (PutOff act) asked made (Answered r) = stays_turn _ refl
-turn_in (PutOff act) asked made (RefuseScan o) = stays_turn _ refl
-turn_in (PutOff act) asked made (RefuseNext o) = stays_turn _ refl
-turn_in (PutOff act) asked made (Told n) = told_turn (is_for n (record { phase = PutOff act; asked = asked; made = made })) n _ _ refl
-turn_in (PutOff act) asked made Leave = Away refl refl refl
+turn_in PutOff asked made (Ask coming) = asks_turn PutOff asked coming made refl
+turn_in PutOff asked made (Begin last_step now) = put_off made.put_off asked made
+turn_in PutOff asked made (Answered r) = stays_turn _ refl
+turn_in PutOff asked made (Recorded steps) = stays_turn _ refl
+turn_in PutOff asked made (RefuseErrand o) = stays_turn _ refl
+turn_in PutOff asked made (RefuseNext o) = stays_turn _ refl
+turn_in PutOff asked made (Told n) = told_turn (is_for n (record { phase = PutOff act; asked = asked; made = made })) n _ _ refl
+turn_in PutOff asked made Leave = Away refl refl refl
 turn_in (LeftStepping k) asked made event = away_turn _ event refl
 turn_in (Left e) asked made event = away_turn _ event refl
 turn_in Leaving asked made event = away_turn _ event refl

@@ -1,5 +1,5 @@
 -- Of one that is gone nothing stands.
-use Rattle.std.proofs.Common.{rules, refl, ◌≡◌, ◌-◌, [], ◌∷◌, ℕ, List, Bool, true, false, cond, nat_lt, if◌then◌else◌}
+use Rattle.std.proofs.Common.{rules, refl, ◌≡◌, ◌-◌, [], ◌∷◌, ℕ, List, Bool, true, false, Option, Some, None, cond, nat_lt, if◌then◌else◌}
 use Rattle.std.specs.declared.alloc.Global.{Global}
 use Rattle.tree_core.specs.declared.input.Act.{Act}
 use Rattle.tree_core.specs.declared.reply.Reply.{Reply}
@@ -9,17 +9,17 @@ use Rattle.server_rules.specs.declared.phase.Errand.TheVariants as errand
 use Rattle.server_rules.specs.declared.phase.Phase.{Phase}
 use Rattle.server_rules.specs.declared.phase.Phase.TheVariants.{Idle, Stepping, UnderWay, PutOff, LeftStepping, Left, Leaving, Cancelling, Gone}
 use Rattle.server_rules.specs.declared.requests.Request.{Request}
-use Rattle.server_rules.specs.declared.requests.Request.TheVariants.{Step, Status, Scan, Refused}
+use Rattle.server_rules.specs.declared.requests.Request.TheVariants.{Step, Status, Scan, Record, Follow, Clock, Refused}
 use Rattle.server_rules.specs.declared.standing.Admission.{Admission}
 use Rattle.server_rules.specs.declared.standing.Admission.TheVariants as admission
 use Rattle.server_rules.specs.declared.standing.StandingChange.{StandingChange}
 use Rattle.server_rules.specs.declared.standing.StandingChange.TheVariants as change
 use Rattle.server_rules.specs.declared.todo.News.{News}
 use Rattle.server_rules.specs.declared.todo.Todo.TheVariants as todo
-use Rattle.server_rules.specs.Connection.{View, Moved, after_news, begin_admitted, begin_next, ends_by, is_for, joins, replaces, stays, step_limit, steps_in, takes_requests}
+use Rattle.server_rules.specs.Connection.{View, Moved, after_news, begin_admitted, begin_next, begin_put_off, ends_by, is_for, joins, replaces, stays, step_limit, steps_in, takes_requests}
 use Rattle.server_rules.specs.Standing.{Made, admission_of, change_of, next_ended, nothing_made}
 use Rattle.server_rules.specs.Status.{is_recent}
-use Rattle.connection_laws.specs.History.{Event, Ask, Begin, Answered, RefuseScan, RefuseNext, Told, Leave, History, happens, moved_by, opened, run}
+use Rattle.connection_laws.specs.History.{Event, Ask, Begin, Answered, Recorded, RefuseErrand, RefuseNext, Told, Leave, History, happens, moved_by, opened, run}
 use Rattle.connection_laws.specs.Laws.{NothingIsLeft}
 
 -- whether it is gone
@@ -59,7 +59,14 @@ first [] made last_step now = refl
 first (Step act ∷ rest) made last_step now = admitted (admission_of act made) act (record { phase = Idle; asked = rest; made = made }) refl
 first (Status subject ∷ rest) made last_step now = chosen (is_recent last_step now) _ _ refl refl
 first (Scan ∷ rest) made last_step now = refl
+first (Record ∷ rest) made last_step now = refl
+first (Follow services ∷ rest) made last_step now = refl
+first (Clock ∷ rest) made last_step now = refl
 first (Refused o ∷ rest) made last_step now = refl
+
+begun_off : (act : Option (Act Global)) (c : View) → IsThere (begin_put_off act c)
+begun_off (Some act) c = refl
+begun_off None c = refl
 
 joined : (ch : StandingChange) (n : ℕ) (act : Act Global) (rest : List Request) (c : View) → is_gone c.phase ≡ false → IsThere (joins ch n act rest c)
 joined change.Other n act rest c there = refl
@@ -74,6 +81,9 @@ beside true n [] c there = there
 beside true n (Step act ∷ rest) c there = joined (change_of act) n act rest c there
 beside true n (Status subject ∷ rest) c there = there
 beside true n (Scan ∷ rest) c there = there
+beside true n (Record ∷ rest) c there = there
+beside true n (Follow services ∷ rest) c there = there
+beside true n (Clock ∷ rest) c there = there
 beside true n (Refused o ∷ rest) c there = there
 
 one_less : (few : Bool) (more none : Phase) → is_gone more ≡ false → is_gone none ≡ false → is_gone (if few then none else more) ≡ false
@@ -89,19 +99,43 @@ finished : (e : Errand) (r : Reply Global) (waits : List Request) (made : Made) 
 finished (errand.Step ch) r waits made = refl
 finished (errand.Status subject) r waits made = refl
 finished errand.Scan r waits made = refl
-finished (errand.Replacement act) r waits made = refl
+finished errand.Record r waits made = refl
+finished errand.Replacement r waits made = refl
 
-unscanned_underway : (e : Errand) (o : OwnAnswer) (waits : List Request) (made : Made) → IsThere (moved_by (RefuseScan o) (record { phase = UnderWay e; asked = waits; made = made }))
+finished_left : (e : Errand) (r : Reply Global) (waits : List Request) (made : Made) → IsThere (moved_by (Answered r) (record { phase = Left e; asked = waits; made = made }))
+finished_left (errand.Step ch) r waits made = refl
+finished_left (errand.Status subject) r waits made = refl
+finished_left errand.Scan r waits made = refl
+finished_left errand.Record r waits made = refl
+finished_left errand.Replacement r waits made = refl
+
+recorded_underway : (e : Errand) (steps : ℕ) (waits : List Request) (made : Made) → IsThere (moved_by (Recorded steps) (record { phase = UnderWay e; asked = waits; made = made }))
+recorded_underway (errand.Step ch) steps waits made = refl
+recorded_underway (errand.Status subject) steps waits made = refl
+recorded_underway errand.Scan steps waits made = refl
+recorded_underway errand.Record steps waits made = refl
+recorded_underway errand.Replacement steps waits made = refl
+
+recorded_left : (e : Errand) (steps : ℕ) (waits : List Request) (made : Made) → IsThere (moved_by (Recorded steps) (record { phase = Left e; asked = waits; made = made }))
+recorded_left (errand.Step ch) steps waits made = refl
+recorded_left (errand.Status subject) steps waits made = refl
+recorded_left errand.Scan steps waits made = refl
+recorded_left errand.Record steps waits made = refl
+recorded_left errand.Replacement steps waits made = refl
+
+unscanned_underway : (e : Errand) (o : OwnAnswer) (waits : List Request) (made : Made) → IsThere (moved_by (RefuseErrand o) (record { phase = UnderWay e; asked = waits; made = made }))
 unscanned_underway (errand.Step ch) o waits made = refl
 unscanned_underway (errand.Status subject) o waits made = refl
 unscanned_underway errand.Scan o waits made = refl
-unscanned_underway (errand.Replacement act) o waits made = refl
+unscanned_underway errand.Record o waits made = refl
+unscanned_underway errand.Replacement o waits made = refl
 
-unscanned_left : (e : Errand) (o : OwnAnswer) (waits : List Request) (made : Made) → IsThere (moved_by (RefuseScan o) (record { phase = Left e; asked = waits; made = made }))
+unscanned_left : (e : Errand) (o : OwnAnswer) (waits : List Request) (made : Made) → IsThere (moved_by (RefuseErrand o) (record { phase = Left e; asked = waits; made = made }))
 unscanned_left (errand.Step ch) o waits made = refl
 unscanned_left (errand.Status subject) o waits made = refl
 unscanned_left errand.Scan o waits made = refl
-unscanned_left (errand.Replacement act) o waits made = refl
+unscanned_left errand.Record o waits made = refl
+unscanned_left errand.Replacement o waits made = refl
 
 unasked : (waits : List Request) (made : Made) (o : OwnAnswer) → IsThere (moved_by (RefuseNext o) (record { phase = Idle; asked = waits; made = made }))
 unasked [] made o = refl
@@ -113,42 +147,48 @@ there_in : (phase : Phase) (waits : List Request) (made : Made) (event : Event) 
 there_in Idle waits made (Ask coming) here stays_here = asked (takes_requests (record { phase = Idle; asked = waits; made = made })) coming (record { phase = Idle; asked = waits; made = made }) refl
 there_in Idle waits made (Begin last_step now) here stays_here = first waits made last_step now
 there_in Idle waits made (Answered r) here stays_here = refl
-there_in Idle waits made (RefuseScan o) here stays_here = refl
+there_in Idle waits made (Recorded steps) here stays_here = refl
+there_in Idle waits made (RefuseErrand o) here stays_here = refl
 there_in Idle waits made (RefuseNext o) here stays_here = unasked waits made o
 there_in Idle waits made (Told told) here stays_here = told_there (is_for told (record { phase = Idle; asked = waits; made = made })) told (record { phase = Idle; asked = waits; made = made }) refl
 there_in Idle waits made Leave here stays_here = refl
 there_in (Stepping n) waits made (Ask coming) here stays_here = asked (takes_requests (record { phase = Stepping n; asked = waits; made = made })) coming (record { phase = Stepping n; asked = waits; made = made }) refl
 there_in (Stepping n) waits made (Begin last_step now) here stays_here = beside (nat_lt n step_limit) n waits (record { phase = Stepping n; asked = waits; made = made }) refl
 there_in (Stepping n) waits made (Answered r) here stays_here = one_less (nat_lt n 2) (Stepping (n - 1)) Idle refl refl
-there_in (Stepping n) waits made (RefuseScan o) here stays_here = refl
+there_in (Stepping n) waits made (Recorded steps) here stays_here = refl
+there_in (Stepping n) waits made (RefuseErrand o) here stays_here = refl
 there_in (Stepping n) waits made (RefuseNext o) here stays_here = refl
 there_in (Stepping n) waits made (Told told) here stays_here = told_there (is_for told (record { phase = Stepping n; asked = waits; made = made })) told (record { phase = Stepping n; asked = waits; made = made }) refl
 there_in (Stepping n) waits made Leave here stays_here = refl
 there_in (UnderWay e) waits made (Ask coming) here stays_here = asked (takes_requests (record { phase = UnderWay e; asked = waits; made = made })) coming (record { phase = UnderWay e; asked = waits; made = made }) refl
 there_in (UnderWay e) waits made (Begin last_step now) here stays_here = refl
 there_in (UnderWay e) waits made (Answered r) here stays_here = finished e r waits made
-there_in (UnderWay e) waits made (RefuseScan o) here stays_here = unscanned_underway e o waits made
+there_in (UnderWay e) waits made (Recorded steps) here stays_here = recorded_underway e steps waits made
+there_in (UnderWay e) waits made (RefuseErrand o) here stays_here = unscanned_underway e o waits made
 there_in (UnderWay e) waits made (RefuseNext o) here stays_here = refl
 there_in (UnderWay e) waits made (Told told) here stays_here = told_there (is_for told (record { phase = UnderWay e; asked = waits; made = made })) told (record { phase = UnderWay e; asked = waits; made = made }) refl
 there_in (UnderWay e) waits made Leave here stays_here = refl
-there_in (PutOff act) waits made (Ask coming) here stays_here = asked (takes_requests (record { phase = PutOff act; asked = waits; made = made })) coming (record { phase = PutOff act; asked = waits; made = made }) refl
-there_in (PutOff act) waits made (Begin last_step now) here stays_here = refl
-there_in (PutOff act) waits made (Answered r) here stays_here = refl
-there_in (PutOff act) waits made (RefuseScan o) here stays_here = refl
-there_in (PutOff act) waits made (RefuseNext o) here stays_here = refl
-there_in (PutOff act) waits made (Told told) here stays_here = told_there (is_for told (record { phase = PutOff act; asked = waits; made = made })) told (record { phase = PutOff act; asked = waits; made = made }) refl
-there_in (PutOff act) waits made Leave here stays_here = refl
+there_in PutOff waits made (Ask coming) here stays_here = asked (takes_requests (record { phase = PutOff act; asked = waits; made = made })) coming (record { phase = PutOff act; asked = waits; made = made }) refl
+there_in PutOff waits made (Begin last_step now) here stays_here = begun_off made.put_off _
+there_in PutOff waits made (Answered r) here stays_here = refl
+there_in PutOff waits made (Recorded steps) here stays_here = refl
+there_in PutOff waits made (RefuseErrand o) here stays_here = refl
+there_in PutOff waits made (RefuseNext o) here stays_here = refl
+there_in PutOff waits made (Told told) here stays_here = told_there (is_for told (record { phase = PutOff act; asked = waits; made = made })) told (record { phase = PutOff act; asked = waits; made = made }) refl
+there_in PutOff waits made Leave here stays_here = refl
 there_in (LeftStepping n) waits made (Ask coming) here stays_here = asked (takes_requests (record { phase = LeftStepping n; asked = waits; made = made })) coming (record { phase = LeftStepping n; asked = waits; made = made }) refl
 there_in (LeftStepping n) waits made (Begin last_step now) here stays_here = refl
 there_in (LeftStepping n) waits made (Answered r) here stays_here = one_less (nat_lt n 2) (LeftStepping (n - 1)) Leaving refl refl
-there_in (LeftStepping n) waits made (RefuseScan o) here stays_here = refl
+there_in (LeftStepping n) waits made (Recorded steps) here stays_here = refl
+there_in (LeftStepping n) waits made (RefuseErrand o) here stays_here = refl
 there_in (LeftStepping n) waits made (RefuseNext o) here stays_here = refl
 there_in (LeftStepping n) waits made (Told told) here stays_here = told_there (is_for told (record { phase = LeftStepping n; asked = waits; made = made })) told (record { phase = LeftStepping n; asked = waits; made = made }) refl
 there_in (LeftStepping n) waits made Leave here stays_here = refl
 there_in (Left e) waits made (Ask coming) here stays_here = asked (takes_requests (record { phase = Left e; asked = waits; made = made })) coming (record { phase = Left e; asked = waits; made = made }) refl
 there_in (Left e) waits made (Begin last_step now) here stays_here = refl
-there_in (Left e) waits made (Answered r) here stays_here = refl
-there_in (Left e) waits made (RefuseScan o) here stays_here = unscanned_left e o waits made
+there_in (Left e) waits made (Answered r) here stays_here = finished_left e r waits made
+there_in (Left e) waits made (Recorded steps) here stays_here = recorded_left e steps waits made
+there_in (Left e) waits made (RefuseErrand o) here stays_here = unscanned_left e o waits made
 there_in (Left e) waits made (RefuseNext o) here stays_here = refl
 there_in (Left e) waits made (Told told) here stays_here = told_there (is_for told (record { phase = Left e; asked = waits; made = made })) told (record { phase = Left e; asked = waits; made = made }) refl
 there_in (Left e) waits made Leave here stays_here = refl
@@ -156,29 +196,30 @@ there_in Leaving waits made event here stays_here = absurd (stays_here refl)
 there_in Cancelling waits made (Ask coming) here stays_here = asked (takes_requests (record { phase = Cancelling; asked = waits; made = made })) coming (record { phase = Cancelling; asked = waits; made = made }) refl
 there_in Cancelling waits made (Begin last_step now) here stays_here = refl
 there_in Cancelling waits made (Answered r) here stays_here = refl
-there_in Cancelling waits made (RefuseScan o) here stays_here = refl
+there_in Cancelling waits made (Recorded steps) here stays_here = refl
+there_in Cancelling waits made (RefuseErrand o) here stays_here = refl
 there_in Cancelling waits made (RefuseNext o) here stays_here = refl
 there_in Cancelling waits made (Told told) here stays_here = told_there (is_for told (record { phase = Cancelling; asked = waits; made = made })) told (record { phase = Cancelling; asked = waits; made = made }) refl
 there_in Cancelling waits made Leave here stays_here = refl
 there_in Gone waits made event here stays_here = search rules
 
 -- where it goes, nothing stands
-ends_bare : (released waiters subscriptions : List ℕ) (waits : List Request)
-    → let c : View = record { phase = Leaving; asked = waits; made = record { waiters = waiters; released = released; subscriptions = subscriptions } } in
-    (ends_by (next_ended released waiters subscriptions) c).next.phase ≡ Gone
-    → (ends_by (next_ended released waiters subscriptions) c).next.made ≡ nothing_made
-ends_bare (id ∷ released) waiters subscriptions waits gone = search rules
-ends_bare [] (id ∷ waiters) subscriptions waits gone = search rules
-ends_bare [] [] (id ∷ subscriptions) waits gone = search rules
-ends_bare [] [] [] waits gone = refl
+ends_bare : (released waiters subscriptions : List ℕ) (made : Made) (c : View) → made.released ≡ released → made.waiters ≡ waiters → made.subscriptions ≡ subscriptions → c.made ≡ made
+    → (ends_by (next_ended released waiters subscriptions made) c).next.phase ≡ Gone
+    → (ends_by (next_ended released waiters subscriptions made) c).next.made ≡ nothing_made
+ends_bare (id ∷ released) waiters subscriptions made c one two three is gone = search rules
+ends_bare [] (id ∷ waiters) subscriptions made c one two three is gone = search rules
+ends_bare [] [] (id ∷ subscriptions) made c one two three is gone = search rules
+ends_bare [] [] [] made c one two three is gone = rw (is, one, two, three) refl
 
 leaving_bare : (waits : List Request) (made : Made) (event : Event)
     → (moved_by event (record { phase = Leaving; asked = waits; made = made })).next.phase ≡ Gone
     → (moved_by event (record { phase = Leaving; asked = waits; made = made })).next.made ≡ nothing_made
-leaving_bare waits made (Begin last_step now) gone = ends_bare made.released made.waiters made.subscriptions waits gone
+leaving_bare waits made (Begin last_step now) gone = ends_bare made.released made.waiters made.subscriptions made _ refl refl refl refl gone
 leaving_bare waits made (Ask coming) gone = search rules
 leaving_bare waits made (Answered r) gone = search rules
-leaving_bare waits made (RefuseScan o) gone = search rules
+leaving_bare waits made (Recorded steps) gone = search rules
+leaving_bare waits made (RefuseErrand o) gone = search rules
 leaving_bare waits made (RefuseNext o) gone = search rules
 leaving_bare waits made (Told told) gone = search rules
 leaving_bare waits made Leave gone = search rules
@@ -188,7 +229,8 @@ gone_bare : (waits : List Request) (made : Made) (event : Event) → made ≡ no
 gone_bare waits made (Begin last_step now) is = is
 gone_bare waits made (Ask coming) is = is
 gone_bare waits made (Answered r) is = is
-gone_bare waits made (RefuseScan o) is = is
+gone_bare waits made (Recorded steps) is = is
+gone_bare waits made (RefuseErrand o) is = is
 gone_bare waits made (RefuseNext o) is = is
 gone_bare waits made (Told told) is = is
 gone_bare waits made Leave is = is
@@ -209,7 +251,7 @@ bare_in : (phase : Phase) (waits : List Request) (made : Made) (event : Event) �
 bare_in Idle waits made event bare gone = away Idle waits made event refl (λ is. search rules) gone
 bare_in (Stepping n) waits made event bare gone = away (Stepping n) waits made event refl (λ is. search rules) gone
 bare_in (UnderWay e) waits made event bare gone = away (UnderWay e) waits made event refl (λ is. search rules) gone
-bare_in (PutOff act) waits made event bare gone = away (PutOff act) waits made event refl (λ is. search rules) gone
+bare_in PutOff waits made event bare gone = away PutOff waits made event refl (λ is. search rules) gone
 bare_in (LeftStepping n) waits made event bare gone = away (LeftStepping n) waits made event refl (λ is. search rules) gone
 bare_in (Left e) waits made event bare gone = away (Left e) waits made event refl (λ is. search rules) gone
 bare_in Leaving waits made event bare gone = leaving_bare waits made event gone

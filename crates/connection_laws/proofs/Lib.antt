@@ -1,4 +1,5 @@
 pub mod Away
+pub mod Following
 pub mod InOrder
 pub mod Left
 pub mod Silence

@@ -33,7 +33,7 @@ leaves_in : (phase : Phase) (asked : List Request) (made : Made)
 leaves_in Idle asked made = record { gone = refl; silent = refl }
 leaves_in (Stepping n) asked made = record { gone = refl; silent = refl }
 leaves_in (UnderWay e) asked made = record { gone = refl; silent = refl }
-leaves_in (PutOff act) asked made = record { gone = refl; silent = refl }
+leaves_in PutOff asked made = record { gone = refl; silent = refl }
 leaves_in (LeftStepping n) asked made = record { gone = refl; silent = refl }
 leaves_in (Left e) asked made = record { gone = refl; silent = refl }
 leaves_in Leaving asked made = record { gone = refl; silent = refl }

@@ -1,5 +1,5 @@
 -- What is told to a client was made by it.
-use Rattle.std.proofs.Common.{rules, arith, refl, ap, subst, ◌≡◌, ◌<◌, ◌++◌, ◌||◌, ◌&&◌, [], ◌∷◌, ℕ, zero, suc, List, Bool, true, false, cond, not, nat_lt, slice_index_or, ◌==◌, ⊎_elim, if◌then◌else◌}
+use Rattle.std.proofs.Common.{rules, arith, refl, ap, subst, ◌≡◌, ◌<◌, ◌++◌, ◌||◌, ◌&&◌, [], ◌∷◌, ℕ, zero, suc, List, Bool, true, false, Option, Some, None, cond, not, nat_lt, slice_index_or, ◌==◌, ⊎_elim, if◌then◌else◌}
 use Rattle.std.proofs.lemmas.List.Elements.{Contains-append_cases}
 use Rattle.std.specs.List.{Contains}
 use Rattle.std.specs.declared.alloc.Global.{Global}
@@ -12,7 +12,7 @@ use Rattle.server_rules.specs.declared.phase.Errand.TheVariants as errand
 use Rattle.server_rules.specs.declared.phase.Phase.{Phase}
 use Rattle.server_rules.specs.declared.phase.Phase.TheVariants.{Idle, Stepping, UnderWay, PutOff, LeftStepping, Left, Leaving, Cancelling, Gone}
 use Rattle.server_rules.specs.declared.requests.Request.{Request}
-use Rattle.server_rules.specs.declared.requests.Request.TheVariants.{Step, Status, Scan, Refused}
+use Rattle.server_rules.specs.declared.requests.Request.TheVariants.{Step, Status, Scan, Record, Follow, Clock, Refused}
 use Rattle.server_rules.specs.declared.standing.Admission.{Admission}
 use Rattle.server_rules.specs.declared.standing.Admission.TheVariants as admission
 use Rattle.server_rules.specs.declared.standing.StandingChange.{StandingChange}
@@ -21,11 +21,12 @@ use Rattle.server_rules.specs.declared.todo.News.{News}
 use Rattle.server_rules.specs.declared.todo.News.TheVariants as news
 use Rattle.server_rules.specs.declared.todo.Todo.{Todo}
 use Rattle.server_rules.specs.declared.todo.Todo.TheVariants as todo
-use Rattle.server_rules.specs.Connection.{View, Moved, after_news, begin_admitted, begin_next, ends_by, has_made, is_for, is_here, joins, replaces, stays, step_limit, steps_in, takes_requests}
+use Rattle.server_rules.specs.Connection.{View, Moved, after_news, begin_admitted, begin_next, begin_put_off, ends_by, has_made, is_for, is_here, joins, replaces, stays, step_limit, steps_in, takes_requests}
 use Rattle.server_rules.specs.Standing.{Made, admission_of, after_reply, change_of, is_among, next_ended, without}
 use Rattle.server_rules.specs.Status.{is_recent}
-use Rattle.connection_laws.specs.History.{Done, Event, Ask, Begin, Answered, RefuseScan, RefuseNext, Told, Leave, History, happens, made_by_reply, made_in, moved_by, opened, run}
-use Rattle.connection_laws.specs.Laws.{ToldItsOwn, was_made}
+use Rattle.connection_laws.specs.History.{Done, Event, Ask, Begin, Answered, Recorded, RefuseErrand, RefuseNext, Told, Leave, History, happens, made_by_reply, made_in, moved_by, opened, run}
+use Rattle.connection_laws.specs.Laws.{ToldItsOwn, asks_for, was_made}
+use Rattle.connection_laws.proofs.Following.{IsAskedFor, any_before, asked_for_none, asked_for_one}
 
 -- all of these are among those
 abbrev AreAmong : List ℕ → List ℕ → Type 0
@@ -68,8 +69,8 @@ record Grows (stood new stands : Made) : Type 0 where
 same : (made new : Made) → Grows made new made
 same made new = record { waiters = before made.waiters new.waiters; subscriptions = before made.subscriptions new.subscriptions }
 
-fewer_released : (made new : Made) (released : List ℕ) → Grows made new (record made { released = released })
-fewer_released made new released = record { waiters = before made.waiters new.waiters; subscriptions = before made.subscriptions new.subscriptions }
+fewer_released : (made new : Made) (released : List ℕ) (act : Option (Act Global)) → Grows made new (record made { released = released; put_off = act })
+fewer_released made new released act = record { waiters = before made.waiters new.waiters; subscriptions = before made.subscriptions new.subscriptions }
 
 equal : (xs ys : List ℕ) → xs ≡ ys → AreAmong xs ys
 equal xs ys are = λ id is. subst (λ (zs : List ℕ). is_among id zs ≡ true) are is
@@ -128,7 +129,7 @@ steps (change.EndsSubscription id) n act c new = same c.made new
 
 replaced : (released : List ℕ) (act : Act Global) (c : View) (new : Made) → Grows c.made new (replaces released act c).next.made
 replaced [] act c new = same c.made new
-replaced (id ∷ released) act c new = fewer_released c.made new released
+replaced (id ∷ released) act c new = fewer_released c.made new released (Some act)
 
 admitted : (a : Admission) (act : Act Global) (c : View) (new : Made) → Grows c.made new (begin_admitted a act c).next.made
 admitted admission.Admitted act c new = steps (change_of act) 0 act c new
@@ -146,7 +147,14 @@ first [] made last_step now new = same made new
 first (Step act ∷ rest) made last_step now new = admitted (admission_of act made) act (record { phase = Idle; asked = rest; made = made }) new
 first (Status subject ∷ rest) made last_step now new = chosen (is_recent last_step now) _ _ made new (same made new) (same made new)
 first (Scan ∷ rest) made last_step now new = same made new
+first (Record ∷ rest) made last_step now new = same made new
+first (Follow services ∷ rest) made last_step now new = record { waiters = before made.waiters new.waiters; subscriptions = before made.subscriptions new.subscriptions }
+first (Clock ∷ rest) made last_step now new = same made new
 first (Refused o ∷ rest) made last_step now new = same made new
+
+begun_off : (act : Option (Act Global)) (c : View) (new : Made) → Grows c.made new (begin_put_off act c).next.made
+begun_off (Some act) c new = record { waiters = before c.made.waiters new.waiters; subscriptions = before c.made.subscriptions new.subscriptions }
+begun_off None c new = same c.made new
 
 joined : (ch : StandingChange) (n : ℕ) (act : Act Global) (rest : List Request) (c : View) (new : Made) → Grows c.made new (joins ch n act rest c).next.made
 joined change.Other n act rest c new = same c.made new
@@ -161,45 +169,74 @@ beside true n [] c new = same c.made new
 beside true n (Step act ∷ rest) c new = joined (change_of act) n act rest c new
 beside true n (Status subject ∷ rest) c new = same c.made new
 beside true n (Scan ∷ rest) c new = same c.made new
+beside true n (Record ∷ rest) c new = same c.made new
+beside true n (Follow services ∷ rest) c new = same c.made new
+beside true n (Clock ∷ rest) c new = same c.made new
 beside true n (Refused o ∷ rest) c new = same c.made new
 
 tail : (x : ℕ) (xs ys : List ℕ) → AreAmong xs ((x ∷ xs) ++ ys)
 tail x xs ys = λ id is. or_right (x == id) (is_among id (xs ++ ys)) (before xs ys id is)
 
-ended : (released waiters subscriptions : List ℕ) (c : View) (new : Made)
-    → Grows (record { waiters = waiters; released = released; subscriptions = subscriptions }) new
-    (ends_by (next_ended released waiters subscriptions) (record c { made = record { waiters = waiters; released = released; subscriptions = subscriptions } })).next.made
-ended (id ∷ released) waiters subscriptions c new = record { waiters = before waiters new.waiters; subscriptions = before subscriptions new.subscriptions }
-ended [] (id ∷ waiters) subscriptions c new = record { waiters = tail id waiters new.waiters; subscriptions = before subscriptions new.subscriptions }
-ended [] [] (id ∷ subscriptions) c new = record { waiters = before [] new.waiters; subscriptions = tail id subscriptions new.subscriptions }
-ended [] [] [] c new = record { waiters = before [] new.waiters; subscriptions = before [] new.subscriptions }
+-- those that are left of these, where the first one is ended
+left_of : (x : ℕ) (xs ys new : List ℕ) → ys ≡ x ∷ xs → AreAmong xs (ys ++ new)
+left_of x xs ys new are = rw are (tail x xs new)
+
+ended : (released waiters subscriptions : List ℕ) (made : Made) (c : View) (new : Made) → made.waiters ≡ waiters → made.subscriptions ≡ subscriptions → c.made ≡ made
+    → Grows made new (ends_by (next_ended released waiters subscriptions made) c).next.made
+ended (id ∷ released) waiters subscriptions made c new one two is = record { waiters = before made.waiters new.waiters; subscriptions = before made.subscriptions new.subscriptions }
+ended [] (id ∷ waiters) subscriptions made c new one two is = record { waiters = left_of id waiters made.waiters new.waiters one; subscriptions = before made.subscriptions new.subscriptions }
+ended [] [] (id ∷ subscriptions) made c new one two is = record { waiters = before made.waiters new.waiters; subscriptions = left_of id subscriptions made.subscriptions new.subscriptions two }
+ended [] [] [] made c new one two is = rw is (record { waiters = before made.waiters new.waiters; subscriptions = before made.subscriptions new.subscriptions })
 
 newsed : (for : Bool) (n : News) (c : View) (new : Made)
     → Grows c.made new (if for then record { next = record c { made = after_news n c.made }; todo = todo.Tell } else stays c).next.made
 newsed false n c new = same c.made new
 newsed true (news.Match m) c new = same c.made new
+newsed true (news.Letter l) c new = same c.made new
 newsed true (news.Release r) c new = record {
   waiters = after _ c.made.waiters new.waiters (fewer_left r.waiter c.made.waiters);
   subscriptions = before c.made.subscriptions new.subscriptions;
 }
 
 unscanned : (phase : Phase) (o : OwnAnswer) (asked : List Request) (made : Made)
-    → Grows made (made_in phase (RefuseScan o)) (moved_by (RefuseScan o) (record { phase = phase; asked = asked; made = made })).next.made
+    → Grows made (made_in phase (RefuseErrand o)) (moved_by (RefuseErrand o) (record { phase = phase; asked = asked; made = made })).next.made
 unscanned Idle o asked made = same made _
 unscanned (Stepping n) o asked made = same made _
 unscanned (UnderWay (errand.Step ch)) o asked made = same made _
 unscanned (UnderWay (errand.Status subject)) o asked made = same made _
 unscanned (UnderWay errand.Scan) o asked made = same made _
-unscanned (UnderWay (errand.Replacement act)) o asked made = same made _
-unscanned (PutOff act) o asked made = same made _
+unscanned (UnderWay errand.Record) o asked made = same made _
+unscanned (UnderWay errand.Replacement) o asked made = same made _
+unscanned PutOff o asked made = same made _
 unscanned (LeftStepping n) o asked made = same made _
 unscanned (Left (errand.Step ch)) o asked made = same made _
 unscanned (Left (errand.Status subject)) o asked made = same made _
 unscanned (Left errand.Scan) o asked made = same made _
-unscanned (Left (errand.Replacement act)) o asked made = same made _
+unscanned (Left errand.Record) o asked made = same made _
+unscanned (Left errand.Replacement) o asked made = same made _
 unscanned Leaving o asked made = same made _
 unscanned Cancelling o asked made = same made _
 unscanned Gone o asked made = same made _
+
+recorded : (phase : Phase) (steps : ℕ) (asked : List Request) (made : Made)
+    → Grows made (made_in phase (Recorded steps)) (moved_by (Recorded steps) (record { phase = phase; asked = asked; made = made })).next.made
+recorded Idle steps asked made = same made _
+recorded (Stepping n) steps asked made = same made _
+recorded (UnderWay (errand.Step ch)) steps asked made = same made _
+recorded (UnderWay (errand.Status subject)) steps asked made = same made _
+recorded (UnderWay errand.Scan) steps asked made = same made _
+recorded (UnderWay errand.Record) steps asked made = same made _
+recorded (UnderWay errand.Replacement) steps asked made = same made _
+recorded PutOff steps asked made = same made _
+recorded (LeftStepping n) steps asked made = same made _
+recorded (Left (errand.Step ch)) steps asked made = same made _
+recorded (Left (errand.Status subject)) steps asked made = same made _
+recorded (Left errand.Scan) steps asked made = same made _
+recorded (Left errand.Record) steps asked made = same made _
+recorded (Left errand.Replacement) steps asked made = same made _
+recorded Leaving steps asked made = same made _
+recorded Cancelling steps asked made = same made _
+recorded Gone steps asked made = same made _
 
 unasked : (asked : List Request) (made : Made) (o : OwnAnswer) → Grows made (made_in Idle (RefuseNext o)) (moved_by (RefuseNext o) (record { phase = Idle; asked = asked; made = made })).next.made
 unasked [] made o = same made _
@@ -210,77 +247,88 @@ answered : (e : Errand) (r : Reply Global) (asked : List Request) (made : Made)
 answered (errand.Step ch) r asked made = replied ch r made
 answered (errand.Status subject) r asked made = same made _
 answered errand.Scan r asked made = same made _
-answered (errand.Replacement act) r asked made = same made _
+answered errand.Record r asked made = same made _
+answered errand.Replacement r asked made = same made _
 
 left : (e : Errand) (r : Reply Global) (asked : List Request) (made : Made)
     → Grows made (made_in (Left e) (Answered r)) (moved_by (Answered r) (record { phase = Left e; asked = asked; made = made })).next.made
 left (errand.Step ch) r asked made = replied ch r made
 left (errand.Status subject) r asked made = same made _
 left errand.Scan r asked made = same made _
-left (errand.Replacement act) r asked made = same made _
+left errand.Record r asked made = same made _
+left errand.Replacement r asked made = same made _
 
 grows_in : (phase : Phase) (asked : List Request) (made : Made) (event : Event)
     → Grows made (made_in phase event) (moved_by event (record { phase = phase; asked = asked; made = made })).next.made
 grows_in Idle waits made (Ask coming) = asked (takes_requests (record { phase = Idle; asked = waits; made = made })) coming (record { phase = Idle; asked = waits; made = made }) _
 grows_in Idle waits made (Begin last_step now) = first waits made last_step now _
 grows_in Idle waits made (Answered r) = same made _
-grows_in Idle waits made (RefuseScan o) = unscanned Idle o waits made
+grows_in Idle waits made (Recorded steps) = recorded Idle steps waits made
+grows_in Idle waits made (RefuseErrand o) = unscanned Idle o waits made
 grows_in Idle waits made (RefuseNext o) = unasked waits made o
 grows_in Idle waits made (Told told) = newsed (is_for told (record { phase = Idle; asked = waits; made = made })) told (record { phase = Idle; asked = waits; made = made }) _
 grows_in Idle waits made Leave = same made _
 grows_in (Stepping n) waits made (Ask coming) = asked (takes_requests (record { phase = Stepping n; asked = waits; made = made })) coming (record { phase = Stepping n; asked = waits; made = made }) _
 grows_in (Stepping n) waits made (Begin last_step now) = beside (nat_lt n step_limit) n waits (record { phase = Stepping n; asked = waits; made = made }) _
 grows_in (Stepping n) waits made (Answered r) = same made _
-grows_in (Stepping n) waits made (RefuseScan o) = unscanned (Stepping n) o waits made
+grows_in (Stepping n) waits made (Recorded steps) = recorded (Stepping n) steps waits made
+grows_in (Stepping n) waits made (RefuseErrand o) = unscanned (Stepping n) o waits made
 grows_in (Stepping n) waits made (RefuseNext o) = same made _
 grows_in (Stepping n) waits made (Told told) = newsed (is_for told (record { phase = Stepping n; asked = waits; made = made })) told (record { phase = Stepping n; asked = waits; made = made }) _
 grows_in (Stepping n) waits made Leave = same made _
 grows_in (UnderWay e) waits made (Ask coming) = asked (takes_requests (record { phase = UnderWay e; asked = waits; made = made })) coming (record { phase = UnderWay e; asked = waits; made = made }) _
 grows_in (UnderWay e) waits made (Begin last_step now) = same made _
 grows_in (UnderWay e) waits made (Answered r) = answered e r waits made
-grows_in (UnderWay e) waits made (RefuseScan o) = unscanned (UnderWay e) o waits made
+grows_in (UnderWay e) waits made (Recorded steps) = recorded (UnderWay e) steps waits made
+grows_in (UnderWay e) waits made (RefuseErrand o) = unscanned (UnderWay e) o waits made
 grows_in (UnderWay e) waits made (RefuseNext o) = same made _
 grows_in (UnderWay e) waits made (Told told) = newsed (is_for told (record { phase = UnderWay e; asked = waits; made = made })) told (record { phase = UnderWay e; asked = waits; made = made }) _
 grows_in (UnderWay e) waits made Leave = same made _
-grows_in (PutOff act) waits made (Ask coming) = asked (takes_requests (record { phase = PutOff act; asked = waits; made = made })) coming (record { phase = PutOff act; asked = waits; made = made }) _
-grows_in (PutOff act) waits made (Begin last_step now) = same made _
-grows_in (PutOff act) waits made (Answered r) = same made _
-grows_in (PutOff act) waits made (RefuseScan o) = unscanned (PutOff act) o waits made
-grows_in (PutOff act) waits made (RefuseNext o) = same made _
-grows_in (PutOff act) waits made (Told told) = newsed (is_for told (record { phase = PutOff act; asked = waits; made = made })) told (record { phase = PutOff act; asked = waits; made = made }) _
-grows_in (PutOff act) waits made Leave = same made _
+grows_in PutOff waits made (Ask coming) = asked (takes_requests (record { phase = PutOff act; asked = waits; made = made })) coming (record { phase = PutOff act; asked = waits; made = made }) _
+grows_in PutOff waits made (Begin last_step now) = begun_off made.put_off _ _
+grows_in PutOff waits made (Answered r) = same made _
+grows_in PutOff waits made (Recorded steps) = recorded PutOff steps waits made
+grows_in PutOff waits made (RefuseErrand o) = unscanned PutOff o waits made
+grows_in PutOff waits made (RefuseNext o) = same made _
+grows_in PutOff waits made (Told told) = newsed (is_for told (record { phase = PutOff act; asked = waits; made = made })) told (record { phase = PutOff act; asked = waits; made = made }) _
+grows_in PutOff waits made Leave = same made _
 grows_in (LeftStepping n) waits made (Ask coming) = asked (takes_requests (record { phase = LeftStepping n; asked = waits; made = made })) coming (record { phase = LeftStepping n; asked = waits; made = made }) _
 grows_in (LeftStepping n) waits made (Begin last_step now) = same made _
 grows_in (LeftStepping n) waits made (Answered r) = same made _
-grows_in (LeftStepping n) waits made (RefuseScan o) = unscanned (LeftStepping n) o waits made
+grows_in (LeftStepping n) waits made (Recorded steps) = recorded (LeftStepping n) steps waits made
+grows_in (LeftStepping n) waits made (RefuseErrand o) = unscanned (LeftStepping n) o waits made
 grows_in (LeftStepping n) waits made (RefuseNext o) = same made _
 grows_in (LeftStepping n) waits made (Told told) = newsed (is_for told (record { phase = LeftStepping n; asked = waits; made = made })) told (record { phase = LeftStepping n; asked = waits; made = made }) _
 grows_in (LeftStepping n) waits made Leave = same made _
 grows_in (Left e) waits made (Ask coming) = asked (takes_requests (record { phase = Left e; asked = waits; made = made })) coming (record { phase = Left e; asked = waits; made = made }) _
 grows_in (Left e) waits made (Begin last_step now) = same made _
 grows_in (Left e) waits made (Answered r) = left e r waits made
-grows_in (Left e) waits made (RefuseScan o) = unscanned (Left e) o waits made
+grows_in (Left e) waits made (Recorded steps) = recorded (Left e) steps waits made
+grows_in (Left e) waits made (RefuseErrand o) = unscanned (Left e) o waits made
 grows_in (Left e) waits made (RefuseNext o) = same made _
 grows_in (Left e) waits made (Told told) = newsed (is_for told (record { phase = Left e; asked = waits; made = made })) told (record { phase = Left e; asked = waits; made = made }) _
 grows_in (Left e) waits made Leave = same made _
 grows_in Leaving waits made (Ask coming) = asked (takes_requests (record { phase = Leaving; asked = waits; made = made })) coming (record { phase = Leaving; asked = waits; made = made }) _
-grows_in Leaving waits made (Begin last_step now) = ended made.released made.waiters made.subscriptions (record { phase = Leaving; asked = waits; made = made }) _
+grows_in Leaving waits made (Begin last_step now) = ended made.released made.waiters made.subscriptions made (record { phase = Leaving; asked = waits; made = made }) _ refl refl refl
 grows_in Leaving waits made (Answered r) = same made _
-grows_in Leaving waits made (RefuseScan o) = unscanned Leaving o waits made
+grows_in Leaving waits made (Recorded steps) = recorded Leaving steps waits made
+grows_in Leaving waits made (RefuseErrand o) = unscanned Leaving o waits made
 grows_in Leaving waits made (RefuseNext o) = same made _
 grows_in Leaving waits made (Told told) = newsed (is_for told (record { phase = Leaving; asked = waits; made = made })) told (record { phase = Leaving; asked = waits; made = made }) _
 grows_in Leaving waits made Leave = same made _
 grows_in Cancelling waits made (Ask coming) = asked (takes_requests (record { phase = Cancelling; asked = waits; made = made })) coming (record { phase = Cancelling; asked = waits; made = made }) _
 grows_in Cancelling waits made (Begin last_step now) = same made _
 grows_in Cancelling waits made (Answered r) = same made _
-grows_in Cancelling waits made (RefuseScan o) = unscanned Cancelling o waits made
+grows_in Cancelling waits made (Recorded steps) = recorded Cancelling steps waits made
+grows_in Cancelling waits made (RefuseErrand o) = unscanned Cancelling o waits made
 grows_in Cancelling waits made (RefuseNext o) = same made _
 grows_in Cancelling waits made (Told told) = newsed (is_for told (record { phase = Cancelling; asked = waits; made = made })) told (record { phase = Cancelling; asked = waits; made = made }) _
 grows_in Cancelling waits made Leave = same made _
 grows_in Gone waits made (Ask coming) = asked (takes_requests (record { phase = Gone; asked = waits; made = made })) coming (record { phase = Gone; asked = waits; made = made }) _
 grows_in Gone waits made (Begin last_step now) = same made _
 grows_in Gone waits made (Answered r) = same made _
-grows_in Gone waits made (RefuseScan o) = unscanned Gone o waits made
+grows_in Gone waits made (Recorded steps) = recorded Gone steps waits made
+grows_in Gone waits made (RefuseErrand o) = unscanned Gone o waits made
 grows_in Gone waits made (RefuseNext o) = same made _
 grows_in Gone waits made (Told told) = newsed (is_for told (record { phase = Gone; asked = waits; made = made })) told (record { phase = Gone; asked = waits; made = made }) _
 grows_in Gone waits made Leave = same made _
@@ -288,10 +336,11 @@ grows_in Gone waits made Leave = same made _
 grows : (c : View) (event : Event) → Grows c.made (made_in c.phase event) (moved_by event c).next.made
 grows c event = grows_in c.phase c.asked c.made event
 
--- what stands was made by it
+-- what stands was made by it, and what is followed was asked for
 record IsKept (h : History) : Type 0 where
   waiters : AreAmong h.now.made.waiters h.waiters
   subscriptions : AreAmong h.now.made.subscriptions h.subscriptions
+  followed : IsAskedFor h
 
 or_cases : (a b : Bool) (P : Type 0) → (a ≡ true → P) → (b ≡ true → P) → (a || b) ≡ true → P
 or_cases true b P left right is = left refl
@@ -317,6 +366,7 @@ kept_one h event kept =
     let g = grows h.now event in record {
       waiters = with_new h.now.made.waiters _ h.waiters _ kept.waiters g.waiters;
       subscriptions = with_new h.now.made.subscriptions _ h.subscriptions _ kept.subscriptions g.subscriptions;
+      followed = asked_for_one h event kept.followed;
     }
 
 right : (a b : Bool) → (a && b) ≡ true → b ≡ true
@@ -326,6 +376,7 @@ right false b both = search rules
 stands_now : (n : News) (h : History) → IsKept h → has_made n h.now.made ≡ true → was_made n h ≡ true
 stands_now (news.Match m) h kept has = kept.subscriptions m.subscription has
 stands_now (news.Release r) h kept has = kept.waiters r.waiter has
+stands_now (news.Letter l) h kept has = kept.followed.follows l.name has
 
 told_todo : (for : Bool) (n : News) (c : View) → (if for then record { next = record c { made = after_news n c.made }; todo = todo.Tell } else stays c).todo ≡ todo.Tell → for ≡ true
 told_todo true n c is = refl
@@ -334,6 +385,7 @@ told_todo false n c is = search rules
 later : (n : News) (h : History) (event : Event) → was_made n h ≡ true → was_made n (happens h event) ≡ true
 later (news.Match m) h event made = before h.subscriptions _ m.subscription made
 later (news.Release r) h event made = before h.waiters _ r.waiter made
+later (news.Letter l) h event made = any_before (asks_for l.name) h.taken _ made
 
 only_at : (t x : Done) (k : ℕ) → k < 1 → slice_index_or (t ∷ []) k x ≡ x → t ≡ x
 only_at t x zero low is = is
@@ -366,4 +418,4 @@ told_all [] h kept law = law
 told_all (event ∷ events) h kept law = told_all events (happens h event) (kept_one h event kept) (told_one h event kept law)
 
 pub its_own : (events : List Event) → ToldItsOwn (run events opened)
-its_own events = told_all events opened (record { waiters = λ id is. is; subscriptions = λ id is. is }) (λ n has. absurd (omega (arith, has.1)))
+its_own events = told_all events opened (record { waiters = λ id is. is; subscriptions = λ id is. is; followed = asked_for_none }) (λ n has. absurd (omega (arith, has.1)))

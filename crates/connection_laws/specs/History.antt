@@ -13,7 +13,7 @@ use Rattle.server_rules.specs.declared.standing.StandingChange.{StandingChange}
 use Rattle.server_rules.specs.declared.standing.StandingChange.TheVariants as change
 use Rattle.server_rules.specs.declared.todo.News.{News}
 use Rattle.server_rules.specs.declared.todo.Todo.{Todo}
-use Rattle.server_rules.specs.Connection.{View, Moved, new_view, stays, takes_requests, ask_next, begin_move, answered_move, refuse_scan_move, refuse_next_move, told_move, leave_next}
+use Rattle.server_rules.specs.Connection.{View, Moved, new_view, stays, takes_requests, ask_next, begin_move, answered_move, recorded_move, refuse_errand_move, refuse_next_move, told_move, leave_next}
 use Rattle.server_rules.specs.Standing.{Made, nothing_made}
 
 -- what happens to a connection; moments are in milliseconds
@@ -21,7 +21,8 @@ pub data Event : Type 0 where
   Ask : List Request → Event
   Begin : (last_step now : ℕ) → Event
   Answered : Reply Global → Event
-  RefuseScan : OwnAnswer → Event
+  Recorded : (steps : ℕ) → Event
+  RefuseErrand : OwnAnswer → Event
   RefuseNext : OwnAnswer → Event
   Told : News → Event
   Leave : Event
@@ -31,7 +32,8 @@ abbrev pub moved_by : Event → View → Moved
 moved_by (Ask coming) c = stays (ask_next coming c)
 moved_by (Begin last_step now) c = begin_move last_step now c
 moved_by (Answered r) c = answered_move r c
-moved_by (RefuseScan o) c = refuse_scan_move o c
+moved_by (Recorded steps) c = recorded_move steps c
+moved_by (RefuseErrand o) c = refuse_errand_move o c
 moved_by (RefuseNext o) c = refuse_next_move o c
 moved_by (Told n) c = told_move n c
 moved_by Leave c = stays (leave_next c)

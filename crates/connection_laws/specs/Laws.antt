@@ -1,6 +1,6 @@
 -- Laws of every list of events of a connection.
-use Rattle.std.specs.Prelude.{◌≡◌, ◌≤◌, Bool, true, List, [], ◌∷◌, ◌++◌, All, length}
-use Rattle.std.specs.List.{Contains, flat_map}
+use Rattle.std.specs.Prelude.{◌≡◌, ◌≤◌, ℕ, Bool, true, false, List, [], ◌∷◌, ◌++◌, All, length}
+use Rattle.std.specs.List.{Contains, flat_map, list_any}
 use Rattle.std.specs.declared.alloc.Global.{Global}
 use Rattle.tree_core.specs.declared.input.Act.{Act}
 use Rattle.server_rules.specs.declared.phase.Errand.{Errand}
@@ -8,7 +8,7 @@ use Rattle.server_rules.specs.declared.phase.Errand.TheVariants as errand
 use Rattle.server_rules.specs.declared.phase.Phase.{Phase}
 use Rattle.server_rules.specs.declared.phase.Phase.TheVariants.{Idle, Stepping, UnderWay, PutOff, Gone}
 use Rattle.server_rules.specs.declared.requests.Request.{Request}
-use Rattle.server_rules.specs.declared.requests.Request.TheVariants.{Step, Status, Scan}
+use Rattle.server_rules.specs.declared.requests.Request.TheVariants.{Step, Status, Scan, Record, Follow, Clock}
 use Rattle.server_rules.specs.declared.todo.Answer.{Answer}
 use Rattle.server_rules.specs.declared.todo.Answer.TheVariants as answer
 use Rattle.server_rules.specs.declared.todo.News.{News}
@@ -16,7 +16,7 @@ use Rattle.server_rules.specs.declared.todo.News.TheVariants as news
 use Rattle.server_rules.specs.declared.todo.Todo.{Todo}
 use Rattle.server_rules.specs.declared.todo.Todo.TheVariants.{Give, Tell}
 use Rattle.server_rules.specs.Connection.{is_here}
-use Rattle.server_rules.specs.Standing.{is_among, nothing_made}
+use Rattle.server_rules.specs.Standing.{is_among, is_followed, nothing_made}
 use Rattle.connection_laws.specs.History.{Done, Event, History, Leave, Told, opened, run}
 
 -- what was answered
@@ -27,12 +27,16 @@ answered_by t = []
 abbrev pub answers : List Done → List Answer
 answers done = flat_map (λ d. answered_by d.todo) done
 
--- a step and a scan are answered by their reply, a status by that of the same services, and each may be refused by the server itself
+-- a step and a scan are answered by their reply, a status by that of the same services, a record by its steps, and each may be refused by
+-- the server itself
 abbrev pub Answers : Request → Answer → Type 0
 Answers request (answer.Own o) = Unit {0}
 Answers (Step act) answer.TheReply = Unit {0}
 Answers Scan answer.TheReply = Unit {0}
 Answers (Status subject) (answer.Status told) = told ≡ subject
+Answers Record (answer.Recorded steps) = Unit {0}
+Answers (Follow services) answer.Following = Unit {0}
+Answers Clock answer.Clock = Unit {0}
 Answers request a = ⊥
 
 -- the answers are those of the requests, one to one and in order, and these requests are left
@@ -50,13 +54,14 @@ abbrev pub IsBegunOn : Errand → List Request → Type 0
 IsBegunOn (errand.Step ch) begun = (act : Act Global) × (begun ≡ Step act ∷ [])
 IsBegunOn (errand.Status subject) begun = begun ≡ Status subject ∷ []
 IsBegunOn errand.Scan begun = begun ≡ Scan ∷ []
-IsBegunOn (errand.Replacement act) begun = begun ≡ Step act ∷ []
+IsBegunOn errand.Record begun = begun ≡ Record ∷ []
+IsBegunOn errand.Replacement begun = (act : Act Global) × (begun ≡ Step act ∷ [])
 
 abbrev pub IsBegun : Phase → List Request → Type 0
 IsBegun Idle begun = begun ≡ []
 IsBegun (Stepping n) begun = (1 ≤ n) × (length begun ≡ n) × All IsStep begun
 IsBegun (UnderWay e) begun = IsBegunOn e begun
-IsBegun (PutOff act) begun = begun ≡ Step act ∷ []
+IsBegun PutOff begun = (act : Act Global) × (begun ≡ Step act ∷ [])
 IsBegun phase begun = Unit {0}
 
 -- the requests that are left are begun, or wait
@@ -84,10 +89,16 @@ posts done = flat_map (λ d. posted_of d.todo) done
 abbrev pub SilentOnceLeft : List Event → List Event → Type 0
 SilentOnceLeft before after = posts (run (before ++ Leave ∷ after) opened).done ≡ posts (run before opened).done
 
--- news that were told were of what it made
+-- a request for the letters of this service, by its name
+abbrev pub asks_for : List ℕ → Request → Bool
+asks_for name (Follow services) = is_followed name services
+asks_for name r = false
+
+-- news that were told were of what it made, or of a service whose letters it asked for
 abbrev pub was_made : News → History → Bool
 was_made (news.Match m) h = is_among m.subscription h.subscriptions
 was_made (news.Release r) h = is_among r.waiter h.waiters
+was_made (news.Letter l) h = list_any (asks_for l.name) h.taken
 
 abbrev pub ToldItsOwn : History → Type 0
 ToldItsOwn h = (n : News) → Contains h.done (record { event = Told n; todo = Tell }) → was_made n h ≡ true

@@ -1,5 +1,5 @@
 -- What a line of the server says.
-use Rattle.std.specs.Prelude.{ℕ, List, [], ◌∷◌, true, false, Option, Some, None, codes, take, if◌then◌else◌, ◌||◌}
+use Rattle.std.specs.Prelude.{ℕ, Bool, List, [], ◌∷◌, true, false, Option, Some, None, codes, take, if◌then◌else◌, ◌||◌}
 use Rattle.std.specs.Str.{bytes_eq}
 use Rattle.s6_tools.specs.Words.{word_in}
 use Rattle.s6_tools.specs.declared.answer.Answer.{Answer}
@@ -9,10 +9,16 @@ use Rattle.s6_tools.specs.declared.answer.Kind.TheVariants as kind
 use Rattle.s6_tools.specs.declared.answer.Outcome.{Outcome}
 use Rattle.s6_tools.specs.declared.answer.Outcome.TheVariants as outcome
 
+-- the first words of the answers to requests that are carried out
+abbrev pub is_done : List ℕ → Bool
+is_done word =
+    bytes_eq word (codes "done") || (bytes_eq word (codes "scanned") || (bytes_eq word (codes "tally")
+    || (bytes_eq word (codes "recorded") || bytes_eq word (codes "clock"))))
+
 -- what a line is, by its first word
 abbrev pub kind_of : List ℕ → Kind
 kind_of word =
-    if bytes_eq word (codes "done") || (bytes_eq word (codes "scanned") || bytes_eq word (codes "tally")) then kind.Done else
+    if is_done word then kind.Done else
     if bytes_eq word (codes "refused") then kind.Refused else
     if bytes_eq word (codes "row") then kind.Row else
     if bytes_eq word (codes "wait") then kind.Waiter else

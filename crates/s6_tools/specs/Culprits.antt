@@ -105,6 +105,7 @@ seen_by (clue.Only w) words = alone (find (is_wrong w) (behind w words)) (find (
 
 abbrev pub strange_of : Tool → Wrong
 strange_of tool.List = wrong.StrangeOption
+strange_of tool.Follow = wrong.StrangeOption
 strange_of t = wrong.Strange t
 
 -- what else is not taken: a dash alone, or a word too many
@@ -120,6 +121,7 @@ excess_of tool.Svc = (clue.Second wrong.Plain, clue.Nowhere)
 excess_of tool.Svscanctl = (clue.First wrong.Plain, clue.Nowhere)
 excess_of tool.Svwait = (clue.Second wrong.Condition, clue.Second wrong.Mode)
 excess_of tool.Svlisten = (clue.Second wrong.Condition, clue.Second wrong.Mode)
+excess_of tool.Record = (clue.At 0, clue.Nowhere)
 excess_of tool.Mkfifodir = (clue.At 1, clue.Nowhere)
 excess_of t = (clue.At 2, clue.Nowhere)
 
@@ -176,9 +178,11 @@ abbrev pub subject_clues : Tool → Clue × Clue
 subject_clues tool.Svc = (clue.First wrong.Plain, clue.Nowhere)
 subject_clues tool.Svstat = (clue.AtIf 0 wrong.Plain, clue.At 2)
 subject_clues tool.Svscanctl = (clue.Nowhere, clue.Nowhere)
+subject_clues tool.Record = (clue.Nowhere, clue.Nowhere)
 subject_clues tool.Svwait = (clue.Only wrong.Plain, clue.Nowhere)
 subject_clues tool.Svlisten = (clue.Only wrong.Plain, clue.Nowhere)
 subject_clues tool.List = (clue.Only wrong.Plain, clue.Nowhere)
+subject_clues tool.Follow = (clue.Only wrong.Plain, clue.Nowhere)
 subject_clues t = (clue.At 0, clue.Nowhere)
 
 -- the word that says of what a tool asks, where it is known which

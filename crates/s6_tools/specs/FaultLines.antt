@@ -10,6 +10,8 @@ abbrev pub name_of : Tool → List ℕ
 name_of tool.Svc = codes "svc"
 name_of tool.Svstat = codes "svstat"
 name_of tool.List = codes "list"
+name_of tool.Follow = codes "follow"
+name_of tool.Record = codes "record"
 name_of tool.Svwait = codes "svwait"
 name_of tool.Svlisten = codes "svlisten"
 name_of tool.Svscanctl = codes "svscanctl"

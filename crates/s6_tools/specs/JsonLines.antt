@@ -3,7 +3,9 @@ use Rattle.std.specs.Prelude.{ℕ, List, [], ◌∷◌, ◌++◌, Bool, true, fa
 use Rattle.s6_events.specs.declared.exit.Exit.{Exit}
 use Rattle.s6_events.specs.declared.exit.Exit.TheVariants.{Code, Killed}
 use Rattle.supervise_core.specs.declared.row.Row.{Row}
-use Rattle.s6_tools.specs.States.{state_of, state_word}
+use Rattle.s6_tools.specs.declared.list_entry.ListEntry.{ListEntry}
+use Rattle.s6_tools.specs.declared.list_entry.ListEntry.TheVariants.{Service, Unread}
+use Rattle.s6_tools.specs.declared.list_entry.ListedService.{ListedService}
 
 -- the exit code, where there is one
 abbrev pub exit_code : Option Exit → Option ℕ
@@ -42,11 +44,16 @@ truth_member key truth = member key (truth_text truth)
 abbrev pub number_member : List ℕ → Option ℕ → List ℕ
 number_member key number = member key (number_text number)
 
-abbrev pub head_text : Row → List ℕ
-head_text r =
-    key_text (codes "name") ++ quoted r.name
-    ++ number_member (codes "serial") (Some r.sid)
-    ++ member (codes "state") (quoted (state_word (state_of r)))
+-- a text, or null where there is none
+abbrev pub word_text : Option (List ℕ) → List ℕ
+word_text None = codes "null"
+word_text (Some word) = quoted word
+
+abbrev pub head_text : ListedService → List ℕ
+head_text s =
+    key_text (codes "name") ++ quoted s.row.name
+    ++ number_member (codes "serial") (Some s.row.sid)
+    ++ member (codes "state") (quoted s.state)
 
 abbrev pub truths_text : Row → List ℕ
 truths_text r =
@@ -63,5 +70,20 @@ abbrev pub ages_text : Row → List ℕ
 ages_text r = number_member (codes "updownfor") r.up_down_for ++ number_member (codes "readyfor") r.ready_for
 
 -- one object, and a newline
-unfoldable pub json_line : Row → List ℕ
-json_line r = (123 ∷ head_text r) ++ truths_text r ++ run_text r ++ ages_text r ++ codes "}\n"
+unfoldable pub service_line : ListedService → List ℕ
+service_line s =
+    (123 ∷ head_text s) ++ truths_text s.row ++ run_text s.row ++ ages_text s.row
+    ++ member (codes "since") (word_text s.since) ++ codes ",\"fault\":null}\n"
+
+-- the members of a service, of which a directory that could not be read has none
+abbrev pub nothing_text : List ℕ
+nothing_text =
+    codes ",\"serial\":null,\"state\":\"unread\",\"up\":null,\"wantedup\":null,\"normallyup\":null,\"ready\":null,\"paused\":null"
+    ++ codes ",\"pid\":null,\"exitcode\":null,\"signal\":null,\"updownfor\":null,\"readyfor\":null,\"since\":null,\"fault\":"
+
+unfoldable pub unread_line : List ℕ → List ℕ → List ℕ
+unread_line name fault = (123 ∷ (key_text (codes "name") ++ quoted name)) ++ nothing_text ++ quoted fault ++ codes "}\n"
+
+abbrev pub json_line : ListEntry → List ℕ
+json_line (Service s) = service_line s
+json_line (Unread name fault) = unread_line name fault

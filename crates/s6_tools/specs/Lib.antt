@@ -4,13 +4,14 @@ pub mod Culprits
 pub mod Endings
 pub mod FaultLines
 pub mod JsonLines
+pub mod Letters
+pub mod ListEntries
 pub mod Listing
 pub mod Patience
 pub mod Requests
 pub mod SecondLines
 pub mod Sentences
 pub mod ServiceRows
-pub mod States
 pub mod StatusLine
 pub mod Tables
 pub mod Targets

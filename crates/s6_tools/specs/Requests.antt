@@ -21,3 +21,8 @@ scan_request_of letter.Terminate = request_of (Scanctl Terminate)
 -- what is sent of a request: its text and a newline
 abbrev pub request_line : List ℕ → List ℕ
 request_line request = request ++ 10 ∷ []
+
+-- the letters of one service, by its name, or of all
+abbrev pub follow_request_of : List (List ℕ) → List ℕ
+follow_request_of (name ∷ []) = codes "follow" ++ (32 ∷ name)
+follow_request_of names = codes "follow"

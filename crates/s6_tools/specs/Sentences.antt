@@ -45,6 +45,8 @@ abbrev pub form_of : Tool → List ℕ
 form_of tool.Svc = codes "svc SOCKET -LETTERS.. NAME, at most 63 letters"
 form_of tool.Svstat = codes "svstat SOCKET -o FIELDS NAME"
 form_of tool.List = codes "list SOCKET [--json] [--] [NAME..]"
+form_of tool.Follow = codes "follow SOCKET [--json] [--] [NAME..]"
+form_of tool.Record = codes "record SOCKET"
 form_of tool.Svwait = codes "svwait SOCKET [-u | -U | -d | -D] [-a | -o] [-t MS] NAME.., at most 16 names"
 form_of tool.Svlisten = codes "svlisten SOCKET [-u | -U | -d | -D | -r | -R] [-a | -o] [-t MS] NAME.. -- PROGRAM.., at most 16 names"
 form_of tool.Svscanctl = codes "svscanctl SOCKET -LETTERS.., at most 63 letters"

@@ -4,18 +4,20 @@ use Rattle.std.specs.Prelude.{if◌then◌else◌}
 use Rattle.std.specs.List.{flat_map}
 use Rattle.s6_events.specs.declared.exit.Exit.{Exit}
 use Rattle.s6_events.specs.declared.exit.Exit.TheVariants.{Code, Killed}
-use Rattle.supervise_core.specs.declared.row.Row.{Row}
+use Rattle.s6_tools.specs.declared.list_entry.ListEntry.{ListEntry}
+use Rattle.s6_tools.specs.declared.list_entry.ListEntry.TheVariants.{Service, Unread}
+use Rattle.s6_tools.specs.declared.list_entry.ListedService.{ListedService}
 use Rattle.s6_tools.specs.declared.table.Column.{Column}
 use Rattle.s6_tools.specs.declared.table.Column.TheVariants as column
 use Rattle.s6_tools.specs.declared.table.SizedColumn.{SizedColumn}
 use Rattle.s6_tools.specs.Ages.{age_text}
-use Rattle.s6_tools.specs.States.{state_of, state_word}
 
 abbrev pub heading : Column → List ℕ
 heading column.Name = codes "NAME"
 heading column.State = codes "STATE"
 heading column.Pid = codes "PID"
 heading column.Since = codes "SINCE"
+heading column.For = codes "FOR"
 heading column.Ready = codes "READY"
 heading column.LastExit = codes "LAST-EXIT"
 heading column.Wanted = codes "WANTED"
@@ -38,28 +40,44 @@ abbrev pub wanted_cell : Bool → List ℕ
 wanted_cell true = codes "up"
 wanted_cell false = codes "down"
 
+abbrev pub word_cell : Option (List ℕ) → List ℕ
+word_cell None = codes "-"
+word_cell (Some word) = word
+
 -- the cell of a service in a column
-abbrev pub cell : Row → Column → List ℕ
-cell r column.Name = r.name
-cell r column.State = state_word (state_of r)
-cell r column.Pid = number_cell r.pid
-cell r column.Since = age_cell r.up_down_for
-cell r column.Ready = age_cell (if r.up then r.ready_for else None)
-cell r column.LastExit = exit_cell r.exit
-cell r column.Wanted = wanted_cell r.wanted_up
+abbrev pub service_cell : ListedService → Column → List ℕ
+service_cell s column.Name = s.row.name
+service_cell s column.State = s.state
+service_cell s column.Pid = number_cell s.row.pid
+service_cell s column.Since = word_cell s.since
+service_cell s column.For = age_cell s.row.up_down_for
+service_cell s column.Ready = age_cell (if s.row.up then s.row.ready_for else None)
+service_cell s column.LastExit = exit_cell s.row.exit
+service_cell s column.Wanted = wanted_cell s.row.wanted_up
+
+-- that of a directory that could not be read: its fault stands for the last exit
+abbrev pub unread_cell : List ℕ → List ℕ → Column → List ℕ
+unread_cell name fault column.Name = name
+unread_cell name fault column.State = codes "unread"
+unread_cell name fault column.LastExit = fault
+unread_cell name fault column = codes "-"
+
+abbrev pub cell : ListEntry → Column → List ℕ
+cell (Service s) c = service_cell s c
+cell (Unread name fault) c = unread_cell name fault c
 
 -- the bytes of the widest cell of a column, its head among them
-abbrev pub wider : Column → ℕ → Row → ℕ
-wider c width r = max width (length (cell r c))
+abbrev pub wider : Column → ℕ → ListEntry → ℕ
+wider c width e = max width (length (cell e c))
 
-abbrev pub width_of : List Row → Column → ℕ
+abbrev pub width_of : List ListEntry → Column → ℕ
 width_of rows c = fold (wider c) (length (heading c)) rows
 
 -- all columns but the last have spaces behind them
 abbrev pub padded_columns : List Column
-padded_columns = column.Name ∷ column.State ∷ column.Pid ∷ column.Since ∷ column.Ready ∷ column.LastExit ∷ []
+padded_columns = column.Name ∷ column.State ∷ column.Pid ∷ column.Since ∷ column.For ∷ column.Ready ∷ column.LastExit ∷ []
 
-abbrev pub sized_column : List Row → Column → SizedColumn
+abbrev pub sized_column : List ListEntry → Column → SizedColumn
 sized_column rows c = record { column = c; width = width_of rows c }
 
 -- a cell, spaces up to the width of its column, and two more
@@ -69,12 +87,12 @@ padded width text = text ++ replicate (width - length text) 32 ++ codes "  "
 abbrev pub heading_line : List SizedColumn → List ℕ
 heading_line columns = flat_map (λ s. padded s.width (heading s.column)) columns ++ codes "WANTED\n"
 
-abbrev pub row_line : List SizedColumn → Row → List ℕ
-row_line columns r = flat_map (λ s. padded s.width (cell r s.column)) columns ++ wanted_cell r.wanted_up ++ 10 ∷ []
+abbrev pub row_line : List SizedColumn → ListEntry → List ℕ
+row_line columns e = flat_map (λ s. padded s.width (cell e s.column)) columns ++ cell e column.Wanted ++ 10 ∷ []
 
--- the heads, and a line for each service
-abbrev pub table_of : List SizedColumn → List Row → List ℕ
+-- the heads, and a line for each entry
+abbrev pub table_of : List SizedColumn → List ListEntry → List ℕ
 table_of columns rows = heading_line columns ++ flat_map (row_line columns) rows
 
-abbrev pub table_text : List Row → List ℕ
+abbrev pub table_text : List ListEntry → List ℕ
 table_text rows = table_of (map (sized_column rows) padded_columns) rows

@@ -1,6 +1,6 @@
 //! A line of the server, read. What the lines are is chosen here.
 ghost use Rattle.std.specs.Prelude.{◌≡◌};
-ghost use Rattle.s6_tools.specs.Answers.{kind_of, outcome_of, release_of, match_of, failure_of, answer_of};
+ghost use Rattle.s6_tools.specs.Answers.{is_done, kind_of, outcome_of, release_of, match_of, failure_of, answer_of};
 
 use crate::reason::Reason;
 use crate::words::{is_word, word_or_none};
@@ -22,7 +22,7 @@ pub enum Outcome {
 /// serials are passed over.
 #[derive(Debug, Drop)]
 pub enum Answer {
-    /// `done`, `scanned ..` or `tally ..`: the request was carried out.
+    /// `done`, `scanned ..`, `tally ..`, `recorded ..` or `clock ..`: the request was carried out.
     Done,
     /// `refused REASON`.
     Refused(Reason),
@@ -61,10 +61,21 @@ enum Kind {
     Strange,
 }
 
+// Whether it is the first word of an answer to a request that is carried out.
+fn is_done(word: &[u8]) -> bool
+    ensures { result ≡ is_done word.now }
+{
+    is_word(word, b"done")
+        || is_word(word, b"scanned")
+        || is_word(word, b"tally")
+        || is_word(word, b"recorded")
+        || is_word(word, b"clock")
+}
+
 fn kind_of(word: &[u8]) -> Kind
     ensures { result ≡ kind_of word.now }
 {
-    if is_word(word, b"done") || is_word(word, b"scanned") || is_word(word, b"tally") {
+    if is_done(word) {
         Kind::Done
     } else if is_word(word, b"refused") {
         Kind::Refused

@@ -1,16 +1,16 @@
 //! A tool's connection to the server of a tree.
 use crate::answer::{Answer, read_answer};
+use crate::list_entry::{ListEntry, entry_of, moment_of};
 use crate::patience::{Patience, TRY_TIME};
 use crate::request::set_request_line;
-use crate::service_row::row_of;
 use crate::tool_fault::ToolFault;
+use crate::words::word_or_none;
 use std::alloc::Global;
 use std::io::{self, BufRead, BufReader, Write};
 use std::net::Net;
 use std::os::unix::net::UnixStream;
 use std::thread;
 use std::time::{Clock, Duration};
-use supervise_core::Row;
 
 /// Asks the server at this path, on a new connection, and reads its reply. Where it is busy it is asked again, for ten seconds at most.
 pub fn ask_server<R: Net + Clock>(
@@ -109,38 +109,51 @@ impl Connection {
         Ok(writer.write_all(self.line.as_slice()))
     }
 
-    /// Sends a request that is answered by rows, and reads them up to the empty line. A refusal, and a server without a seat, are faults.
-    pub fn ask_rows(&mut self, alloc: Global, request: &[u8]) -> Result<Vec<Row>, ToolFault> {
-        let sent = self.send(request)?;
-        let rows = self.read_rows(alloc)?;
+    /// Asks for the states of all services, and reads them up to the empty line. A refusal, and a server without a seat, are faults.
+    pub fn ask_states(&mut self, alloc: Global) -> Result<Vec<ListEntry>, ToolFault> {
+        let sent = self.send(b"states")?;
+        let entries = self.read_entries(alloc)?;
         sent?;
-        Ok(rows)
+        Ok(entries)
     }
 
-    fn read_rows(&mut self, alloc: Global) -> Result<Vec<Row>, ToolFault> {
-        let mut rows = Vec::new(alloc);
+    fn read_entries(&mut self, alloc: Global) -> Result<Vec<ListEntry>, ToolFault> {
+        let mut entries = Vec::new(alloc);
         for _ in 0..u64::MAX {
-            match self.read_row()? {
-                Some(row) => push_row(&mut rows, row)?,
-                None => return Ok(rows),
+            match self.read_entry()? {
+                Some(entry) => push_entry(&mut entries, entry)?,
+                None => return Ok(entries),
             }
         }
         Err(ToolFault::Socket)
     }
 
-    // The row of the next line; None where that is empty.
-    fn read_row(&mut self) -> Result<Option<Row>, ToolFault> {
+    // The entry of the next line; None where that is empty.
+    fn read_entry(&mut self) -> Result<Option<ListEntry>, ToolFault> {
         self.read_line()?;
         let line = self.line.as_slice();
         if line.is_empty() {
             return Ok(None);
         }
+        if let Some(entry) = entry_of(line) {
+            return Ok(Some(entry));
+        }
         match read_answer(line) {
-            Answer::Row => Ok(Some(row_of(line).ok_or(ToolFault::Socket)?)),
             Answer::Refused(reason) => Err(ToolFault::Refused(reason)),
             Answer::Busy => Err(ToolFault::Busy),
             _ => Err(ToolFault::Socket),
         }
+    }
+
+    /// Asks for the clock: the time of day at which that of the tree was 0, in milliseconds since 1970.
+    pub fn ask_clock(&mut self) -> Result<u64, ToolFault> {
+        let _clock = self.ask(b"clock")?;
+        moment_of(word_or_none(self.line.as_slice(), 1)).ok_or(ToolFault::Socket)
+    }
+
+    /// Reads the next line, which may be empty, and stays as `line`. `Socket` where the connection ends before it.
+    pub fn next_line(&mut self) -> Result<(), ToolFault> {
+        self.read_line()
     }
 
     /// The next line that isn't empty. `Socket` where the connection ends before it.
@@ -170,6 +183,6 @@ impl Connection {
     }
 }
 
-fn push_row(rows: &mut Vec<Row>, row: Row) -> Result<(), ToolFault> {
-    rows.push(row).map_err(|_| ToolFault::NoMemory)
+fn push_entry(entries: &mut Vec<ListEntry>, entry: ListEntry) -> Result<(), ToolFault> {
+    entries.push(entry).map_err(|_| ToolFault::NoMemory)
 }

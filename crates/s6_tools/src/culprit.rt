@@ -105,7 +105,7 @@ fn strange_of(tool: Tool) -> Wrong
     ensures { result ≡ strange_of tool }
 {
     match tool {
-        Tool::List => Wrong::StrangeOption,
+        Tool::List | Tool::Follow => Wrong::StrangeOption,
         _ => Wrong::Strange(tool),
     }
 }
@@ -131,6 +131,7 @@ fn excess_of(tool: Tool) -> (Clue, Clue)
         Tool::Svwait | Tool::Svlisten => {
             (Clue::Second(Wrong::Condition), Clue::Second(Wrong::Mode))
         }
+        Tool::Record => (Clue::At(0), Clue::Nowhere),
         Tool::Mkfifodir => (Clue::At(1), Clue::Nowhere),
         _ => (Clue::At(2), Clue::Nowhere),
     }
@@ -237,8 +238,10 @@ fn subject_clues(tool: Tool) -> (Clue, Clue)
     match tool {
         Tool::Svc => (Clue::First(Wrong::Plain), Clue::Nowhere),
         Tool::Svstat => (Clue::AtIf(0, Wrong::Plain), Clue::At(2)),
-        Tool::Svscanctl => (Clue::Nowhere, Clue::Nowhere),
-        Tool::Svwait | Tool::Svlisten | Tool::List => (Clue::Only(Wrong::Plain), Clue::Nowhere),
+        Tool::Svscanctl | Tool::Record => (Clue::Nowhere, Clue::Nowhere),
+        Tool::Svwait | Tool::Svlisten | Tool::List | Tool::Follow => {
+            (Clue::Only(Wrong::Plain), Clue::Nowhere)
+        }
         _ => (Clue::At(0), Clue::Nowhere),
     }
 }

@@ -8,6 +8,8 @@ pub fn help_of(tool: Tool) -> &'static str {
         Tool::Svc => SVC,
         Tool::Svstat => SVSTAT,
         Tool::List => LIST,
+        Tool::Follow => FOLLOW,
+        Tool::Record => RECORD,
         Tool::Svwait => SVWAIT,
         Tool::Svlisten => SVLISTEN,
         Tool::Svscanctl => SVSCANCTL,
@@ -130,12 +132,11 @@ exit status:
   111         no server, or the system refused something
 ";
 
-/// What `follow --help` prints.
-pub const FOLLOW: &str = "usage: s6_tree follow SOCKET [--json] [--] [NAME..]
+const FOLLOW: &str = "usage: s6_tree follow SOCKET [--json] [--] [NAME..]
 
 Prints each letter of each service, or of those of these names, as it
-comes, until the tree ends. A line is the time of day, the name, the
-letter and what it says: 2026-11-27T11:18:48.123Z web u up
+comes, until the connection ends. A line is the time of day, the name,
+the letter and what it says: 2026-11-27T11:18:48.123Z web u up
 
 letters:
   s           a supervisor begins
@@ -152,14 +153,12 @@ options:
   --          what follows are names, also with a dash in front
 
 exit status:
-  0           the tree has ended
   1           the server refused it: standard error says why
   100         wrong usage
-  111         no server, or the system refused something
+  111         the tree has ended, no server, or the system refused something
 ";
 
-/// What `record --help` prints.
-pub const RECORD: &str = "usage: s6_tree record SOCKET
+const RECORD: &str = "usage: s6_tree record SOCKET
 
 Has svscan hand its run over now, so that RECORD holds all that came up to
 here, and prints recorded N: the number of its inputs. Services, waiters

@@ -1,10 +1,11 @@
 //! The services as lines of JSON.
-ghost use Rattle.std.specs.Prelude.{◌≡◌, ◌++◌, ◌∷◌, IfOk, OnOk};
+ghost use Rattle.std.specs.Prelude.{◌≡◌, ◌++◌, ◌∷◌, IfOk, OnOk, codes, option_map};
 ghost use Rattle.std.specs.List.{flat_map};
-ghost use Rattle.s6_tools.specs.JsonLines.{truth_text, number_text, key_text, quoted, truth_member, number_member, exit_code, signal_number, head_text, truths_text, run_text, ages_text, json_line};
+ghost use Rattle.s6_tools.specs.JsonLines.{truth_text, number_text, key_text, quoted, truth_member, number_member, exit_code, signal_number, head_text, truths_text, run_text, ages_text, word_text, member, service_line, nothing_text, unread_line, json_line};
 
-use crate::service_state::state_of;
-use s6_events::Exit;
+use crate::list_entry::{ListEntry, ListedService};
+use crate::told_word::ToldWord;
+use s6_events::{Exit, Name};
 use s6_script::push_number;
 use std::alloc::{AllocError, Global};
 use supervise_core::Row;
@@ -33,8 +34,8 @@ fn pid_of(pid: Option<u32>) -> Option<u64>
     pid.map(|pid| u64::from(pid))
 }
 
-// Adds a text in quotes. None of its bytes is one that JSON escapes.
-fn push_quoted(text: &mut Vec<u8>, word: &[u8]) -> Result<(), AllocError>
+/// Adds a text in quotes. None of its bytes is one that JSON escapes.
+pub fn push_quoted(text: &mut Vec<u8>, word: &[u8]) -> Result<(), AllocError>
     ensures { OnOk result (text.new.items ≡ text.old.items ++ quoted word.now) }
 {
     text.push(b'"')?;
@@ -42,8 +43,8 @@ fn push_quoted(text: &mut Vec<u8>, word: &[u8]) -> Result<(), AllocError>
     text.extend_from_slice(b"\"")
 }
 
-// Adds a key and its colon.
-fn push_key(text: &mut Vec<u8>, key: &[u8]) -> Result<(), AllocError>
+/// Adds a key and its colon.
+pub fn push_key(text: &mut Vec<u8>, key: &[u8]) -> Result<(), AllocError>
     ensures { OnOk result (text.new.items ≡ text.old.items ++ key_text key.now) }
 {
     push_quoted(text, key)?;
@@ -60,8 +61,8 @@ fn push_truth(text: &mut Vec<u8>, key: &[u8], truth: bool) -> Result<(), AllocEr
     text.extend_from_slice(word)
 }
 
-// Adds a further member: a number, or null where there is none.
-fn push_member(text: &mut Vec<u8>, key: &[u8], number: Option<u64>) -> Result<(), AllocError>
+/// Adds a further member: a number, or null where there is none.
+pub fn push_member(text: &mut Vec<u8>, key: &[u8], number: Option<u64>) -> Result<(), AllocError>
     ensures { OnOk result (text.new.items ≡ text.old.items ++ number_member key.now number) }
 {
     text.push(b',')?;
@@ -73,15 +74,15 @@ fn push_member(text: &mut Vec<u8>, key: &[u8], number: Option<u64>) -> Result<()
 }
 
 // Adds the first three members.
-fn push_head(text: &mut Vec<u8>, row: &Row) -> Result<(), AllocError>
-    ensures { OnOk result (text.new.items ≡ text.old.items ++ head_text row.now) }
+fn push_head(text: &mut Vec<u8>, service: &ListedService) -> Result<(), AllocError>
+    ensures { OnOk result (text.new.items ≡ text.old.items ++ head_text service.now) }
 {
     push_key(text, b"name")?;
-    push_quoted(text, row.name.as_bytes())?;
-    push_member(text, b"serial", Some(row.sid.0))?;
+    push_quoted(text, service.row.name.as_bytes())?;
+    push_member(text, b"serial", Some(service.row.sid.0))?;
     text.push(b',')?;
     push_key(text, b"state")?;
-    push_quoted(text, state_of(row).word())
+    push_quoted(text, service.state.as_bytes())
 }
 
 // Adds the members that are true or false.
@@ -112,26 +113,83 @@ fn push_ages(text: &mut Vec<u8>, row: &Row) -> Result<(), AllocError>
     push_member(text, b"readyfor", row.ready_for)
 }
 
-// Adds the line of a service.
-#[tactic(auto, unfolding(crate::specs::JsonLines::json_line))]
-fn push_json_line(text: &mut Vec<u8>, row: &Row) -> Result<(), AllocError>
-    ensures { OnOk result (text.new.items ≡ text.old.items ++ json_line row.now) }
+// Adds a text in quotes, or null where there is none.
+fn push_word(text: &mut Vec<u8>, word: Option<&ToldWord>) -> Result<(), AllocError>
+    ensures { OnOk result (text.new.items
+        ≡ text.old.items ++ word_text (option_map (λ w. w.now) word.entry)) }
 {
+    match word {
+        Some(word) => push_quoted(text, word.as_bytes()),
+        None => text.extend_from_slice(b"null"),
+    }
+}
+
+// Adds the time of day since which it is up or down.
+fn push_since(text: &mut Vec<u8>, since: Option<&ToldWord>) -> Result<(), AllocError>
+    ensures { OnOk result (text.new.items
+        ≡ text.old.items ++ member (codes "since") (word_text (option_map (λ w. w.now) since.entry))) }
+{
+    text.push(b',')?;
+    push_key(text, b"since")?;
+    push_word(text, since)
+}
+
+// Adds the line of a service.
+#[tactic(auto, unfolding(crate::specs::JsonLines::service_line))]
+fn push_service_line(text: &mut Vec<u8>, service: &ListedService) -> Result<(), AllocError>
+    ensures { OnOk result (text.new.items ≡ text.old.items ++ service_line service.now) }
+{
+    let row = &service.row;
     text.push(b'{')?;
-    push_head(text, row)?;
+    push_head(text, service)?;
     push_truths(text, row)?;
     push_run(text, row)?;
     push_ages(text, row)?;
+    push_since(text, service.since.as_ref())?;
+    text.extend_from_slice(b",\"fault\":null}\n")
+}
+
+// Adds that of a directory that could not be read.
+#[tactic(auto, unfolding(crate::specs::JsonLines::unread_line))]
+fn push_unread_line(text: &mut Vec<u8>, name: &Name, fault: &ToldWord) -> Result<(), AllocError>
+    ensures { OnOk result (text.new.items ≡ text.old.items ++ unread_line name.now fault.now) }
+{
+    text.push(b'{')?;
+    push_key(text, b"name")?;
+    push_quoted(text, name.as_bytes())?;
+    push_nothing(text)?;
+    push_quoted(text, fault.as_bytes())?;
     text.extend_from_slice(b"}\n")
 }
 
-/// The services, each by a line with one object of JSON.
-pub fn json_lines(alloc: Global, rows: &[Row]) -> Result<Vec<u8>, AllocError>
-    ensures { IfOk result (λ text. text.items ≡ flat_map json_line rows.now) }
+// Adds the members of a service, of which a directory that could not be read has none.
+fn push_nothing(text: &mut Vec<u8>) -> Result<(), AllocError>
+    ensures { OnOk result (text.new.items ≡ text.old.items ++ nothing_text) }
+{
+    text.extend_from_slice(
+        b",\"serial\":null,\"state\":\"unread\",\"up\":null,\"wantedup\":null,\"normallyup\":null,\"ready\":null,\"paused\":null",
+    )?;
+    text.extend_from_slice(
+        b",\"pid\":null,\"exitcode\":null,\"signal\":null,\"updownfor\":null,\"readyfor\":null,\"since\":null,\"fault\":",
+    )
+}
+
+fn push_json_line(text: &mut Vec<u8>, entry: &ListEntry) -> Result<(), AllocError>
+    ensures { OnOk result (text.new.items ≡ text.old.items ++ json_line entry.now) }
+{
+    match entry {
+        ListEntry::Service(service) => push_service_line(text, service),
+        ListEntry::Unread(name, fault) => push_unread_line(text, name, fault),
+    }
+}
+
+/// The entries, each by a line with one object of JSON.
+pub fn json_lines(alloc: Global, entries: &[ListEntry]) -> Result<Vec<u8>, AllocError>
+    ensures { IfOk result (λ text. text.items ≡ flat_map json_line entries.now) }
 {
     let mut text = Vec::new(alloc);
-    for row in rows {
-        push_json_line(&mut text, row)?;
+    for entry in entries {
+        push_json_line(&mut text, entry)?;
     }
     Ok(text)
 }

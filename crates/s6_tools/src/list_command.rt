@@ -1,21 +1,21 @@
-//! The words of `list`.
+//! The words of `list` and `follow`.
 ghost use Rattle.std.specs.Prelude.{◌≡◌, filter};
 ghost use Rattle.s6_tools.specs.Listing.{is_among, is_asked, is_there, are_there};
 
+use crate::list_entry::ListEntry;
 use crate::misuse::Misuse;
 use crate::tool_fault::ToolFault;
 use s6_events::Name;
 use std::alloc::Global;
-use supervise_core::Row;
 
-/// What is asked of `list`: services of these names, where no name is all services.
+/// What is asked of `list` or `follow`: services of these names, where no name is all services.
 #[derive(Debug, Drop)]
 pub struct ListCommand {
     pub is_json: bool,
     pub names: Vec<Name>,
 }
 
-/// Reads the words behind `list`: options and names in any order. A word that begins with `-` is an option, and behind `--` a name.
+/// Reads the words behind `list` or `follow`: options and names in any order. A word that begins with `-` is an option, and behind `--` a name.
 pub fn compile_list(alloc: Global, words: &[&str]) -> Result<ListCommand, ToolFault> {
     let mut command = ListCommand {
         is_json: false,
@@ -52,35 +52,36 @@ impl ListCommand {
     }
 }
 
-fn is_among(names: &[Name], name: &Name) -> bool
+/// Whether it is one of these names.
+pub fn is_among(names: &[Name], name: &Name) -> bool
     ensures { result ≡ is_among names.now name.now }
 {
     names.iter().any(|known| known == name)
 }
 
 // Whether a service is asked for.
-fn is_asked(names: &[Name], row: &Row) -> bool
-    ensures { result ≡ is_asked names.now row.now }
+fn is_asked(names: &[Name], entry: &ListEntry) -> bool
+    ensures { result ≡ is_asked names.now entry.now }
 {
-    names.is_empty() || is_among(names, &row.name)
+    names.is_empty() || is_among(names, entry.name())
 }
 
-/// Leaves the services that are asked for, as they stand.
-pub fn keep_asked(rows: &mut Vec<Row>, names: &[Name])
-    ensures { rows.new.items ≡ filter (is_asked names.now) rows.old.items }
+/// Leaves the entries that are asked for, as they stand.
+pub fn keep_asked(entries: &mut Vec<ListEntry>, names: &[Name])
+    ensures { entries.new.items ≡ filter (is_asked names.now) entries.old.items }
 {
-    rows.retain(|row| is_asked(names, row));
+    entries.retain(|entry| is_asked(names, entry));
 }
 
-fn is_there(rows: &[Row], name: &Name) -> bool
-    ensures { result ≡ is_there rows.now name.now }
+fn is_there(entries: &[ListEntry], name: &Name) -> bool
+    ensures { result ≡ is_there entries.now name.now }
 {
-    rows.iter().any(|row| row.name == *name)
+    entries.iter().any(|entry| entry.name() == name)
 }
 
-/// Whether there is a service of each name.
-pub fn are_there(rows: &[Row], names: &[Name]) -> bool
-    ensures { result ≡ are_there rows.now names.now }
+/// Whether there is an entry of each name.
+pub fn are_there(entries: &[ListEntry], names: &[Name]) -> bool
+    ensures { result ≡ are_there entries.now names.now }
 {
-    names.iter().all(|name| is_there(rows, name))
+    names.iter().all(|name| is_there(entries, name))
 }

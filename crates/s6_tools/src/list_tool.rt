@@ -5,21 +5,20 @@ ghost use Rattle.s6_tools.specs.Listing.{listed_text};
 use crate::connection::{Connection, await_room};
 use crate::json_line::json_lines;
 use crate::list_command::{ListCommand, are_there, compile_list, keep_asked};
+use crate::list_entry::ListEntry;
 use crate::patience::{Patience, TRY_TIME};
 use crate::reason::Reason;
 use crate::table::table_of;
+use crate::told_word::ToldWord;
 use crate::tool_fault::ToolFault;
+use day_times::day_second;
 use std::alloc::{AllocError, Global};
 use std::io::Write;
 use std::net::Net;
 use std::time::Clock;
-use supervise_core::Row;
 
-/// The request: the rows of all services.
-const REQUEST: &[u8] = b"rows";
-
-/// Prints the services of the tree, all or those of these names. Where one of the names is of none, the others are printed, and then
-/// it is refused. Chosen here.
+/// Prints the services of the tree and what the last scan could not read, all or those of these names. Where there is nothing of one of
+/// the names, the others are printed, and then it is refused. Chosen here.
 pub fn run_list<R: Net + Clock, W: Write>(
     rt: &R,
     alloc: Global,
@@ -28,15 +27,19 @@ pub fn run_list<R: Net + Clock, W: Write>(
     output: &mut W,
 ) -> Result<u8, ToolFault> {
     let command = compile_list(alloc, words)?;
-    let rows = ask_rows(rt, alloc, socket)?;
-    print_rows(alloc, rows, &command, output)
+    let entries = ask_states(rt, alloc, socket)?;
+    print_entries(alloc, entries, &command, output)
 }
 
-// The rows of all services. Where the server is busy it is asked again, for ten seconds at most.
-fn ask_rows<R: Net + Clock>(rt: &R, alloc: Global, socket: &str) -> Result<Vec<Row>, ToolFault> {
+// The states of all services. Where the server is busy it is asked again, for ten seconds at most.
+fn ask_states<R: Net + Clock>(
+    rt: &R,
+    alloc: Global,
+    socket: &str,
+) -> Result<Vec<ListEntry>, ToolFault> {
     let mut patience = Patience::of(Some(TRY_TIME));
     for _ in 0..u64::MAX {
-        match ask_rows_once(rt, alloc, socket) {
+        match ask_states_once(rt, alloc, socket) {
             Err(fault) => await_room(rt, fault, &mut patience)?,
             asked => return asked,
         }
@@ -44,37 +47,60 @@ fn ask_rows<R: Net + Clock>(rt: &R, alloc: Global, socket: &str) -> Result<Vec<R
     Err(ToolFault::Busy)
 }
 
-fn ask_rows_once<R: Net>(rt: &R, alloc: Global, socket: &str) -> Result<Vec<Row>, ToolFault> {
-    Connection::open(rt, alloc, socket)?.ask_rows(alloc, REQUEST)
+fn ask_states_once<R: Net>(
+    rt: &R,
+    alloc: Global,
+    socket: &str,
+) -> Result<Vec<ListEntry>, ToolFault> {
+    let mut connection = Connection::open(rt, alloc, socket)?;
+    let start = connection.ask_clock()?;
+    connection.next_line()?;
+    let mut entries = connection.ask_states(alloc)?;
+    for entry in entries.iter_mut() {
+        note_since(entry, start);
+    }
+    Ok(entries)
 }
 
-// Prints the rows that are asked for, by one write.
-fn print_rows<W: Write>(
+// The time of day since which a service is up or down, where the tree's clock was 0 at this one.
+fn note_since(entry: &mut ListEntry, start: u64) {
+    if let ListEntry::Service(service) = entry {
+        service.since = day_of(start, service.at);
+    }
+}
+
+fn day_of(start: u64, at: Option<u64>) -> Option<ToldWord> {
+    let text = day_second(start.saturating_add(at?))?;
+    Some(ToldWord::new(text.as_bytes()))
+}
+
+// Prints the entries that are asked for, by one write.
+fn print_entries<W: Write>(
     alloc: Global,
-    mut rows: Vec<Row>,
+    mut entries: Vec<ListEntry>,
     command: &ListCommand,
     output: &mut W,
 ) -> Result<u8, ToolFault> {
     let names = command.names.as_slice();
-    keep_asked(&mut rows, names);
-    let text = text_of(alloc, rows.as_slice(), command.is_json)?;
+    keep_asked(&mut entries, names);
+    let text = text_of(alloc, entries.as_slice(), command.is_json)?;
     if output.write_all(text.as_slice()).is_err() || output.flush().is_err() {
         return Err(ToolFault::Write);
     }
-    if are_there(rows.as_slice(), names) {
+    if are_there(entries.as_slice(), names) {
         Ok(0)
     } else {
         Err(ToolFault::Refused(Reason::new(b"NoService")))
     }
 }
 
-// What is printed of these rows.
-fn text_of(alloc: Global, rows: &[Row], is_json: bool) -> Result<Vec<u8>, AllocError>
-    ensures { IfOk result (λ text. text.items ≡ listed_text is_json rows.now) }
+// What is printed of these entries.
+fn text_of(alloc: Global, entries: &[ListEntry], is_json: bool) -> Result<Vec<u8>, AllocError>
+    ensures { IfOk result (λ text. text.items ≡ listed_text is_json entries.now) }
 {
     if is_json {
-        json_lines(alloc, rows)
+        json_lines(alloc, entries)
     } else {
-        table_of(alloc, rows)
+        table_of(alloc, entries)
     }
 }

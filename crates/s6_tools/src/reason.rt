@@ -18,8 +18,8 @@ impl Model for Reason {
     ghost view = { λ r. r.text.items };
 }
 
-// The first bytes, at most 32.
-fn first_bytes(bytes: &[u8]) -> &[u8]
+/// The first bytes, at most 32.
+pub fn first_bytes(bytes: &[u8]) -> &[u8]
     ensures first { result.now ≡ take 32 bytes.entry.now }
     ensures bound { length result.now ≤ 32 }
 {

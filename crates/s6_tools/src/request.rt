@@ -3,7 +3,7 @@
 ghost use Rattle.std.specs.Prelude.{◌≡◌, ◌++◌, ◌∷◌, [], IfOk, OnOk, false};
 ghost use Rattle.std.specs.List.{join_with_byte};
 ghost use Rattle.tree_core.specs.declared.input.Act.TheVariants.{Svc, Status, Permafailon, Wait, Subscribe, Send, MakeDir};
-ghost use Rattle.s6_tools.specs.Requests.{request_of, request_line, scan_request_of};
+ghost use Rattle.s6_tools.specs.Requests.{follow_request_of, request_of, request_line, scan_request_of};
 
 use s6_events::Name;
 use s6_script::{push_named, push_permafailon, push_send, push_subscribe, push_svc, push_wait};
@@ -120,5 +120,18 @@ pub fn subscribe_request(
 {
     let mut text = Vec::new(alloc);
     push_subscribe(&mut text, target, pattern, false)?;
+    Ok(text)
+}
+
+/// The request of `follow` for services of these names: for one alone its letters, else those of all.
+pub fn follow_request(alloc: Global, names: &[Name]) -> Result<Vec<u8>, AllocError>
+    ensures { IfOk result (λ text. text.items ≡ follow_request_of names.now) }
+{
+    let mut text = Vec::new(alloc);
+    text.extend_from_slice(b"follow")?;
+    if let [name] = names {
+        text.extend_from_slice(b" ")?;
+        text.extend_from_slice(name.as_bytes())?;
+    }
     Ok(text)
 }

@@ -57,6 +57,8 @@ fn form_of(tool: Tool) -> &'static str
         Tool::Svc => "svc SOCKET -LETTERS.. NAME, at most 63 letters",
         Tool::Svstat => "svstat SOCKET -o FIELDS NAME",
         Tool::List => "list SOCKET [--json] [--] [NAME..]",
+        Tool::Follow => "follow SOCKET [--json] [--] [NAME..]",
+        Tool::Record => "record SOCKET",
         Tool::Svwait => {
             "svwait SOCKET [-u | -U | -d | -D] [-a | -o] [-t MS] NAME.., at most 16 names"
         }

@@ -1,11 +1,12 @@
 //! The services as a table.
-ghost use Rattle.std.specs.Prelude.{◌≡◌, ◌++◌, ◌∷◌, IfOk, OnOk, None, map, replicate, if◌then◌else◌};
+ghost use Rattle.std.specs.Prelude.{◌≡◌, ◌++◌, ◌∷◌, IfOk, OnOk, None, map, option_map, replicate, if◌then◌else◌};
 ghost use Rattle.std.specs.List.{flat_map};
-ghost use Rattle.s6_tools.specs.Tables.{heading, cell, number_cell, age_cell, exit_cell, wanted_cell, width_of, padded, heading_line, row_line, sized_column, padded_columns, table_text};
+ghost use Rattle.s6_tools.specs.Tables.{heading, cell, service_cell, unread_cell, word_cell, number_cell, age_cell, exit_cell, wanted_cell, width_of, padded, heading_line, row_line, sized_column, padded_columns, table_text};
 
 use crate::age::push_age;
-use crate::service_state::state_of;
-use s6_events::Exit;
+use crate::list_entry::{ListEntry, ListedService};
+use crate::told_word::ToldWord;
+use s6_events::{Exit, Name};
 use s6_script::push_number;
 use std::alloc::{AllocError, Global};
 use supervise_core::Row;
@@ -19,8 +20,10 @@ pub enum Column {
     State,
     /// PID: the process number of `run`, while it is there.
     Pid,
-    /// SINCE: for how long it has been up, or down.
+    /// SINCE: the time of day at which it came up, or went down.
     Since,
+    /// FOR: for how long it has been up, or down.
+    For,
     /// READY: for how long it has been ready, while it is up.
     Ready,
     /// LAST-EXIT: how its last run ended, while it is down.
@@ -30,11 +33,12 @@ pub enum Column {
 }
 
 // The columns with spaces behind them: all but WANTED.
-const PADDED_COLUMNS: [Column; 6] = [
+const PADDED_COLUMNS: [Column; 7] = [
     Column::Name,
     Column::State,
     Column::Pid,
     Column::Since,
+    Column::For,
     Column::Ready,
     Column::LastExit,
 ];
@@ -56,6 +60,7 @@ impl Column {
             Column::State => b"STATE",
             Column::Pid => b"PID",
             Column::Since => b"SINCE",
+            Column::For => b"FOR",
             Column::Ready => b"READY",
             Column::LastExit => b"LAST-EXIT",
             Column::Wanted => b"WANTED",
@@ -110,47 +115,90 @@ fn up_and_ready_for(row: &Row) -> Option<u64>
     if row.up { row.ready_for } else { None }
 }
 
-// Adds the cell of a service in a column.
-fn push_cell(text: &mut Vec<u8>, row: &Row, column: Column) -> Result<(), AllocError>
-    ensures { OnOk result (text.new.items ≡ text.old.items ++ cell row.now column) }
+fn push_word_cell(text: &mut Vec<u8>, word: Option<&ToldWord>) -> Result<(), AllocError>
+    ensures { OnOk result (text.new.items
+        ≡ text.old.items ++ word_cell (option_map (λ w. w.now) word.entry)) }
 {
+    match word {
+        Some(word) => text.extend_from_slice(word.as_bytes()),
+        None => text.extend_from_slice(b"-"),
+    }
+}
+
+// Adds the cell of a service in a column.
+fn push_service_cell(
+    text: &mut Vec<u8>,
+    service: &ListedService,
+    column: Column,
+) -> Result<(), AllocError>
+    ensures { OnOk result (text.new.items ≡ text.old.items ++ service_cell service.now column) }
+{
+    let row = &service.row;
     match column {
         Column::Name => text.extend_from_slice(row.name.as_bytes()),
-        Column::State => text.extend_from_slice(state_of(row).word()),
+        Column::State => text.extend_from_slice(service.state.as_bytes()),
         Column::Pid => push_number_cell(text, row.pid),
-        Column::Since => push_age_cell(text, row.up_down_for),
+        Column::Since => push_word_cell(text, service.since.as_ref()),
+        Column::For => push_age_cell(text, row.up_down_for),
         Column::Ready => push_age_cell(text, up_and_ready_for(row)),
         Column::LastExit => push_exit_cell(text, row.exit),
         Column::Wanted => text.extend_from_slice(wanted_word(row)),
     }
 }
 
-fn cell_of(alloc: Global, row: &Row, column: Column) -> Result<Vec<u8>, AllocError>
-    ensures { IfOk result (λ text. text.items ≡ cell row.now column) }
+// Adds that of a directory that could not be read.
+fn push_unread_cell(
+    text: &mut Vec<u8>,
+    name: &Name,
+    fault: &ToldWord,
+    column: Column,
+) -> Result<(), AllocError>
+    ensures { OnOk result (text.new.items
+        ≡ text.old.items ++ unread_cell name.now fault.now column) }
+{
+    match column {
+        Column::Name => text.extend_from_slice(name.as_bytes()),
+        Column::State => text.extend_from_slice(b"unread"),
+        Column::LastExit => text.extend_from_slice(fault.as_bytes()),
+        _ => text.extend_from_slice(b"-"),
+    }
+}
+
+fn push_cell(text: &mut Vec<u8>, entry: &ListEntry, column: Column) -> Result<(), AllocError>
+    ensures { OnOk result (text.new.items ≡ text.old.items ++ cell entry.now column) }
+{
+    match entry {
+        ListEntry::Service(service) => push_service_cell(text, service, column),
+        ListEntry::Unread(name, fault) => push_unread_cell(text, name, fault, column),
+    }
+}
+
+fn cell_of(alloc: Global, entry: &ListEntry, column: Column) -> Result<Vec<u8>, AllocError>
+    ensures { IfOk result (λ text. text.items ≡ cell entry.now column) }
 {
     let mut text = Vec::new(alloc);
-    push_cell(&mut text, row, column)?;
+    push_cell(&mut text, entry, column)?;
     Ok(text)
 }
 
 // The bytes of the widest cell of a column, its head among them.
-fn width_of(alloc: Global, rows: &[Row], column: Column) -> Result<usize, AllocError>
-    ensures { IfOk result (λ width. width ≡ width_of rows.now column) }
+fn width_of(alloc: Global, entries: &[ListEntry], column: Column) -> Result<usize, AllocError>
+    ensures { IfOk result (λ width. width ≡ width_of entries.now column) }
 {
     let mut width = column.heading().len();
-    for row in rows {
-        width = width.max(cell_of(alloc, row, column)?.len());
+    for entry in entries {
+        width = width.max(cell_of(alloc, entry, column)?.len());
     }
     Ok(width)
 }
 
-fn sized(alloc: Global, rows: &[Row]) -> Result<Vec<SizedColumn>, AllocError>
+fn size_columns(alloc: Global, entries: &[ListEntry]) -> Result<Vec<SizedColumn>, AllocError>
     ensures { IfOk result
-        (λ columns. columns.items ≡ map (sized_column rows.now) padded_columns) }
+        (λ columns. columns.items ≡ map (sized_column entries.now) padded_columns) }
 {
     let mut columns = Vec::new(alloc);
     for column in PADDED_COLUMNS.as_slice() {
-        let width = width_of(alloc, rows, *column)?;
+        let width = width_of(alloc, entries, *column)?;
         columns.push(SizedColumn {
             column: *column,
             width,
@@ -180,13 +228,13 @@ fn push_spaces(text: &mut Vec<u8>, count: usize) -> Result<(), AllocError>
 fn push_padded_cell(
     alloc: Global,
     text: &mut Vec<u8>,
-    row: &Row,
+    entry: &ListEntry,
     sized: SizedColumn,
 ) -> Result<(), AllocError>
     ensures { OnOk result (text.new.items
-        ≡ text.old.items ++ padded sized.width (cell row.now sized.column)) }
+        ≡ text.old.items ++ padded sized.width (cell entry.now sized.column)) }
 {
-    let cell = cell_of(alloc, row, sized.column)?;
+    let cell = cell_of(alloc, entry, sized.column)?;
     push_padded(text, cell.as_slice(), sized.width)
 }
 
@@ -199,43 +247,43 @@ fn push_heading_line(text: &mut Vec<u8>, columns: &[SizedColumn]) -> Result<(), 
     text.extend_from_slice(b"WANTED\n")
 }
 
-fn push_row_line(
+fn push_entry_line(
     alloc: Global,
     text: &mut Vec<u8>,
     columns: &[SizedColumn],
-    row: &Row,
+    entry: &ListEntry,
 ) -> Result<(), AllocError>
-    ensures { OnOk result (text.new.items ≡ text.old.items ++ row_line columns.now row.now) }
+    ensures { OnOk result (text.new.items ≡ text.old.items ++ row_line columns.now entry.now) }
 {
     for sized in columns {
-        push_padded_cell(alloc, text, row, *sized)?;
+        push_padded_cell(alloc, text, entry, *sized)?;
     }
-    text.extend_from_slice(wanted_word(row))?;
+    push_cell(text, entry, Column::Wanted)?;
     text.extend_from_slice(b"\n")
 }
 
-fn push_row_lines(
+fn push_entry_lines(
     alloc: Global,
     text: &mut Vec<u8>,
     columns: &[SizedColumn],
-    rows: &[Row],
+    entries: &[ListEntry],
 ) -> Result<(), AllocError>
     ensures { OnOk result (text.new.items
-        ≡ text.old.items ++ flat_map (row_line columns.now) rows.now) }
+        ≡ text.old.items ++ flat_map (row_line columns.now) entries.now) }
 {
-    for row in rows {
-        push_row_line(alloc, text, columns, row)?;
+    for entry in entries {
+        push_entry_line(alloc, text, columns, entry)?;
     }
     Ok(())
 }
 
-/// The services, each by a line, below a line of heads.
-pub fn table_of(alloc: Global, rows: &[Row]) -> Result<Vec<u8>, AllocError>
-    ensures { IfOk result (λ text. text.items ≡ table_text rows.now) }
+/// The entries, each by a line, below a line of heads.
+pub fn table_of(alloc: Global, entries: &[ListEntry]) -> Result<Vec<u8>, AllocError>
+    ensures { IfOk result (λ text. text.items ≡ table_text entries.now) }
 {
-    let columns = sized(alloc, rows)?;
+    let columns = size_columns(alloc, entries)?;
     let mut text = Vec::new(alloc);
     push_heading_line(&mut text, columns.as_slice())?;
-    push_row_lines(alloc, &mut text, columns.as_slice(), rows)?;
+    push_entry_lines(alloc, &mut text, columns.as_slice(), entries)?;
     Ok(text)
 }

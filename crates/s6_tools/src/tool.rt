@@ -4,6 +4,7 @@ ghost use Rattle.s6_tools.specs.FaultLines.{name_of};
 
 use crate::ending::tell_fault;
 use crate::event_tools::{run_ftrig_notify, run_ftrig_wait, run_mkfifodir};
+use crate::follow_tool::{run_follow, run_record};
 use crate::help_texts::help_of;
 use crate::letter_tools::{run_svc, run_svscanctl};
 use crate::list_tool::run_list;
@@ -26,6 +27,10 @@ pub enum Tool {
     Svstat,
     /// `list`: the status of all services. Chosen here.
     List,
+    /// `follow`: their letters, as they come. Chosen here.
+    Follow,
+    /// `record`: has the run so far recorded. Chosen here.
+    Record,
     /// `svwait`: waits for services. Page `s6-svwait`.
     Svwait,
     /// `svlisten`: starts a program, and waits for services. Page `s6-svlisten`.
@@ -42,10 +47,12 @@ pub enum Tool {
     Permafailon,
 }
 
-const ALL: [Tool; 10] = [
+const ALL: [Tool; 12] = [
     Tool::Svc,
     Tool::Svstat,
     Tool::List,
+    Tool::Follow,
+    Tool::Record,
     Tool::Svwait,
     Tool::Svlisten,
     Tool::Svscanctl,
@@ -64,6 +71,8 @@ impl Tool {
             Tool::Svc => "svc",
             Tool::Svstat => "svstat",
             Tool::List => "list",
+            Tool::Follow => "follow",
+            Tool::Record => "record",
             Tool::Svwait => "svwait",
             Tool::Svlisten => "svlisten",
             Tool::Svscanctl => "svscanctl",
@@ -133,6 +142,8 @@ fn run<R: Net + Processes + Clock, W: Write>(
         Tool::Svc => run_svc(rt, alloc, socket, words),
         Tool::Svstat => run_svstat(rt, alloc, socket, words, output),
         Tool::List => run_list(rt, alloc, socket, words, output),
+        Tool::Follow => run_follow(rt, alloc, socket, words, output),
+        Tool::Record => run_record(rt, alloc, socket, words, output),
         Tool::Svwait => run_svwait(rt, alloc, socket, words),
         Tool::Svlisten => run_svlisten(rt, alloc, socket, words),
         Tool::Svscanctl => run_svscanctl(rt, alloc, socket, words),

@@ -57,7 +57,8 @@ room_on : (e : Errand) (id : ℕ) (made : Made) → is_among id made.waiters ≡
 room_on (errand.Step ch) id made any has = room_for ch id made any has
 room_on (errand.Status subject) id made any has = refl
 room_on errand.Scan id made any has = refl
-room_on (errand.Replacement act) id made any has = place_stays id made any has
+room_on errand.Record id made any has = refl
+room_on errand.Replacement id made any has = place_stays id made any has
 
 -- there is room still for what is under way
 pub room_stays : (phase : Phase) (id : ℕ) (made : Made) → is_among id made.waiters ≡ true → has_room_in phase made ≡ true
@@ -65,7 +66,7 @@ pub room_stays : (phase : Phase) (id : ℕ) (made : Made) → is_among id made.w
 room_stays Idle id made any has = refl
 room_stays (Stepping n) id made any has = refl
 room_stays (UnderWay e) id made any has = room_on e id made any has
-room_stays (PutOff act) id made any has = place_stays id made any has
+room_stays PutOff id made any has = place_stays id made any has
 room_stays (LeftStepping n) id made any has = refl
 room_stays (Left e) id made any has = room_on e id made any has
 room_stays Leaving id made any has = refl

@@ -22,7 +22,7 @@ use Rattle.server_rules.specs.declared.todo.News.{News}
 use Rattle.server_rules.specs.declared.todo.News.TheVariants as news
 use Rattle.server_rules.specs.declared.todo.Todo.{Todo}
 use Rattle.server_rules.specs.declared.todo.Todo.TheVariants as todo
-use Rattle.server_rules.specs.Standing.{Made, Ended, nothing_made, admission_of, after_release, after_reply, change_of, has_place, has_room_for, is_among, next_end}
+use Rattle.server_rules.specs.Standing.{Made, Ended, nothing_made, admission_of, after_release, after_reply, change_of, has_place, has_room_for, is_among, is_followed, let_go, next_end}
 use Rattle.server_rules.specs.Status.{is_recent}
 
 -- where it stands, what it asked and what isn't begun, and what it made and stands
@@ -51,7 +51,7 @@ abbrev pub is_here : Phase → Bool
 is_here Idle = true
 is_here (Stepping n) = true
 is_here (UnderWay e) = true
-is_here (PutOff act) = true
+is_here PutOff = true
 is_here phase = false
 
 abbrev pub takes_requests : View → Bool
@@ -82,7 +82,7 @@ steps_in ch n act c = hands_in (errand.Step ch) act c
 -- a waiter for which there is no place gets that of the one that was released first
 abbrev pub replaces : List ℕ → Act Global → View → Moved
 replaces (id ∷ released) act c =
-    hands_in (errand.Replacement act) (Cancel id) (record c { made = record c.made { released = released } })
+    hands_in errand.Replacement (Cancel id) (record c { made = record c.made { released = released; put_off = Some act } })
 replaces [] act c = answers_by (answer.Own own.Busy) c
 
 abbrev pub begin_admitted : Admission → Act Global → View → Moved
@@ -96,6 +96,9 @@ begin_request (request.Step act) last_step now c = begin_admitted (admission_of 
 begin_request (request.Status subject) last_step now c =
     if is_recent last_step now then answers_by (answer.Status subject) c else hands_in (errand.Status subject) Tick c
 begin_request request.Scan last_step now c = record { next = record c { phase = UnderWay errand.Scan }; todo = todo.Scan }
+begin_request request.Record last_step now c = record { next = record c { phase = UnderWay errand.Record }; todo = todo.Record }
+begin_request (request.Follow services) last_step now c = answers_by answer.Following (record c { made = record c.made { follows = services } })
+begin_request request.Clock last_step now c = answers_by answer.Clock c
 begin_request (request.Refused o) last_step now c = answers_by (answer.Own o) c
 
 abbrev pub begin_first : List Request → (last_step now : ℕ) → View → Moved
@@ -122,15 +125,20 @@ is_step_first asked = false
 abbrev pub begin_beside : ℕ → View → Moved
 begin_beside n c = if nat_lt n step_limit then begin_next c.asked n c else stays c
 
+-- an act that was put off is handed in
+abbrev pub begin_put_off : Option (Act Global) → View → Moved
+begin_put_off (Some act) c = hands_in (errand.Step change.MakesWaiter) act (record c { made = record c.made { put_off = None } })
+begin_put_off None c = answers_by (answer.Own own.Busy) (record c { phase = Idle })
+
 abbrev pub ends_by : Option Ended → View → Moved
 ends_by (Some ended) c = record { next = record c { phase = Cancelling; made = ended.made }; todo = todo.Submit ended.act }
-ends_by None c = record { next = record c { phase = Gone }; todo = todo.Free }
+ends_by None c = record { next = record c { phase = Gone; made = let_go c.made }; todo = todo.Free }
 
 abbrev pub begin_in : Phase → (last_step now : ℕ) → View → Moved
 begin_in Idle last_step now c = begin_first c.asked last_step now c
 begin_in (Stepping n) last_step now c = begin_beside n c
 begin_in (UnderWay e) last_step now c = stays c
-begin_in (PutOff act) last_step now c = hands_in (errand.Step change.MakesWaiter) act c
+begin_in PutOff last_step now c = begin_put_off c.made.put_off c
 begin_in (LeftStepping n) last_step now c = stays c
 begin_in (Left e) last_step now c = stays c
 begin_in Leaving last_step now c = ends_by (next_end c.made) c
@@ -140,7 +148,7 @@ begin_in Gone last_step now c = stays c
 abbrev pub begin_move : (last_step now : ℕ) → View → Moved
 begin_move last_step now c = begin_in c.phase last_step now c
 
--- ANSWERED: the reply to the step, or to the scan, that is under way
+-- ANSWERED: the reply to the step, or to the scan, that is under way; no step answers what asked for a record
 abbrev pub noted : Errand → Reply Global → Made → Made
 noted (errand.Step ch) r made = after_reply ch r made
 noted e r made = made
@@ -149,7 +157,13 @@ abbrev pub answered_errand : Errand → Reply Global → View → Moved
 answered_errand (errand.Step ch) r c = answers_by answer.TheReply (record c { phase = Idle; made = after_reply ch r c.made })
 answered_errand (errand.Status subject) r c = answers_by (answer.Status subject) (record c { phase = Idle })
 answered_errand errand.Scan r c = answers_by answer.TheReply (record c { phase = Idle })
-answered_errand (errand.Replacement act) r c = stays (record c { phase = PutOff act })
+answered_errand errand.Record r c = stays c
+answered_errand errand.Replacement r c = stays (record c { phase = PutOff })
+
+-- the same of a client that has left
+abbrev pub left_errand : Errand → Reply Global → View → Moved
+left_errand errand.Record r c = stays c
+left_errand e r c = stays (record c { phase = Leaving; made = noted e r c.made })
 
 -- the last of several steps that are under way
 abbrev pub fewer : (ℕ → Phase) → Phase → ℕ → Phase
@@ -159,9 +173,9 @@ abbrev pub answered_in : Phase → Reply Global → View → Moved
 answered_in Idle r c = stays c
 answered_in (Stepping n) r c = answers_by answer.TheReply (record c { phase = fewer Stepping Idle n })
 answered_in (UnderWay e) r c = answered_errand e r c
-answered_in (PutOff act) r c = stays c
+answered_in PutOff r c = stays c
 answered_in (LeftStepping n) r c = stays (record c { phase = fewer LeftStepping Leaving n })
-answered_in (Left e) r c = stays (record c { phase = Leaving; made = noted e r c.made })
+answered_in (Left e) r c = left_errand e r c
 answered_in Leaving r c = stays c
 answered_in Cancelling r c = stays (record c { phase = Leaving })
 answered_in Gone r c = stays c
@@ -169,14 +183,25 @@ answered_in Gone r c = stays c
 abbrev pub answered_move : Reply Global → View → Moved
 answered_move r c = answered_in c.phase r c
 
--- REFUSE SCAN: the directory could not be read
-abbrev pub refuse_scan_in : Phase → OwnAnswer → View → Moved
-refuse_scan_in (UnderWay errand.Scan) o c = answers_by (answer.Own o) (record c { phase = Idle })
-refuse_scan_in (Left errand.Scan) o c = stays (record c { phase = Leaving })
-refuse_scan_in phase o c = stays c
+-- RECORDED: the run stands in the record, which has so many steps now
+abbrev pub recorded_in : Phase → ℕ → View → Moved
+recorded_in (UnderWay errand.Record) steps c = answers_by (answer.Recorded steps) (record c { phase = Idle })
+recorded_in (Left errand.Record) steps c = stays (record c { phase = Leaving })
+recorded_in phase steps c = stays c
 
-abbrev pub refuse_scan_move : OwnAnswer → View → Moved
-refuse_scan_move o c = refuse_scan_in c.phase o c
+abbrev pub recorded_move : ℕ → View → Moved
+recorded_move steps c = recorded_in c.phase steps c
+
+-- REFUSE ERRAND: the directory could not be read, or the run not be recorded
+abbrev pub refuse_errand_in : Phase → OwnAnswer → View → Moved
+refuse_errand_in (UnderWay errand.Scan) o c = answers_by (answer.Own o) (record c { phase = Idle })
+refuse_errand_in (UnderWay errand.Record) o c = answers_by (answer.Own o) (record c { phase = Idle })
+refuse_errand_in (Left errand.Scan) o c = stays (record c { phase = Leaving })
+refuse_errand_in (Left errand.Record) o c = stays (record c { phase = Leaving })
+refuse_errand_in phase o c = stays c
+
+abbrev pub refuse_errand_move : OwnAnswer → View → Moved
+refuse_errand_move o c = refuse_errand_in c.phase o c
 
 -- REFUSE NEXT: no step can be made now
 abbrev pub refuse_first : List Request → OwnAnswer → View → Moved
@@ -190,10 +215,11 @@ refuse_next_in phase o c = stays c
 abbrev pub refuse_next_move : OwnAnswer → View → Moved
 refuse_next_move o c = refuse_next_in c.phase o c
 
--- TOLD: news of what it made are told while it is there
+-- TOLD: news of what it made are told while it is there, and letters of the services that it follows
 abbrev pub has_made : News → Made → Bool
 has_made (news.Match m) made = is_among m.subscription made.subscriptions
 has_made (news.Release r) made = is_among r.waiter made.waiters
+has_made (news.Letter l) made = is_followed l.name made.follows
 
 abbrev pub is_for : News → View → Bool
 is_for n c = is_here c.phase && has_made n c.made
@@ -201,16 +227,17 @@ is_for n c = is_here c.phase && has_made n c.made
 abbrev pub after_news : News → Made → Made
 after_news (news.Match m) made = made
 after_news (news.Release r) made = after_release r.waiter made
+after_news (news.Letter l) made = made
 
 abbrev pub told_move : News → View → Moved
 told_move n c = if is_for n c then record { next = record c { made = after_news n c.made }; todo = todo.Tell } else stays c
 
--- LEAVE: what waits is asked no more, and all that stands is ended once no step is under way
+-- LEAVE: what waits is asked no more, and all that stands is ended once nothing is under way
 abbrev pub leave_in : Phase → View → View
 leave_in Idle c = record c { phase = Leaving; asked = [] }
 leave_in (Stepping n) c = record c { phase = LeftStepping n; asked = [] }
 leave_in (UnderWay e) c = record c { phase = Left e; asked = [] }
-leave_in (PutOff act) c = record c { phase = Leaving; asked = [] }
+leave_in PutOff c = record c { phase = Leaving; asked = [] }
 leave_in phase c = c
 
 abbrev pub leave_next : View → View
@@ -220,7 +247,7 @@ leave_next c = leave_in c.phase c
 abbrev pub is_ready_in : Phase → List Request → Bool
 is_ready_in Idle [] = false
 is_ready_in Idle (r ∷ asked) = true
-is_ready_in (PutOff act) asked = true
+is_ready_in PutOff asked = true
 is_ready_in Leaving asked = true
 is_ready_in phase asked = false
 
@@ -230,11 +257,11 @@ is_ready c = is_ready_in c.phase c.asked
 -- there is room for what a step under way makes
 abbrev pub has_room_on : Errand → Made → Bool
 has_room_on (errand.Step ch) made = has_room_for ch made
-has_room_on (errand.Replacement act) made = has_place made
+has_room_on errand.Replacement made = has_place made
 has_room_on e made = true
 
 abbrev pub has_room_in : Phase → Made → Bool
 has_room_in (UnderWay e) made = has_room_on e made
-has_room_in (PutOff act) made = has_place made
+has_room_in PutOff made = has_place made
 has_room_in (Left e) made = has_room_on e made
 has_room_in phase made = true

@@ -3,16 +3,19 @@ use Rattle.std.specs.Prelude.{ℕ, List, [], ◌∷◌, ◌++◌, slice_get, sli
 use Rattle.std.specs.List.{position}
 use Rattle.std.specs.declared.alloc.Global.{Global}
 use Rattle.s6_replay.specs.Transcript.{match_line, release_line, reply_text}
+use Rattle.svscan_core.specs.declared.event.Event.{Event}
 use Rattle.tree_core.specs.Machine.{Outcome}
 use Rattle.tree_core.specs.declared.effect.Match.{Match}
 use Rattle.tree_core.specs.declared.effect.Release.{Release}
 use Rattle.tree_core.specs.declared.reply.Reply.{Reply}
 use Rattle.server_rules.specs.declared.recipients.Line.TheVariants as line
 use Rattle.server_rules.specs.declared.recipients.Post.{Post}
+use Rattle.server_rules.specs.declared.roster.Member.{Member}
 use Rattle.server_rules.specs.declared.todo.News.{News}
 use Rattle.server_rules.specs.declared.todo.News.TheVariants as news
 use Rattle.server_rules.specs.declared.todo.Todo.{Todo}
 use Rattle.server_rules.specs.declared.todo.Todo.TheVariants as todo
+use Rattle.server_rules.specs.Letters.{letter_line, told_letter}
 use Rattle.server_rules.specs.Connection.{View, Moved, answered_move, is_for, told_move}
 
 -- the connections, by their seats, and what was posted, in order
@@ -45,8 +48,12 @@ abbrev pub tell_in : Option View → News → ℕ → List View → Handed
 tell_in (Some c) n seat cs = moved_at seat (Some n) (told_move n c) cs
 tell_in None n seat cs = untouched cs
 
+-- news go to the connection of this seat, if they are for it
+abbrev pub tell_seat : News → ℕ → List View → Handed
+tell_seat n seat cs = tell_in (slice_get cs seat) n seat cs
+
 abbrev pub tell_at : Option ℕ → News → List View → Handed
-tell_at (Some seat) n cs = tell_in (slice_get cs seat) n seat cs
+tell_at (Some seat) n cs = tell_seat n seat cs
 tell_at None n cs = untouched cs
 
 abbrev pub tell : News → List View → Handed
@@ -66,9 +73,20 @@ abbrev pub hand_all : {X : Type 0} → (X → List View → Handed) → List X �
 hand_all hand [] cs = untouched cs
 hand_all hand (x ∷ xs) cs = followed_by (hand x cs) (hand_all hand xs (hand x cs).connections)
 
--- of a step: first the reply to those who asked for it, then its matches, then its releases
+-- the seats of connections, in rising order
+abbrev pub all_seats : List ℕ
+all_seats = 0 ∷ 1 ∷ 2 ∷ 3 ∷ 4 ∷ 5 ∷ 6 ∷ 7 ∷ 8 ∷ 9 ∷ 10 ∷ []
+
+-- a letter goes to all that follow its service
+abbrev pub tell_letter : ℕ → List Member → Event → List View → Handed
+tell_letter at roster e cs = hand_all (tell_seat (news.Letter (told_letter at roster e))) all_seats cs
+
+-- of a step at this moment: first the reply to those who asked for it, then its letters, then its matches, then its releases
 abbrev pub with_answers : List ℕ → Outcome Global → List View → Handed
 with_answers seats o cs = hand_all (answer_at o.reply) seats cs
+
+abbrev pub with_letters : ℕ → List Member → Outcome Global → Handed → Handed
+with_letters at roster o h = followed_by h (hand_all (tell_letter at roster) o.events h.connections)
 
 abbrev pub with_matches : Outcome Global → Handed → Handed
 with_matches o h = followed_by h (hand_all tell_match o.matched h.connections)
@@ -76,8 +94,8 @@ with_matches o h = followed_by h (hand_all tell_match o.matched h.connections)
 abbrev pub with_releases : Outcome Global → Handed → Handed
 with_releases o h = followed_by h (hand_all tell_release o.released h.connections)
 
-abbrev pub handed_out : List ℕ → Outcome Global → List View → Handed
-handed_out seats o cs = with_releases o (with_matches o (with_answers seats o cs))
+abbrev pub handed_out : List ℕ → ℕ → List Member → Outcome Global → List View → Handed
+handed_out seats at roster o cs = with_releases o (with_matches o (with_letters at roster o (with_answers seats o cs)))
 
 -- what is posted, each with the empty line behind it
 abbrev pub reply_lines : Reply Global → List ℕ
@@ -86,3 +104,4 @@ reply_lines reply = reply_text reply ++ (10 ∷ 10 ∷ [])
 abbrev pub news_lines : News → List ℕ
 news_lines (news.Match found) = match_line found ++ 10 ∷ []
 news_lines (news.Release release) = release_line release ++ 10 ∷ []
+news_lines (news.Letter letter) = letter_line letter ++ 10 ∷ []

@@ -1,29 +1,50 @@
 -- What stands of a connection, and what a request of it may make.
-use Rattle.std.specs.Prelude.{ℕ, ◌+◌, ◌==◌, ◌&&◌, List, [], ◌∷◌, ◌++◌, Bool, true, filter, length, not, nat_lt, Option, Some, None, if◌then◌else◌}
+use Rattle.std.specs.Prelude.{ℕ, ◌+◌, ◌==◌, ◌&&◌, ◌||◌, List, [], ◌∷◌, ◌++◌, Bool, true, false, filter, length, not, nat_lt, Option, Some, None, if◌then◌else◌}
 use Rattle.std.specs.List.{list_any}
+use Rattle.std.specs.Str.{bytes_eq}
 use Rattle.std.specs.declared.alloc.Global.{Global}
 use Rattle.tree_core.specs.declared.input.Act.{Act}
 use Rattle.tree_core.specs.declared.input.Act.TheVariants.{Cancel, Subscribe, Unsubscribe, Wait}
 use Rattle.tree_core.specs.declared.reply.Reply.{Reply}
 use Rattle.tree_core.specs.declared.reply.Reply.TheVariants as reply
+use Rattle.server_rules.specs.declared.following.Following.{Following}
+use Rattle.server_rules.specs.declared.following.Following.TheVariants as following
 use Rattle.server_rules.specs.declared.standing.Admission.{Admission}
 use Rattle.server_rules.specs.declared.standing.Admission.TheVariants as admission
 use Rattle.server_rules.specs.declared.standing.StandingChange.{StandingChange}
 use Rattle.server_rules.specs.declared.standing.StandingChange.TheVariants as change
 
--- what a connection made and stands: the waiters that wait, those whose release was told, and the subscriptions; each in the order made
+-- what a connection made and stands: the waiters that wait, those whose release was told, and the subscriptions, each in the order
+-- made; the services whose letters it follows; and the wait that is put off until a released waiter has ended
 pub record Made : Type 0 where
   pub waiters : List ℕ
   pub released : List ℕ
   pub subscriptions : List ℕ
+  pub follows : Following
+  pub put_off : Option (Act Global)
 
 -- nothing stands
 abbrev pub nothing_made : Made
-nothing_made = record { waiters = []; released = []; subscriptions = [] }
+nothing_made = record { waiters = []; released = []; subscriptions = []; follows = following.Nobody; put_off = None }
+
+-- nothing is followed, and nothing put off
+abbrev pub let_go : Made → Made
+let_go made = record made { follows = following.Nobody; put_off = None }
+
+-- it follows the service of this name
+abbrev pub is_followed : List ℕ → Following → Bool
+is_followed name following.Nobody = false
+is_followed name following.All = true
+is_followed name (following.One followed) = bytes_eq followed name
+
+abbrev pub follows_any : Following → Bool
+follows_any following.Nobody = false
+follows_any following.All = true
+follows_any (following.One followed) = true
 
 -- something is still to be told
 abbrev pub is_told_more : Made → Bool
-is_told_more made = not ((length made.waiters == 0) && (length made.subscriptions == 0))
+is_told_more made = not ((length made.waiters == 0) && (length made.subscriptions == 0)) || follows_any made.follows
 
 -- the most waiters, and the most subscriptions, of one connection
 abbrev pub waiter_limit : ℕ
@@ -90,14 +111,12 @@ pub record Ended : Type 0 where
   pub act : Act Global
   pub made : Made
 
-abbrev pub next_ended : (released waiters subscriptions : List ℕ) → Option Ended
-next_ended (id ∷ released) waiters subscriptions =
-    Some (record { act = Cancel id; made = record { waiters = waiters; released = released; subscriptions = subscriptions } })
-next_ended [] (id ∷ waiters) subscriptions =
-    Some (record { act = Cancel id; made = record { waiters = waiters; released = []; subscriptions = subscriptions } })
-next_ended [] [] (id ∷ subscriptions) =
-    Some (record { act = Unsubscribe id; made = record { waiters = []; released = []; subscriptions = subscriptions } })
-next_ended [] [] [] = None
+abbrev pub next_ended : (released waiters subscriptions : List ℕ) → Made → Option Ended
+next_ended (id ∷ released) waiters subscriptions made = Some (record { act = Cancel id; made = record made { released = released } })
+next_ended [] (id ∷ waiters) subscriptions made = Some (record { act = Cancel id; made = record made { waiters = waiters } })
+next_ended [] [] (id ∷ subscriptions) made =
+    Some (record { act = Unsubscribe id; made = record made { subscriptions = subscriptions } })
+next_ended [] [] [] made = None
 
 abbrev pub next_end : Made → Option Ended
-next_end made = next_ended made.released made.waiters made.subscriptions
+next_end made = next_ended made.released made.waiters made.subscriptions made

@@ -1,11 +1,16 @@
 -- What a client is told of the status of a service.
-use Rattle.std.specs.Prelude.{ℕ, Bool, false, List, [], ◌∷◌, ◌++◌, ◌-◌, nat_lt, Option, Some, None, codes}
+use Rattle.std.specs.Prelude.{ℕ, Bool, true, false, List, [], ◌∷◌, ◌++◌, ◌-◌, nat_lt, Option, Some, None, codes, decimal}
 use Rattle.std.specs.List.{find, flat_map}
 use Rattle.std.specs.Str.{bytes_eq}
 use Rattle.s6_replay.specs.Transcript.{row_text}
 use Rattle.supervise_core.specs.declared.row.Row.{Row}
 use Rattle.server_rules.specs.declared.status.Subject.{Subject}
-use Rattle.server_rules.specs.declared.status.Subject.TheVariants.{One, All}
+use Rattle.server_rules.specs.declared.status.Subject.TheVariants.{One, All, States}
+use Rattle.server_rules.specs.declared.found.Remark.{Remark}
+use Rattle.server_rules.specs.declared.roster.Member.{Member}
+use Rattle.server_rules.specs.Found.{unread_line}
+use Rattle.server_rules.specs.Roster.{ending_in, since_in}
+use Rattle.server_rules.specs.States.{state_of, state_word}
 
 -- a row is told, and where there is none that
 abbrev pub status_line : Option Row → List ℕ
@@ -20,10 +25,28 @@ status_text rows name = status_line (find (λ row. bytes_eq row.name name) rows)
 abbrev pub row_line : Row → List ℕ
 row_line row = row_text row ++ 10 ∷ []
 
--- the status of one service, or the rows of all, and an empty line behind them
-abbrev pub told_text : Subject → List Row → List ℕ
-told_text (One name) rows = status_text rows name
-told_text All rows = flat_map row_line rows ++ 10 ∷ []
+-- what is shown of the services at one moment: their rows, what their letters say of them, and what the last scan could not read
+pub record Shown : Type 0 where
+  pub rows : List Row
+  pub roster : List Member
+  pub unread : List Remark
+
+-- a moment; -1 where there is none
+abbrev pub moment_text : Option ℕ → List ℕ
+moment_text (Some at) = decimal at
+moment_text None = codes "-1"
+
+-- the word of a service's state, since when it is up or down, and its row
+abbrev pub state_line : List Member → Row → List ℕ
+state_line roster row =
+    codes "state " ++ (state_word (state_of (ending_in row.sid roster) row)
+    ++ (32 ∷ (moment_text (since_in row.sid roster) ++ (32 ∷ row_line row))))
+
+-- the status of one service, the rows of all, or their states and what could not be read; and an empty line behind them
+abbrev pub told_text : Subject → Shown → List ℕ
+told_text (One name) shown = status_text shown.rows name
+told_text All shown = flat_map row_line shown.rows ++ 10 ∷ []
+told_text States shown = flat_map (state_line shown.roster) shown.rows ++ (flat_map unread_line shown.unread ++ 10 ∷ [])
 
 -- the last step is less than a second old
 abbrev pub is_recent : ℕ → ℕ → Bool
@@ -33,3 +56,8 @@ is_recent step now = nat_lt (now - step) 1000
 abbrev pub is_fresh : Option ℕ → ℕ → Bool
 is_fresh (Some step) now = is_recent step now
 is_fresh None now = false
+
+-- all is there that a status is told from: what the letters say is told in states alone
+abbrev pub is_had : Bool → Subject → Bool
+is_had has_roster States = has_roster
+is_had has_roster subject = true

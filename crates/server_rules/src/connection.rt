@@ -1,8 +1,8 @@
 //! A connection: what it asked, what is under way for it, and what it made. docs/COMMANDS.md has its rules.
 ghost use Rattle.std.specs.Prelude.{◌≡◌, ◌∷◌, [], true, IfSome, IfNone};
 ghost use Rattle.tree_core.specs.declared.input.Act.{Act};
-ghost use Rattle.server_rules.specs.Connection.{View, new_view, answered_move, answered_errand, ask_next, begin_admitted, begin_beside, begin_first, begin_move, begin_request, ends_by, has_room_on, hands_in, is_for, is_ready, is_step_first, steps_in, leave_next, left_unasked, refuse_next_move, refuse_scan_move, told_move};
-ghost use Rattle.server_rules.specs.Standing.{admission_of, has_room_for, is_told_more, next_end};
+ghost use Rattle.server_rules.specs.Connection.{View, new_view, answered_move, answered_errand, ask_next, begin_admitted, begin_beside, begin_put_off, begin_first, begin_move, begin_request, ends_by, has_room_on, hands_in, is_for, is_ready, is_step_first, steps_in, leave_next, left_errand, left_unasked, recorded_move, refuse_errand_move, refuse_next_move, told_move};
+ghost use Rattle.server_rules.specs.Standing.{admission_of, has_place, has_room_for, is_told_more, next_end};
 ghost use Rattle.server_rules.specs.declared.phase.Errand.TheVariants as errand;
 ghost use Rattle.server_rules.specs.declared.phase.Phase.TheVariants as phase;
 ghost use Rattle.server_rules.specs.declared.requests.Request.TheVariants as request;
@@ -76,24 +76,16 @@ impl Connection {
         ensures next { self.new ≡ (begin_move last_step now self.old).next }
         ensures todo { result ≡ (begin_move last_step now self.old).todo }
     {
-        match mem::replace(&mut self.phase, Phase::Gone) {
-            Phase::Idle => {
-                self.phase = Phase::Idle;
-                self.begin_first(last_step, now)
-            }
-            Phase::Stepping(count) => {
-                self.phase = Phase::Stepping(count);
-                self.begin_beside(count)
-            }
-            Phase::PutOff(act) => {
-                self.phase = Phase::UnderWay(Errand::Step(StandingChange::MakesWaiter));
-                Todo::Submit(act)
-            }
+        match self.phase {
+            Phase::Idle => self.begin_first(last_step, now),
+            Phase::Stepping(count) => self.begin_beside(count),
+            Phase::PutOff => self.begin_put_off(),
             Phase::Leaving => self.end_next(),
-            phase => {
-                self.phase = phase;
-                Todo::Nothing
-            }
+            Phase::UnderWay(_)
+            | Phase::LeftStepping(_)
+            | Phase::Left(_)
+            | Phase::Cancelling
+            | Phase::Gone => Todo::Nothing,
         }
     }
 
@@ -112,6 +104,15 @@ impl Connection {
                 self.phase = Phase::UnderWay(Errand::Scan);
                 Todo::Scan
             }
+            Request::Record => {
+                self.phase = Phase::UnderWay(Errand::Record);
+                Todo::Record
+            }
+            Request::Follow(services) => {
+                self.standing.follow(services);
+                Todo::Give(Answer::Following)
+            }
+            Request::Clock => Todo::Give(Answer::Clock),
             Request::Refused(own) => Todo::Give(Answer::Own(own)),
         }
     }
@@ -123,7 +124,10 @@ impl Connection {
         match self.standing.admission(&act) {
             Admission::Admitted => self.step_in(StandingChange::of(&act), act),
             Admission::AfterReleased => match self.standing.take_released() {
-                Some(id) => self.hand_in(Errand::Replacement(act), Act::Cancel(id)),
+                Some(id) => {
+                    self.standing.put_off(act);
+                    self.hand_in(Errand::Replacement, Act::Cancel(id))
+                }
                 None => Todo::Give(Answer::Own(OwnAnswer::Busy)),
             },
             Admission::Refused => Todo::Give(Answer::Own(OwnAnswer::Busy)),
@@ -140,6 +144,21 @@ impl Connection {
             return Todo::Submit(act);
         }
         self.hand_in(Errand::Step(change), act)
+    }
+
+    // Hands in the act that was put off.
+    fn begin_put_off(&mut self) -> Todo
+        requires { has_place self.old.made ≡ true }
+        ensures next { self.new ≡ (begin_put_off self.old.made.put_off self.old).next }
+        ensures todo { result ≡ (begin_put_off self.old.made.put_off self.old).todo }
+    {
+        match self.standing.take_put_off() {
+            Some(act) => self.hand_in(Errand::Step(StandingChange::MakesWaiter), act),
+            None => {
+                self.phase = Phase::Idle;
+                Todo::Give(Answer::Own(OwnAnswer::Busy))
+            }
+        }
     }
 
     // Begins the next request, if it is a step that changes nothing of what stands, beside so many that are under way.
@@ -198,6 +217,7 @@ impl Connection {
                 Todo::Submit(act)
             }
             None => {
+                self.standing.let_go();
                 self.phase = Phase::Gone;
                 Todo::Free
             }
@@ -209,7 +229,7 @@ impl Connection {
         ensures next { self.new ≡ (answered_move reply.now self.old).next }
         ensures todo { result ≡ (answered_move reply.now self.old).todo }
     {
-        match mem::replace(&mut self.phase, Phase::Gone) {
+        match self.phase {
             Phase::Stepping(count) => {
                 self.phase = if count < 2 {
                     Phase::Idle
@@ -228,54 +248,91 @@ impl Connection {
                 Todo::Nothing
             }
             Phase::Left(errand) => {
-                self.phase = Phase::Leaving;
-                if let Errand::Step(change) = &errand {
-                    self.standing.note_reply(*change, reply);
-                }
+                self.finish_left(errand, reply);
                 Todo::Nothing
             }
             Phase::Cancelling => {
                 self.phase = Phase::Leaving;
                 Todo::Nothing
             }
-            phase => {
-                self.phase = phase;
-                Todo::Nothing
-            }
+            Phase::Idle | Phase::PutOff | Phase::Leaving | Phase::Gone => Todo::Nothing,
         }
     }
 
+    // What was under way by itself is answered. No step answers what asked for a record.
     fn finish(&mut self, errand: Errand, reply: &Reply<Global>) -> Todo
         requires { has_room_on errand self.old.made ≡ true }
+        requires under { self.old.phase ≡ phase.UnderWay errand }
         ensures next { self.new ≡ (answered_errand errand reply.now self.old).next }
         ensures todo { result ≡ (answered_errand errand reply.now self.old).todo }
     {
-        self.phase = Phase::Idle;
         match errand {
             Errand::Step(change) => {
+                self.phase = Phase::Idle;
                 self.standing.note_reply(change, reply);
                 Todo::Give(Answer::TheReply)
             }
-            Errand::Scan => Todo::Give(Answer::TheReply),
-            Errand::Status(subject) => Todo::Give(Answer::Status(subject)),
-            Errand::Replacement(act) => {
-                self.phase = Phase::PutOff(act);
+            Errand::Scan => {
+                self.phase = Phase::Idle;
+                Todo::Give(Answer::TheReply)
+            }
+            Errand::Status(subject) => {
+                self.phase = Phase::Idle;
+                Todo::Give(Answer::Status(subject))
+            }
+            Errand::Replacement => {
+                self.phase = Phase::PutOff;
                 Todo::Nothing
             }
+            Errand::Record => Todo::Nothing,
         }
     }
 
-    /// The scan that is under way is not made, for this reason.
-    pub fn refuse_scan(&mut self, reason: OwnAnswer) -> Todo
-        ensures next { self.new ≡ (refuse_scan_move reason self.old).next }
-        ensures todo { result ≡ (refuse_scan_move reason self.old).todo }
+    // The same of a client that has left.
+    fn finish_left(&mut self, errand: Errand, reply: &Reply<Global>)
+        requires { has_room_on errand self.old.made ≡ true }
+        requires under { self.old.phase ≡ phase.Left errand }
+        ensures { self.new ≡ (left_errand errand reply.now self.old).next }
+    {
+        match errand {
+            Errand::Step(change) => {
+                self.phase = Phase::Leaving;
+                self.standing.note_reply(change, reply);
+            }
+            Errand::Scan | Errand::Status(_) | Errand::Replacement => self.phase = Phase::Leaving,
+            Errand::Record => {}
+        }
+    }
+
+    /// The run that was to be recorded stands in the record, which has so many steps now.
+    pub fn recorded(&mut self, steps: u64) -> Todo
+        ensures next { self.new ≡ (recorded_move steps self.old).next }
+        ensures todo { result ≡ (recorded_move steps self.old).todo }
     {
         match self.phase {
-            Phase::UnderWay(Errand::Scan) => {
+            Phase::UnderWay(Errand::Record) => {
+                self.phase = Phase::Idle;
+                Todo::Give(Answer::Recorded(steps))
+            }
+            Phase::Left(Errand::Record) => {
+                self.phase = Phase::Leaving;
+                Todo::Nothing
+            }
+            _ => Todo::Nothing,
+        }
+    }
+
+    /// The scan, or the record, that is under way is not made, for this reason.
+    pub fn refuse_errand(&mut self, reason: OwnAnswer) -> Todo
+        ensures next { self.new ≡ (refuse_errand_move reason self.old).next }
+        ensures todo { result ≡ (refuse_errand_move reason self.old).todo }
+    {
+        match self.phase {
+            Phase::UnderWay(Errand::Scan | Errand::Record) => {
                 self.phase = Phase::Idle;
                 Todo::Give(Answer::Own(reason))
             }
-            Phase::Left(Errand::Scan) => {
+            Phase::Left(Errand::Scan | Errand::Record) => {
                 self.phase = Phase::Leaving;
                 Todo::Nothing
             }
@@ -297,7 +354,7 @@ impl Connection {
         }
     }
 
-    /// Whether the news are of what it made, and it is there to be told.
+    /// Whether the news are of what it made, or of a service that it follows, and it is there to be told.
     pub fn is_for(&self, news: &News) -> bool
         ensures { result ≡ is_for news.now self.now }
     {
@@ -305,6 +362,7 @@ impl Connection {
             && match news {
                 News::Match(found) => self.standing.has_subscription(found.subscription),
                 News::Release(release) => self.standing.has_waiter(release.waiter),
+                News::Letter(letter) => self.standing.is_followed(&letter.name),
             }
     }
 
@@ -326,21 +384,15 @@ impl Connection {
     pub fn leave(&mut self)
         ensures { self.new ≡ leave_next self.old }
     {
-        match mem::replace(&mut self.phase, Phase::Gone) {
-            Phase::Idle | Phase::PutOff(_) => {
-                self.asked.clear();
-                self.phase = Phase::Leaving;
-            }
-            Phase::Stepping(count) => {
-                self.asked.clear();
-                self.phase = Phase::LeftStepping(count);
-            }
-            Phase::UnderWay(errand) => {
-                self.asked.clear();
-                self.phase = Phase::Left(errand);
-            }
-            phase => self.phase = phase,
+        if !self.phase.is_here() {
+            return;
         }
+        self.asked.clear();
+        self.phase = match self.phase {
+            Phase::Stepping(count) => Phase::LeftStepping(count),
+            Phase::UnderWay(errand) => Phase::Left(errand),
+            _ => Phase::Leaving,
+        };
     }
 
     /// Whether there is something to begin.

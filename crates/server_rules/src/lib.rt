@@ -1,11 +1,13 @@
 //! What the server of a tree decides, with no thread of its own: what a line asks for, whose an actor is, when a tick or a scan is wanted,
-//! what is done for a connection at each event, who is posted what of a step, which rows may be told, what a scan directory says, which socket is whose,
-//! and what is told of a tree that did not run to its end.
+//! what is done for a connection at each event, who is posted what of a step, which rows may be told and in which state a service is, what a scan
+//! directory says, which socket is whose, and what is told of a tree that did not run to its end.
 #![tactic(auto)]
 
 mod connection;
+mod following;
 mod found;
 mod full_services;
+mod letters;
 mod listing;
 mod own_answer;
 mod phase;
@@ -13,9 +15,11 @@ mod places;
 mod plans;
 mod recipients;
 mod requests;
+mod roster;
 mod row_cache;
 mod serve_fault;
 mod service_files;
+mod service_state;
 mod socket_rules;
 mod standing;
 mod status;
@@ -23,8 +27,10 @@ mod texts;
 mod todo;
 
 pub use connection::Connection;
+pub use following::Following;
 pub use found::{Found, Remark, fault_word};
 pub use full_services::FullServices;
+pub use letters::ToldLetter;
 pub use listing::read_listing;
 pub use own_answer::OwnAnswer;
 pub use phase::{Errand, Phase};
@@ -34,10 +40,12 @@ pub use places::{
 pub use plans::{Askers, Plans, Wanted};
 pub use recipients::{Line, Post, hand_out};
 pub use requests::{Request, read_request};
+pub use roster::{Ending, Member, Roster};
 pub use row_cache::{RowCache, is_recent};
 pub use serve_fault::{ServeFault, refuse_usage, tell_serve_fault};
+pub use service_state::{ServiceState, state_of};
 pub use socket_rules::{FileIdentity, says_abandoned};
 pub use standing::{Admission, SUBSCRIPTION_LIMIT, Standing, StandingChange, WAITER_LIMIT};
 pub use status::Subject;
-pub use texts::{news_lines, reply_lines};
+pub use texts::{clock_line, following_line, news_lines, recorded_line, reply_lines};
 pub use todo::{Answer, News, Todo};

@@ -11,12 +11,14 @@ pub enum OwnAnswer {
     Pattern,
     /// The ring of the connection is full.
     Full,
-    /// The connection has the last seat, where nobody may wait.
+    /// The connection has the last seat, where nobody may wait, or so much of it stands that there is no place for more.
     Busy,
     /// A growth was refused.
     NoMemory,
     /// The scan directory could not be read, or a line of a script can't say what is in it.
     Directory,
+    /// The tree is run without a record.
+    Record,
 }
 
 impl OwnAnswer {
@@ -31,6 +33,7 @@ impl OwnAnswer {
             OwnAnswer::Busy => b"refused Busy\n\n",
             OwnAnswer::NoMemory => b"refused NoMemory\n\n",
             OwnAnswer::Directory => b"refused Directory\n\n",
+            OwnAnswer::Record => b"refused Record\n\n",
         }
     }
 }

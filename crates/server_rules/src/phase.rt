@@ -4,11 +4,9 @@ ghost use Rattle.server_rules.specs.Connection.{is_here};
 
 use crate::standing::StandingChange;
 use crate::status::Subject;
-use std::alloc::Global;
-use tree_core::Act;
 
-/// What a step, or a scan, that is under way for a connection is for.
-#[derive(Drop)]
+/// What a step, a scan or a handover that is under way for a connection is for.
+#[derive(Clone, Copy, PartialEq, Eq, Debug)]
 pub enum Errand {
     /// A step that it asked for, which changes so much of what stands: the reply is the answer.
     Step(StandingChange),
@@ -16,12 +14,14 @@ pub enum Errand {
     Status(Subject),
     /// A scan of the directory, whose reply is the answer.
     Scan,
-    /// The end of a released waiter, in whose place the connection gets the waiter that it asked for by this act.
-    Replacement(Act<Global>),
+    /// A handover of the run, after which the record has all steps.
+    Record,
+    /// The end of a released waiter, in whose place the connection gets the waiter that it asked for.
+    Replacement,
 }
 
 /// Where a connection stands.
-#[derive(Drop)]
+#[derive(Clone, Copy, PartialEq, Eq, Debug)]
 pub enum Phase {
     /// Nothing of it is under way. What it asked waits its turn.
     Idle,
@@ -29,8 +29,8 @@ pub enum Phase {
     Stepping(usize),
     /// One thing is under way by itself.
     UnderWay(Errand),
-    /// A released waiter was ended, and this act is to be handed in.
-    PutOff(Act<Global>),
+    /// A released waiter was ended, and the act that was put off is to be handed in.
+    PutOff,
     /// It left while so many steps were under way.
     LeftStepping(usize),
     /// It left while one thing was under way by itself.
@@ -49,7 +49,7 @@ impl Phase {
         ensures { result ≡ is_here self.now }
     {
         match self {
-            Phase::Idle | Phase::Stepping(_) | Phase::UnderWay(_) | Phase::PutOff(_) => true,
+            Phase::Idle | Phase::Stepping(_) | Phase::UnderWay(_) | Phase::PutOff => true,
             Phase::LeftStepping(_)
             | Phase::Left(_)
             | Phase::Leaving

@@ -1,15 +1,21 @@
 //! Who is posted what of a step, and in which order.
-ghost use Rattle.std.specs.Prelude.{◌≡◌, ◌++◌, ◌+◌, ◌≤◌, ◌<◌, length, vec_capacity, OnOk, OnErr};
+ghost use Rattle.std.specs.Prelude.{◌≡◌, ◌++◌, ◌+◌, ◌*◌, ◌≤◌, ◌<◌, length, vec_capacity, OnOk, OnErr};
 ghost use Rattle.std.specs.List.{position};
 ghost use Rattle.tree_core.specs.Effect.{outcome_of};
 ghost use Rattle.server_rules.specs.Connection.{is_for};
-ghost use Rattle.server_rules.specs.Recipients.{answer_at, hand_all, handed_out, posts_of, tell, tell_match, tell_release};
+ghost use Rattle.server_rules.specs.Recipients.{all_seats, answer_at, hand_all, handed_out, posts_of, tell, tell_letter, tell_match, tell_release, tell_seat};
 
 use crate::connection::Connection;
+use crate::roster::Roster;
 use crate::todo::{Answer, News, Todo};
-use s6_events::NoMemory;
+use line_server::SEAT_COUNT;
+use s6_events::{At, NoMemory};
 use std::alloc::Global;
+use svscan_core::Event;
 use tree_core::{Effect, Match, Release, Reply};
+
+/// The seats of connections, in rising order.
+const ALL_SEATS: [usize; SEAT_COUNT] = [0, 1, 2, 3, 4, 5, 6, 7, 8, 9, 10];
 
 /// What is posted to a connection.
 #[derive(Clone, Copy, PartialEq, Eq, Debug)]
@@ -26,27 +32,29 @@ pub struct Post {
 }
 
 /// Hands a step's result to the connections, by their seats, and adds what is posted, in order: the reply to the connections of these
-/// seats, which asked for it; then its matches and its releases to those that made what they are of. At `NoMemory` nothing was handed out.
+/// seats, which asked for it; then its letters to those that follow their services; then its matches and its releases to those that made
+/// what they are of. At `NoMemory` nothing was handed out.
 pub fn hand_out(
     seats: &[usize],
+    at: At,
+    roster: &Roster,
     effect: &Effect<Global>,
     connections: &mut Vec<Connection>,
     posts: &mut Vec<Post>,
 ) -> Result<(), NoMemory>
     ensures connections { OnOk result (connections.new.items
-        ≡ (handed_out seats.now (outcome_of effect.now) connections.old.items).connections) }
+        ≡ (handed_out seats.now at roster.now (outcome_of effect.now) connections.old.items).connections) }
     ensures posts { OnOk result (posts.new.items ≡ posts.old.items
-        ++ (handed_out seats.now (outcome_of effect.now) connections.old.items).posts) }
+        ++ (handed_out seats.now at roster.now (outcome_of effect.now) connections.old.items).posts) }
     ensures refused { OnErr result ((connections.new ≡ connections.old)
         × (posts.new.items ≡ posts.old.items)) }
 {
     let (matched, released) = (effect.matched.as_slice(), effect.released.as_slice());
-    posts.reserve(
-        seats
-            .len()
-            .saturating_add(matched.len().saturating_add(released.len())),
-    )?;
+    let news = matched.len().saturating_add(released.len());
+    let told = effect.events.len().saturating_mul(SEAT_COUNT);
+    posts.reserve(seats.len().saturating_add(told.saturating_add(news)))?;
     answer_all(seats, &effect.reply, connections, posts);
+    tell_letters(at, roster, effect.events.as_slice(), connections, posts);
     tell_matches(matched, connections, posts);
     tell_releases(released, connections, posts);
     Ok(())
@@ -93,6 +101,64 @@ fn answer_one(
     add_post(seat, connection.answered(reply), None, posts);
 }
 
+// The letters of a step at this moment go to the connections that follow their services.
+fn tell_letters(
+    at: At,
+    roster: &Roster,
+    events: &[Event],
+    connections: &mut Vec<Connection>,
+    posts: &mut Vec<Post>,
+)
+    requires { length posts.old.items + length events.now * 11 ≤ vec_capacity posts.old }
+    ensures connections { connections.new.items
+        ≡ (hand_all (tell_letter at roster.now) events.now connections.old.items).connections }
+    ensures posts { posts.new.items ≡ posts.old.items
+        ++ (hand_all (tell_letter at roster.now) events.now connections.old.items).posts }
+    ensures room { vec_capacity posts.new ≡ vec_capacity posts.old }
+    ensures count { length posts.new.items ≤ length posts.old.items + length events.now * 11 }
+{
+    for event in events {
+        let letter = News::Letter(roster.letter(at, event));
+        tell_seats(&ALL_SEATS, letter, connections, posts);
+    }
+}
+
+// News go to each connection of these seats that they are for.
+fn tell_seats(
+    seats: &[usize],
+    news: News,
+    connections: &mut Vec<Connection>,
+    posts: &mut Vec<Post>,
+)
+    requires { length posts.old.items + length seats.now ≤ vec_capacity posts.old }
+    ensures connections { connections.new.items
+        ≡ (hand_all (tell_seat news) seats.now connections.old.items).connections }
+    ensures posts { posts.new.items ≡ posts.old.items
+        ++ (hand_all (tell_seat news) seats.now connections.old.items).posts }
+    ensures room { vec_capacity posts.new ≡ vec_capacity posts.old }
+    ensures count { length posts.new.items ≤ length posts.old.items + length seats.now }
+{
+    for seat in seats {
+        tell_seat(*seat, news, connections, posts);
+    }
+}
+
+// News go to the connection of this seat, if they are for it.
+fn tell_seat(seat: usize, news: News, connections: &mut Vec<Connection>, posts: &mut Vec<Post>)
+    requires { length posts.old.items < vec_capacity posts.old }
+    ensures connections { connections.new.items
+        ≡ (tell_seat news seat connections.old.items).connections }
+    ensures posts { posts.new.items ≡ posts.old.items
+        ++ (tell_seat news seat connections.old.items).posts }
+    ensures room { vec_capacity posts.new ≡ vec_capacity posts.old }
+    ensures count { length posts.new.items ≤ length posts.old.items + 1 }
+{
+    let Some(connection) = connections.get_mut(seat) else {
+        return;
+    };
+    add_post(seat, connection.told(&news), Some(news), posts);
+}
+
 fn tell_matches(matched: &[Match], connections: &mut Vec<Connection>, posts: &mut Vec<Post>)
     requires { length posts.old.items + length matched.now ≤ vec_capacity posts.old }
     ensures connections { connections.new.items
@@ -130,10 +196,7 @@ fn tell_one(news: News, connections: &mut Vec<Connection>, posts: &mut Vec<Post>
     let Some(seat) = maker_of(connections, &news) else {
         return;
     };
-    let Some(connection) = connections.get_mut(seat) else {
-        return;
-    };
-    add_post(seat, connection.told(&news), Some(news), posts);
+    tell_seat(seat, news, connections, posts);
 }
 
 // The seat of the connection that made what the news are of, while its client is there.

@@ -1,17 +1,12 @@
 //! What a line of a client asks for.
-ghost use Rattle.std.specs.Prelude.{◌≡◌, true};
-ghost use Rattle.std.specs.Str.{bytes_eq};
-ghost use Rattle.s6_script.specs.Spelling.{SpellsAct, SpellsActButForPattern};
-ghost use Rattle.tree_core.specs.declared.input.Act.{Act};
-ghost use Rattle.server_rules.specs.Requests.{request_of, scan_word, rows_word, last_client, IsOwnAct, IsShort, WaitsOnLastSeat, AsksFor};
-ghost use Rattle.server_rules.specs.declared.requests.Request.TheVariants as request;
-ghost use Rattle.server_rules.specs.declared.own_answer.OwnAnswer.TheVariants as own;
-ghost use Rattle.server_rules.specs.declared.status.Subject.TheVariants as subject;
+ghost use Rattle.std.specs.Prelude.{◌≡◌, ◌&&◌, ◌==◌, take, drop};
+ghost use Rattle.server_rules.specs.Requests.{follow_one, follow_request, is_lasting, last_client, own_request, request_of, seated_request, AsksFor, IsAsked};
 
+use crate::following::Following;
 use crate::own_answer::OwnAnswer;
 use crate::places::LAST_CLIENT;
 use crate::status::Subject;
-use s6_events::Actor;
+use s6_events::{Actor, Name};
 use s6_script::{LineFault, parse_act};
 use std::alloc::Global;
 use tree_core::Act;
@@ -23,44 +18,108 @@ pub enum Request {
     Status(Subject),
     /// A scan of the directory.
     Scan,
+    /// A record of the run so far.
+    Record,
+    /// The letters of these services, from now on.
+    Follow(Following),
+    /// The clock.
+    Clock,
     /// A step with this act.
     Step(Act<Global>),
     /// Nothing that clients may ask for, or that can be done.
     Refused(OwnAnswer),
 }
 
-/// Reads a line of a client: the words of an act, `rows` for the status of all services, or `scanctl a`. The last seat is kept for short requests, so that however many clients wait, another can
-/// still tell the tree what to do: there a wait or a subscription is refused as `Busy`.
+impl Request {
+    // Whether the client waits for more than the answer.
+    fn is_lasting(&self) -> bool
+        ensures { result ≡ is_lasting self.now }
+    {
+        matches!(
+            self,
+            Request::Step(Act::Wait(..) | Act::Subscribe(..)) | Request::Follow(_)
+        )
+    }
+}
+
+/// Reads a line of a client: the words of an act, or a request of the server alone. The last seat is kept for short requests, so that
+/// however many clients wait, another can still tell the tree what to do: there a wait, a subscription, and a request to be told letters
+/// are refused as `Busy`.
 pub fn read_request(alloc: Global, actor: Actor, line: &[u8]) -> Request
-    ensures scan { bytes_eq line.now scan_word ≡ true → result ≡ request.Scan }
-    ensures only { result ≡ request.Scan → bytes_eq line.now scan_word ≡ true }
-    ensures rows { bytes_eq line.now rows_word ≡ true → result ≡ request.Status subject.All }
-    ensures only_rows { result ≡ request.Status subject.All → bytes_eq line.now rows_word ≡ true }
-    ensures step { AsksFor result line.now }
-    ensures refused { result ≡ request.Refused own.Line → (act : Act Global)
-        → SpellsAct line.now act → IsOwnAct act }
-    ensures pattern { result ≡ request.Refused own.Pattern
-        → SpellsActButForPattern Global line.now }
-    ensures busy { result ≡ request.Refused own.Busy → WaitsOnLastSeat actor line.now }
-    ensures short { actor ≡ last_client → IsShort result }
+    ensures { IsAsked result actor line.now }
+{
+    match own_request(line) {
+        Some(request) => seated(actor, request),
+        None => seated(actor, act_request(alloc, line)),
+    }
+}
+
+// The request, unless it is for another seat.
+fn seated(actor: Actor, request: Request) -> Request
+    ensures { result ≡ seated_request actor request }
+{
+    if usize::from(actor.number()) == LAST_CLIENT && request.is_lasting() {
+        return Request::Refused(OwnAnswer::Busy);
+    }
+    request
+}
+
+// The request of a line that is of the server alone, and of no script.
+fn own_request(line: &[u8]) -> Option<Request>
+    ensures { result ≡ own_request line.now }
 {
     if line == b"scanctl a".as_slice() {
-        return Request::Scan;
+        Some(Request::Scan)
+    } else if line == b"rows".as_slice() {
+        Some(Request::Status(Subject::All))
+    } else if line == b"states".as_slice() {
+        Some(Request::Status(Subject::States))
+    } else if line == b"record".as_slice() {
+        Some(Request::Record)
+    } else if line == b"clock".as_slice() {
+        Some(Request::Clock)
+    } else {
+        follow_request(line)
     }
-    if line == b"rows".as_slice() {
-        return Request::Status(Subject::All);
+}
+
+// The request to be told letters.
+fn follow_request(line: &[u8]) -> Option<Request>
+    ensures { result ≡ follow_request line.now }
+{
+    if line == b"follow".as_slice() {
+        return Some(Request::Follow(Following::All));
     }
+    match line.strip_prefix(b"follow ") {
+        Some(name) => follow_one(name),
+        None => None,
+    }
+}
+
+fn follow_one(name: &[u8]) -> Option<Request>
+    ensures { result ≡ follow_one name.now }
+{
+    match Name::new(name) {
+        Some(name) => Some(Request::Follow(Following::One(name))),
+        None => None,
+    }
+}
+
+// The request of a line with the words of an act.
+fn act_request(alloc: Global, line: &[u8]) -> Request
+    ensures { AsksFor result line.now }
+{
     match parse_act(alloc, alloc, line) {
-        Ok(act) => request_of(actor, act),
+        Ok(act) => request_of(act),
         Err(LineFault::Line) => Request::Refused(OwnAnswer::Line),
         Err(LineFault::Pattern) => Request::Refused(OwnAnswer::Pattern),
         Err(LineFault::NoMemory) => Request::Refused(OwnAnswer::NoMemory),
     }
 }
 
-// What an act asks for that this client sent. Reports, listings and ticks are for the server's own actors.
-fn request_of(actor: Actor, act: Act<Global>) -> Request
-    ensures { result ≡ request_of actor act }
+// What an act asks for. Reports, listings and ticks are for the server's own actors.
+fn request_of(act: Act<Global>) -> Request
+    ensures { result ≡ request_of act }
 {
     match act {
         Act::Status(name) => Request::Status(Subject::One(name)),
@@ -71,9 +130,6 @@ fn request_of(actor: Actor, act: Act<Global>) -> Request
         | Act::Death(..)
         | Act::FinishEnded(..)
         | Act::Tick => Request::Refused(OwnAnswer::Line),
-        Act::Wait(..) | Act::Subscribe(..) if usize::from(actor.number()) == LAST_CLIENT => {
-            Request::Refused(OwnAnswer::Busy)
-        }
         act => Request::Step(act),
     }
 }

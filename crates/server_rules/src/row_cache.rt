@@ -1,8 +1,10 @@
 //! The rows of the board as they were last read, for the threads of connections.
-ghost use Rattle.std.specs.Prelude.{◌≡◌, IfOk, IfSome, None, Some};
+ghost use Rattle.std.specs.Prelude.{◌≡◌, ◌&&◌, IfOk, IfSome, None, OnOk, Some};
 ghost use Rattle.status_board.specs.Board.{last_shot};
-ghost use Rattle.server_rules.specs.Status.{told_text, is_fresh, is_recent};
+ghost use Rattle.server_rules.specs.Status.{told_text, is_fresh, is_had, is_recent};
 
+use crate::found::Remark;
+use crate::roster::Roster;
 use crate::status::{Subject, push_told};
 use channel_names::Channels;
 use s6_events::NoMemory;
@@ -20,31 +22,55 @@ pub fn is_recent(step: u64, now: u64) -> bool
     now.saturating_sub(step) < STATUS_AGE
 }
 
-/// Rows, and the moment of the last step before they were read, in milliseconds; None where they may not be those of the board.
+/// Rows, what the letters said of their services, what the last scan could not read, and the moment of the last step before they were
+/// read, in milliseconds; None where they may not be those of the board.
 #[derive(Drop)]
 struct CachedRows {
     shot: Box<Shot>,
+    roster: Roster,
+    unread: Vec<Remark>,
     step: Option<u64>,
+    /// Whether the roster is of the same step as the rows.
+    has_roster: bool,
 }
 
 impl CachedRows {
-    // Whether a status may be told from them at this moment.
-    fn is_fresh(&self, now: u64) -> bool
-        ensures { result ≡ is_fresh self.now.step now }
+    // Whether a status of these services may be told from them at this moment.
+    fn is_fresh(&self, now: u64, subject: &Subject) -> bool
+        ensures { result ≡ is_fresh self.now.step now && is_had self.now.has_roster subject.now }
     {
         match self.step {
-            Some(step) => is_recent(step, now),
+            Some(step) => is_recent(step, now) && self.has(subject),
             None => false,
+        }
+    }
+
+    // Whether all is there that a status of these services is told from.
+    fn has(&self, subject: &Subject) -> bool
+        ensures { result ≡ is_had self.now.has_roster subject.now }
+    {
+        match subject {
+            Subject::One(_) | Subject::All => true,
+            Subject::States => self.has_roster,
         }
     }
 
     // The status of these services.
     fn status(&self, alloc: Global, subject: &Subject) -> Result<Vec<u8>, AllocError>
-        ensures { IfOk result
-            (λ text. text.items ≡ told_text subject.now self.now.shot.value.rows.items) }
+        ensures { IfOk result (λ text. text.items ≡ told_text subject.now (record {
+          rows = self.now.shot.value.rows.items;
+          roster = self.now.roster;
+          unread = self.now.unread.items;
+        })) }
     {
         let mut text = Vec::new(alloc);
-        push_told(&mut text, self.shot.rows.as_slice(), subject)?;
+        push_told(
+            &mut text,
+            self.shot.rows.as_slice(),
+            &self.roster,
+            self.unread.as_slice(),
+            subject,
+        )?;
         Ok(text)
     }
 
@@ -62,9 +88,22 @@ impl CachedRows {
             (λ at. (step ≡ Some at) × (last_shot reader.new ≡ Some self.new.shot.value)) }
     {
         self.step = None;
+        self.has_roster = false;
         if reader.read_into(&mut self.shot) {
             self.step = step;
         }
+    }
+
+    // Takes over what the letters said of the services up to the step of the rows.
+    fn take_roster(&mut self, roster: &Roster) -> Result<(), NoMemory>
+        ensures { OnOk result (self.new.roster ≡ roster.now) }
+        ensures step { self.new.step ≡ self.old.step }
+        ensures shot { self.new.shot ≡ self.old.shot }
+    {
+        self.has_roster = false;
+        self.roster.copy_from(roster)?;
+        self.has_roster = true;
+        Ok(())
     }
 }
 
@@ -80,7 +119,10 @@ impl RowCache {
     pub fn new(alloc: Global) -> Result<RowCache, NoMemory> {
         let rows = CachedRows {
             shot: Box::new(alloc, Shot::empty())?,
+            roster: Roster::new(alloc),
+            unread: Vec::new(alloc),
             step: None,
+            has_roster: false,
         };
         Ok(RowCache {
             rows: Mutex::new(rows),
@@ -90,6 +132,11 @@ impl RowCache {
     /// A step was made: the rows may not be those of the board any more.
     pub fn invalidate<R: Wait>(&self, rt: &R) {
         self.rows.lock(rt).forget();
+    }
+
+    /// A scan was made, which could not read these.
+    pub fn set_unread<R: Wait>(&self, rt: &R, unread: Vec<Remark>) {
+        self.rows.lock(rt).unread = unread;
     }
 
     /// The status of these services at this moment, in milliseconds; None where a step was made since the rows were read, or the last one
@@ -102,24 +149,43 @@ impl RowCache {
         subject: &Subject,
     ) -> Option<Result<Vec<u8>, AllocError>> {
         let rows = self.rows.lock(rt);
-        if !rows.is_fresh(now) {
+        if !rows.is_fresh(now, subject) {
             return None;
         }
         Some(rows.status(alloc, subject))
     }
 
     /// Reads the board anew, after a last step at this moment, in milliseconds; None where the board doesn't show that step yet. The
-    /// status of these services then.
+    /// status of these services then. The roster has noted that step.
     pub fn read<C: Channels, R: Wait>(
         &self,
         rt: &R,
         alloc: Global,
         reader: &mut BoardReader<C>,
         step: Option<u64>,
+        roster: &Roster,
         subject: &Subject,
     ) -> Result<Vec<u8>, AllocError> {
         let mut rows = self.rows.lock(rt);
         rows.read(reader, step);
+        if !rows.has(subject) {
+            rows.take_roster(roster)?;
+        }
         rows.status(alloc, subject)
+    }
+    /// Reads the board anew, after a last step at this moment, in milliseconds, and has the roster forget the services that have no row;
+    /// not where the board doesn't show that step yet: None. The roster has noted that step.
+    pub fn forget_gone<C: Channels, R: Wait>(
+        &self,
+        rt: &R,
+        reader: &mut BoardReader<C>,
+        step: Option<u64>,
+        roster: &mut Roster,
+    ) {
+        let mut rows = self.rows.lock(rt);
+        rows.read(reader, step);
+        if rows.step.is_some() {
+            roster.keep(rows.shot.rows.as_slice());
+        }
     }
 }

@@ -1,9 +1,10 @@
-//! What stands of a connection: the waiters and the subscriptions that it made.
-ghost use Rattle.std.specs.Prelude.{◌≡◌, ◌∷◌, [], true, OnOk, IfSome, IfNone, option_map, length, filter, not, ◌==◌};
-ghost use Rattle.server_rules.specs.Standing.{admission_of, after_release, after_reply, change_of, has_place, has_room_for, is_among, is_told_more, next_end, nothing_made, waiter_admission, without};
+//! What stands of a connection: the waiters and the subscriptions that it made, and the services that it follows.
+ghost use Rattle.std.specs.Prelude.{◌≡◌, ◌∷◌, [], true, None, OnOk, Some, IfSome, IfNone, option_map, length, filter, not, ◌==◌};
+ghost use Rattle.server_rules.specs.Standing.{admission_of, after_release, after_reply, change_of, has_place, has_room_for, is_among, is_followed, is_told_more, let_go, next_end, nothing_made, waiter_admission, without};
 
 use arrayvec::ArrayVec;
-use s6_events::{SubId, WaitId};
+use crate::following::Following;
+use s6_events::{Name, SubId, WaitId};
 use std::alloc::Global;
 use std::marker::Model;
 use tree_core::{Act, Reply};
@@ -50,7 +51,7 @@ pub enum Admission {
     Refused,
 }
 
-/// The waiters and the subscriptions that a connection made, each in the order made. One that is over stands too: it counts for the
+/// The waiters and the subscriptions that a connection made, each in the order made, and the services that it follows. One that is over stands too: it counts for the
 /// limits of the tree until it is cancelled.
 #[derive(Drop)]
 pub struct Standing {
@@ -60,6 +61,10 @@ pub struct Standing {
     released: ArrayVec<u64, WAITER_LIMIT>,
     /// The serials of the subscriptions.
     subscriptions: ArrayVec<u64, SUBSCRIPTION_LIMIT>,
+    /// Whose letters it is told.
+    follows: Following,
+    /// The wait that is handed in once a released waiter has ended.
+    put_off: Option<Act<Global>>,
 }
 
 impl Model for Standing {
@@ -72,6 +77,8 @@ impl Model for Standing {
       waiters = s.waiters.items;
       released = s.released.items;
       subscriptions = s.subscriptions.items;
+      follows = s.follows;
+      put_off = s.put_off;
     } };
 
     ghost invariant = { λ s. length s.waiters.items + length s.released.items ≤ 64 };
@@ -102,6 +109,8 @@ impl Standing {
             waiters: ArrayVec::new(),
             released: ArrayVec::new(),
             subscriptions: ArrayVec::new(),
+            follows: Following::Nobody,
+            put_off: None,
         }
     }
 
@@ -128,11 +137,11 @@ impl Standing {
         }
     }
 
-    /// Whether something is still to be told to the connection: a waiter waits, or a subscription stands.
+    /// Whether something is still to be told to the connection: a waiter waits, a subscription stands, or a service is followed.
     pub fn is_told_more(&self) -> bool
         ensures { result ≡ is_told_more self.now }
     {
-        !(self.waiters.is_empty() && self.subscriptions.is_empty())
+        !(self.waiters.is_empty() && self.subscriptions.is_empty()) || self.follows.is_any()
     }
 
     /// Notes what the reply to an act says of what it makes or ends.
@@ -187,6 +196,43 @@ impl Standing {
         ensures { result ≡ is_among id self.now.subscriptions }
     {
         self.subscriptions.iter().any(|other| *other == id.0)
+    }
+
+    /// From now on these services are followed, and no others.
+    pub fn follow(&mut self, services: Following)
+        ensures { self.new ≡ record self.old { follows = services } }
+    {
+        self.follows = services;
+    }
+
+    /// This wait is put off until a released waiter has ended.
+    pub fn put_off(&mut self, act: Act<Global>)
+        ensures { self.new ≡ record self.old { put_off = Some act } }
+    {
+        self.put_off = Some(act);
+    }
+
+    /// Takes out the wait that was put off; None where none was.
+    pub fn take_put_off(&mut self) -> Option<Act<Global>>
+        ensures act { result ≡ self.old.put_off }
+        ensures rest { self.new ≡ record self.old { put_off = None } }
+    {
+        self.put_off.take()
+    }
+
+    /// Nothing is followed any more, and nothing put off.
+    pub fn let_go(&mut self)
+        ensures { self.new ≡ let_go self.old }
+    {
+        self.follows = Following::Nobody;
+        self.put_off = None;
+    }
+
+    /// Whether the service of this name is followed.
+    pub fn is_followed(&self, name: &Name) -> bool
+        ensures { result ≡ is_followed name.now self.now.follows }
+    {
+        self.follows.covers(name)
     }
 
     /// Takes out the waiter that was released first; None where none was.

@@ -2,10 +2,14 @@
 ghost use Rattle.std.specs.Prelude.{◌≡◌, ◌++◌, ◌∷◌, [], OnOk, option_map};
 ghost use Rattle.std.specs.List.{find, flat_map};
 ghost use Rattle.std.specs.Str.{bytes_eq};
-ghost use Rattle.server_rules.specs.Status.{row_line, status_line, status_text, told_text};
+ghost use Rattle.server_rules.specs.Status.{moment_text, row_line, state_line, status_line, status_text, told_text};
 
-use s6_events::Name;
+use crate::found::{Remark, push_all_unread};
+use crate::roster::Roster;
+use crate::service_state::state_of;
+use s6_events::{At, Name};
 use s6_replay::push_row;
+use s6_script::push_number;
 use std::alloc::AllocError;
 use supervise_core::Row;
 
@@ -63,15 +67,63 @@ fn push_row_line(text: &mut Vec<u8>, row: &Row) -> Result<(), AllocError>
     text.extend_from_slice(b"\n")
 }
 
-/// Adds what is told of these services: the row of one, or that there is none of its name; or the rows of all. An empty line stands behind
-/// it. Page `s6-svstat`.
-pub fn push_told(text: &mut Vec<u8>, rows: &[Row], subject: &Subject) -> Result<(), AllocError>
-    ensures { OnOk result (text.new.items ≡ text.old.items ++ told_text subject.now rows.now) }
+// Adds a moment, in milliseconds; -1 where there is none.
+fn push_moment(text: &mut Vec<u8>, moment: Option<At>) -> Result<(), AllocError>
+    ensures { OnOk result (text.new.items ≡ text.old.items ++ moment_text moment) }
+{
+    match moment {
+        Some(at) => push_number(text, at.millis()),
+        None => text.extend_from_slice(b"-1"),
+    }
+}
+
+// Adds the word of a service's state, since when it is up or down, and its row.
+fn push_state_line(text: &mut Vec<u8>, roster: &Roster, row: &Row) -> Result<(), AllocError>
+    ensures { OnOk result (text.new.items ≡ text.old.items ++ state_line roster.now row.now) }
+{
+    text.extend_from_slice(b"state ")?;
+    text.extend_from_slice(state_of(roster.ending(row.sid), row).word())?;
+    text.extend_from_slice(b" ")?;
+    push_moment(text, roster.since(row.sid))?;
+    text.extend_from_slice(b" ")?;
+    push_row_line(text, row)
+}
+
+// Adds all rows, each behind the word of its service's state.
+fn push_states(text: &mut Vec<u8>, roster: &Roster, rows: &[Row]) -> Result<(), AllocError>
+    ensures { OnOk result (text.new.items
+        ≡ text.old.items ++ flat_map (state_line roster.now) rows.now) }
+{
+    for row in rows {
+        push_state_line(text, roster, row)?;
+    }
+    Ok(())
+}
+
+/// Adds what is told of these services: the row of one, or that there is none of its name; the rows of all; or the states of all, and what
+/// the last scan could not read. An empty line stands behind it. Page `s6-svstat`.
+pub fn push_told(
+    text: &mut Vec<u8>,
+    rows: &[Row],
+    roster: &Roster,
+    unread: &[Remark],
+    subject: &Subject,
+) -> Result<(), AllocError>
+    ensures { OnOk result (text.new.items ≡ text.old.items ++ told_text subject.now (record {
+      rows = rows.now;
+      roster = roster.now;
+      unread = unread.now;
+    })) }
 {
     match subject {
         Subject::One(name) => push_status(text, rows, name),
         Subject::All => {
             push_rows(text, rows)?;
+            text.extend_from_slice(b"\n")
+        }
+        Subject::States => {
+            push_states(text, roster, rows)?;
+            push_all_unread(text, unread)?;
             text.extend_from_slice(b"\n")
         }
     }

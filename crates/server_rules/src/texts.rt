@@ -1,10 +1,13 @@
 //! The lines that connections are posted.
 ghost use Rattle.std.specs.Prelude.{◌≡◌, ◌++◌, ◌∷◌, [], OnOk, IfOk};
 ghost use Rattle.s6_replay.specs.Transcript.{match_line, release_line, reply_text};
+ghost use Rattle.server_rules.specs.Answers.{clock_text, following_text, recorded_text};
 ghost use Rattle.server_rules.specs.Recipients.{news_lines, reply_lines};
 
+use crate::letters::push_letter;
 use crate::todo::News;
 use s6_replay::{push_match, push_release, push_reply};
+use s6_script::push_number;
 use std::alloc::{AllocError, Global};
 use tree_core::Reply;
 
@@ -18,7 +21,7 @@ pub fn reply_lines(alloc: Global, reply: &Reply<Global>) -> Result<Vec<u8>, Allo
     Ok(text)
 }
 
-/// The line of a match or of a release, and the empty line behind it.
+/// The line of a match, of a release or of a letter, and the empty line behind it.
 pub fn news_lines(alloc: Global, news: &News) -> Result<Vec<u8>, AllocError>
     ensures { IfOk result (λ text. text.items ≡ news_lines news.now) }
 {
@@ -26,7 +29,40 @@ pub fn news_lines(alloc: Global, news: &News) -> Result<Vec<u8>, AllocError>
     match news {
         News::Match(found) => push_match(&mut text, found)?,
         News::Release(release) => push_release(&mut text, release)?,
+        News::Letter(letter) => push_letter(&mut text, letter)?,
     }
     text.extend_from_slice(b"\n")?;
+    Ok(text)
+}
+
+/// What answers `follow`, and the empty line behind it.
+pub fn following_line() -> &'static [u8]
+    ensures { result.now ≡ following_text }
+{
+    b"done\n\n"
+}
+
+/// What answers `record`: how many steps the record has, and the empty line behind it.
+pub fn recorded_line(alloc: Global, steps: u64) -> Result<Vec<u8>, AllocError>
+    ensures { IfOk result (λ text. text.items ≡ recorded_text steps) }
+{
+    let mut text = Vec::new(alloc);
+    text.extend_from_slice(b"recorded ")?;
+    push_number(&mut text, steps)?;
+    text.extend_from_slice(b"\n\n")?;
+    Ok(text)
+}
+
+/// What answers `clock`: the time of day at which the tree's clock was 0, and the tree's clock, both in milliseconds, the first one since
+/// 1970; and the empty line behind it.
+pub fn clock_line(alloc: Global, since: u64, now: u64) -> Result<Vec<u8>, AllocError>
+    ensures { IfOk result (λ text. text.items ≡ clock_text since now) }
+{
+    let mut text = Vec::new(alloc);
+    text.extend_from_slice(b"clock ")?;
+    push_number(&mut text, since)?;
+    text.extend_from_slice(b" ")?;
+    push_number(&mut text, now)?;
+    text.extend_from_slice(b"\n\n")?;
     Ok(text)
 }

@@ -1,4 +1,5 @@
 //! What is to be done for a connection.
+use crate::letters::ToldLetter;
 use crate::own_answer::OwnAnswer;
 use crate::status::Subject;
 use std::alloc::Global;
@@ -11,17 +12,25 @@ pub enum Answer {
     TheReply,
     /// The status of these services.
     Status(Subject),
+    /// That letters are told from now on.
+    Following,
+    /// How many steps the record has.
+    Recorded(u64),
+    /// The clock.
+    Clock,
     /// An answer of the server's own.
     Own(OwnAnswer),
 }
 
-/// What is told of a step to the connection that made what it is of.
+/// What is told of a step to the connection that made what it is of, or that follows the service.
 #[derive(Clone, Copy, PartialEq, Eq, Debug)]
 pub enum News {
     /// A message matched a subscription.
     Match(Match),
     /// A waiter was released.
     Release(Release),
+    /// A service told a letter.
+    Letter(ToldLetter),
 }
 
 /// What is to be done for a connection.
@@ -32,6 +41,8 @@ pub enum Todo {
     Submit(Act<Global>),
     /// The directory is read, and a scan handed in.
     Scan,
+    /// The run is handed over, and recorded.
+    Record,
     /// This is posted: the request that was asked first is answered.
     Give(Answer),
     /// The news are posted.

@@ -83,7 +83,7 @@ impl Caller {
         self.turn.lock(rt).is_kept
     }
 
-    /// The connection has ended. Waits until what it made is ended too, or the tree has ended.
+    /// The connection has ended: what it made is to be ended too.
     pub fn leave<R: Wait>(&self, rt: &R) {
         self.turn.lock(rt).is_leaving = true;
     }

@@ -1,19 +1,22 @@
 //! The clock of a tree.
 use s6_events::At;
-use std::time::{Clock, Instant};
+use std::io;
+use std::time::{Clock, Instant, SystemTime, UNIX_EPOCH};
 
 /// Milliseconds since the server began, through all its runs.
 #[derive(Clone, Copy)]
 pub struct ServerClock {
     start: Instant,
+    /// The time of day at which it began, in milliseconds since 1970.
+    pub since: u64,
 }
 
 impl ServerClock {
     /// A clock that begins now; None where the system has no clock.
     pub fn start<R: Clock>(rt: &R) -> Option<ServerClock> {
-        match Instant::now(rt) {
-            Ok(start) => Some(ServerClock { start }),
-            Err(_) => None,
+        match (Instant::now(rt), time_of_day(rt)) {
+            (Ok(start), Ok(since)) => Some(ServerClock { start, since }),
+            _ => None,
         }
     }
 
@@ -23,6 +26,14 @@ impl ServerClock {
             Ok(passed) => u64::try_from(passed.as_millis()).unwrap_or(u64::MAX),
             Err(_) => 0,
         }
+    }
+}
+
+// The time of day, in milliseconds since 1970; 0 before that.
+fn time_of_day<R: Clock>(rt: &R) -> io::Result<u64> {
+    match SystemTime::now(rt)?.duration_since(UNIX_EPOCH) {
+        Ok(passed) => Ok(u64::try_from(passed.as_millis()).unwrap_or(u64::MAX)),
+        Err(_) => Ok(0),
     }
 }
 

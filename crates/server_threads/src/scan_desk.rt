@@ -1,11 +1,9 @@
 //! Where the thread that drives asks for a listing of the scan directory, and the thread that reads it leaves one.
-use server_rules::OwnAnswer;
-use std::alloc::Global;
+use server_rules::{Found, OwnAnswer};
 use std::sync::{Condvar, Mutex, Wait};
-use tree_core::Listing;
 
 /// What was read of the scan directory, or why there is no scan.
-pub type ReadScan = Result<Listing<Global>, OwnAnswer>;
+pub type ReadScan = Result<Found, OwnAnswer>;
 
 #[derive(Drop)]
 struct Desk {

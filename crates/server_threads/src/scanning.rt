@@ -31,7 +31,7 @@ fn find<R: Files + Copy + Drop, E: Write>(
     errors: &mut E,
 ) -> ReadScan {
     match read_listing(rt, shared.alloc, directory, errors) {
-        Ok(listing) => Ok(listing),
+        Ok(found) => Ok(found),
         Err(error) => match error.kind() {
             ErrorKind::OutOfMemory => Err(OwnAnswer::NoMemory),
             _ => Err(OwnAnswer::Directory),

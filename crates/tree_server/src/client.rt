@@ -1,4 +1,5 @@
 //! Connections: what they ask, and what they are posted.
 pub mod delivery;
 pub mod posting;
+pub mod recording;
 pub mod serving;

@@ -9,7 +9,7 @@ use child_runner::{Bell, LaneLink, ShellProbe};
 use error_notes::{NoteWriter, Notes};
 use line_server::{Seats, Server};
 use order_lanes::Backend;
-use server_rules::{RowCache, ServeFault, read_listing};
+use server_rules::{Found, RowCache, ServeFault, read_listing};
 use server_threads::{
     ScanDesk, ServerClock, Shared, SocketFile, attend, end_connections, listen, new_callers,
     start_listener,
@@ -24,14 +24,13 @@ use std::sync::{Arc, Wait};
 use std::thread;
 use std::thread::{Scope, Threads};
 use std::time::Clock;
-use tree_core::Listing;
 
 /// What is there before a tree is served.
 #[derive(Drop)]
 struct Parts {
     shared: Shared,
     seats: Seats,
-    first: Listing<Global>,
+    first: Found,
     recorder: Recorder<BufWriter<File>>,
 }
 
@@ -75,7 +74,7 @@ fn prepare<R: Files<File = File> + Wait + Clock + Copy + Drop>(
     };
     let mut errors = NoteWriter::new(rt, notes);
     let first = match read_listing(rt, alloc, options.directory, &mut errors) {
-        Ok(listing) => listing,
+        Ok(found) => found,
         Err(error) => return Err(fault_of(&error, ServeFault::Directory)),
     };
     // The shell ran beside all that.

@@ -5,13 +5,12 @@ use child_runner::{LaneLink, serve_lane};
 use error_notes::{NoteWriter, Notes};
 use line_server::Server;
 use order_lanes::Backend;
+use server_rules::Found;
 use server_threads::{Context, Shared};
-use std::alloc::Global;
 use std::io::Write;
 use std::sync::Wait;
 use std::thread::{Builder, Scope, Threads};
 use std::time::Clock;
-use tree_core::Listing;
 
 /// The stack of the thread that drives, in bytes: a step may publish all rows of the board. Only what is touched takes memory.
 const DRIVER_STACK: usize = 8 * 1024 * 1024;
@@ -23,7 +22,7 @@ const LANE_STACK: usize = 1024 * 1024;
 #[derive(Drop)]
 pub struct DriverParts<B, W> {
     pub backends: Vec<B>,
-    pub first: Listing<Global>,
+    pub first: Found,
     pub settings: RunSettings<W>,
 }
 

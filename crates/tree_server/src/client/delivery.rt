@@ -1,11 +1,11 @@
 //! Handing out what steps gave.
 use crate::client::posting::post_all;
-use crate::run::driver_state::DriverState;
+use crate::run::driver_state::{DriverState, Lasting};
 use channel_names::Channels;
 use office::Office;
 use order_lanes::{Backend, Lanes};
-use s6_events::NoMemory;
-use server_rules::{Place, Post, hand_out, place_of};
+use s6_events::{At, NoMemory};
+use server_rules::{Answer, Line, Place, Post, Subject, hand_out, place_of};
 use server_threads::Context;
 use status_board::Board;
 use std::alloc::Global;
@@ -13,6 +13,9 @@ use std::io::Write;
 use std::mem;
 use std::sync::Wait;
 use tree_core::{Effect, Reply};
+
+/// How many services the roster has at most before those that are there no more are forgotten.
+const ROSTER_LIMIT: usize = 512;
 
 /// Hands out what all steps gave; what a scan found no room for is told on `errors`. False where a growth was refused: the next call
 /// begins with the step for which it was.
@@ -28,6 +31,11 @@ pub fn deliver_all<C: Channels + Lanes, D: Board<C>, B: Backend, R: Wait, E: Wri
             Ok(false) => break,
             Err(_) => return false,
         }
+    }
+    if state.lasting.roster.len() > ROSTER_LIMIT {
+        let moment = state.shown_moment();
+        let rows = &context.shared().rows;
+        rows.forget_gone(context.rt, &mut state.reader, moment, &mut state.lasting.roster);
     }
     true
 }
@@ -46,13 +54,20 @@ fn deliver_next<C: Channels + Lanes, D: Board<C>, B: Backend, R: Wait, E: Write>
     let Some(effect) = office.effect(context.rt, number)? else {
         return Ok(false);
     };
+    let moment = office.moment(context.rt, number);
+    state.lasting.clock = later_of(state.lasting.clock, moment);
+    note_step(state, number, moment, &effect)?;
     let mut posts = mem::replace(&mut state.posts, Vec::new(context.alloc()));
     let place = place_of(actor);
     let handed = hand_out_of(state, place, &effect, &mut posts);
     if handed.is_ok() {
         state.steps = number;
         if place == Place::Scanner {
-            note_scanner(state, &effect.reply, errors);
+            note_scanner(context, state, &effect.reply, errors);
+        }
+        if posts.iter().any(|post| tells_states(post)) {
+            // What is missing is seen where states are told.
+            let _ = catch_up(context, office, state);
         }
         post_all(context, state, &effect.reply, posts.as_slice());
         posts.clear();
@@ -60,6 +75,55 @@ fn deliver_next<C: Channels + Lanes, D: Board<C>, B: Backend, R: Wait, E: Write>
     state.posts = posts;
     handed?;
     Ok(true)
+}
+
+// The tree's clock after an input that was handed in at this moment.
+fn later_of(clock: At, moment: Option<At>) -> At {
+    match moment {
+        Some(moment) => clock.max(moment),
+        None => clock,
+    }
+}
+
+// The roster notes what the step of this number gave, unless it has already.
+fn note_step<C: Channels>(
+    state: &mut DriverState<C>,
+    number: u64,
+    moment: Option<At>,
+    effect: &Effect<Global>,
+) -> Result<(), NoMemory> {
+    if number <= state.noted {
+        return Ok(());
+    }
+    if let Reply::Scanned(report) = &effect.reply {
+        state.lasting.roster.add(report.listed())?;
+    }
+    if !effect.events.is_empty() {
+        let roster = &mut state.lasting.roster;
+        roster.note(later_of(state.lasting.noted_clock, moment), effect.events.as_slice());
+    }
+    state.lasting.noted_clock = later_of(state.lasting.noted_clock, moment);
+    state.noted = number;
+    Ok(())
+}
+
+// Whether the states of services are told.
+fn tells_states(post: &Post) -> bool {
+    post.line == Line::Answer(Answer::Status(Subject::States))
+}
+
+// The roster notes what steps gave that are not handed out yet, since the board shows them already.
+fn catch_up<C: Channels + Lanes, D: Board<C>, B: Backend, R: Wait>(
+    context: &Context<'_, R>,
+    office: &Office<C, D, B>,
+    state: &mut DriverState<C>,
+) -> Result<(), NoMemory> {
+    for number in state.noted.saturating_add(1)..=state.made {
+        if let Some(effect) = office.effect(context.rt, number)? {
+            note_step(state, number, office.moment(context.rt, number), &effect)?;
+        }
+    }
+    Ok(())
 }
 
 // What is posted of a step, and to whom.
@@ -70,19 +134,25 @@ fn hand_out_of<C: Channels>(
     posts: &mut Vec<Post>,
 ) -> Result<(), NoMemory> {
     let is_scan = state.is_scan_next();
-    let lasting = &mut state.lasting;
+    let at = state.lasting.clock;
+    let Lasting {
+        plans,
+        roster,
+        connections,
+        ..
+    } = &mut state.lasting;
     match place {
         Place::Scanner if is_scan => {
-            let served = lasting.plans.served.as_slice();
-            hand_out(served, effect, &mut lasting.connections, posts)
+            hand_out(plans.served.as_slice(), at, roster, effect, connections, posts)
         }
-        Place::Client(seat) => hand_out(&[seat], effect, &mut lasting.connections, posts),
-        Place::Scanner | Place::Lane(_) => hand_out(&[], effect, &mut lasting.connections, posts),
+        Place::Client(seat) => hand_out(&[seat], at, roster, effect, connections, posts),
+        Place::Scanner | Place::Lane(_) => hand_out(&[], at, roster, effect, connections, posts),
     }
 }
 
 // A step of actor 0. What a scan found no room for is told.
-fn note_scanner<C: Channels, E: Write>(
+fn note_scanner<C: Channels, R: Wait, E: Write>(
+    context: &Context<'_, R>,
     state: &mut DriverState<C>,
     reply: &Reply<Global>,
     errors: &mut E,
@@ -94,6 +164,8 @@ fn note_scanner<C: Channels, E: Write>(
     }
     state.scan = None;
     state.lasting.awaits_first = false;
+    let unread = mem::replace(&mut state.lasting.unread, Vec::new(context.alloc()));
+    context.shared().rows.set_unread(context.rt, unread);
     let _ = state.lasting.plans.end_scan();
     if let Reply::Scanned(report) = reply {
         if let Ok(lines) = state.lasting.full.lines_of(report.listed()) {

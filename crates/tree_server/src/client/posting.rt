@@ -1,7 +1,10 @@
 //! Posting what steps give to connections.
 use crate::run::driver_state::{DriverState, Lasting};
 use channel_names::Channels;
-use server_rules::{Answer, Line, News, OwnAnswer, Post, Subject, news_lines, reply_lines};
+use server_rules::{
+    Answer, Line, News, OwnAnswer, Post, Subject, clock_line, following_line, news_lines,
+    recorded_line, reply_lines,
+};
 use server_threads::Context;
 use std::alloc::{AllocError, Global};
 use std::sync::Wait;
@@ -17,12 +20,29 @@ pub fn post_all<C: Channels, R: Wait>(
     for post in posts {
         match post.line {
             Line::Answer(Answer::TheReply) => post_reply(context, state, post.seat, reply),
-            Line::Answer(Answer::Status(subject)) => {
-                post_status(context, state, post.seat, &subject);
-            }
-            Line::Answer(Answer::Own(reason)) => post_own(context, state, post.seat, reason),
+            Line::Answer(answer) => give(context, state, post.seat, answer),
             Line::News(news) => post_news(context, state, post.seat, &news),
         }
+    }
+}
+
+/// Posts an answer that is no reply to a step.
+pub fn give<C: Channels, R: Wait>(
+    context: &Context<'_, R>,
+    state: &mut DriverState<C>,
+    seat: usize,
+    answer: Answer,
+) {
+    match answer {
+        Answer::TheReply => {}
+        Answer::Status(subject) => post_status(context, state, seat, &subject),
+        Answer::Following => post_answer(context, state, seat, following_line()),
+        Answer::Recorded(steps) => {
+            post_text(context, seat, &recorded_line(context.alloc(), steps));
+            note_answer(context, state, seat);
+        }
+        Answer::Clock => post_clock(context, state, seat),
+        Answer::Own(reason) => post_answer(context, state, seat, reason.text()),
     }
 }
 
@@ -36,31 +56,49 @@ fn post_reply<C: Channels, R: Wait>(
     note_answer(context, state, seat);
 }
 
-/// Posts the status of these services, from the board.
-pub fn post_status<C: Channels, R: Wait>(
+// Posts the status of these services, from the board.
+fn post_status<C: Channels, R: Wait>(
     context: &Context<'_, R>,
     state: &mut DriverState<C>,
     seat: usize,
     subject: &Subject,
 ) {
+    if *subject == Subject::States && !state.is_noted() {
+        return post_answer(context, state, seat, OwnAnswer::NoMemory.text());
+    }
     let shared = context.shared();
     let moment = state.shown_moment();
-    let text = shared.rows.read(context.rt, shared.alloc, &mut state.reader, moment, subject);
+    let text = shared.rows.read(
+        context.rt,
+        shared.alloc,
+        &mut state.reader,
+        moment,
+        &state.lasting.roster,
+        subject,
+    );
     match text {
-        Ok(text) => context.post(seat, Ok(text.as_slice())),
-        Err(_) => context.post(seat, Ok(OwnAnswer::NoMemory.text())),
+        Ok(text) => post_answer(context, state, seat, text.as_slice()),
+        Err(_) => post_answer(context, state, seat, OwnAnswer::NoMemory.text()),
     }
-    note_answer(context, state, seat);
 }
 
-/// Posts an answer of the server's own.
-pub fn post_own<C: Channels, R: Wait>(
+fn post_clock<C: Channels, R: Wait>(
     context: &Context<'_, R>,
     state: &mut DriverState<C>,
     seat: usize,
-    reason: OwnAnswer,
 ) {
-    context.post(seat, Ok(reason.text()));
+    let since = context.shared().clock.since;
+    post_text(context, seat, &clock_line(context.alloc(), since, state.lasting.now));
+    note_answer(context, state, seat);
+}
+
+fn post_answer<C: Channels, R: Wait>(
+    context: &Context<'_, R>,
+    state: &mut DriverState<C>,
+    seat: usize,
+    text: &[u8],
+) {
+    context.post(seat, Ok(text));
     note_answer(context, state, seat);
 }
 

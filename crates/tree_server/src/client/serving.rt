@@ -1,5 +1,6 @@
 //! What connections ask is begun, or answered from the board.
-use crate::client::posting::{post_own, post_status};
+use crate::client::posting::give;
+use crate::client::recording::begin_record;
 use crate::run::driver_state::{DriverState, Lasting};
 use channel_names::Channels;
 use line_server::SEAT_COUNT;
@@ -62,23 +63,10 @@ fn begin_some<C: Channels, R: Wait>(
                 let _ = state.lasting.plans.askers.try_push(seat);
                 return;
             }
+            Todo::Record => return begin_record(context, state, seat),
             Todo::Give(answer) => give(context, state, seat, answer),
             Todo::Free => return free(context, state, seat),
         }
-    }
-}
-
-// Answers a request for which no step was made.
-fn give<C: Channels, R: Wait>(
-    context: &Context<'_, R>,
-    state: &mut DriverState<C>,
-    seat: usize,
-    answer: Answer,
-) {
-    match answer {
-        Answer::TheReply => {}
-        Answer::Status(subject) => post_status(context, state, seat, &subject),
-        Answer::Own(reason) => post_own(context, state, seat, reason),
     }
 }
 

@@ -1,14 +1,17 @@
 //! What the thread that drives has, of a run and from the first run to the last.
+use arrayvec::ArrayVec;
 use channel_names::Channels;
 use inbox::Seat;
 use line_server::SEAT_COUNT;
 use order_lanes::Report;
-use s6_events::NoMemory;
-use server_rules::{Connection, FullServices, LANE_COUNT, Plans, Post, SCANNER};
+use s6_events::{At, NoMemory};
+use server_rules::{
+    Askers, Connection, Found, FullServices, LANE_COUNT, Plans, Post, Remark, Roster, SCANNER,
+};
 use server_threads::moment_of;
 use status_board::BoardReader;
 use std::alloc::Global;
-use tree_core::{Act, Listing};
+use tree_core::Act;
 
 /// What goes on from one run to the next, beside the tree and its backends.
 #[derive(Drop)]
@@ -21,12 +24,24 @@ pub struct Lasting {
     pub posted: [bool; SEAT_COUNT],
     pub plans: Plans,
     /// What is scanned first, before anything else is handed in.
-    pub first: Option<Listing<Global>>,
+    pub first: Option<Found>,
+    /// What could not be read of the scan that is handed in.
+    pub unread: Vec<Remark>,
+    /// The services that scans added.
+    pub roster: Roster,
+    /// Whether runs are recorded.
+    pub has_record: bool,
+    /// Who waits for the run to be recorded.
+    pub recorders: Askers,
     /// Whether the first scan isn't answered yet: nothing is begun for connections before.
     pub awaits_first: bool,
     /// The reports that no seat took yet, by lane.
     pub kept: Vec<Option<Report>>,
     pub full: FullServices,
+    /// The tree's clock after the last step that was handed out.
+    pub clock: At,
+    /// The tree's clock after the last step that the roster has noted.
+    pub noted_clock: At,
     /// The clock of the tree, in milliseconds: the greatest moment of what was handed in, once all of that was done.
     pub now: u64,
     /// The greatest moment of what was handed in.
@@ -35,7 +50,7 @@ pub struct Lasting {
 
 impl Lasting {
     /// Of a tree to which nothing was handed in. `NoMemory` where a growth was refused.
-    pub fn new(alloc: Global, first: Listing<Global>) -> Result<Lasting, NoMemory> {
+    pub fn new(alloc: Global, first: Found, has_record: bool) -> Result<Lasting, NoMemory> {
         let mut connections = Vec::with_capacity(alloc, SEAT_COUNT)?;
         let mut held = Vec::with_capacity(alloc, SEAT_COUNT)?;
         for _ in 0..SEAT_COUNT {
@@ -52,9 +67,15 @@ impl Lasting {
             posted: [false; SEAT_COUNT],
             plans: Plans::new(),
             first: Some(first),
+            unread: Vec::new(alloc),
+            roster: Roster::new(alloc),
+            has_record,
+            recorders: ArrayVec::new(),
             awaits_first: true,
             kept,
             full: FullServices::new(alloc),
+            clock: At::zero(),
+            noted_clock: At::zero(),
             now: 0,
             handed_in: 0,
         })
@@ -93,6 +114,12 @@ pub struct DriverState<C: Channels> {
     pub lasting: Lasting,
     /// How many steps of the run were handed out.
     pub steps: u64,
+    /// How many steps of the run were made.
+    pub made: u64,
+    /// Of how many of them the roster has noted what they gave.
+    pub noted: u64,
+    /// After so many steps the run ends early, since somebody waits for it to be recorded.
+    pub record_from: Option<u64>,
     /// How many of those were inputs of actor 0.
     pub scans_and_ticks: u64,
     /// The number of the input of actor 0 that is a scan, until it is answered.
@@ -118,6 +145,9 @@ impl<C: Channels> DriverState<C> {
             reader,
             lasting,
             steps: 0,
+            made: 0,
+            noted: 0,
+            record_from: None,
             scans_and_ticks: 0,
             scan: None,
             is_shown: true,
@@ -129,6 +159,11 @@ impl<C: Channels> DriverState<C> {
     /// Whether the next step of actor 0 is the scan that was handed in.
     pub fn is_scan_next(&self) -> bool {
         self.scan == Some(self.scans_and_ticks.saturating_add(1))
+    }
+
+    /// Whether the roster has noted all that was given.
+    pub fn is_noted(&self) -> bool {
+        self.noted >= self.made
     }
 
     /// The clock of the tree, in milliseconds, if the board shows the last step.
@@ -153,15 +188,18 @@ impl<C: Channels> DriverState<C> {
         }
     }
 
-    /// Hands in a scan. Whether it was taken.
-    pub fn submit_scan(&mut self, now: u64, listing: Listing<Global>) -> bool {
+    /// Hands in a scan of what was found. Whether it was taken.
+    pub fn submit_scan(&mut self, now: u64, found: Found) -> bool {
         let Some(seat) = self.seats.get(SCANNER) else {
             return false;
         };
         let number = seat.sent().saturating_add(1);
+        let Found { listing, remarks } = found;
         let is_taken = self.hand_in(SCANNER, now, Act::Scan(listing)).is_ok();
         if is_taken {
             self.scan = Some(number);
+            self.lasting.unread = remarks;
+            self.lasting.unread.retain(|remark| remark.is_unread);
         }
         is_taken
     }

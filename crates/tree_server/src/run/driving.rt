@@ -1,6 +1,6 @@
 //! The thread that drives a run.
 use crate::client::delivery::deliver_all;
-use crate::client::posting::{post_own, wake_all};
+use crate::client::posting::{give, wake_all};
 use crate::client::serving::begin_all;
 use crate::lane::lanes::{carry_all, hand_in_reports};
 use crate::run::driver_state::DriverState;
@@ -8,7 +8,7 @@ use channel_names::Channels;
 use locked_services::{DriveStop, Driven};
 use office::Office;
 use order_lanes::{Backend, Lanes};
-use server_rules::{Answer, OwnAnswer, SCANNER, Todo, Wanted};
+use server_rules::{OwnAnswer, SCANNER, Todo, Wanted};
 use server_threads::{Context, ReadScan};
 use status_board::Board;
 use std::io::Write;
@@ -87,7 +87,7 @@ fn drive_once<C: Channels + Lanes, D: Board<C>, B: Backend, R: Wait + Clock, E: 
     errors: &mut E,
 ) -> After {
     let now = context.shared().clock.millis(context.rt);
-    let is_open = takes_inputs(state, handover);
+    let is_open = takes_inputs(state, last_step(state, handover));
     let mut is_full = false;
     if is_open {
         hand_in_all(context, state, now);
@@ -104,7 +104,7 @@ fn drive_once<C: Channels + Lanes, D: Board<C>, B: Backend, R: Wait + Clock, E: 
     match halt {
         Halt::Full => After::Stop(RunEnd::Full),
         Halt::Idle if office.ended(context.rt) => After::Stop(RunEnd::Ended),
-        Halt::Idle if carrying.is_done() && state.steps >= handover => {
+        Halt::Idle if carrying.is_done() && state.steps >= last_step(state, handover) => {
             After::Stop(RunEnd::Handover)
         }
         Halt::Idle if carrying.has_more || has_more => After::GoOn,
@@ -112,6 +112,11 @@ fn drive_once<C: Channels + Lanes, D: Board<C>, B: Backend, R: Wait + Clock, E: 
         Halt::Idle if carrying.is_done() => After::Wait(until_due(state, is_open, now)),
         _ => After::Wait(Some(retry_time(state, is_open, now))),
     }
+}
+
+// After how many steps the run ends: early, where somebody waits for it to be recorded.
+fn last_step<C: Channels>(state: &DriverState<C>, handover: u64) -> u64 {
+    state.record_from.unwrap_or(handover).min(handover)
 }
 
 // Once a run has so many steps nothing more is handed in, unless a lane has to be waited for, and then as far as the run has room.
@@ -178,8 +183,8 @@ fn refuse_scan<C: Channels, R: Wait>(
     let Some(connection) = state.lasting.connections.get_mut(seat) else {
         return;
     };
-    if let Todo::Give(Answer::Own(reason)) = connection.refuse_scan(reason) {
-        post_own(context, state, seat, reason);
+    if let Todo::Give(answer) = connection.refuse_errand(reason) {
+        give(context, state, seat, answer);
     }
 }
 
@@ -191,8 +196,8 @@ fn refusal_of<C: Channels>(
 ) -> Option<OwnAnswer> {
     match found {
         Err(answer) => Some(answer),
-        Ok(listing) => {
-            if state.submit_scan(now, listing) {
+        Ok(found) => {
+            if state.submit_scan(now, found) {
                 None
             } else {
                 Some(OwnAnswer::Full)
@@ -236,6 +241,7 @@ fn note_steps<C: Channels + Lanes, D: Board<C>, B: Backend, R: Wait>(
     driven: Driven,
 ) {
     state.is_shown = driven.stop != DriveStop::NoMemory;
+    state.made = state.made.saturating_add(driven.steps);
     if driven.steps == 0 && state.is_shown {
         return;
     }

@@ -34,6 +34,8 @@ pub struct Recorder<W> {
     alloc: Global,
     writer: Option<W>,
     is_begun: bool,
+    // How many steps stand in the file.
+    steps: u64,
     // How many bytes of the present run were written.
     written: u64,
     // Memory that is given back just before a run is written, so that its text finds some.
@@ -47,9 +49,20 @@ impl<W: Write + Drop> Recorder<W> {
             alloc,
             writer,
             is_begun: false,
+            steps: 0,
             written: 0,
             reserve: Vec::new(alloc),
         }
+    }
+
+    /// Whether runs are recorded.
+    pub fn is_there(&self) -> bool {
+        self.writer.is_some()
+    }
+
+    /// How many steps the record has.
+    pub fn steps(&self) -> u64 {
+        self.steps
     }
 
     /// Takes the memory that writing a run needs, when the run begins.
@@ -78,8 +91,9 @@ impl<W: Write + Drop> Recorder<W> {
         let recorded = office.write_run(rt, !self.is_begun, &mut rest);
         let written = rest.written;
         match recorded {
-            Ok(_) if writer.flush().is_ok() => {
+            Ok(count) if writer.flush().is_ok() => {
                 self.is_begun = true;
+                self.steps = self.steps.saturating_add(count);
                 self.written = 0;
                 Ok(())
             }

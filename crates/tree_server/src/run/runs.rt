@@ -2,6 +2,7 @@
 ghost use Rattle.std.specs.Prelude.{◌≡◌, ℕ, slice_get};
 ghost use Rattle.office.specs.Names.{ring_of, lane_ring_of, asked_of};
 
+use crate::client::recording::tell_recorded;
 use crate::client::serving::refuse_all;
 use crate::run::driver_state::{DriverState, Lasting};
 use crate::run::driving::{RETRY_WAIT, RunEnd, drive_run, wait_for_bell};
@@ -13,7 +14,7 @@ use locked_services::Closed;
 use log::{Log, info};
 use office::{NewOffice, Office, OpenFault, Opened};
 use order_lanes::{Backend, Lanes};
-use server_rules::{ACTOR_COUNT, ServeFault};
+use server_rules::{ACTOR_COUNT, Found, ServeFault};
 use server_threads::Context;
 use status_board::Board;
 use std::alloc::Global;
@@ -21,7 +22,7 @@ use std::io::Write;
 use std::marker::Brand;
 use std::sync::Wait;
 use std::time::Clock;
-use tree_core::{Listing, Tree};
+use tree_core::Tree;
 
 /// How runs go on from one another, and where they are recorded.
 #[derive(Drop)]
@@ -47,11 +48,11 @@ pub fn run_all<B: Backend, R: Wait + Clock + Copy + Drop, W: Write + Drop, E: Wr
     errors: &mut E,
     log: &L,
     backends: Vec<B>,
-    first: Listing<Global>,
+    first: Found,
 ) -> Result<(), ServeFault> {
     let alloc = context.alloc();
     let (Ok(lasting), Ok(tree)) = (
-        Lasting::new(alloc, first),
+        Lasting::new(alloc, first, settings.recorder.is_there()),
         Box::new(alloc, Tree::new(alloc)),
     ) else {
         return Err(ServeFault::NoMemory);
@@ -165,7 +166,10 @@ fn run_opened<
     let end = drive_run(context, &office, &mut state, settings.handover, errors);
     let recorded = record(context, &office, &mut state.lasting, &mut settings.recorder);
     match (end, recorded) {
-        (RunEnd::Handover, Ok(())) => close(office, state, finishes, log),
+        (RunEnd::Handover, Ok(())) => {
+            tell_recorded(context, &mut state, settings.recorder.steps());
+            close(office, state, finishes, log)
+        }
         (RunEnd::Handover, Err(fault)) => {
             end_services(context, &office, &mut state, errors);
             AfterRun::Over(Err(fault))

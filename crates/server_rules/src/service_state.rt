@@ -1,7 +1,8 @@
 //! The state of a service in one word.
 ghost use Rattle.std.specs.Prelude.{◌≡◌};
-ghost use Rattle.s6_tools.specs.States.{state_of, up_state, state_word};
+ghost use Rattle.server_rules.specs.States.{state_of, supervised_state, stays_down, up_state, state_word};
 
+use crate::roster::Ending;
 use supervise_core::Row;
 
 /// The state of a service. The words are chosen here.
@@ -19,8 +20,12 @@ pub enum ServiceState {
     Starting,
     /// `restarting`: it has died, its `finish` is done, and it is to be started again.
     Restarting,
-    /// `down`: it is down, and stays so.
+    /// `down`: it was told to be down, or never to start, and stays so.
     Down,
+    /// `failed`: it failed for good, and stays down.
+    Failed,
+    /// `gone`: its supervisor has ended.
+    Gone,
 }
 
 // The state of a service that is up.
@@ -36,20 +41,40 @@ fn up_state(row: &Row) -> ServiceState
     }
 }
 
-/// The state of a service.
-pub fn state_of(row: &Row) -> ServiceState
-    ensures { result ≡ state_of row.now }
+// The state of a service that stays down.
+fn stays_down(ending: Option<Ending>) -> ServiceState
+    ensures { result ≡ stays_down ending }
+{
+    match ending {
+        Some(Ending::Failed) => ServiceState::Failed,
+        _ => ServiceState::Down,
+    }
+}
+
+// The state of a service whose supervisor is there.
+fn supervised_state(ending: Option<Ending>, row: &Row) -> ServiceState
+    ensures { result ≡ supervised_state ending row.now }
 {
     if row.up {
         up_state(row)
     } else if !row.ready && row.exit.is_some() {
         ServiceState::Finishing
     } else if !row.wanted_up {
-        ServiceState::Down
+        stays_down(ending)
     } else if row.exit.is_some() {
         ServiceState::Restarting
     } else {
         ServiceState::Starting
+    }
+}
+
+/// The state of a service, by what its letters say of its end, and by its row. Page `s6-svstat` for the row.
+pub fn state_of(ending: Option<Ending>, row: &Row) -> ServiceState
+    ensures { result ≡ state_of ending row.now }
+{
+    match ending {
+        Some(Ending::Gone) => ServiceState::Gone,
+        _ => supervised_state(ending, row),
     }
 }
 
@@ -66,6 +91,8 @@ impl ServiceState {
             ServiceState::Starting => b"starting",
             ServiceState::Restarting => b"restarting",
             ServiceState::Down => b"down",
+            ServiceState::Failed => b"failed",
+            ServiceState::Gone => b"gone",
         }
     }
 }

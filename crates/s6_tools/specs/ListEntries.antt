@@ -1,0 +1,24 @@
+-- What a line of the server says of a service, to `list`.
+use Rattle.std.specs.Prelude.{◌≡◌, ◌==◌, ℕ, suc, List, [], ◌∷◌, Option, Some, None, codes, drop, take}
+use Rattle.std.specs.List.{position}
+use Rattle.s6_tools.specs.declared.list_entry.ListEntry.{ListEntry}
+use Rattle.s6_tools.specs.declared.list_entry.ListEntry.TheVariants.{Service, Unread}
+use Rattle.s6_tools.specs.ServiceRows.{row_of}
+use Rattle.s6_tools.specs.Words.{word_in}
+
+-- what stands behind the first word of a line, and the space behind that
+abbrev pub behind_at : Option ℕ → List ℕ → List ℕ
+behind_at (Some place) line = drop (suc place) line
+behind_at None line = []
+
+abbrev pub behind_word : List ℕ → List ℕ
+behind_word line = behind_at (position (λ b. b == 32) line) line
+
+-- `state`, the word of its state, a moment, and its row; or `unread`, its name, and the word of the fault
+abbrev pub Tells : ListEntry → List ℕ → Type 0
+Tells (Service s) line = (s.state ≡ take 32 (word_in line 1)) × (row_of (behind_word (behind_word (behind_word line))) ≡ Some s.row)
+Tells (Unread name fault) line = (name ≡ word_in line 1) × (fault ≡ take 32 (word_in line 2))
+
+abbrev pub name_of_entry : ListEntry → List ℕ
+name_of_entry (Service s) = s.row.name
+name_of_entry (Unread name fault) = name

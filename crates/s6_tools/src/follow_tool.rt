@@ -1,0 +1,104 @@
+//! `follow` and `record`.
+use crate::connection::{Connection, ask_server, await_room};
+use crate::followed_letter::{FollowedLetter, letter_line, letter_of};
+use crate::list_command::{ListCommand, compile_list, is_among};
+use crate::misuse::Misuse;
+use crate::patience::Patience;
+use crate::request::follow_request;
+use crate::tool_fault::ToolFault;
+use day_times::day_millisecond;
+use std::alloc::Global;
+use std::io::Write;
+use std::net::Net;
+use std::time::Clock;
+
+/// Prints each letter of each service, or of those of these names, as it comes, until the connection ends. Chosen here; page
+/// `s6-supervise`, "Events", for the letters.
+pub fn run_follow<R: Net + Clock, W: Write>(
+    rt: &R,
+    alloc: Global,
+    socket: &str,
+    words: &[&str],
+    output: &mut W,
+) -> Result<u8, ToolFault> {
+    let command = compile_list(alloc, words)?;
+    let (mut connection, start) = follow(rt, alloc, socket, &command)?;
+    for _ in 0..u64::MAX {
+        connection.next_line()?;
+        if let Some(letter) = letter_of(connection.line()) {
+            print_letter(alloc, &letter, start, &command, output)?;
+        }
+    }
+    Ok(0)
+}
+
+// A connection that is told the letters, and the time of day at which the tree's clock was 0. Where the server is busy it is asked again.
+fn follow<R: Net + Clock>(
+    rt: &R,
+    alloc: Global,
+    socket: &str,
+    command: &ListCommand,
+) -> Result<(Connection, u64), ToolFault> {
+    let mut patience = Patience::of(None);
+    for _ in 0..u64::MAX {
+        match follow_once(rt, alloc, socket, command) {
+            Err(fault) => await_room(rt, fault, &mut patience)?,
+            asked => return asked,
+        }
+    }
+    Err(ToolFault::Busy)
+}
+
+fn follow_once<R: Net>(
+    rt: &R,
+    alloc: Global,
+    socket: &str,
+    command: &ListCommand,
+) -> Result<(Connection, u64), ToolFault> {
+    let mut connection = Connection::open(rt, alloc, socket)?;
+    let start = connection.ask_clock()?;
+    let request = follow_request(alloc, command.names.as_slice())?;
+    let _done = connection.ask(request.as_slice())?;
+    Ok((connection, start))
+}
+
+// Prints a letter by one write, if it is one of a service that is asked for.
+fn print_letter<W: Write>(
+    alloc: Global,
+    letter: &FollowedLetter,
+    start: u64,
+    command: &ListCommand,
+    output: &mut W,
+) -> Result<(), ToolFault> {
+    let names = command.names.as_slice();
+    if !names.is_empty() && !is_among(names, &letter.name) {
+        return Ok(());
+    }
+    let day = day_millisecond(start.saturating_add(letter.at)).ok_or(ToolFault::Socket)?;
+    let text = letter_line(alloc, command.is_json, day.as_bytes(), letter)?;
+    if output.write_all(text.as_slice()).is_err() || output.flush().is_err() {
+        return Err(ToolFault::Write);
+    }
+    Ok(())
+}
+
+/// Has the run so far recorded, and prints how many steps the record has then. Chosen here.
+pub fn run_record<R: Net + Clock, W: Write>(
+    rt: &R,
+    alloc: Global,
+    socket: &str,
+    words: &[&str],
+    output: &mut W,
+) -> Result<u8, ToolFault> {
+    if !words.is_empty() {
+        return Err(ToolFault::Usage(Misuse::TooMany));
+    }
+    let (connection, _recorded) = ask_server(rt, alloc, socket, b"record")?;
+    let mut line = Vec::new(alloc);
+    line.extend_from_slice(connection.line())?;
+    line.extend_from_slice(b"\n")?;
+    if output.write_all(line.as_slice()).is_err() || output.flush().is_err() {
+        return Err(ToolFault::Write);
+    }
+    Ok(0)
+}

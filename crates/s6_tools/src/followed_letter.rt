@@ -1,0 +1,107 @@
+//! A letter that a follower is told, read and printed.
+ghost use Rattle.std.specs.Prelude.{◌≡◌, ◌++◌, ◌∷◌, [], IfOk, OnOk, codes};
+ghost use Rattle.s6_tools.specs.JsonLines.{member, quoted};
+ghost use Rattle.s6_tools.specs.Letters.{json_letter, letter_text, letter_word, plain_letter};
+
+use crate::json_line::{push_key, push_member, push_quoted};
+use crate::list_entry::moment_of;
+use crate::words::{is_word, word_or_none};
+use s6_events::Name;
+use std::alloc::{AllocError, Global};
+
+/// A letter of a service.
+#[derive(Clone, Copy, Debug, PartialEq, Eq)]
+pub struct FollowedLetter {
+    /// The tree's clock when it was told, in milliseconds.
+    pub at: u64,
+    /// The serial of its service.
+    pub serial: u64,
+    pub name: Name,
+    pub letter: u8,
+}
+
+/// The letter of an `e` line, without its newline; None for any other line.
+pub fn letter_of(line: &[u8]) -> Option<FollowedLetter> {
+    if !is_word(word_or_none(line, 0), b"e") {
+        return None;
+    }
+    let [letter] = word_or_none(line, 4) else {
+        return None;
+    };
+    Some(FollowedLetter {
+        at: moment_of(word_or_none(line, 1))?,
+        serial: moment_of(word_or_none(line, 2))?,
+        name: Name::new(word_or_none(line, 3))?,
+        letter: *letter,
+    })
+}
+
+// What a letter says, in a word.
+fn letter_word(letter: u8) -> &'static [u8]
+    ensures { result.now ≡ letter_word letter }
+{
+    match letter {
+        b's' => b"supervised",
+        b'u' => b"up",
+        b'U' => b"ready",
+        b'd' => b"died",
+        b'D' => b"down",
+        b'O' => b"failed",
+        b'x' => b"gone",
+        _ => b"strange",
+    }
+}
+
+// The line for people.
+fn push_plain(text: &mut Vec<u8>, day: &[u8], letter: &FollowedLetter) -> Result<(), AllocError>
+    ensures { OnOk result (text.new.items ≡ text.old.items ++ plain_letter day.now letter.now) }
+{
+    text.extend_from_slice(day)?;
+    text.extend_from_slice(b" ")?;
+    text.extend_from_slice(letter.name.as_bytes())?;
+    text.extend_from_slice(&[b' ', letter.letter, b' '])?;
+    text.extend_from_slice(letter_word(letter.letter))?;
+    text.extend_from_slice(b"\n")
+}
+
+// A further member: a text.
+fn push_text(text: &mut Vec<u8>, key: &[u8], word: &[u8]) -> Result<(), AllocError>
+    ensures { OnOk result (text.new.items ≡ text.old.items ++ member key.now (quoted word.now)) }
+{
+    text.push(b',')?;
+    push_key(text, key)?;
+    push_quoted(text, word)
+}
+
+// The line of JSON.
+fn push_json(text: &mut Vec<u8>, day: &[u8], letter: &FollowedLetter) -> Result<(), AllocError>
+    ensures { OnOk result (text.new.items ≡ text.old.items ++ json_letter day.now letter.now) }
+{
+    text.push(b'{')?;
+    push_key(text, b"time")?;
+    push_quoted(text, day)?;
+    push_member(text, b"at", Some(letter.at))?;
+    push_member(text, b"serial", Some(letter.serial))?;
+    push_text(text, b"name", letter.name.as_bytes())?;
+    push_text(text, b"letter", &[letter.letter])?;
+    push_text(text, b"event", letter_word(letter.letter))?;
+    text.extend_from_slice(b"}\n")
+}
+
+/// What is printed of a letter that was told at this time of day.
+pub fn letter_line(
+    alloc: Global,
+    is_json: bool,
+    day: &[u8],
+    letter: &FollowedLetter,
+) -> Result<Vec<u8>, AllocError>
+    ensures { IfOk result (λ text. text.items ≡ letter_text is_json day.now letter.now) }
+{
+    let mut text = Vec::new(alloc);
+    if is_json {
+        push_json(&mut text, day, letter)?;
+    } else {
+        push_plain(&mut text, day, letter)?;
+    }
+    Ok(text)
+}

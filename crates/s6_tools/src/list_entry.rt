@@ -1,0 +1,91 @@
+//! A line of the server about a service, as `list` reads it.
+ghost use Rattle.std.specs.Prelude.{◌≡◌, IfSome};
+ghost use Rattle.s6_tools.specs.ListEntries.{Tells, behind_word, name_of_entry};
+
+use crate::service_row::row_of;
+use crate::told_word::ToldWord;
+use crate::words::{is_word, word_or_none};
+use s6_events::Name;
+use std::str;
+use supervise_core::Row;
+
+/// A service, as `list` shows it.
+#[derive(Debug, Drop)]
+pub struct ListedService {
+    /// The word of its state.
+    pub state: ToldWord,
+    /// The tree's clock when it came up or went down, in milliseconds; None where it did neither.
+    pub at: Option<u64>,
+    /// The time of day then, where it is known.
+    pub since: Option<ToldWord>,
+    pub row: Row,
+}
+
+/// What `list` shows of a name of the scan directory.
+#[derive(Debug, Drop)]
+pub enum ListEntry {
+    /// A service.
+    Service(ListedService),
+    /// A directory that the last scan could not read, and the word of its fault.
+    Unread(Name, ToldWord),
+}
+
+impl ListEntry {
+    /// Its name.
+    pub fn name(&self) -> &Name
+        ensures { result.now ≡ name_of_entry self.now }
+    {
+        match self {
+            ListEntry::Service(service) => &service.row.name,
+            ListEntry::Unread(name, _) => name,
+        }
+    }
+}
+
+// What stands behind the first word of a line.
+fn behind_word(line: &[u8]) -> &[u8]
+    ensures { result.now ≡ behind_word line.now }
+{
+    match line.iter().position(|byte| *byte == b' ') {
+        Some(place) => &line[place + 1..],
+        None => &[],
+    }
+}
+
+/// What a line of the answer to `states` says, without its newline; None for any other line.
+pub fn entry_of(line: &[u8]) -> Option<ListEntry>
+    ensures { IfSome result (λ entry. Tells entry line.now) }
+{
+    let word = word_or_none(line, 0);
+    if is_word(word, b"state") {
+        service_of(line)
+    } else if is_word(word, b"unread") {
+        unread_of(line)
+    } else {
+        None
+    }
+}
+
+fn service_of(line: &[u8]) -> Option<ListEntry>
+    ensures { IfSome result (λ entry. Tells entry line.now) }
+{
+    let row = row_of(behind_word(behind_word(behind_word(line))))?;
+    Some(ListEntry::Service(ListedService {
+        state: ToldWord::new(word_or_none(line, 1)),
+        at: moment_of(word_or_none(line, 2)),
+        since: None,
+        row,
+    }))
+}
+
+fn unread_of(line: &[u8]) -> Option<ListEntry>
+    ensures { IfSome result (λ entry. Tells entry line.now) }
+{
+    let name = Name::new(word_or_none(line, 1))?;
+    Some(ListEntry::Unread(name, ToldWord::new(word_or_none(line, 2))))
+}
+
+/// The moment of a word, in milliseconds; None where it is none, as `-1`.
+pub fn moment_of(word: &[u8]) -> Option<u64> {
+    str::from_utf8(word).ok()?.parse::<u64>().ok()
+}

@@ -1,0 +1,38 @@
+//! A word that the server told.
+ghost use Rattle.std.specs.Prelude.{◌≡◌, take};
+
+use crate::reason::first_bytes;
+use arrayvec::ArrayVec;
+use std::marker::Model;
+
+/// A word that the server told; what is longer than 32 bytes is cut.
+#[derive(Debug, Drop)]
+pub struct ToldWord {
+    text: ArrayVec<u8, 32>,
+}
+
+impl Model for ToldWord {
+    ghost use Rattle.std.specs.Prelude.{ℕ, List};
+
+    ghost Value = { List ℕ };
+
+    ghost view = { λ w. w.text.items };
+}
+
+impl ToldWord {
+    /// The word of these bytes.
+    pub fn new(bytes: &[u8]) -> ToldWord
+        ensures { result ≡ take 32 bytes.now }
+    {
+        let mut text = ArrayVec::new();
+        let _ = text.try_extend_from_slice(first_bytes(bytes));
+        ToldWord { text }
+    }
+
+    /// Its bytes.
+    pub fn as_bytes(&self) -> &[u8]
+        ensures { result.now ≡ self.now }
+    {
+        self.text.as_slice()
+    }
+}

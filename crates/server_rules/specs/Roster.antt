@@ -1,0 +1,88 @@
+-- Which services there are and have been, by what scans added and by their letters.
+use Rattle.std.specs.Prelude.{ℕ, ◌==◌, Bool, List, [], ◌∷◌, Option, Some, None, filter, map, if◌then◌else◌}
+use Rattle.std.specs.List.{find, flat_map, list_any}
+use Rattle.s6_events.specs.declared.mark.Mark.{Mark}
+use Rattle.s6_events.specs.declared.mark.Mark.TheVariants.{SupervisorStarted, Spawned, Died, PermanentFailure, SupervisorEnded}
+use Rattle.supervise_core.specs.declared.row.Row.{Row}
+use Rattle.svscan_core.specs.declared.entry.Listed.{Listed}
+use Rattle.svscan_core.specs.declared.entry.Listed.TheVariants as listed
+use Rattle.svscan_core.specs.declared.event.Event.{Event}
+use Rattle.server_rules.specs.declared.roster.Ending.{Ending}
+use Rattle.server_rules.specs.declared.roster.Ending.TheVariants.{Failed, Gone}
+use Rattle.server_rules.specs.declared.roster.Member.{Member}
+
+-- what a letter says of the end of its service: `O` that it failed for good, `x` that its supervisor has ended; `s` and `u` that it
+-- began anew
+abbrev pub ending_by : Mark → Option Ending → Option Ending
+ending_by SupervisorStarted ending = None
+ending_by Spawned ending = None
+ending_by PermanentFailure ending = Some Failed
+ending_by SupervisorEnded ending = Some Gone
+ending_by mark ending = ending
+
+-- the letters of a service among these
+abbrev pub marks_of : ℕ → List Event → List Mark
+marks_of sid events = map (λ e. e.mark) (filter (λ e. e.sid == sid) events)
+
+-- after these letters, one after the other
+abbrev pub ending_after : List Mark → Option Ending → Option Ending
+ending_after [] ending = ending
+ending_after (mark ∷ marks) ending = ending_after marks (ending_by mark ending)
+
+-- what a letter at this moment says of the moment since which its service is up or down: `s` that it was neither, `u` and `d` that it is
+-- since now
+abbrev pub since_by : ℕ → Mark → Option ℕ → Option ℕ
+since_by at SupervisorStarted since = None
+since_by at Spawned since = Some at
+since_by at Died since = Some at
+since_by at mark since = since
+
+abbrev pub since_after : ℕ → List Mark → Option ℕ → Option ℕ
+since_after at [] since = since
+since_after at (mark ∷ marks) since = since_after at marks (since_by at mark since)
+
+-- a service after the letters of a step at this moment
+abbrev pub after_letters : ℕ → List Event → Member → Member
+after_letters at events m = record m {
+  ending = ending_after (marks_of m.sid events) m.ending;
+  since = since_after at (marks_of m.sid events) m.since;
+}
+
+-- a service that a scan added
+abbrev pub member_of : Listed → List Member
+member_of (listed.Added sid name) = record { sid = sid; name = name; ending = None; since = None } ∷ []
+member_of l = []
+
+abbrev pub added : List Listed → List Member
+added listed = flat_map member_of listed
+
+-- the service of this serial
+abbrev pub member_in : ℕ → List Member → Option Member
+member_in sid roster = find (λ m. m.sid == sid) roster
+
+abbrev pub name_of : Option Member → List ℕ
+name_of (Some m) = m.name
+name_of None = 45 ∷ []
+
+-- its name; a dash where no scan added it
+abbrev pub name_in : ℕ → List Member → List ℕ
+name_in sid roster = name_of (member_in sid roster)
+
+abbrev pub ending_of : Option Member → Option Ending
+ending_of (Some m) = m.ending
+ending_of None = None
+
+abbrev pub ending_in : ℕ → List Member → Option Ending
+ending_in sid roster = ending_of (member_in sid roster)
+
+abbrev pub since_of : Option Member → Option ℕ
+since_of (Some m) = m.since
+since_of None = None
+
+-- the moment since which it is up or down
+abbrev pub since_in : ℕ → List Member → Option ℕ
+since_in sid roster = since_of (member_in sid roster)
+
+-- it has a row
+abbrev pub has_row : List Row → Member → Bool
+has_row rows m = list_any (λ row. row.sid == m.sid) rows

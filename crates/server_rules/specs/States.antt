@@ -1,0 +1,60 @@
+-- The state of a service in one word.
+use Rattle.std.specs.Prelude.{ℕ, List, Bool, true, false, Option, Some, None, codes}
+use Rattle.s6_events.specs.declared.exit.Exit.{Exit}
+use Rattle.supervise_core.specs.declared.row.Row.{Row}
+use Rattle.server_rules.specs.declared.roster.Ending.{Ending}
+use Rattle.server_rules.specs.declared.roster.Ending.TheVariants as ending
+use Rattle.server_rules.specs.declared.service_state.ServiceState.{ServiceState}
+use Rattle.server_rules.specs.declared.service_state.ServiceState.TheVariants as state
+
+-- it is up: whether it is paused, and whether it has said that it is ready
+abbrev pub up_state : Bool → Bool → ServiceState
+up_state true ready = state.Paused
+up_state false true = state.Ready
+up_state false false = state.Up
+
+-- it stays down: it was told to, or it failed for good
+abbrev pub stays_down : Option Ending → ServiceState
+stays_down (Some ending.Failed) = state.Failed
+stays_down e = state.Down
+
+-- it is not up, and has not run yet: whether it is wanted up
+abbrev pub unborn_state : Option Ending → Bool → ServiceState
+unborn_state e true = state.Starting
+unborn_state e false = stays_down e
+
+-- it has died: whether its `finish` is done, and whether it is wanted up
+abbrev pub dead_state : Option Ending → Bool → Bool → ServiceState
+dead_state e false wanted_up = state.Finishing
+dead_state e true true = state.Restarting
+dead_state e true false = stays_down e
+
+-- it is not up: how it died, where it has died; whether its `finish` is done, as `ready` says of it; and whether it is wanted up.
+-- One that has not run yet shows `ready` too
+abbrev pub down_state : Option Ending → Option Exit → Bool → Bool → ServiceState
+down_state e None ready wanted_up = unborn_state e wanted_up
+down_state e (Some exit) ready wanted_up = dead_state e ready wanted_up
+
+abbrev pub state_by : Bool → ServiceState → ServiceState → ServiceState
+state_by true when_up when_down = when_up
+state_by false when_up when_down = when_down
+
+-- by the row of a service whose supervisor is there
+abbrev pub supervised_state : Option Ending → Row → ServiceState
+supervised_state e row = state_by row.up (up_state row.paused row.ready) (down_state e row.exit row.ready row.wanted_up)
+
+-- the state of a service, by what its letters say of its end, and by its row
+abbrev pub state_of : Option Ending → Row → ServiceState
+state_of (Some ending.Gone) row = state.Gone
+state_of e row = supervised_state e row
+
+abbrev pub state_word : ServiceState → List ℕ
+state_word state.Paused = codes "paused"
+state_word state.Ready = codes "ready"
+state_word state.Up = codes "up"
+state_word state.Finishing = codes "finishing"
+state_word state.Starting = codes "starting"
+state_word state.Restarting = codes "restarting"
+state_word state.Down = codes "down"
+state_word state.Failed = codes "failed"
+state_word state.Gone = codes "gone"

@@ -1,0 +1,209 @@
+//! Which services there are and have been, and which of them are over.
+ghost use Rattle.std.specs.Prelude.{◌≡◌, ◌++◌, ◌∷◌, [], OnOk, OnErr, filter, map, option_map};
+ghost use Rattle.server_rules.specs.Letters.{told_letter};
+ghost use Rattle.server_rules.specs.Roster.{added, after_letters, ending_after, ending_by, ending_in, has_row, marks_of, member_in, member_of, name_in, since_after, since_by, since_in};
+
+use crate::letters::ToldLetter;
+use s6_events::{At, Mark, Name, NoMemory, Sid};
+use std::alloc::Global;
+use std::marker::Model;
+use supervise_core::Row;
+use svscan_core::Event;
+use tree_core::Listed;
+
+/// How a service is over.
+#[derive(Clone, Copy, Debug, PartialEq, Eq)]
+pub enum Ending {
+    /// It failed for good: it was told the letter `O`, and neither `u` nor `s` since.
+    Failed,
+    /// Its supervisor has ended: it was told the letter `x`, and no `s` since.
+    Gone,
+}
+
+/// A service that a scan added.
+#[derive(Clone, Copy, Debug, PartialEq, Eq)]
+pub struct Member {
+    pub sid: Sid,
+    pub name: Name,
+    /// How it is over, if it is.
+    pub ending: Option<Ending>,
+    /// Since when it is up or down: the moment of its last letter `u` or `d`; None where neither came since its last `s`.
+    pub since: Option<At>,
+}
+
+// What a letter makes of how a service is over.
+fn ending_by(mark: Mark, ending: Option<Ending>) -> Option<Ending>
+    ensures { result ≡ ending_by mark ending }
+{
+    match mark {
+        Mark::SupervisorStarted | Mark::Spawned => None,
+        Mark::PermanentFailure => Some(Ending::Failed),
+        Mark::SupervisorEnded => Some(Ending::Gone),
+        Mark::Ready | Mark::Died | Mark::FinishDone => ending,
+    }
+}
+
+// What a letter at this moment makes of the moment since which a service is up or down.
+fn since_by(at: At, mark: Mark, since: Option<At>) -> Option<At>
+    ensures { result ≡ since_by at mark since }
+{
+    match mark {
+        Mark::SupervisorStarted => None,
+        Mark::Spawned | Mark::Died => Some(at),
+        Mark::Ready | Mark::FinishDone | Mark::PermanentFailure | Mark::SupervisorEnded => since,
+    }
+}
+
+impl Member {
+    // The letters of a step at this moment, whoever they are of.
+    fn note(&mut self, at: At, events: &[Event])
+        ensures { self.new ≡ after_letters at events.now self.old }
+    {
+        for event in events {
+            if event.sid == self.sid {
+                self.ending = ending_by(event.mark, self.ending);
+                self.since = since_by(at, event.mark, self.since);
+            }
+        }
+    }
+}
+
+/// The services that scans added, in rising serial, and how each is over.
+#[derive(Drop)]
+pub struct Roster {
+    members: Vec<Member>,
+}
+
+impl Model for Roster {
+    ghost use Rattle.std.specs.Prelude.{List};
+    ghost use Rattle.server_rules.specs.declared.roster.Member.{Member};
+
+    ghost Value = { List Member };
+
+    ghost view = { λ r. r.members.items };
+}
+
+impl Roster {
+    /// No scan was made.
+    pub fn new(alloc: Global) -> Roster
+        ensures { result ≡ [] }
+    {
+        Roster {
+            members: Vec::new(alloc),
+        }
+    }
+
+    /// How many services it has.
+    pub fn len(&self) -> usize {
+        self.members.len()
+    }
+
+    /// A scan added these. At `NoMemory` it is as it was.
+    pub fn add(&mut self, listed: &[Listed]) -> Result<(), NoMemory>
+        ensures added { OnOk result (self.new ≡ self.old ++ added listed.now) }
+        ensures refused { OnErr result (self.new ≡ self.old) }
+    {
+        self.members.reserve(listed.len())?;
+        for one in listed {
+            if let Listed::Added(sid, name) = one {
+                self.members.push_reserved(Member {
+                    sid: *sid,
+                    name: *name,
+                    ending: None,
+                    since: None,
+                });
+            }
+        }
+        Ok(())
+    }
+
+    /// The letters of a step at this moment were told.
+    pub fn note(&mut self, at: At, events: &[Event])
+        ensures { self.new ≡ map (after_letters at events.now) self.old }
+    {
+        for member in self.members.iter_mut() {
+            member.note(at, events);
+        }
+    }
+
+    // The service of this serial.
+    fn member(&self, sid: Sid) -> Option<&Member>
+        ensures { option_map (λ m. m.now) result ≡ member_in sid self.now }
+    {
+        self.members.iter().find(|member| member.sid == sid)
+    }
+
+    /// How the service of this serial is over, if it is.
+    pub fn ending(&self, sid: Sid) -> Option<Ending>
+        ensures { result ≡ ending_in sid self.now }
+    {
+        match self.member(sid) {
+            Some(member) => member.ending,
+            None => None,
+        }
+    }
+
+    /// Since when the service of this serial is up or down, if it has been either.
+    pub fn since(&self, sid: Sid) -> Option<At>
+        ensures { result ≡ since_in sid self.now }
+    {
+        match self.member(sid) {
+            Some(member) => member.since,
+            None => None,
+        }
+    }
+
+    // The name of the service of this serial; a dash where no scan added it.
+    fn name(&self, sid: Sid) -> Name
+        ensures { result ≡ name_in sid self.now }
+    {
+        match self.member(sid) {
+            Some(member) => member.name,
+            None => dash(),
+        }
+    }
+
+    /// A letter of a step at this moment, as followers are told.
+    pub fn letter(&self, at: At, event: &Event) -> ToldLetter
+        ensures { result ≡ told_letter at self.now event.now }
+    {
+        ToldLetter {
+            at,
+            sid: event.sid,
+            name: self.name(event.sid),
+            mark: event.mark,
+        }
+    }
+
+    /// Forgets the services that have no row.
+    pub fn keep(&mut self, rows: &[Row])
+        ensures { self.new ≡ filter (has_row rows.now) self.old }
+    {
+        self.members.retain(|member| has_row(rows, member));
+    }
+
+    /// Becomes the same as the other. At `NoMemory` it has fewer services.
+    pub fn copy_from(&mut self, other: &Roster) -> Result<(), NoMemory>
+        ensures same { OnOk result (self.new ≡ other.now) }
+    {
+        self.members.clear();
+        self.members.extend_from_slice(other.members.as_slice())?;
+        Ok(())
+    }
+}
+
+// The name of a service that no scan added.
+fn dash() -> Name
+    ensures { result ≡ 45 ∷ [] }
+{
+    let Some(name) = Name::new(b"-") else {
+        unreachable!()
+    };
+    name
+}
+
+fn has_row(rows: &[Row], member: &Member) -> bool
+    ensures { result ≡ has_row rows.now member.now }
+{
+    rows.iter().any(|row| row.sid == member.sid)
+}
