@@ -166,12 +166,8 @@ fn push_unread_line(text: &mut Vec<u8>, name: &Name, fault: &ToldWord) -> Result
 fn push_nothing(text: &mut Vec<u8>) -> Result<(), AllocError>
     ensures { OnOk result (text.new.items ≡ text.old.items ++ nothing_text) }
 {
-    text.extend_from_slice(
-        b",\"serial\":null,\"state\":\"unread\",\"up\":null,\"wantedup\":null,\"normallyup\":null,\"ready\":null,\"paused\":null",
-    )?;
-    text.extend_from_slice(
-        b",\"pid\":null,\"exitcode\":null,\"signal\":null,\"updownfor\":null,\"readyfor\":null,\"since\":null,\"fault\":",
-    )
+    text.extend_from_slice(b",\"serial\":null,\"state\":\"unread\",\"up\":null,\"wantedup\":null,\"normallyup\":null,\"ready\":null,\"paused\":null")?;
+    text.extend_from_slice(b",\"pid\":null,\"exitcode\":null,\"signal\":null,\"updownfor\":null,\"readyfor\":null,\"since\":null,\"fault\":")
 }
 
 fn push_json_line(text: &mut Vec<u8>, entry: &ListEntry) -> Result<(), AllocError>
