@@ -158,7 +158,7 @@ pub fn checked_entries(
     Ok(Checked { text, is_refused })
 }
 
-// The name that a line of svscan tells as none of a service, between its quotes.
+// The name that a line of svscan tells as none of a service, with its quotes.
 fn bad_name_in(line: &[u8]) -> Option<&[u8]> {
     line.strip_prefix(b"svscan: ".as_slice())?
         .strip_suffix(b" is no name of a service".as_slice())
