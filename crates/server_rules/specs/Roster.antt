@@ -1,5 +1,5 @@
 -- Which services there are and have been, by what scans added and by their letters.
-use Rattle.std.specs.Prelude.{ℕ, ◌==◌, Bool, List, [], ◌∷◌, Option, Some, None, filter, map, if◌then◌else◌}
+use Rattle.std.specs.Prelude.{ℕ, ◌==◌, Bool, List, [], ◌∷◌, Option, Some, None, fold, if◌then◌else◌}
 use Rattle.std.specs.List.{find, flat_map, list_any}
 use Rattle.s6_events.specs.declared.mark.Mark.{Mark}
 use Rattle.s6_events.specs.declared.mark.Mark.TheVariants.{SupervisorStarted, Spawned, Died, PermanentFailure, SupervisorEnded}
@@ -20,15 +20,6 @@ ending_by PermanentFailure ending = Some Failed
 ending_by SupervisorEnded ending = Some Gone
 ending_by mark ending = ending
 
--- the letters of a service among these
-abbrev pub marks_of : ℕ → List Event → List Mark
-marks_of sid events = map (λ e. e.mark) (filter (λ e. e.sid == sid) events)
-
--- after these letters, one after the other
-abbrev pub ending_after : List Mark → Option Ending → Option Ending
-ending_after [] ending = ending
-ending_after (mark ∷ marks) ending = ending_after marks (ending_by mark ending)
-
 -- what a letter at this moment says of the moment since which its service is up or down: `s` that it was neither, `u` and `d` that it is
 -- since now
 abbrev pub since_by : ℕ → Mark → Option ℕ → Option ℕ
@@ -37,16 +28,14 @@ since_by at Spawned since = Some at
 since_by at Died since = Some at
 since_by at mark since = since
 
-abbrev pub since_after : ℕ → List Mark → Option ℕ → Option ℕ
-since_after at [] since = since
-since_after at (mark ∷ marks) since = since_after at marks (since_by at mark since)
+-- a service after a letter at this moment, whoever told it
+abbrev pub after_letter : ℕ → Member → Event → Member
+after_letter at m e =
+    if e.sid == m.sid then record m { ending = ending_by e.mark m.ending; since = since_by at e.mark m.since } else m
 
--- a service after the letters of a step at this moment
+-- after the letters of a step, one after the other
 abbrev pub after_letters : ℕ → List Event → Member → Member
-after_letters at events m = record m {
-  ending = ending_after (marks_of m.sid events) m.ending;
-  since = since_after at (marks_of m.sid events) m.since;
-}
+after_letters at events m = fold (after_letter at) m events
 
 -- a service that a scan added
 abbrev pub member_of : Listed → List Member

@@ -1,7 +1,11 @@
 -- When a socket's file may be replaced, and when it may be removed.
-use Rattle.std.specs.Prelude.{Bool, ◌==◌, ◌&&◌}
+use Rattle.std.specs.Prelude.{ℕ, List, [], ◌∷◌, ◌++◌, Bool, codes, ◌==◌, ◌&&◌}
 use Rattle.server_rules.specs.declared.socket_rules.FileIdentity.{FileIdentity}
 
 -- two files are one where device and inode are the same
 abbrev pub is_one_file : FileIdentity → FileIdentity → Bool
 is_one_file a b = (a.device == b.device) && (a.inode == b.inode)
+
+-- what is told on standard error once clients can come
+abbrev pub serving_text : (socket day : List ℕ) → List ℕ
+serving_text socket day = codes "svscan: serving " ++ (socket ++ (codes " since " ++ (day ++ 10 ∷ [])))

@@ -261,7 +261,7 @@ impl Connection {
 
     // What was under way by itself is answered. No step answers what asked for a record.
     fn finish(&mut self, errand: Errand, reply: &Reply<Global>) -> Todo
-        requires { has_room_on errand self.old.made ≡ true }
+        requires room { has_room_on errand self.old.made ≡ true }
         requires under { self.old.phase ≡ phase.UnderWay errand }
         ensures next { self.new ≡ (answered_errand errand reply.now self.old).next }
         ensures todo { result ≡ (answered_errand errand reply.now self.old).todo }
@@ -290,7 +290,7 @@ impl Connection {
 
     // The same of a client that has left.
     fn finish_left(&mut self, errand: Errand, reply: &Reply<Global>)
-        requires { has_room_on errand self.old.made ≡ true }
+        requires room { has_room_on errand self.old.made ≡ true }
         requires under { self.old.phase ≡ phase.Left errand }
         ensures { self.new ≡ (left_errand errand reply.now self.old).next }
     {
@@ -401,7 +401,7 @@ impl Connection {
     {
         match self.phase {
             Phase::Idle => !self.asked.is_empty(),
-            Phase::PutOff(_) | Phase::Leaving => true,
+            Phase::PutOff | Phase::Leaving => true,
             _ => false,
         }
     }

@@ -47,5 +47,5 @@ pub use service_state::{ServiceState, state_of};
 pub use socket_rules::{FileIdentity, says_abandoned};
 pub use standing::{Admission, SUBSCRIPTION_LIMIT, Standing, StandingChange, WAITER_LIMIT};
 pub use status::Subject;
-pub use texts::{clock_line, following_line, news_lines, recorded_line, reply_lines};
+pub use texts::{clock_line, following_line, news_lines, recorded_line, reply_lines, serving_line};
 pub use todo::{Answer, News, Todo};

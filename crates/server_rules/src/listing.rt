@@ -121,7 +121,8 @@ fn read_entry<R: Files, E: Write>(
             read.entries.push(Entry {
                 name: service,
                 config,
-            })
+            })?;
+            Ok(())
         }
         Seen::Hidden => Ok(()),
         Seen::Bad => tell_bad_name(alloc, name, errors),

@@ -1,7 +1,7 @@
 //! Which services there are and have been, and which of them are over.
 ghost use Rattle.std.specs.Prelude.{◌≡◌, ◌++◌, ◌∷◌, [], OnOk, OnErr, filter, map, option_map};
 ghost use Rattle.server_rules.specs.Letters.{told_letter};
-ghost use Rattle.server_rules.specs.Roster.{added, after_letters, ending_after, ending_by, ending_in, has_row, marks_of, member_in, member_of, name_in, since_after, since_by, since_in};
+ghost use Rattle.server_rules.specs.Roster.{added, after_letter, after_letters, ending_by, ending_in, has_row, member_in, member_of, name_in, since_by, since_in};
 
 use crate::letters::ToldLetter;
 use s6_events::{At, Mark, Name, NoMemory, Sid};
@@ -60,10 +60,17 @@ impl Member {
         ensures { self.new ≡ after_letters at events.now self.old }
     {
         for event in events {
-            if event.sid == self.sid {
-                self.ending = ending_by(event.mark, self.ending);
-                self.since = since_by(at, event.mark, self.since);
-            }
+            self.note_one(at, event);
+        }
+    }
+
+    // One letter.
+    fn note_one(&mut self, at: At, event: &Event)
+        ensures { self.new ≡ after_letter at self.old event.now }
+    {
+        if event.sid == self.sid {
+            self.ending = ending_by(event.mark, self.ending);
+            self.since = since_by(at, event.mark, self.since);
         }
     }
 }

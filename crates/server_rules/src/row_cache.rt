@@ -96,7 +96,7 @@ impl CachedRows {
 
     // Takes over what the letters said of the services up to the step of the rows.
     fn take_roster(&mut self, roster: &Roster) -> Result<(), NoMemory>
-        ensures { OnOk result (self.new.roster ≡ roster.now) }
+        ensures taken { OnOk result (self.new.roster ≡ roster.now) }
         ensures step { self.new.step ≡ self.old.step }
         ensures shot { self.new.shot ≡ self.old.shot }
     {
@@ -168,8 +168,8 @@ impl RowCache {
     ) -> Result<Vec<u8>, AllocError> {
         let mut rows = self.rows.lock(rt);
         rows.read(reader, step);
-        if !rows.has(subject) {
-            rows.take_roster(roster)?;
+        if !rows.has(subject) && rows.take_roster(roster).is_err() {
+            return Err(AllocError);
         }
         rows.status(alloc, subject)
     }

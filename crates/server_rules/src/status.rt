@@ -18,8 +18,10 @@ use supervise_core::Row;
 pub enum Subject {
     /// The service of this name.
     One(Name),
-    /// All services, in rising serial.
+    /// All services: their rows.
     All,
+    /// All services: their states and rows, and what the last scan could not read.
+    States,
 }
 
 // The row of this name.

@@ -1,8 +1,9 @@
-//! The lines that connections are posted.
+//! The lines that connections are posted, and the one that says where clients can come.
 ghost use Rattle.std.specs.Prelude.{◌≡◌, ◌++◌, ◌∷◌, [], OnOk, IfOk};
 ghost use Rattle.s6_replay.specs.Transcript.{match_line, release_line, reply_text};
 ghost use Rattle.server_rules.specs.Answers.{clock_text, following_text, recorded_text};
 ghost use Rattle.server_rules.specs.Recipients.{news_lines, reply_lines};
+ghost use Rattle.server_rules.specs.Sockets.{serving_text};
 
 use crate::letters::push_letter;
 use crate::todo::News;
@@ -64,5 +65,18 @@ pub fn clock_line(alloc: Global, since: u64, now: u64) -> Result<Vec<u8>, AllocE
     text.extend_from_slice(b" ")?;
     push_number(&mut text, now)?;
     text.extend_from_slice(b"\n\n")?;
+    Ok(text)
+}
+
+/// What is told on standard error once clients can come: where, and since which time of day.
+pub fn serving_line(alloc: Global, socket: &str, day: &str) -> Result<Vec<u8>, AllocError>
+    ensures { IfOk result (λ text. text.items ≡ serving_text socket.now day.now) }
+{
+    let mut text = Vec::new(alloc);
+    text.extend_from_slice(b"svscan: serving ")?;
+    text.extend_from_slice(socket.as_bytes())?;
+    text.extend_from_slice(b" since ")?;
+    text.extend_from_slice(day.as_bytes())?;
+    text.extend_from_slice(b"\n")?;
     Ok(text)
 }

@@ -6,10 +6,11 @@ use crate::run::recorder::{Recorder, create_recorder};
 use crate::run::runs::RunSettings;
 use crate::threads::{DriverParts, start_driver, start_lane};
 use child_runner::{Bell, LaneLink, ShellProbe};
+use day_times::day_second;
 use error_notes::{NoteWriter, Notes};
 use line_server::{Seats, Server};
 use order_lanes::Backend;
-use server_rules::{Found, RowCache, ServeFault, read_listing};
+use server_rules::{Found, RowCache, ServeFault, read_listing, serving_line};
 use server_threads::{
     ScanDesk, ServerClock, Shared, SocketFile, attend, end_connections, listen, new_callers,
     start_listener,
@@ -164,6 +165,7 @@ fn serve<
             &outcome,
             notes,
         ) {
+            tell_serving(server.answers(), options.socket, &mut errors);
             attend(rt, server.answers(), options.directory, &mut errors);
         }
         // While the listener is open its file is known.
@@ -171,6 +173,16 @@ fn serve<
         end_all(rt, &server, links.as_slice());
     });
     outcome.get(rt)
+}
+
+// Clients can come: that is told, by one write.
+fn tell_serving<E: Write>(shared: &Shared, socket: &str, errors: &mut E) {
+    let Some(day) = day_second(shared.clock.since) else {
+        return;
+    };
+    if let Ok(line) = serving_line(shared.alloc, socket, day.as_str()) {
+        let _ = errors.write_all(line.as_slice());
+    }
 }
 
 // Starts all threads of a tree but this one. Whether they run.
