@@ -102,8 +102,11 @@ pub fn run_client<R: Net + Processes + Clock, W: Write, E: Write>(
     match run(rt, alloc, tool, words, output) {
         Ok(status) => status,
         Err(fault) => {
-            let (socket, words) = words.split_first().unwrap_or((&"", &[]));
-            tell_fault(tool, socket, words, &fault, errors)
+            let (socket, further) = match words {
+                [socket, further @ ..] => (*socket, further),
+                [] => ("", words),
+            };
+            tell_fault(tool, socket, further, &fault, errors)
         }
     }
 }

@@ -47,12 +47,6 @@ impl ToolFault {
     }
 }
 
-impl From<Misuse> for ToolFault {
-    fn from(misuse: Misuse) -> ToolFault {
-        ToolFault::Usage(misuse)
-    }
-}
-
 impl From<UsageFault> for ToolFault {
     ghost use Rattle.s6_tools.specs.Endings.{fault_of_usage};
 

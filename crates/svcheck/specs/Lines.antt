@@ -1,6 +1,6 @@
 -- A line for each entry of a scan directory.
 use Rattle.std.specs.Prelude.{ℕ, List, [], ◌∷◌, ◌++◌, ◌||◌, Bool, true, false, Option, Some, None, codes, count_by, decimal, is_none, is_some}
-use Rattle.std.specs.Prelude.{nat_eq, nat_lt, option_map, if◌then◌else◌}
+use Rattle.std.specs.Prelude.{nat_eq, nat_lt, option_map, unwrap_or, if◌then◌else◌}
 use Rattle.std.specs.List.{find, flat_map, list_any}
 use Rattle.std.specs.Cmp.Lexicographic.{pointwise}
 use Rattle.servicedir.specs.declared.config.Config.{Config}
@@ -29,14 +29,10 @@ supervised_line name config note =
 abbrev pub refused_line : List ℕ → DirFault → List ℕ
 refused_line name f = name ++ (codes ": refused " ++ (fault_word f ++ (codes ": " ++ (fault_sentence f ++ 10 ∷ []))))
 
-abbrev pub fault_or_io : Option DirFault → DirFault
-fault_or_io (Some f) = f
-fault_or_io None = fault.Io
-
 -- the line of an entry: it has a configuration where it can be used
 abbrev pub line_by : List ℕ → Option DirFault → Option Config → List ℕ
 line_by name note (Some config) = supervised_line name config note
-line_by name note None = refused_line name (fault_or_io note)
+line_by name note None = refused_line name (unwrap_or note fault.Io)
 
 abbrev pub entry_line : List Remark → Entry → List ℕ
 entry_line remarks entry = line_by entry.name (fault_of remarks entry.name) entry.config

@@ -113,8 +113,12 @@ fn refuse_program<R: Env, E: Write>(rt: &R, alloc: Global, errors: &mut E) -> As
     let Ok(word) = first_word(rt, alloc) else {
         return Asked::Done(tell_no_memory("s6_tree", errors));
     };
-    match word.map(|word| program_named(word.as_str())) {
-        Some(program @ (Program::Svscan | Program::Svcheck | Program::Client(_))) => {
+    let Some(word) = word else {
+        return Asked::Replay;
+    };
+    let program = program_named(word.as_str());
+    match program {
+        Program::Svscan | Program::Svcheck | Program::Client(_) => {
             Asked::Done(tell_no_memory(name_of(program), errors))
         }
         _ => Asked::Replay,
