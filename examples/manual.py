@@ -41,14 +41,21 @@ def page(name, does, text):
 
 
 def options(text):
-    """The options of a tool and what each does."""
-    section = re.search(r"^options:\n((?:  .*\n)+)", text, re.M)
-    found = re.findall(r"^  (-\S+?),? +(?:MS +|--help +)?(\S.*)$", section.group(1), re.M) if section else []
-    return [(option, does) for option, does in found if option != "--"]
+    """The options of a tool, each with the word for its value, if it has one, and what it does."""
+    usage, _, rest = text.partition("\n\n")
+    section = re.search(r"^options:\n((?:  .*\n)+)", rest, re.M)
+    lines = re.sub(r"\n {4,}", " ", section.group(1)).splitlines() if section else []
+    told = {}
+    for line in lines:
+        option, value, does = re.fullmatch(r"  (-\S+)(?: ([A-Z]+))? +(\S.*)", line).groups()
+        told[option.rstrip(",")] = (value or "", re.split(r"[:.;] |[.;:]$", does)[0])
+    for option, value in re.findall(r"(?<![-\w])(-[A-Za-z])(?: ([A-Z]+))?(?![\w.])", usage):
+        told.setdefault(option, (value, ""))
+    return [(option, *rest) for option, rest in told.items() if option not in ("--", "-h", "--help")]
 
 
 def bash(texts):
-    cases = "".join(f"        {name}) words='{' '.join([option for option, _ in options(text)] + ['--help'])}' ;;\n" for name, _, text in texts)
+    cases = "".join(f"        {name}) words='{' '.join([option for option, _, _ in options(text)] + ['--help'])}' ;;\n" for name, _, text in texts)
     return f"""# Completion of s6_tree for bash. Made by examples/manual.py: change the help texts, not this file.
 _s6_tree() {{
     local word=${{COMP_WORDS[COMP_CWORD]}} words=
@@ -75,7 +82,7 @@ def quoted(text):
 def zsh(texts):
     names = "".join(f"        '{name}:{quoted(does)}'\n" for name, does, _ in texts)
     cases = "".join(
-        f"        {name}) _arguments {' '.join(repr_option(option, does) for option, does in options(text))} '--help[print the help text]' '*:file:_files' ;;\n"
+        f"        {name}) _arguments {''.join(zsh_option(*option) + ' ' for option in options(text))}'--help[print the help text]' '*:file:_files' ;;\n"
         for name, _, text in texts)
     return f"""#compdef s6_tree
 # Completion of s6_tree for zsh. Made by examples/manual.py: change the help texts, not this file.
@@ -97,8 +104,8 @@ _s6_tree "$@"
 """
 
 
-def repr_option(option, does):
-    return f"'{option}[{quoted(does)}]'"
+def zsh_option(option, value, does):
+    return f"'{option}[{quoted(does or value)}]" + (f":{value}:'" if value else "'")
 
 
 def made():

@@ -66,7 +66,7 @@ fn report_of<R: Files + Copy + Drop>(
 // The entries by name, as svscan takes them.
 fn sorted_entries(alloc: Global, entries: &[Entry]) -> Result<Vec<Entry>, AllocError> {
     let mut sorted = Vec::from_slice(alloc, entries)?;
-    sorted.sort_by_key(|entry| entry.name)?;
+    sorted.sort_unstable_by_key(|entry| entry.name);
     Ok(sorted)
 }
 
