@@ -35,7 +35,7 @@ def page(name, does, text):
     lines += [escaped(line[7:]) for line in usage.splitlines()]
     lines += [".fi", ".SH DESCRIPTION", ".nf"]
     for line in rest.splitlines():
-        head = re.fullmatch(r"([a-z][^:]*):", line) or re.fullmatch(r"([a-z][a-z, ]*), .*:", line)
+        head = re.fullmatch(r"([a-z][a-z ]*):", line) or re.fullmatch(r"([a-z]+), .*:", line)
         lines += [".fi", f".SH {escaped(head.group(1).upper())}", ".nf"] if head and line.endswith(":") else [escaped(line)]
     return "\n".join([*lines, ".fi"]) + "\n"
 

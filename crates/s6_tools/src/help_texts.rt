@@ -138,18 +138,18 @@ Prints each letter of each service, or of those of these names, as it
 comes, until the connection ends. A line is the time of day, the name,
 the letter and what it says: 2026-11-27T11:18:48.123Z web u up
 
-letters:
-  s           a supervisor begins
-  u           it is up
-  U           it is ready
-  d           it is down
-  D           it is down, and its finish is done
-  O           it failed for good
-  x           its supervisor has ended
+letters, each with its word:
+  s           supervised: its supervisor begins
+  u           up
+  U           ready
+  d           died
+  D           down: it has died, and its finish is done
+  O           failed: for good
+  x           gone: its supervisor has ended
 
 options:
-  --json      print an object a line: time at serial name letter. at is in
-              milliseconds from the start of the tree
+  --json      print an object a line: time at serial name letter event.
+              at is in milliseconds from the start of the tree
   --          what follows are names, also with a dash in front
 
 exit status:
@@ -161,7 +161,7 @@ exit status:
 const RECORD: &str = "usage: s6_tree record SOCKET
 
 Has svscan hand its run over now, so that RECORD holds all that came up to
-here, and prints recorded N: the number of its inputs. Services, waiters
+here, and prints recorded N: how many steps it has then. Services, waiters
 and subscriptions go on. Then s6_tree replay --check < RECORD says whether
 the tree did what it is to do.
 
