@@ -34,9 +34,11 @@ def page(name, does, text):
     usage, _, rest = text.partition("\n\n")
     lines += [escaped(line[7:]) for line in usage.splitlines()]
     lines += [".fi", ".SH DESCRIPTION", ".nf"]
+    before = ""
     for line in rest.splitlines():
-        head = re.fullmatch(r"([a-z][a-z ]*):", line) or re.fullmatch(r"([a-z]+), .*:", line)
-        lines += [".fi", f".SH {escaped(head.group(1).upper())}", ".nf"] if head and line.endswith(":") else [escaped(line)]
+        head = not before and re.fullmatch(r"([a-z][a-z ]*)(, .*)?:", line)
+        lines += [".fi", f".SH {escaped(head.group(1).upper())}", ".nf"] if head else [escaped(line)]
+        before = line
     return "\n".join([*lines, ".fi"]) + "\n"
 
 
