@@ -136,10 +136,16 @@ fn push_full(text: &mut Vec<u8>, count: usize) -> Result<(), AllocError>
     }
 }
 
+fn has_unread(entries: &[Entry]) -> bool
+    ensures { result ≡ list_any (λ e. is_none e.config) entries.now }
+{
+    entries.iter().any(|entry| entry.config.is_none())
+}
+
 fn is_refused(entries: &[Entry]) -> bool
     ensures { result ≡ is_refused entries.now }
 {
-    entries.iter().any(|entry| entry.config.is_none()) || usable_count(entries) > MOST_SERVICES
+    has_unread(entries) || usable_count(entries) > MOST_SERVICES
 }
 
 /// What svscan would do with these entries.
