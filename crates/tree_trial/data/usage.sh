@@ -23,7 +23,6 @@ wrong_client() {
     wrong "$tool" "$socket" "$@"
 }
 
-wrong
 wrong frob
 wrong help frob
 wrong --version now
@@ -34,7 +33,7 @@ wrong svscan "$root/none" "$root/other"
 wrong svscan "$root/services" "$socket"
 wrong svscan "$root/services" "$root/services"
 wrong svscan "$root/services" "$root/none/socket"
-wrong svscan "$root/services" "$root/$long"
+wrong svscan "$root/services" "/$long"
 wrong svcheck
 wrong svcheck a b
 wrong svcheck "$root/none"
