@@ -69,20 +69,41 @@ run_text r =
 abbrev pub ages_text : Row → List ℕ
 ages_text r = number_member (codes "updownfor") r.up_down_for ++ number_member (codes "readyfor") r.ready_for
 
+abbrev pub times_text : ListedService → List ℕ
+times_text s = ages_text s.row ++ member (codes "since") (word_text s.since)
+
+-- the fault of a directory that could not be read, and the end of the object
+abbrev pub end_text : Option (List ℕ) → List ℕ
+end_text fault = member (codes "fault") (word_text fault) ++ codes "}\n"
+
 -- one object, and a newline
 unfoldable pub service_line : ListedService → List ℕ
-service_line s =
-    (123 ∷ head_text s) ++ truths_text s.row ++ run_text s.row ++ ages_text s.row
-    ++ member (codes "since") (word_text s.since) ++ codes ",\"fault\":null}\n"
+service_line s = (123 ∷ head_text s) ++ truths_text s.row ++ run_text s.row ++ times_text s ++ end_text None
 
--- the members of a service, of which a directory that could not be read has none
-abbrev pub nothing_text : List ℕ
-nothing_text =
-    codes ",\"serial\":null,\"state\":\"unread\",\"up\":null,\"wantedup\":null,\"normallyup\":null,\"ready\":null,\"paused\":null"
-    ++ codes ",\"pid\":null,\"exitcode\":null,\"signal\":null,\"updownfor\":null,\"readyfor\":null,\"since\":null,\"fault\":"
+-- of a directory that could not be read the members of a service are null
+abbrev pub null_member : List ℕ → List ℕ
+null_member key = number_member key None
+
+abbrev pub unread_head : List ℕ → List ℕ
+unread_head name =
+    key_text (codes "name") ++ quoted name ++ null_member (codes "serial") ++ member (codes "state") (quoted (codes "unread"))
+
+abbrev pub no_truths_text : List ℕ
+no_truths_text =
+    null_member (codes "up") ++ null_member (codes "wantedup") ++ null_member (codes "normallyup")
+    ++ null_member (codes "ready") ++ null_member (codes "paused")
+
+abbrev pub no_run_text : List ℕ
+no_run_text = null_member (codes "pid") ++ null_member (codes "exitcode") ++ null_member (codes "signal")
+
+abbrev pub no_ages_text : List ℕ
+no_ages_text = null_member (codes "updownfor") ++ null_member (codes "readyfor")
+
+abbrev pub no_times_text : List ℕ
+no_times_text = no_ages_text ++ null_member (codes "since")
 
 unfoldable pub unread_line : List ℕ → List ℕ → List ℕ
-unread_line name fault = (123 ∷ (key_text (codes "name") ++ quoted name)) ++ nothing_text ++ quoted fault ++ codes "}\n"
+unread_line name fault = (123 ∷ unread_head name) ++ no_truths_text ++ no_run_text ++ no_times_text ++ end_text (Some fault)
 
 abbrev pub json_line : ListEntry → List ℕ
 json_line (Service s) = service_line s

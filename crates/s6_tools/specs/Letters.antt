@@ -21,11 +21,17 @@ plain_letter day l =
     day ++ (32 ∷ (l.name ++ (32 ∷ l.letter ∷ 32 ∷ (letter_word l.letter ++ 10 ∷ []))))
 
 -- a line of JSON
-abbrev pub json_letter : List ℕ → FollowedLetter → List ℕ
-json_letter day l =
-    (123 ∷ (key_text (codes "time") ++ quoted day)) ++ number_member (codes "at") (Some l.at)
-    ++ number_member (codes "serial") (Some l.serial) ++ member (codes "name") (quoted l.name)
-    ++ member (codes "letter") (quoted (l.letter ∷ [])) ++ member (codes "event") (quoted (letter_word l.letter)) ++ codes "}\n"
+abbrev pub json_head : List ℕ → FollowedLetter → List ℕ
+json_head day l =
+    key_text (codes "time") ++ quoted day ++ number_member (codes "at") (Some l.at) ++ number_member (codes "serial") (Some l.serial)
+
+abbrev pub json_tail : FollowedLetter → List ℕ
+json_tail l =
+    member (codes "name") (quoted l.name) ++ member (codes "letter") (quoted (l.letter ∷ []))
+    ++ member (codes "event") (quoted (letter_word l.letter))
+
+unfoldable pub json_letter : List ℕ → FollowedLetter → List ℕ
+json_letter day l = (123 ∷ json_head day l) ++ json_tail l ++ codes "}\n"
 
 abbrev pub letter_text : Bool → List ℕ → FollowedLetter → List ℕ
 letter_text true day l = json_letter day l

@@ -1,5 +1,5 @@
 -- What a line of the server says of a service, to `list`.
-use Rattle.std.specs.Prelude.{◌≡◌, ◌==◌, ℕ, suc, List, [], ◌∷◌, Option, Some, None, codes, drop, take}
+use Rattle.std.specs.Prelude.{◌≡◌, ◌==◌, ◌+◌, ℕ, List, [], ◌∷◌, Option, Some, None, codes, drop, take}
 use Rattle.std.specs.List.{position}
 use Rattle.s6_tools.specs.declared.list_entry.ListEntry.{ListEntry}
 use Rattle.s6_tools.specs.declared.list_entry.ListEntry.TheVariants.{Service, Unread}
@@ -8,7 +8,7 @@ use Rattle.s6_tools.specs.Words.{word_in}
 
 -- what stands behind the first word of a line, and the space behind that
 abbrev pub behind_at : Option ℕ → List ℕ → List ℕ
-behind_at (Some place) line = drop (suc place) line
+behind_at (Some place) line = drop (place + 1) line
 behind_at None line = []
 
 abbrev pub behind_word : List ℕ → List ℕ

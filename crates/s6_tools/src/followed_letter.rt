@@ -1,7 +1,7 @@
 //! A letter that a follower is told, read and printed.
-ghost use Rattle.std.specs.Prelude.{◌≡◌, ◌++◌, ◌∷◌, [], IfOk, OnOk, codes};
+ghost use Rattle.std.specs.Prelude.{◌≡◌, ◌++◌, ◌∷◌, [], IfOk, OnOk};
 ghost use Rattle.s6_tools.specs.JsonLines.{member, quoted};
-ghost use Rattle.s6_tools.specs.Letters.{json_letter, letter_text, letter_word, plain_letter};
+ghost use Rattle.s6_tools.specs.Letters.{json_head, json_letter, json_tail, letter_text, letter_word, plain_letter};
 
 use crate::json_line::{push_key, push_member, push_quoted};
 use crate::list_entry::moment_of;
@@ -73,18 +73,37 @@ fn push_text(text: &mut Vec<u8>, key: &[u8], word: &[u8]) -> Result<(), AllocErr
     push_quoted(text, word)
 }
 
+// The first members.
+fn push_json_head(
+    text: &mut Vec<u8>,
+    day: &[u8],
+    letter: &FollowedLetter,
+) -> Result<(), AllocError>
+    ensures { OnOk result (text.new.items ≡ text.old.items ++ json_head day.now letter.now) }
+{
+    push_key(text, b"time")?;
+    push_quoted(text, day)?;
+    push_member(text, b"at", Some(letter.at))?;
+    push_member(text, b"serial", Some(letter.serial))
+}
+
+// The others.
+fn push_json_tail(text: &mut Vec<u8>, letter: &FollowedLetter) -> Result<(), AllocError>
+    ensures { OnOk result (text.new.items ≡ text.old.items ++ json_tail letter.now) }
+{
+    push_text(text, b"name", letter.name.as_bytes())?;
+    push_text(text, b"letter", &[letter.letter])?;
+    push_text(text, b"event", letter_word(letter.letter))
+}
+
 // The line of JSON.
+#[tactic(auto, unfolding(crate::specs::Letters::json_letter))]
 fn push_json(text: &mut Vec<u8>, day: &[u8], letter: &FollowedLetter) -> Result<(), AllocError>
     ensures { OnOk result (text.new.items ≡ text.old.items ++ json_letter day.now letter.now) }
 {
     text.push(b'{')?;
-    push_key(text, b"time")?;
-    push_quoted(text, day)?;
-    push_member(text, b"at", Some(letter.at))?;
-    push_member(text, b"serial", Some(letter.serial))?;
-    push_text(text, b"name", letter.name.as_bytes())?;
-    push_text(text, b"letter", &[letter.letter])?;
-    push_text(text, b"event", letter_word(letter.letter))?;
+    push_json_head(text, day, letter)?;
+    push_json_tail(text, letter)?;
     text.extend_from_slice(b"}\n")
 }
 

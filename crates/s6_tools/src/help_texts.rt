@@ -99,7 +99,8 @@ columns:
   NAME        its name
   STATE       its state in one word
   PID         the number of its process, while it is up
-  SINCE       for how long it has been up, or down
+  SINCE       the time of day at which it came up, or went down
+  FOR         for how long that is
   READY       for how long it has been ready, while it is up
   LAST-EXIT   how its last run ended, while it is down: code 1, signal 9;
               of one that is unread the fault, as NoRun
@@ -120,8 +121,8 @@ states:
 options:
   --json      print an object a line: name serial state up wantedup
               normallyup ready paused pid exitcode signal updownfor
-              readyfor. Ages are in seconds, and null is what there is
-              not
+              readyfor since fault. Ages are in seconds, and null is
+              what there is not
   --          what follows are names, also with a dash in front
 
 exit status:

@@ -1,7 +1,7 @@
 //! The services as lines of JSON.
-ghost use Rattle.std.specs.Prelude.{◌≡◌, ◌++◌, ◌∷◌, IfOk, OnOk, codes, option_map};
+ghost use Rattle.std.specs.Prelude.{◌≡◌, ◌++◌, ◌∷◌, IfOk, OnOk, option_map};
 ghost use Rattle.std.specs.List.{flat_map};
-ghost use Rattle.s6_tools.specs.JsonLines.{truth_text, number_text, key_text, quoted, truth_member, number_member, exit_code, signal_number, head_text, truths_text, run_text, ages_text, word_text, member, service_line, nothing_text, unread_line, json_line};
+ghost use Rattle.s6_tools.specs.JsonLines.{truth_text, number_text, key_text, quoted, truth_member, number_member, exit_code, signal_number, head_text, truths_text, run_text, ages_text, word_text, times_text, end_text, service_line, unread_head, no_truths_text, no_run_text, no_ages_text, no_times_text, unread_line, json_line};
 
 use crate::list_entry::{ListEntry, ListedService};
 use crate::told_word::ToldWord;
@@ -124,14 +124,25 @@ fn push_word(text: &mut Vec<u8>, word: Option<&ToldWord>) -> Result<(), AllocErr
     }
 }
 
-// Adds the time of day since which it is up or down.
-fn push_since(text: &mut Vec<u8>, since: Option<&ToldWord>) -> Result<(), AllocError>
-    ensures { OnOk result (text.new.items
-        ≡ text.old.items ++ member (codes "since") (word_text (option_map (λ w. w.now) since.entry))) }
+// Adds the members for its ages, and the time of day since which it is up or down.
+fn push_times(text: &mut Vec<u8>, service: &ListedService) -> Result<(), AllocError>
+    ensures { OnOk result (text.new.items ≡ text.old.items ++ times_text service.now) }
 {
+    push_ages(text, &service.row)?;
     text.push(b',')?;
     push_key(text, b"since")?;
-    push_word(text, since)
+    push_word(text, service.since.as_ref())
+}
+
+// Adds the fault of a directory that could not be read, and the end of the object.
+fn push_end(text: &mut Vec<u8>, fault: Option<&ToldWord>) -> Result<(), AllocError>
+    ensures { OnOk result (text.new.items
+        ≡ text.old.items ++ end_text (option_map (λ w. w.now) fault.entry)) }
+{
+    text.push(b',')?;
+    push_key(text, b"fault")?;
+    push_word(text, fault)?;
+    text.extend_from_slice(b"}\n")
 }
 
 // Adds the line of a service.
@@ -139,35 +150,73 @@ fn push_since(text: &mut Vec<u8>, since: Option<&ToldWord>) -> Result<(), AllocE
 fn push_service_line(text: &mut Vec<u8>, service: &ListedService) -> Result<(), AllocError>
     ensures { OnOk result (text.new.items ≡ text.old.items ++ service_line service.now) }
 {
-    let row = &service.row;
     text.push(b'{')?;
     push_head(text, service)?;
-    push_truths(text, row)?;
-    push_run(text, row)?;
-    push_ages(text, row)?;
-    push_since(text, service.since.as_ref())?;
-    text.extend_from_slice(b",\"fault\":null}\n")
+    push_truths(text, &service.row)?;
+    push_run(text, &service.row)?;
+    push_times(text, service)?;
+    push_end(text, None)
 }
 
-// Adds that of a directory that could not be read.
+// Adds the first three members of a directory that could not be read.
+fn push_unread_head(text: &mut Vec<u8>, name: &Name) -> Result<(), AllocError>
+    ensures { OnOk result (text.new.items ≡ text.old.items ++ unread_head name.now) }
+{
+    push_key(text, b"name")?;
+    push_quoted(text, name.as_bytes())?;
+    push_member(text, b"serial", None)?;
+    text.push(b',')?;
+    push_key(text, b"state")?;
+    push_quoted(text, b"unread")
+}
+
+// Adds the members that are true or false of a service.
+fn push_no_truths(text: &mut Vec<u8>) -> Result<(), AllocError>
+    ensures { OnOk result (text.new.items ≡ text.old.items ++ no_truths_text) }
+{
+    push_member(text, b"up", None)?;
+    push_member(text, b"wantedup", None)?;
+    push_member(text, b"normallyup", None)?;
+    push_member(text, b"ready", None)?;
+    push_member(text, b"paused", None)
+}
+
+// Adds the members for the run of a service.
+fn push_no_run(text: &mut Vec<u8>) -> Result<(), AllocError>
+    ensures { OnOk result (text.new.items ≡ text.old.items ++ no_run_text) }
+{
+    push_member(text, b"pid", None)?;
+    push_member(text, b"exitcode", None)?;
+    push_member(text, b"signal", None)
+}
+
+// Adds the members for the ages of a service.
+fn push_no_ages(text: &mut Vec<u8>) -> Result<(), AllocError>
+    ensures { OnOk result (text.new.items ≡ text.old.items ++ no_ages_text) }
+{
+    push_member(text, b"updownfor", None)?;
+    push_member(text, b"readyfor", None)
+}
+
+// Adds the members for the times of a service.
+fn push_no_times(text: &mut Vec<u8>) -> Result<(), AllocError>
+    ensures { OnOk result (text.new.items ≡ text.old.items ++ no_times_text) }
+{
+    push_no_ages(text)?;
+    push_member(text, b"since", None)
+}
+
+// Adds the line of a directory that could not be read.
 #[tactic(auto, unfolding(crate::specs::JsonLines::unread_line))]
 fn push_unread_line(text: &mut Vec<u8>, name: &Name, fault: &ToldWord) -> Result<(), AllocError>
     ensures { OnOk result (text.new.items ≡ text.old.items ++ unread_line name.now fault.now) }
 {
     text.push(b'{')?;
-    push_key(text, b"name")?;
-    push_quoted(text, name.as_bytes())?;
-    push_nothing(text)?;
-    push_quoted(text, fault.as_bytes())?;
-    text.extend_from_slice(b"}\n")
-}
-
-// Adds the members of a service, of which a directory that could not be read has none.
-fn push_nothing(text: &mut Vec<u8>) -> Result<(), AllocError>
-    ensures { OnOk result (text.new.items ≡ text.old.items ++ nothing_text) }
-{
-    text.extend_from_slice(b",\"serial\":null,\"state\":\"unread\",\"up\":null,\"wantedup\":null,\"normallyup\":null,\"ready\":null,\"paused\":null")?;
-    text.extend_from_slice(b",\"pid\":null,\"exitcode\":null,\"signal\":null,\"updownfor\":null,\"readyfor\":null,\"since\":null,\"fault\":")
+    push_unread_head(text, name)?;
+    push_no_truths(text)?;
+    push_no_run(text)?;
+    push_no_times(text)?;
+    push_end(text, Some(fault))
 }
 
 fn push_json_line(text: &mut Vec<u8>, entry: &ListEntry) -> Result<(), AllocError>

@@ -1,5 +1,6 @@
 //! A line of the server about a service, as `list` reads it.
-ghost use Rattle.std.specs.Prelude.{◌≡◌, IfSome};
+ghost use Rattle.std.specs.Prelude.{◌≡◌, ◌==◌, ◌<◌, length, IfSome};
+ghost use Rattle.std.specs.List.{position};
 ghost use Rattle.s6_tools.specs.ListEntries.{Tells, behind_word, name_of_entry};
 
 use crate::service_row::row_of;
@@ -42,11 +43,19 @@ impl ListEntry {
     }
 }
 
+// The place of the first space.
+fn space_in(line: &[u8]) -> Option<usize>
+    ensures place { result ≡ position (λ b. b == 32) line.now }
+    ensures bound { IfSome result (λ place. place < length line.now) }
+{
+    line.iter().position(|byte| *byte == b' ')
+}
+
 // What stands behind the first word of a line.
 fn behind_word(line: &[u8]) -> &[u8]
     ensures { result.now ≡ behind_word line.now }
 {
-    match line.iter().position(|byte| *byte == b' ') {
+    match space_in(line) {
         Some(place) => &line[place + 1..],
         None => &[],
     }

@@ -1,3 +1,4 @@
 pub mod Asking
 pub mod Handing
+pub mod Noting
 pub mod Shorter

@@ -7,6 +7,7 @@ use Rattle.supervise_core.specs.declared.row.Row.{Row}
 use Rattle.server_rules.specs.declared.status.Subject.{Subject}
 use Rattle.server_rules.specs.declared.status.Subject.TheVariants.{One, All, States}
 use Rattle.server_rules.specs.declared.found.Remark.{Remark}
+use Rattle.server_rules.specs.declared.roster.Ending.{Ending}
 use Rattle.server_rules.specs.declared.roster.Member.{Member}
 use Rattle.server_rules.specs.Found.{unread_line}
 use Rattle.server_rules.specs.Roster.{ending_in, since_in}
@@ -37,10 +38,14 @@ moment_text (Some at) = decimal at
 moment_text None = codes "-1"
 
 -- the word of a service's state, since when it is up or down, and its row
+abbrev pub state_head : Option Ending → Row → List ℕ
+state_head ending row = codes "state " ++ (state_word (state_of ending row) ++ 32 ∷ [])
+
+abbrev pub state_tail : Option ℕ → Row → List ℕ
+state_tail since row = moment_text since ++ (32 ∷ row_line row)
+
 abbrev pub state_line : List Member → Row → List ℕ
-state_line roster row =
-    codes "state " ++ (state_word (state_of (ending_in row.sid roster) row)
-    ++ (32 ∷ (moment_text (since_in row.sid roster) ++ (32 ∷ row_line row))))
+state_line roster row = state_head (ending_in row.sid roster) row ++ state_tail (since_in row.sid roster) row
 
 -- the status of one service, the rows of all, or their states and what could not be read; and an empty line behind them
 abbrev pub told_text : Subject → Shown → List ℕ

@@ -39,7 +39,9 @@ pub fn read_listing<R: Files + Copy + Drop, E: Write>(
         Ok(listing) => Ok(Found { listing, remarks }),
         Err(error) => {
             if error.kind() == ErrorKind::InvalidData {
-                let _ = errors.write_all(b"svscan: the listing is longer than a line of a script\n");
+                let _ = errors.write_all(
+                    b"svscan: the listing is longer than a line of a script\n",
+                );
             }
             Err(error)
         }

@@ -3,7 +3,7 @@ ghost use Rattle.std.specs.Prelude.{◌≡◌, ◌++◌, ◌+◌, ◌*◌, ◌�
 ghost use Rattle.std.specs.List.{position};
 ghost use Rattle.tree_core.specs.Effect.{outcome_of};
 ghost use Rattle.server_rules.specs.Connection.{is_for};
-ghost use Rattle.server_rules.specs.Recipients.{all_seats, answer_at, hand_all, handed_out, posts_of, tell, tell_letter, tell_match, tell_release, tell_seat};
+ghost use Rattle.server_rules.specs.Recipients.{answer_at, hand_all, handed_out, posts_of, tell, tell_letter, tell_match, tell_release, tell_seat};
 
 use crate::connection::Connection;
 use crate::roster::Roster;
@@ -118,23 +118,42 @@ fn tell_letters(
     ensures count { length posts.new.items ≤ length posts.old.items + length events.now * 11 }
 {
     for event in events {
-        let letter = News::Letter(roster.letter(at, event));
-        tell_seats(&ALL_SEATS, letter, connections, posts);
+        tell_letter(at, roster, event, connections, posts);
     }
+}
+
+// A letter goes to the connections that follow its service.
+fn tell_letter(
+    at: At,
+    roster: &Roster,
+    event: &Event,
+    connections: &mut Vec<Connection>,
+    posts: &mut Vec<Post>,
+)
+    requires { length posts.old.items + 11 ≤ vec_capacity posts.old }
+    ensures connections { connections.new.items
+        ≡ (tell_letter at roster.now event.now connections.old.items).connections }
+    ensures posts { posts.new.items ≡ posts.old.items
+        ++ (tell_letter at roster.now event.now connections.old.items).posts }
+    ensures room { vec_capacity posts.new ≡ vec_capacity posts.old }
+    ensures count { length posts.new.items ≤ length posts.old.items + 11 }
+{
+    let letter = News::Letter(roster.letter(at, event));
+    tell_seats(&ALL_SEATS, &letter, connections, posts);
 }
 
 // News go to each connection of these seats that they are for.
 fn tell_seats(
     seats: &[usize],
-    news: News,
+    news: &News,
     connections: &mut Vec<Connection>,
     posts: &mut Vec<Post>,
 )
     requires { length posts.old.items + length seats.now ≤ vec_capacity posts.old }
     ensures connections { connections.new.items
-        ≡ (hand_all (tell_seat news) seats.now connections.old.items).connections }
+        ≡ (hand_all (tell_seat news.now) seats.now connections.old.items).connections }
     ensures posts { posts.new.items ≡ posts.old.items
-        ++ (hand_all (tell_seat news) seats.now connections.old.items).posts }
+        ++ (hand_all (tell_seat news.now) seats.now connections.old.items).posts }
     ensures room { vec_capacity posts.new ≡ vec_capacity posts.old }
     ensures count { length posts.new.items ≤ length posts.old.items + length seats.now }
 {
@@ -144,19 +163,19 @@ fn tell_seats(
 }
 
 // News go to the connection of this seat, if they are for it.
-fn tell_seat(seat: usize, news: News, connections: &mut Vec<Connection>, posts: &mut Vec<Post>)
+fn tell_seat(seat: usize, news: &News, connections: &mut Vec<Connection>, posts: &mut Vec<Post>)
     requires { length posts.old.items < vec_capacity posts.old }
     ensures connections { connections.new.items
-        ≡ (tell_seat news seat connections.old.items).connections }
+        ≡ (tell_seat news.now seat connections.old.items).connections }
     ensures posts { posts.new.items ≡ posts.old.items
-        ++ (tell_seat news seat connections.old.items).posts }
+        ++ (tell_seat news.now seat connections.old.items).posts }
     ensures room { vec_capacity posts.new ≡ vec_capacity posts.old }
     ensures count { length posts.new.items ≤ length posts.old.items + 1 }
 {
     let Some(connection) = connections.get_mut(seat) else {
         return;
     };
-    add_post(seat, connection.told(&news), Some(news), posts);
+    add_post(seat, connection.told(news), Some(*news), posts);
 }
 
 fn tell_matches(matched: &[Match], connections: &mut Vec<Connection>, posts: &mut Vec<Post>)
@@ -196,7 +215,7 @@ fn tell_one(news: News, connections: &mut Vec<Connection>, posts: &mut Vec<Post>
     let Some(seat) = maker_of(connections, &news) else {
         return;
     };
-    tell_seat(seat, news, connections, posts);
+    tell_seat(seat, &news, connections, posts);
 }
 
 // The seat of the connection that made what the news are of, while its client is there.

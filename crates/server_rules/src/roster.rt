@@ -1,5 +1,5 @@
 //! Which services there are and have been, and which of them are over.
-ghost use Rattle.std.specs.Prelude.{◌≡◌, ◌++◌, ◌∷◌, [], OnOk, OnErr, filter, map, option_map};
+ghost use Rattle.std.specs.Prelude.{◌≡◌, ◌++◌, ◌∷◌, [], IfOk, OnOk, OnErr, filter, map, option_map};
 ghost use Rattle.server_rules.specs.Letters.{told_letter};
 ghost use Rattle.server_rules.specs.Roster.{added, after_letter, after_letters, ending_by, ending_in, has_row, member_in, member_of, name_in, since_by, since_in};
 
@@ -110,17 +110,8 @@ impl Roster {
         ensures added { OnOk result (self.new ≡ self.old ++ added listed.now) }
         ensures refused { OnErr result (self.new ≡ self.old) }
     {
-        self.members.reserve(listed.len())?;
-        for one in listed {
-            if let Listed::Added(sid, name) = one {
-                self.members.push_reserved(Member {
-                    sid: *sid,
-                    name: *name,
-                    ending: None,
-                    since: None,
-                });
-            }
-        }
+        let added = members_of(*self.members.allocator(), listed)?;
+        self.members.extend_from_slice(added.as_slice())?;
         Ok(())
     }
 
@@ -128,9 +119,7 @@ impl Roster {
     pub fn note(&mut self, at: At, events: &[Event])
         ensures { self.new ≡ map (after_letters at events.now) self.old }
     {
-        for member in self.members.iter_mut() {
-            member.note(at, events);
-        }
+        note_all(self.members.as_mut_slice(), at, events);
     }
 
     // The service of this serial.
@@ -199,7 +188,42 @@ impl Roster {
     }
 }
 
+// Each notes the letters of a step.
+fn note_all(members: &mut [Member], at: At, events: &[Event])
+    ensures { members.new ≡ map (after_letters at events.now) members.old }
+{
+    for member in members.iter_mut() {
+        member.note(at, events);
+    }
+}
+
+// The services that a scan added.
+fn members_of(alloc: Global, listed: &[Listed]) -> Result<Vec<Member>, NoMemory>
+    ensures { IfOk result (λ members. members.items ≡ added listed.now) }
+{
+    let mut members = Vec::new(alloc);
+    for one in listed {
+        push_member(&mut members, one)?;
+    }
+    Ok(members)
+}
+
+fn push_member(members: &mut Vec<Member>, listed: &Listed) -> Result<(), NoMemory>
+    ensures { OnOk result (members.new.items ≡ members.old.items ++ member_of listed.now) }
+{
+    if let Listed::Added(sid, name) = listed {
+        members.push(Member {
+            sid: *sid,
+            name: *name,
+            ending: None,
+            since: None,
+        })?;
+    }
+    Ok(())
+}
+
 // The name of a service that no scan added.
+#[tactic(auto, unfolding(s6_events::specs::Name::is_name))]
 fn dash() -> Name
     ensures { result ≡ 45 ∷ [] }
 {

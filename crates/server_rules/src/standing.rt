@@ -2,8 +2,8 @@
 ghost use Rattle.std.specs.Prelude.{◌≡◌, ◌∷◌, [], true, None, OnOk, Some, IfSome, IfNone, option_map, length, filter, not, ◌==◌};
 ghost use Rattle.server_rules.specs.Standing.{admission_of, after_release, after_reply, change_of, has_place, has_room_for, is_among, is_followed, is_told_more, let_go, next_end, nothing_made, waiter_admission, without};
 
-use arrayvec::ArrayVec;
 use crate::following::Following;
+use arrayvec::ArrayVec;
 use s6_events::{Name, SubId, WaitId};
 use std::alloc::Global;
 use std::marker::Model;

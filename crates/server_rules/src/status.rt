@@ -2,10 +2,10 @@
 ghost use Rattle.std.specs.Prelude.{◌≡◌, ◌++◌, ◌∷◌, [], OnOk, option_map};
 ghost use Rattle.std.specs.List.{find, flat_map};
 ghost use Rattle.std.specs.Str.{bytes_eq};
-ghost use Rattle.server_rules.specs.Status.{moment_text, row_line, state_line, status_line, status_text, told_text};
+ghost use Rattle.server_rules.specs.Status.{moment_text, row_line, state_head, state_line, state_tail, status_line, status_text, told_text};
 
 use crate::found::{Remark, push_all_unread};
-use crate::roster::Roster;
+use crate::roster::{Ending, Roster};
 use crate::service_state::state_of;
 use s6_events::{At, Name};
 use s6_replay::push_row;
@@ -79,16 +79,30 @@ fn push_moment(text: &mut Vec<u8>, moment: Option<At>) -> Result<(), AllocError>
     }
 }
 
+// Adds the word of a service's state.
+fn push_state(text: &mut Vec<u8>, ending: Option<Ending>, row: &Row) -> Result<(), AllocError>
+    ensures { OnOk result (text.new.items ≡ text.old.items ++ state_head ending row.now) }
+{
+    text.extend_from_slice(b"state ")?;
+    text.extend_from_slice(state_of(ending, row).word())?;
+    text.extend_from_slice(b" ")
+}
+
+// Adds the moment since which a service is up or down, and its row.
+fn push_since(text: &mut Vec<u8>, since: Option<At>, row: &Row) -> Result<(), AllocError>
+    ensures { OnOk result (text.new.items ≡ text.old.items ++ state_tail since row.now) }
+{
+    push_moment(text, since)?;
+    text.extend_from_slice(b" ")?;
+    push_row_line(text, row)
+}
+
 // Adds the word of a service's state, since when it is up or down, and its row.
 fn push_state_line(text: &mut Vec<u8>, roster: &Roster, row: &Row) -> Result<(), AllocError>
     ensures { OnOk result (text.new.items ≡ text.old.items ++ state_line roster.now row.now) }
 {
-    text.extend_from_slice(b"state ")?;
-    text.extend_from_slice(state_of(roster.ending(row.sid), row).word())?;
-    text.extend_from_slice(b" ")?;
-    push_moment(text, roster.since(row.sid))?;
-    text.extend_from_slice(b" ")?;
-    push_row_line(text, row)
+    push_state(text, roster.ending(row.sid), row)?;
+    push_since(text, roster.since(row.sid), row)
 }
 
 // Adds all rows, each behind the word of its service's state.

@@ -173,6 +173,6 @@ ask() {
     soon has_replies "$1" 1
 }
 
-for part in lives connections crowd endings handovers starts records scans waiting usage; do
+for part in lives looking connections crowd endings handovers starts records scans waiting usage; do
     . "$scripts/$part.sh"
 done

@@ -18,4 +18,4 @@ returns-clause-connections c =
 pub returns-clause-posts : goal.returns-clause-posts
 returns-clause-posts c =
     rw (slice_get_read c.args.connections.now.items _ c.args.seat c.in-Some.connection.now refl (search (rules, c.in-Some.ensures.variant)) c.in-Some.ensures.value)
-    (c.add_post.ensures.posts ∙ ap (λ t. c.args.posts.now.items ++ posts_of c.args.seat (Some c.args.news) t) c.told.ensures.todo)
+    (c.add_post.ensures.posts ∙ ap (λ t. c.args.posts.now.items ++ posts_of c.args.seat (Some c.args.news.now) t) c.told.ensures.todo)
