@@ -26,20 +26,23 @@ refusal_by word tree None = tree
 abbrev pub refusal_text : Option (List ℕ) → List ℕ → List ℕ
 refusal_text word reason = reason ++ (codes ": " ++ refusal_by word (refusal_of_tree reason) (refusal_of_subject reason))
 
+-- what the system or the server was asked for in vain
+abbrev pub cause_of : List ℕ → ToolFault → List ℕ
+cause_of socket fault.NoServer = codes "no server at " ++ (escaped 107 socket ++ codes " (is svscan running?)")
+cause_of socket fault.Forbidden = codes "no permission for " ++ (escaped 107 socket ++ codes " (it is its owner's)")
+cause_of socket fault.Socket = codes "the server at " ++ (escaped 107 socket ++ codes " ended the connection, or answered strangely")
+cause_of socket fault.LongPath = codes "path is longer than 107 bytes"
+cause_of socket fault.Busy = codes "no seat was free in ten seconds; try again later"
+cause_of socket fault.Write = codes "standard output took nothing: is it closed, or its disk full?"
+cause_of socket f = codes "the system refused memory; try again later"
+
 -- what the second line says
 abbrev pub hint_of : Tool → List ℕ → List (List ℕ) → ToolFault → List ℕ
 hint_of t socket words (fault.Usage m) = misuse_text t m (culprit_of t m words)
 hint_of t socket words (fault.Refused reason) = refusal_text (subject_of t words) reason
-hint_of t socket words fault.NoServer = codes "no server at " ++ (escaped 107 socket ++ codes " (is svscan running?)")
-hint_of t socket words fault.Forbidden = codes "no permission for " ++ (escaped 107 socket ++ codes " (it is its owner's)")
-hint_of t socket words fault.Socket =
-    codes "the server at " ++ (escaped 107 socket ++ codes " ended the connection, or answered strangely")
-hint_of t socket words fault.LongPath = codes "path is longer than 107 bytes"
-hint_of t socket words fault.Busy = codes "no seat was free in ten seconds; try again later"
 hint_of t socket words fault.Program =
     named (codes "the program") (program_of words) ++ codes " can't be started: is it there, and executable?"
-hint_of t socket words fault.Write = codes "standard output took nothing: is it closed, or its disk full?"
-hint_of t socket words fault.NoMemory = codes "the system refused memory; try again later"
+hint_of t socket words f = cause_of socket f
 
 -- both lines: the one for programs, and the one for people
 abbrev pub told_text : Tool → List ℕ → List (List ℕ) → ToolFault → List ℕ

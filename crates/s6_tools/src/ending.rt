@@ -2,7 +2,7 @@
 ghost use Rattle.std.specs.Prelude.{◌≡◌, ◌++◌, IfOk, OnOk, map, option_map};
 ghost use Rattle.s6_tools.specs.Endings.{status_of_fault};
 ghost use Rattle.s6_tools.specs.FaultLines.{fault_line, reason_of};
-ghost use Rattle.s6_tools.specs.SecondLines.{advice_text, misuse_text, refusal_text, hint_of, told_text};
+ghost use Rattle.s6_tools.specs.SecondLines.{advice_text, cause_of, misuse_text, refusal_text, hint_of, told_text};
 ghost use Rattle.s6_tools.specs.Told.{escaped};
 
 use crate::culprit::{culprit_of, program_of, subject_of};
@@ -113,13 +113,23 @@ fn add_hint(
         ≡ told.old.items ++ hint_of tool socket.now (map (λ w. w.now) words.now) fault.now) }
 {
     match fault {
-        ToolFault::Usage(misuse) => add_misuse(
-            told,
-            tool,
-            *misuse,
-            culprit_of(tool, *misuse, words),
-        ),
+        ToolFault::Usage(misuse) => {
+            add_misuse(told, tool, *misuse, culprit_of(tool, *misuse, words))
+        }
         ToolFault::Refused(reason) => add_refusal(told, subject_of(tool, words), reason.as_bytes()),
+        ToolFault::Program => {
+            add_named(told, b"the program", program_of(words))?;
+            told.try_extend_from_slice(b" can't be started: is it there, and executable?")
+        }
+        _ => add_cause(told, socket, fault),
+    }
+}
+
+// What the system or the server was asked for in vain.
+fn add_cause(told: &mut Told, socket: &str, fault: &ToolFault) -> Result<(), CapacityError>
+    ensures { OnOk result (told.new.items ≡ told.old.items ++ cause_of socket.now fault.now) }
+{
+    match fault {
         ToolFault::NoServer => add_path(told, b"no server at ", socket, b" (is svscan running?)"),
         ToolFault::Forbidden => add_path(
             told,
@@ -127,26 +137,18 @@ fn add_hint(
             socket,
             b" (it is its owner's)",
         ),
-        ToolFault::Socket => add_path(
-            told,
-            b"the server at ",
-            socket,
-            b" ended the connection, or answered strangely",
-        ),
+        ToolFault::Socket => {
+            let behind = b" ended the connection, or answered strangely";
+            add_path(told, b"the server at ", socket, behind)
+        }
         ToolFault::LongPath => told.try_extend_from_slice(b"path is longer than 107 bytes"),
-        ToolFault::Busy => told.try_extend_from_slice(
-            b"no seat was free in ten seconds; try again later",
-        ),
-        ToolFault::Program => {
-            add_named(told, b"the program", program_of(words))?;
-            told.try_extend_from_slice(b" can't be started: is it there, and executable?")
+        ToolFault::Busy => {
+            told.try_extend_from_slice(b"no seat was free in ten seconds; try again later")
         }
         ToolFault::Write => told.try_extend_from_slice(
             b"standard output took nothing: is it closed, or its disk full?",
         ),
-        ToolFault::NoMemory => told.try_extend_from_slice(
-            b"the system refused memory; try again later",
-        ),
+        _ => told.try_extend_from_slice(b"the system refused memory; try again later"),
     }
 }
 
