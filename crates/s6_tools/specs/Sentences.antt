@@ -1,10 +1,12 @@
 -- What is said of a fault, and what would be right.
-use Rattle.std.specs.Prelude.{ℕ, List, Option, Some, None, codes, if◌then◌else◌}
+use Rattle.std.specs.Prelude.{ℕ, List, [], Option, Some, None, codes, if◌then◌else◌}
 use Rattle.std.specs.Str.{bytes_eq}
 use Rattle.s6_tools.specs.declared.misuse.Misuse.{Misuse}
 use Rattle.s6_tools.specs.declared.misuse.Misuse.TheVariants as misuse
 use Rattle.s6_tools.specs.declared.tool.Tool.{Tool}
 use Rattle.s6_tools.specs.declared.tool.Tool.TheVariants as tool
+use Rattle.s6_tools.specs.declared.tool_fault.ToolFault.{ToolFault}
+use Rattle.s6_tools.specs.declared.tool_fault.ToolFault.TheVariants as fault
 
 abbrev pub misuse_word : Misuse → List ℕ
 misuse_word misuse.Unknown = codes "Unknown"
@@ -99,3 +101,28 @@ refusal_of_tree reason =
     if bytes_eq reason (codes "Record") then codes "svscan was started without RECORD" else
     if bytes_eq reason (codes "NoMemory") then codes "the server has no memory for it; try again later" else
     codes "see docs/SCRIPT.md"
+
+-- where to read on: in front of the name of a tool, and behind it
+unfoldable pub see_words : List ℕ
+see_words = codes "; see s6_tree "
+
+unfoldable pub help_words : List ℕ
+help_words = codes " --help"
+
+-- what the system or the server was asked for in vain, up to the word that it is about, and behind it
+abbrev pub cause_before : ToolFault → List ℕ
+cause_before fault.NoServer = codes "no server at "
+cause_before fault.Forbidden = codes "no permission for "
+cause_before fault.Socket = codes "the server at "
+cause_before fault.LongPath = codes "path is longer than 107 bytes"
+cause_before fault.Busy = codes "no seat was free in ten seconds; try again later"
+cause_before fault.Write = codes "standard output took nothing: is it closed, or its disk full?"
+cause_before fault.Program = []
+cause_before f = codes "the system refused memory; try again later"
+
+abbrev pub cause_behind : ToolFault → List ℕ
+cause_behind fault.NoServer = codes " (is svscan running?)"
+cause_behind fault.Forbidden = codes " (it is its owner's)"
+cause_behind fault.Socket = codes " ended the connection, or answered strangely"
+cause_behind fault.Program = codes " can't be started: is it there, and executable?"
+cause_behind f = []

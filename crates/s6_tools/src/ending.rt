@@ -2,12 +2,15 @@
 ghost use Rattle.std.specs.Prelude.{◌≡◌, ◌++◌, IfOk, OnOk, map, option_map};
 ghost use Rattle.s6_tools.specs.Endings.{status_of_fault};
 ghost use Rattle.s6_tools.specs.FaultLines.{fault_line, reason_of};
-ghost use Rattle.s6_tools.specs.SecondLines.{advice_text, cause_of, misuse_text, refusal_text, hint_of, told_text};
+ghost use Rattle.s6_tools.specs.SecondLines.{advice_text, cause_of, cause_word, misuse_text, refusal_text, hint_of, told_text};
 ghost use Rattle.s6_tools.specs.Told.{escaped};
 
 use crate::culprit::{culprit_of, program_of, subject_of};
 use crate::misuse::Misuse;
-use crate::sentences::{complaint_of, refusal_of_subject, refusal_of_tree, right_of};
+use crate::sentences::{
+    cause_before, cause_behind, complaint_of, help_words, refusal_of_subject, refusal_of_tree,
+    right_of, see_words,
+};
 use crate::told::{Told, add_escaped, add_named};
 use crate::tool::Tool;
 use crate::tool_fault::ToolFault;
@@ -117,48 +120,42 @@ fn add_hint(
             add_misuse(told, tool, *misuse, culprit_of(tool, *misuse, words))
         }
         ToolFault::Refused(reason) => add_refusal(told, subject_of(tool, words), reason.as_bytes()),
-        ToolFault::Program => {
-            add_named(told, b"the program", program_of(words))?;
-            told.try_extend_from_slice(b" can't be started: is it there, and executable?")
-        }
-        _ => add_cause(told, socket, fault),
+        _ => add_cause(told, socket, words, fault),
     }
 }
 
 // What the system or the server was asked for in vain.
-fn add_cause(told: &mut Told, socket: &str, fault: &ToolFault) -> Result<(), CapacityError>
-    ensures { OnOk result (told.new.items ≡ told.old.items ++ cause_of socket.now fault.now) }
+fn add_cause(
+    told: &mut Told,
+    socket: &str,
+    words: &[&str],
+    fault: &ToolFault,
+) -> Result<(), CapacityError>
+    ensures { OnOk result (told.new.items
+        ≡ told.old.items ++ cause_of socket.now (map (λ w. w.now) words.now) fault.now) }
 {
-    match fault {
-        ToolFault::NoServer => add_path(told, b"no server at ", socket, b" (is svscan running?)"),
-        ToolFault::Forbidden => add_path(
-            told,
-            b"no permission for ",
-            socket,
-            b" (it is its owner's)",
-        ),
-        ToolFault::Socket => {
-            let behind = b" ended the connection, or answered strangely";
-            add_path(told, b"the server at ", socket, behind)
-        }
-        ToolFault::LongPath => told.try_extend_from_slice(b"path is longer than 107 bytes"),
-        ToolFault::Busy => {
-            told.try_extend_from_slice(b"no seat was free in ten seconds; try again later")
-        }
-        ToolFault::Write => told.try_extend_from_slice(
-            b"standard output took nothing: is it closed, or its disk full?",
-        ),
-        _ => told.try_extend_from_slice(b"the system refused memory; try again later"),
-    }
+    told.try_extend_from_slice(cause_before(fault).as_bytes())?;
+    add_cause_word(told, socket, words, fault)?;
+    told.try_extend_from_slice(cause_behind(fault).as_bytes())
 }
 
-fn add_path(told: &mut Told, before: &[u8], path: &str, behind: &[u8]) -> Result<(), CapacityError>
+// The path or the program that it is about.
+fn add_cause_word(
+    told: &mut Told,
+    socket: &str,
+    words: &[&str],
+    fault: &ToolFault,
+) -> Result<(), CapacityError>
     ensures { OnOk result (told.new.items
-        ≡ told.old.items ++ (before.now ++ (escaped 107 path.now ++ behind.now))) }
+        ≡ told.old.items ++ cause_word socket.now (map (λ w. w.now) words.now) fault.now) }
 {
-    told.try_extend_from_slice(before)?;
-    add_escaped(told, PATH_BYTES, path.as_bytes())?;
-    told.try_extend_from_slice(behind)
+    match fault {
+        ToolFault::NoServer | ToolFault::Forbidden | ToolFault::Socket => {
+            add_escaped(told, PATH_BYTES, socket.as_bytes())
+        }
+        ToolFault::Program => add_named(told, b"the program", program_of(words)),
+        _ => Ok(()),
+    }
 }
 
 // What is wrong with the words of a tool.
@@ -184,9 +181,9 @@ fn add_advice(told: &mut Told, tool: Tool, misuse: Misuse) -> Result<(), Capacit
 {
     told.try_extend_from_slice(b": ")?;
     told.try_extend_from_slice(right_of(tool, misuse).as_bytes())?;
-    told.try_extend_from_slice(b"; see s6_tree ")?;
+    told.try_extend_from_slice(see_words().as_bytes())?;
     told.try_extend_from_slice(tool.name().as_bytes())?;
-    told.try_extend_from_slice(b" --help")
+    told.try_extend_from_slice(help_words().as_bytes())
 }
 
 // Why the server refused what was asked of this word.

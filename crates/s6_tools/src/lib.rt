@@ -40,6 +40,7 @@ pub use json_line::json_lines;
 pub use list_entry::{ListEntry, ListedService, entry_of};
 pub use misuse::Misuse;
 pub use reason::Reason;
+pub use sentences::{help_words, see_words};
 pub use service_row::row_of;
 pub use status_line::svstat_line;
 pub use table::table_of;

@@ -1,9 +1,11 @@
 //! What is said of a fault, and what would be right.
 ghost use Rattle.std.specs.Prelude.{◌≡◌, option_map};
 ghost use Rattle.s6_tools.specs.Sentences.{complaint_of, number_complaint, list_complaint, name_complaint, form_of, list_form, name_form, right_of, refusal_of_subject, refusal_of_tree};
+ghost use Rattle.s6_tools.specs.Sentences.{cause_before, cause_behind, help_words, see_words};
 
 use crate::misuse::Misuse;
 use crate::tool::Tool;
+use crate::tool_fault::ToolFault;
 use crate::words::is_word;
 
 fn number_complaint(tool: Tool) -> &'static str
@@ -154,5 +156,50 @@ pub fn refusal_of_tree(reason: &[u8]) -> &'static str
         "the server has no memory for it; try again later"
     } else {
         "see docs/SCRIPT.md"
+    }
+}
+
+/// Where to read on, in front of the name of a tool.
+#[tactic(auto, unfolding(crate::specs::Sentences::see_words))]
+pub fn see_words() -> &'static str
+    ensures { result.now ≡ see_words }
+{
+    "; see s6_tree "
+}
+
+/// The same, behind it.
+#[tactic(auto, unfolding(crate::specs::Sentences::help_words))]
+pub fn help_words() -> &'static str
+    ensures { result.now ≡ help_words }
+{
+    " --help"
+}
+
+/// What the system or the server was asked for in vain, up to the word that it is about.
+pub fn cause_before(fault: &ToolFault) -> &'static str
+    ensures { result.now ≡ cause_before fault.now }
+{
+    match fault {
+        ToolFault::NoServer => "no server at ",
+        ToolFault::Forbidden => "no permission for ",
+        ToolFault::Socket => "the server at ",
+        ToolFault::LongPath => "path is longer than 107 bytes",
+        ToolFault::Busy => "no seat was free in ten seconds; try again later",
+        ToolFault::Write => "standard output took nothing: is it closed, or its disk full?",
+        ToolFault::Program => "",
+        _ => "the system refused memory; try again later",
+    }
+}
+
+/// The same, behind that word.
+pub fn cause_behind(fault: &ToolFault) -> &'static str
+    ensures { result.now ≡ cause_behind fault.now }
+{
+    match fault {
+        ToolFault::NoServer => " (is svscan running?)",
+        ToolFault::Forbidden => " (it is its owner's)",
+        ToolFault::Socket => " ended the connection, or answered strangely",
+        ToolFault::Program => " can't be started: is it there, and executable?",
+        _ => "",
     }
 }

@@ -1,6 +1,6 @@
 //! Printing help texts, and what is told of a word that is no program.
 ghost use Rattle.std.specs.Prelude.{◌≡◌, ◌++◌, IfOk, option_map};
-ghost use Rattle.tree_front.specs.Usage.{strange_text};
+ghost use Rattle.tree_front.specs.Usage.{strange_text, strange_words, tools_words};
 
 use crate::asked::{Program, program_named};
 use crate::help_text::{SVCHECK_HELP, SVSCAN_HELP};
@@ -67,12 +67,26 @@ pub fn refuse_tool<E: Write>(word: Option<&str>, errors: &mut E) -> u8
     USAGE_STATUS
 }
 
+#[tactic(auto, unfolding(crate::specs::Usage::strange_words))]
+fn strange_words() -> &'static str
+    ensures { result.now ≡ strange_words }
+{
+    "s6_tree: unknown tool\ns6_tree: "
+}
+
+#[tactic(auto, unfolding(crate::specs::Usage::tools_words))]
+fn tools_words() -> &'static str
+    ensures { result.now ≡ tools_words }
+{
+    " is no tool; see s6_tree --help\n"
+}
+
 fn told_of(word: Option<&str>) -> Result<Told, CapacityError>
     ensures { IfOk result (λ told. told.items ≡ strange_text (option_map (λ w. w.now) word.entry)) }
 {
     let mut told = Told::new();
-    told.try_extend_from_slice(b"s6_tree: unknown tool\ns6_tree: ")?;
+    told.try_extend_from_slice(strange_words().as_bytes())?;
     add_named(&mut told, b"no word", word)?;
-    told.try_extend_from_slice(b" is no tool; see s6_tree --help\n")?;
+    told.try_extend_from_slice(tools_words().as_bytes())?;
     Ok(told)
 }

@@ -3,7 +3,7 @@ ghost use Rattle.std.specs.Prelude.{◌≡◌, ◌++◌, IfOk, OnOk, option_map}
 ghost use Rattle.tree_front.specs.Usage.{advice_text, complaint_of, complaint_text, program_text, usage_text};
 
 use arrayvec::CapacityError;
-use s6_tools::{Misuse, Told, add_named};
+use s6_tools::{Misuse, Told, add_named, help_words, see_words};
 use std::io::Write;
 
 /// The status of a program that was not used as it says.
@@ -76,7 +76,8 @@ fn add_advice(told: &mut Told, program: &str, form: &str) -> Result<(), Capacity
 {
     told.try_extend_from_slice(b": ")?;
     told.try_extend_from_slice(form.as_bytes())?;
-    told.try_extend_from_slice(b"; see s6_tree ")?;
+    told.try_extend_from_slice(see_words().as_bytes())?;
     told.try_extend_from_slice(program.as_bytes())?;
-    told.try_extend_from_slice(b" --help\n")
+    told.try_extend_from_slice(help_words().as_bytes())?;
+    told.try_extend_from_slice(b"\n")
 }
