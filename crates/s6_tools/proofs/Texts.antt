@@ -1,5 +1,5 @@
 -- A test of the text behind a reference, and the same test of the texts.
-use Rattle.std.proofs.Common.{◌≡◌, ◌∙◌, ◌+◌, ℕ, List, [], ◌∷◌, Bool, true, false, Option, Some, None, Bor, length, map, ap, ap₂, refl, sym, cond, not, nat_lt}
+use Rattle.std.proofs.Common.{◌≡◌, ◌+◌, ℕ, List, [], ◌∷◌, Bool, true, false, Some, None, Bor, length, map, ap, ap₂, refl, sym, cond, not, nat_lt}
 use Rattle.std.proofs.lemmas.List.{length-map}
 use Rattle.std.specs.Option.{option_map}
 use Rattle.std.specs.List.{find, position, prefix_len}

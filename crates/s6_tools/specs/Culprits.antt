@@ -1,6 +1,6 @@
 -- Which word of a command line is the wrong one.
-use Rattle.std.specs.Prelude.{ℕ, List, [], ◌∷◌, ◌+◌, ◌-◌, ◌==◌, ◌&&◌, ◌||◌, Bool, true, false, not, Option, Some, None, codes, length, drop, take}
-use Rattle.std.specs.Prelude.{filter, map, position, slice_get, slice_index, nat_le, is_none, is_some, if◌then◌else◌}
+use Rattle.std.specs.Prelude.{ℕ, List, [], ◌+◌, ◌-◌, ◌==◌, ◌&&◌, ◌||◌, Bool, not, Option, Some, None, codes, length, drop, take}
+use Rattle.std.specs.Prelude.{position, slice_get, slice_index, nat_le, is_none, if◌then◌else◌}
 use Rattle.std.specs.List.{find, list_any, take_while}
 use Rattle.std.specs.Option.{option_or}
 use Rattle.std.specs.Str.{bytes_eq}
