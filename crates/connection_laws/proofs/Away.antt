@@ -52,9 +52,7 @@ left_away errand.Record asked made (Recorded steps) = record { gone = refl; sile
 left_away errand.Replacement asked made (Recorded steps) = record { gone = refl; silent = refl }
 left_away (errand.Step ch) asked made (RefuseErrand o) = record { gone = refl; silent = refl }
 left_away (errand.Status subject) asked made (RefuseErrand o) = record { gone = refl; silent = refl }
-left_away errand.Scan asked made (Recorded steps) = record { gone = refl; silent = refl }
 left_away errand.Scan asked made (RefuseErrand o) = record { gone = refl; silent = refl }
-left_away errand.Replacement asked made (Recorded steps) = record { gone = refl; silent = refl }
 left_away errand.Record asked made (RefuseErrand o) = record { gone = refl; silent = refl }
 left_away errand.Replacement asked made (RefuseErrand o) = record { gone = refl; silent = refl }
 left_away e asked made (RefuseNext o) = record { gone = refl; silent = refl }

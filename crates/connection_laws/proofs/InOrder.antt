@@ -300,7 +300,7 @@ turn_in PutOff asked made (Answered r) = stays_turn _ refl
 turn_in PutOff asked made (Recorded steps) = stays_turn _ refl
 turn_in PutOff asked made (RefuseErrand o) = stays_turn _ refl
 turn_in PutOff asked made (RefuseNext o) = stays_turn _ refl
-turn_in PutOff asked made (Told n) = told_turn (is_for n (record { phase = PutOff act; asked = asked; made = made })) n _ _ refl
+turn_in PutOff asked made (Told n) = told_turn (is_for n (record { phase = PutOff; asked = asked; made = made })) n _ _ refl
 turn_in PutOff asked made Leave = Away refl refl refl
 turn_in (LeftStepping k) asked made event = away_turn _ event refl
 turn_in (Left e) asked made event = away_turn _ event refl

@@ -86,9 +86,9 @@ beside true n (Follow services ∷ rest) c there = there
 beside true n (Clock ∷ rest) c there = there
 beside true n (Refused o ∷ rest) c there = there
 
-one_less : (few : Bool) (more none : Phase) → is_gone more ≡ false → is_gone none ≡ false → is_gone (if few then none else more) ≡ false
-one_less true more none here there = there
-one_less false more none here there = here
+one_less : (few : Bool) (more less : Phase) → is_gone more ≡ false → is_gone less ≡ false → is_gone (if few then less else more) ≡ false
+one_less true more less here there = there
+one_less false more less here there = here
 
 told_there : (for : Bool) (n : News) (c : View) → is_gone c.phase ≡ false
     → is_gone (if for then record { next = record c { made = after_news n c.made }; todo = todo.Tell } else stays c).next.phase ≡ false
@@ -109,19 +109,19 @@ finished_left errand.Scan r waits made = refl
 finished_left errand.Record r waits made = refl
 finished_left errand.Replacement r waits made = refl
 
-recorded_underway : (e : Errand) (steps : ℕ) (waits : List Request) (made : Made) → IsThere (moved_by (Recorded steps) (record { phase = UnderWay e; asked = waits; made = made }))
-recorded_underway (errand.Step ch) steps waits made = refl
-recorded_underway (errand.Status subject) steps waits made = refl
-recorded_underway errand.Scan steps waits made = refl
-recorded_underway errand.Record steps waits made = refl
-recorded_underway errand.Replacement steps waits made = refl
+recorded_underway : (e : Errand) (count : ℕ) (waits : List Request) (made : Made) → IsThere (moved_by (Recorded count) (record { phase = UnderWay e; asked = waits; made = made }))
+recorded_underway (errand.Step ch) count waits made = refl
+recorded_underway (errand.Status subject) count waits made = refl
+recorded_underway errand.Scan count waits made = refl
+recorded_underway errand.Record count waits made = refl
+recorded_underway errand.Replacement count waits made = refl
 
-recorded_left : (e : Errand) (steps : ℕ) (waits : List Request) (made : Made) → IsThere (moved_by (Recorded steps) (record { phase = Left e; asked = waits; made = made }))
-recorded_left (errand.Step ch) steps waits made = refl
-recorded_left (errand.Status subject) steps waits made = refl
-recorded_left errand.Scan steps waits made = refl
-recorded_left errand.Record steps waits made = refl
-recorded_left errand.Replacement steps waits made = refl
+recorded_left : (e : Errand) (count : ℕ) (waits : List Request) (made : Made) → IsThere (moved_by (Recorded count) (record { phase = Left e; asked = waits; made = made }))
+recorded_left (errand.Step ch) count waits made = refl
+recorded_left (errand.Status subject) count waits made = refl
+recorded_left errand.Scan count waits made = refl
+recorded_left errand.Record count waits made = refl
+recorded_left errand.Replacement count waits made = refl
 
 unscanned_underway : (e : Errand) (o : OwnAnswer) (waits : List Request) (made : Made) → IsThere (moved_by (RefuseErrand o) (record { phase = UnderWay e; asked = waits; made = made }))
 unscanned_underway (errand.Step ch) o waits made = refl
@@ -147,7 +147,7 @@ there_in : (phase : Phase) (waits : List Request) (made : Made) (event : Event) 
 there_in Idle waits made (Ask coming) here stays_here = asked (takes_requests (record { phase = Idle; asked = waits; made = made })) coming (record { phase = Idle; asked = waits; made = made }) refl
 there_in Idle waits made (Begin last_step now) here stays_here = first waits made last_step now
 there_in Idle waits made (Answered r) here stays_here = refl
-there_in Idle waits made (Recorded steps) here stays_here = refl
+there_in Idle waits made (Recorded count) here stays_here = refl
 there_in Idle waits made (RefuseErrand o) here stays_here = refl
 there_in Idle waits made (RefuseNext o) here stays_here = unasked waits made o
 there_in Idle waits made (Told told) here stays_here = told_there (is_for told (record { phase = Idle; asked = waits; made = made })) told (record { phase = Idle; asked = waits; made = made }) refl
@@ -155,7 +155,7 @@ there_in Idle waits made Leave here stays_here = refl
 there_in (Stepping n) waits made (Ask coming) here stays_here = asked (takes_requests (record { phase = Stepping n; asked = waits; made = made })) coming (record { phase = Stepping n; asked = waits; made = made }) refl
 there_in (Stepping n) waits made (Begin last_step now) here stays_here = beside (nat_lt n step_limit) n waits (record { phase = Stepping n; asked = waits; made = made }) refl
 there_in (Stepping n) waits made (Answered r) here stays_here = one_less (nat_lt n 2) (Stepping (n - 1)) Idle refl refl
-there_in (Stepping n) waits made (Recorded steps) here stays_here = refl
+there_in (Stepping n) waits made (Recorded count) here stays_here = refl
 there_in (Stepping n) waits made (RefuseErrand o) here stays_here = refl
 there_in (Stepping n) waits made (RefuseNext o) here stays_here = refl
 there_in (Stepping n) waits made (Told told) here stays_here = told_there (is_for told (record { phase = Stepping n; asked = waits; made = made })) told (record { phase = Stepping n; asked = waits; made = made }) refl
@@ -163,23 +163,23 @@ there_in (Stepping n) waits made Leave here stays_here = refl
 there_in (UnderWay e) waits made (Ask coming) here stays_here = asked (takes_requests (record { phase = UnderWay e; asked = waits; made = made })) coming (record { phase = UnderWay e; asked = waits; made = made }) refl
 there_in (UnderWay e) waits made (Begin last_step now) here stays_here = refl
 there_in (UnderWay e) waits made (Answered r) here stays_here = finished e r waits made
-there_in (UnderWay e) waits made (Recorded steps) here stays_here = recorded_underway e steps waits made
+there_in (UnderWay e) waits made (Recorded count) here stays_here = recorded_underway e count waits made
 there_in (UnderWay e) waits made (RefuseErrand o) here stays_here = unscanned_underway e o waits made
 there_in (UnderWay e) waits made (RefuseNext o) here stays_here = refl
 there_in (UnderWay e) waits made (Told told) here stays_here = told_there (is_for told (record { phase = UnderWay e; asked = waits; made = made })) told (record { phase = UnderWay e; asked = waits; made = made }) refl
 there_in (UnderWay e) waits made Leave here stays_here = refl
-there_in PutOff waits made (Ask coming) here stays_here = asked (takes_requests (record { phase = PutOff act; asked = waits; made = made })) coming (record { phase = PutOff act; asked = waits; made = made }) refl
+there_in PutOff waits made (Ask coming) here stays_here = asked (takes_requests (record { phase = PutOff; asked = waits; made = made })) coming (record { phase = PutOff; asked = waits; made = made }) refl
 there_in PutOff waits made (Begin last_step now) here stays_here = begun_off made.put_off _
 there_in PutOff waits made (Answered r) here stays_here = refl
-there_in PutOff waits made (Recorded steps) here stays_here = refl
+there_in PutOff waits made (Recorded count) here stays_here = refl
 there_in PutOff waits made (RefuseErrand o) here stays_here = refl
 there_in PutOff waits made (RefuseNext o) here stays_here = refl
-there_in PutOff waits made (Told told) here stays_here = told_there (is_for told (record { phase = PutOff act; asked = waits; made = made })) told (record { phase = PutOff act; asked = waits; made = made }) refl
+there_in PutOff waits made (Told told) here stays_here = told_there (is_for told (record { phase = PutOff; asked = waits; made = made })) told (record { phase = PutOff; asked = waits; made = made }) refl
 there_in PutOff waits made Leave here stays_here = refl
 there_in (LeftStepping n) waits made (Ask coming) here stays_here = asked (takes_requests (record { phase = LeftStepping n; asked = waits; made = made })) coming (record { phase = LeftStepping n; asked = waits; made = made }) refl
 there_in (LeftStepping n) waits made (Begin last_step now) here stays_here = refl
 there_in (LeftStepping n) waits made (Answered r) here stays_here = one_less (nat_lt n 2) (LeftStepping (n - 1)) Leaving refl refl
-there_in (LeftStepping n) waits made (Recorded steps) here stays_here = refl
+there_in (LeftStepping n) waits made (Recorded count) here stays_here = refl
 there_in (LeftStepping n) waits made (RefuseErrand o) here stays_here = refl
 there_in (LeftStepping n) waits made (RefuseNext o) here stays_here = refl
 there_in (LeftStepping n) waits made (Told told) here stays_here = told_there (is_for told (record { phase = LeftStepping n; asked = waits; made = made })) told (record { phase = LeftStepping n; asked = waits; made = made }) refl
@@ -187,7 +187,7 @@ there_in (LeftStepping n) waits made Leave here stays_here = refl
 there_in (Left e) waits made (Ask coming) here stays_here = asked (takes_requests (record { phase = Left e; asked = waits; made = made })) coming (record { phase = Left e; asked = waits; made = made }) refl
 there_in (Left e) waits made (Begin last_step now) here stays_here = refl
 there_in (Left e) waits made (Answered r) here stays_here = finished_left e r waits made
-there_in (Left e) waits made (Recorded steps) here stays_here = recorded_left e steps waits made
+there_in (Left e) waits made (Recorded count) here stays_here = recorded_left e count waits made
 there_in (Left e) waits made (RefuseErrand o) here stays_here = unscanned_left e o waits made
 there_in (Left e) waits made (RefuseNext o) here stays_here = refl
 there_in (Left e) waits made (Told told) here stays_here = told_there (is_for told (record { phase = Left e; asked = waits; made = made })) told (record { phase = Left e; asked = waits; made = made }) refl
@@ -196,7 +196,7 @@ there_in Leaving waits made event here stays_here = absurd (stays_here refl)
 there_in Cancelling waits made (Ask coming) here stays_here = asked (takes_requests (record { phase = Cancelling; asked = waits; made = made })) coming (record { phase = Cancelling; asked = waits; made = made }) refl
 there_in Cancelling waits made (Begin last_step now) here stays_here = refl
 there_in Cancelling waits made (Answered r) here stays_here = refl
-there_in Cancelling waits made (Recorded steps) here stays_here = refl
+there_in Cancelling waits made (Recorded count) here stays_here = refl
 there_in Cancelling waits made (RefuseErrand o) here stays_here = refl
 there_in Cancelling waits made (RefuseNext o) here stays_here = refl
 there_in Cancelling waits made (Told told) here stays_here = told_there (is_for told (record { phase = Cancelling; asked = waits; made = made })) told (record { phase = Cancelling; asked = waits; made = made }) refl
@@ -218,7 +218,7 @@ leaving_bare : (waits : List Request) (made : Made) (event : Event)
 leaving_bare waits made (Begin last_step now) gone = ends_bare made.released made.waiters made.subscriptions made _ refl refl refl refl gone
 leaving_bare waits made (Ask coming) gone = search rules
 leaving_bare waits made (Answered r) gone = search rules
-leaving_bare waits made (Recorded steps) gone = search rules
+leaving_bare waits made (Recorded count) gone = search rules
 leaving_bare waits made (RefuseErrand o) gone = search rules
 leaving_bare waits made (RefuseNext o) gone = search rules
 leaving_bare waits made (Told told) gone = search rules
@@ -229,7 +229,7 @@ gone_bare : (waits : List Request) (made : Made) (event : Event) → made ≡ no
 gone_bare waits made (Begin last_step now) is = is
 gone_bare waits made (Ask coming) is = is
 gone_bare waits made (Answered r) is = is
-gone_bare waits made (Recorded steps) is = is
+gone_bare waits made (Recorded count) is = is
 gone_bare waits made (RefuseErrand o) is = is
 gone_bare waits made (RefuseNext o) is = is
 gone_bare waits made (Told told) is = is

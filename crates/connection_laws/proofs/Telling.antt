@@ -218,25 +218,25 @@ unscanned Leaving o asked made = same made _
 unscanned Cancelling o asked made = same made _
 unscanned Gone o asked made = same made _
 
-recorded : (phase : Phase) (steps : ℕ) (asked : List Request) (made : Made)
-    → Grows made (made_in phase (Recorded steps)) (moved_by (Recorded steps) (record { phase = phase; asked = asked; made = made })).next.made
-recorded Idle steps asked made = same made _
-recorded (Stepping n) steps asked made = same made _
-recorded (UnderWay (errand.Step ch)) steps asked made = same made _
-recorded (UnderWay (errand.Status subject)) steps asked made = same made _
-recorded (UnderWay errand.Scan) steps asked made = same made _
-recorded (UnderWay errand.Record) steps asked made = same made _
-recorded (UnderWay errand.Replacement) steps asked made = same made _
-recorded PutOff steps asked made = same made _
-recorded (LeftStepping n) steps asked made = same made _
-recorded (Left (errand.Step ch)) steps asked made = same made _
-recorded (Left (errand.Status subject)) steps asked made = same made _
-recorded (Left errand.Scan) steps asked made = same made _
-recorded (Left errand.Record) steps asked made = same made _
-recorded (Left errand.Replacement) steps asked made = same made _
-recorded Leaving steps asked made = same made _
-recorded Cancelling steps asked made = same made _
-recorded Gone steps asked made = same made _
+recorded : (phase : Phase) (count : ℕ) (asked : List Request) (made : Made)
+    → Grows made (made_in phase (Recorded count)) (moved_by (Recorded count) (record { phase = phase; asked = asked; made = made })).next.made
+recorded Idle count asked made = same made _
+recorded (Stepping n) count asked made = same made _
+recorded (UnderWay (errand.Step ch)) count asked made = same made _
+recorded (UnderWay (errand.Status subject)) count asked made = same made _
+recorded (UnderWay errand.Scan) count asked made = same made _
+recorded (UnderWay errand.Record) count asked made = same made _
+recorded (UnderWay errand.Replacement) count asked made = same made _
+recorded PutOff count asked made = same made _
+recorded (LeftStepping n) count asked made = same made _
+recorded (Left (errand.Step ch)) count asked made = same made _
+recorded (Left (errand.Status subject)) count asked made = same made _
+recorded (Left errand.Scan) count asked made = same made _
+recorded (Left errand.Record) count asked made = same made _
+recorded (Left errand.Replacement) count asked made = same made _
+recorded Leaving count asked made = same made _
+recorded Cancelling count asked made = same made _
+recorded Gone count asked made = same made _
 
 unasked : (asked : List Request) (made : Made) (o : OwnAnswer) → Grows made (made_in Idle (RefuseNext o)) (moved_by (RefuseNext o) (record { phase = Idle; asked = asked; made = made })).next.made
 unasked [] made o = same made _
@@ -263,7 +263,7 @@ grows_in : (phase : Phase) (asked : List Request) (made : Made) (event : Event)
 grows_in Idle waits made (Ask coming) = asked (takes_requests (record { phase = Idle; asked = waits; made = made })) coming (record { phase = Idle; asked = waits; made = made }) _
 grows_in Idle waits made (Begin last_step now) = first waits made last_step now _
 grows_in Idle waits made (Answered r) = same made _
-grows_in Idle waits made (Recorded steps) = recorded Idle steps waits made
+grows_in Idle waits made (Recorded count) = recorded Idle count waits made
 grows_in Idle waits made (RefuseErrand o) = unscanned Idle o waits made
 grows_in Idle waits made (RefuseNext o) = unasked waits made o
 grows_in Idle waits made (Told told) = newsed (is_for told (record { phase = Idle; asked = waits; made = made })) told (record { phase = Idle; asked = waits; made = made }) _
@@ -271,7 +271,7 @@ grows_in Idle waits made Leave = same made _
 grows_in (Stepping n) waits made (Ask coming) = asked (takes_requests (record { phase = Stepping n; asked = waits; made = made })) coming (record { phase = Stepping n; asked = waits; made = made }) _
 grows_in (Stepping n) waits made (Begin last_step now) = beside (nat_lt n step_limit) n waits (record { phase = Stepping n; asked = waits; made = made }) _
 grows_in (Stepping n) waits made (Answered r) = same made _
-grows_in (Stepping n) waits made (Recorded steps) = recorded (Stepping n) steps waits made
+grows_in (Stepping n) waits made (Recorded count) = recorded (Stepping n) count waits made
 grows_in (Stepping n) waits made (RefuseErrand o) = unscanned (Stepping n) o waits made
 grows_in (Stepping n) waits made (RefuseNext o) = same made _
 grows_in (Stepping n) waits made (Told told) = newsed (is_for told (record { phase = Stepping n; asked = waits; made = made })) told (record { phase = Stepping n; asked = waits; made = made }) _
@@ -279,23 +279,23 @@ grows_in (Stepping n) waits made Leave = same made _
 grows_in (UnderWay e) waits made (Ask coming) = asked (takes_requests (record { phase = UnderWay e; asked = waits; made = made })) coming (record { phase = UnderWay e; asked = waits; made = made }) _
 grows_in (UnderWay e) waits made (Begin last_step now) = same made _
 grows_in (UnderWay e) waits made (Answered r) = answered e r waits made
-grows_in (UnderWay e) waits made (Recorded steps) = recorded (UnderWay e) steps waits made
+grows_in (UnderWay e) waits made (Recorded count) = recorded (UnderWay e) count waits made
 grows_in (UnderWay e) waits made (RefuseErrand o) = unscanned (UnderWay e) o waits made
 grows_in (UnderWay e) waits made (RefuseNext o) = same made _
 grows_in (UnderWay e) waits made (Told told) = newsed (is_for told (record { phase = UnderWay e; asked = waits; made = made })) told (record { phase = UnderWay e; asked = waits; made = made }) _
 grows_in (UnderWay e) waits made Leave = same made _
-grows_in PutOff waits made (Ask coming) = asked (takes_requests (record { phase = PutOff act; asked = waits; made = made })) coming (record { phase = PutOff act; asked = waits; made = made }) _
+grows_in PutOff waits made (Ask coming) = asked (takes_requests (record { phase = PutOff; asked = waits; made = made })) coming (record { phase = PutOff; asked = waits; made = made }) _
 grows_in PutOff waits made (Begin last_step now) = begun_off made.put_off _ _
 grows_in PutOff waits made (Answered r) = same made _
-grows_in PutOff waits made (Recorded steps) = recorded PutOff steps waits made
+grows_in PutOff waits made (Recorded count) = recorded PutOff count waits made
 grows_in PutOff waits made (RefuseErrand o) = unscanned PutOff o waits made
 grows_in PutOff waits made (RefuseNext o) = same made _
-grows_in PutOff waits made (Told told) = newsed (is_for told (record { phase = PutOff act; asked = waits; made = made })) told (record { phase = PutOff act; asked = waits; made = made }) _
+grows_in PutOff waits made (Told told) = newsed (is_for told (record { phase = PutOff; asked = waits; made = made })) told (record { phase = PutOff; asked = waits; made = made }) _
 grows_in PutOff waits made Leave = same made _
 grows_in (LeftStepping n) waits made (Ask coming) = asked (takes_requests (record { phase = LeftStepping n; asked = waits; made = made })) coming (record { phase = LeftStepping n; asked = waits; made = made }) _
 grows_in (LeftStepping n) waits made (Begin last_step now) = same made _
 grows_in (LeftStepping n) waits made (Answered r) = same made _
-grows_in (LeftStepping n) waits made (Recorded steps) = recorded (LeftStepping n) steps waits made
+grows_in (LeftStepping n) waits made (Recorded count) = recorded (LeftStepping n) count waits made
 grows_in (LeftStepping n) waits made (RefuseErrand o) = unscanned (LeftStepping n) o waits made
 grows_in (LeftStepping n) waits made (RefuseNext o) = same made _
 grows_in (LeftStepping n) waits made (Told told) = newsed (is_for told (record { phase = LeftStepping n; asked = waits; made = made })) told (record { phase = LeftStepping n; asked = waits; made = made }) _
@@ -303,7 +303,7 @@ grows_in (LeftStepping n) waits made Leave = same made _
 grows_in (Left e) waits made (Ask coming) = asked (takes_requests (record { phase = Left e; asked = waits; made = made })) coming (record { phase = Left e; asked = waits; made = made }) _
 grows_in (Left e) waits made (Begin last_step now) = same made _
 grows_in (Left e) waits made (Answered r) = left e r waits made
-grows_in (Left e) waits made (Recorded steps) = recorded (Left e) steps waits made
+grows_in (Left e) waits made (Recorded count) = recorded (Left e) count waits made
 grows_in (Left e) waits made (RefuseErrand o) = unscanned (Left e) o waits made
 grows_in (Left e) waits made (RefuseNext o) = same made _
 grows_in (Left e) waits made (Told told) = newsed (is_for told (record { phase = Left e; asked = waits; made = made })) told (record { phase = Left e; asked = waits; made = made }) _
@@ -311,7 +311,7 @@ grows_in (Left e) waits made Leave = same made _
 grows_in Leaving waits made (Ask coming) = asked (takes_requests (record { phase = Leaving; asked = waits; made = made })) coming (record { phase = Leaving; asked = waits; made = made }) _
 grows_in Leaving waits made (Begin last_step now) = ended made.released made.waiters made.subscriptions made (record { phase = Leaving; asked = waits; made = made }) _ refl refl refl
 grows_in Leaving waits made (Answered r) = same made _
-grows_in Leaving waits made (Recorded steps) = recorded Leaving steps waits made
+grows_in Leaving waits made (Recorded count) = recorded Leaving count waits made
 grows_in Leaving waits made (RefuseErrand o) = unscanned Leaving o waits made
 grows_in Leaving waits made (RefuseNext o) = same made _
 grows_in Leaving waits made (Told told) = newsed (is_for told (record { phase = Leaving; asked = waits; made = made })) told (record { phase = Leaving; asked = waits; made = made }) _
@@ -319,7 +319,7 @@ grows_in Leaving waits made Leave = same made _
 grows_in Cancelling waits made (Ask coming) = asked (takes_requests (record { phase = Cancelling; asked = waits; made = made })) coming (record { phase = Cancelling; asked = waits; made = made }) _
 grows_in Cancelling waits made (Begin last_step now) = same made _
 grows_in Cancelling waits made (Answered r) = same made _
-grows_in Cancelling waits made (Recorded steps) = recorded Cancelling steps waits made
+grows_in Cancelling waits made (Recorded count) = recorded Cancelling count waits made
 grows_in Cancelling waits made (RefuseErrand o) = unscanned Cancelling o waits made
 grows_in Cancelling waits made (RefuseNext o) = same made _
 grows_in Cancelling waits made (Told told) = newsed (is_for told (record { phase = Cancelling; asked = waits; made = made })) told (record { phase = Cancelling; asked = waits; made = made }) _
@@ -327,7 +327,7 @@ grows_in Cancelling waits made Leave = same made _
 grows_in Gone waits made (Ask coming) = asked (takes_requests (record { phase = Gone; asked = waits; made = made })) coming (record { phase = Gone; asked = waits; made = made }) _
 grows_in Gone waits made (Begin last_step now) = same made _
 grows_in Gone waits made (Answered r) = same made _
-grows_in Gone waits made (Recorded steps) = recorded Gone steps waits made
+grows_in Gone waits made (Recorded count) = recorded Gone count waits made
 grows_in Gone waits made (RefuseErrand o) = unscanned Gone o waits made
 grows_in Gone waits made (RefuseNext o) = same made _
 grows_in Gone waits made (Told told) = newsed (is_for told (record { phase = Gone; asked = waits; made = made })) told (record { phase = Gone; asked = waits; made = made }) _

@@ -34,14 +34,10 @@ mod tests {
     #[test]
     fn times_are_told() {
         assert!(day_second(0).is_some_and(|text| text.as_str() == "1970-01-01T00:00:00Z"));
-        assert!(
-            day_second(1_795_778_328_999)
-                .is_some_and(|text| text.as_str() == "2026-11-27T11:18:48Z")
-        );
-        assert!(
-            day_millisecond(1_795_778_328_023)
-                .is_some_and(|text| text.as_str() == "2026-11-27T11:18:48.023Z")
-        );
+        assert!(day_second(1_795_778_328_999).is_some_and(|text| text.as_str()
+            == "2026-11-27T11:18:48Z"));
+        assert!(day_millisecond(1_795_778_328_023).is_some_and(|text| text.as_str()
+            == "2026-11-27T11:18:48.023Z"));
         assert!(day_second(u64::MAX).is_none());
     }
 }

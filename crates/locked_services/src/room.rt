@@ -6,7 +6,7 @@ ghost use Rattle.tree_core.specs.Limits.{order_limit};
 ghost use Rattle.tree_core.specs.Machine.{Machine};
 ghost use Rattle.tree_core.specs.NextDue.{next_due};
 ghost use Rattle.tree_core.specs.StandsFor.{StandsFor};
-ghost use Rattle.run_records.specs.Runs.{RunStep, end_of, actor_at, moment_at, outcome_at, reply_at};
+ghost use Rattle.run_records.specs.Runs.{RunStep, end_of, actor_at, moment_at, outcome_at, IsFilled, reply_at};
 ghost use Rattle.run_records.specs.RunText.{IsWritten, StopsWriting};
 ghost use Rattle.locked_services.specs.Closing.{AreComplete, AreDone, AreSameDesks, AreServed, IsClosed, IsFault, IsSameRoom};
 ghost use Rattle.locked_services.specs.Submissions.{NoneSeen};
@@ -133,6 +133,15 @@ impl<C: Channels + Lanes, D: Board<C>> Room<C, D> {
             ≡ outcome_at number self.now.running.steps) }
     {
         self.running.effect(number)
+    }
+
+    /// Fills an effect with all that the step of this number gave, from 1; what it held is gone. False where there are fewer. `NoMemory` where a
+    /// growth was refused.
+    pub fn fill(&self, number: u64, effect: &mut Effect<Global>) -> Result<bool, NoMemory>
+        ensures { IfOk result
+            (λ is_there. IsFilled is_there (outcome_of effect.new) number self.now.running.steps) }
+    {
+        self.running.fill(number, effect)
     }
 
     /// Whose input the step of this number took, from 1; None where there are fewer.

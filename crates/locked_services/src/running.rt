@@ -6,7 +6,7 @@ ghost use Rattle.tree_core.specs.Limits.{order_limit};
 ghost use Rattle.tree_core.specs.Machine.{Machine};
 ghost use Rattle.tree_core.specs.NextDue.{next_due};
 ghost use Rattle.tree_core.specs.StandsFor.{StandsFor};
-ghost use Rattle.run_records.specs.Runs.{RunStep, end_of, actor_at, moment_at, outcome_at, reply_at};
+ghost use Rattle.run_records.specs.Runs.{RunStep, end_of, actor_at, moment_at, outcome_at, IsFilled, reply_at};
 ghost use Rattle.run_records.specs.RunText.{IsWritten, StopsWriting};
 ghost use Rattle.locked_services.specs.Submissions.{AreNumbered, NoneSeen, taken_from};
 ghost use Rattle.locked_services.specs.Running.{run_limit, IsSoundRunning};
@@ -224,6 +224,14 @@ impl<C: Channels + Lanes> RunningTree<C> {
             (λ effect. option_map (λ e. outcome_of e) effect ≡ outcome_at number self.now.steps) }
     {
         self.run.effect(self.alloc, number)
+    }
+
+    /// Fills an effect with all that the step of this number gave, as `Run::fill` does.
+    pub fn fill(&self, number: u64, effect: &mut Effect<Global>) -> Result<bool, NoMemory>
+        ensures { IfOk result
+            (λ is_there. IsFilled is_there (outcome_of effect.new) number self.now.steps) }
+    {
+        self.run.fill(number, effect)
     }
 
     /// Whose input the step of this number took, from 1; None where there are fewer.

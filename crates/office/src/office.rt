@@ -5,7 +5,7 @@ ghost use Rattle.tree_core.specs.Ended.{has_ended};
 ghost use Rattle.tree_core.specs.Machine.{Machine};
 ghost use Rattle.tree_core.specs.NextDue.{next_due};
 ghost use Rattle.tree_core.specs.StandsFor.{StandsFor};
-ghost use Rattle.run_records.specs.Runs.{end_of, actor_at, moment_at, outcome_at, reply_at};
+ghost use Rattle.run_records.specs.Runs.{end_of, actor_at, moment_at, outcome_at, IsFilled, reply_at};
 ghost use Rattle.run_records.specs.RunText.{IsWritten, StopsWriting};
 ghost use Rattle.locked_services.specs.Closing.{IsClosed, IsFault};
 ghost use Rattle.locked_services.specs.Shots.{RoomView, IsSoundHistory};
@@ -118,6 +118,22 @@ impl<C: Channels + Lanes, D: Board<C>, B: Backend> Office<C, D, B> {
         let room = self.room.lock(rt);
         let _steps = room.steps();
         room.effect(number)
+    }
+
+    /// Fills an effect with all that the step of this number gave, from 1; what it held is gone. False where there are fewer. `NoMemory` where a
+    /// growth was refused. Whoever reads each step keeps one effect for all of them.
+    pub fn fill<W: Wait>(
+        &self,
+        rt: &W,
+        number: u64,
+        effect: &mut Effect<Global>,
+    ) -> Result<bool, NoMemory>
+        ensures { (v : RoomView) × IsSoundHistory v × IfOk result
+            (λ is_there. IsFilled is_there (outcome_of effect.new) number v.running.steps) }
+    {
+        let room = self.room.lock(rt);
+        let _steps = room.steps();
+        room.fill(number, effect)
     }
 
     /// Whose input the step of this number took, from 1; None where there are fewer.

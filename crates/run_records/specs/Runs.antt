@@ -1,5 +1,5 @@
 -- A run as contracts see it: each input with what the machine gave.
-use Rattle.std.specs.Prelude.{◌≡◌, ℕ, zero, suc, ◌+◌, ◌≤◌, ◌==◌, List, [], ◌∷◌, ◌++◌, map, filter, take, drop, length, slice_get, option_map, Option, None, Some, if◌then◌else◌}
+use Rattle.std.specs.Prelude.{◌≡◌, ℕ, Bool, true, false, zero, suc, ◌+◌, ◌≤◌, ◌==◌, List, [], ◌∷◌, ◌++◌, map, filter, take, drop, length, slice_get, option_map, Option, None, Some, if◌then◌else◌}
 use Rattle.std.specs.declared.alloc.Global.{Global}
 use Rattle.s6_events.specs.declared.order.Order.{Order}
 use Rattle.tree_core.specs.declared.input.Input.{Input}
@@ -67,6 +67,11 @@ end_of m steps = after_all m (inputs_of steps)
 abbrev pub outcome_at : ℕ → List RunStep → Option (Outcome Global)
 outcome_at zero steps = None
 outcome_at (suc n) steps = option_map (λ s. s.outcome) (slice_get steps n)
+
+-- what is filled in is what the step of this number gave; where there is no such step, nothing is
+abbrev pub IsFilled : Bool → Outcome Global → ℕ → List RunStep → Type 0
+IsFilled true o n steps = outcome_at n steps ≡ Some o
+IsFilled false o n steps = outcome_at n steps ≡ None
 
 -- whose input the step of this number took, from 1, if there is one
 abbrev pub actor_at : ℕ → List RunStep → Option ℕ

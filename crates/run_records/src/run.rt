@@ -2,7 +2,7 @@
 ghost use Rattle.std.specs.Prelude.{◌≡◌, ◌-◌, ◌<◌, ◌≤◌, [], ◌∷◌, ◌++◌, length, OnOk, IfErr, IfOk, IfSome, slice_get, option_map};
 ghost use Rattle.tree_core.specs.Effect.{outcome_of};
 ghost use Rattle.tree_core.specs.Limits.{order_limit};
-ghost use Rattle.run_records.specs.Runs.{AreEmpty, IsWithin, HasRoom, step_of, actor_at, moment_at, outcome_at, reply_at};
+ghost use Rattle.run_records.specs.Runs.{AreEmpty, IsFilled, IsWithin, HasRoom, step_of, actor_at, moment_at, outcome_at, reply_at};
 ghost use Rattle.run_records.specs.RunText.{IsWritten, StopsWriting};
 
 use crate::record::Record;
@@ -109,15 +109,29 @@ impl Run {
         ensures { IfOk result
             (λ effect. option_map (λ e. outcome_of e) effect ≡ outcome_at number self.now.steps) }
     {
+        let mut effect = Effect::new(alloc);
+        if self.fill(number, &mut effect)? {
+            Ok(Some(effect))
+        } else {
+            Ok(None)
+        }
+    }
+
+    /// Fills an effect with all that the step of this number gave, from 1; what it held is gone. False where there are fewer: nothing is filled
+    /// in. `NoMemory` where a growth was refused. A list of orders is filled in its place, so this is for whoever reads many steps.
+    pub fn fill(&self, number: u64, effect: &mut Effect<Global>) -> Result<bool, NoMemory>
+        ensures { IfOk result
+            (λ is_there. IsFilled is_there (outcome_of effect.new) number self.now.steps) }
+    {
         if number == 0 {
-            return Ok(None);
+            return Ok(false);
         }
         let place = (number - 1) as usize;
         if place >= self.records.len() {
-            return Ok(None);
+            return Ok(false);
         }
-        let effect = effect_of(alloc, self.orders.as_slice(), &self.records[place])?;
-        Ok(Some(effect))
+        fill_effect(self.orders.as_slice(), &self.records[place], effect)?;
+        Ok(true)
     }
 
     /// Whose input the step of this number took, from 1; None where there are fewer.
@@ -208,19 +222,23 @@ fn no_places(alloc: Global) -> Result<Vec<StepPlaces>, NoMemory>
     Ok(all)
 }
 
-// What a record says that its step gave.
-fn effect_of(alloc: Global, orders: &[Order], one: &Record) -> Result<Effect<Global>, NoMemory>
+// Fills an effect with what a record says that its step gave.
+fn fill_effect(orders: &[Order], one: &Record, effect: &mut Effect<Global>) -> Result<(), NoMemory>
     requires { IsWithin orders.now one.now }
-    ensures { IfOk result (λ effect. outcome_of effect ≡ (step_of orders.now one.now).outcome) }
+    ensures { OnOk result (outcome_of effect.new ≡ (step_of orders.now one.now).outcome) }
 {
-    let mut effect = Effect::new(alloc);
+    let alloc = *effect.events.allocator();
+    effect.orders.clear();
     let part = &orders[one.first..one.first + one.count];
     if effect.orders.try_extend_from_slice(part).is_err() {
         unreachable!()
     }
     effect.reply = one.reply.copied(alloc)?;
+    effect.events.clear();
     effect.events.extend_from_slice(one.events.as_slice())?;
+    effect.matched.clear();
     effect.matched.extend_from_slice(one.matched.as_slice())?;
+    effect.released.clear();
     effect.released.extend_from_slice(one.released.as_slice())?;
-    Ok(effect)
+    Ok(())
 }

@@ -74,11 +74,7 @@ fn push_text(text: &mut Vec<u8>, key: &[u8], word: &[u8]) -> Result<(), AllocErr
 }
 
 // The first members.
-fn push_json_head(
-    text: &mut Vec<u8>,
-    day: &[u8],
-    letter: &FollowedLetter,
-) -> Result<(), AllocError>
+fn push_json_head(text: &mut Vec<u8>, day: &[u8], letter: &FollowedLetter) -> Result<(), AllocError>
     ensures { OnOk result (text.new.items ≡ text.old.items ++ json_head day.now letter.now) }
 {
     push_key(text, b"time")?;

@@ -182,11 +182,7 @@ fn cell_of(alloc: Global, entry: &ListEntry, column: Column) -> Result<Vec<u8>, 
 }
 
 // The bytes of the widest cell of a column, its head among them.
-fn width_of(
-    alloc: Global,
-    entries: &[ListEntry],
-    column: Column,
-) -> Result<usize, AllocError>
+fn width_of(alloc: Global, entries: &[ListEntry], column: Column) -> Result<usize, AllocError>
     ensures { IfOk result (λ width. width ≡ width_of entries.now column) }
 {
     let mut width = column.heading().len();

@@ -1,5 +1,5 @@
 -- Lists of published shots, oldest first.
-use Rattle.std.specs.Prelude.{ℕ, ◌≤◌, List, [], ◌∷◌, Option, Some, None, length, nat_le, if◌then◌else◌}
+use Rattle.std.specs.Prelude.{ℕ, ◌≤◌, Bool, true, false, List, [], ◌∷◌, Option, Some, None, length, nat_le, if◌then◌else◌}
 use Rattle.status_board.specs.declared.shot.Shot.{Shot}
 
 abbrev pub last_or : Option Shot → List Shot → Option Shot
@@ -9,6 +9,11 @@ last_or other (shot ∷ shots) = last_or (Some shot) shots
 -- the shot that was published last
 abbrev pub last_shot : List Shot → Option Shot
 last_shot shots = last_or None shots
+
+-- a shot that is there
+abbrev pub shown_shot : Bool → Shot → Option Shot
+shown_shot true shot = Some shot
+shown_shot false shot = None
 
 -- what a reader that knows these gets from what is shown: the last shot of it, unless it has fewer shots than are known
 abbrev pub shot_unless_older : List Shot → List Shot → Option Shot

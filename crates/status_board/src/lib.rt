@@ -2,6 +2,7 @@
 #![tactic(auto)]
 
 mod board;
+mod change;
 mod history;
 mod reader;
 mod shot;
@@ -10,6 +11,7 @@ mod told;
 mod writer;
 
 pub use board::Board;
+pub use change::{Change, StandingRows};
 pub use history::Published;
 pub use reader::BoardReader;
 pub use shot::{ROW_LIMIT, Shot};

@@ -1,7 +1,8 @@
 //! What `left_right` keeps two copies of, and how they change.
-ghost use Rattle.std.specs.Prelude.{◌≡◌, option_map};
+ghost use Rattle.std.specs.Prelude.{◌≡◌, [], option_map};
 ghost use Rattle.status_board.specs.Board.{last_shot};
 
+use crate::change::Change;
 use crate::history::Published;
 use crate::shot::Shot;
 use channel_names::Channels;
@@ -10,41 +11,37 @@ use std::alloc::{AllocError, Allocator};
 use std::marker::Model;
 use std::sync::{Arc, OnceLock};
 
-/// The shot that was published last, and all that were published with it: contracts see these.
+/// The shot that was published last, if there is one, and all that were published with it: contracts see these. A shot is taken over in its
+/// place, of which only the rows that stand are written.
 #[derive(Drop)]
 pub struct Shown<C: Channels> {
-    shot: Option<Shot>,
+    shot: Shot,
+    is_there: bool,
     published: Published<C>,
 }
 
 impl<C: Channels> Model for Shown<C> {
     ghost use Rattle.std.specs.Prelude.{◌≡◌, List};
     ghost use Rattle.status_board.specs.declared.shot.Shot.{Shot};
-    ghost use Rattle.status_board.specs.Board.{last_shot};
+    ghost use Rattle.status_board.specs.Board.{last_shot, shown_shot};
 
     ghost Value = { List Shot };
 
     ghost view = { λ s. s.published };
 
-    ghost invariant = { λ s. s.shot ≡ last_shot s.published };
+    ghost invariant = { λ s. shown_shot s.is_there s.shot ≡ last_shot s.published };
 }
 
 impl<C: Channels> Shown<C> {
-    // What is shown once these were published.
-    pub(crate) fn new(shot: Option<Shot>, published: Published<C>) -> Shown<C>
-        requires { shot ≡ last_shot published }
-        ensures { result ≡ published }
-    {
-        Shown { shot, published }
-    }
-
-    // The same once more.
-    pub(crate) fn copied(&self) -> Shown<C>
-        ensures { result ≡ self.now }
+    // Nothing, where nothing was published.
+    pub(crate) fn nothing(published: Published<C>) -> Shown<C>
+        requires { published ≡ [] }
+        ensures { result ≡ [] }
     {
         Shown {
-            shot: self.shot().map(|shot| shot.copied()),
-            published: self.published.copied(),
+            shot: Shot::empty(),
+            is_there: false,
+            published,
         }
     }
 
@@ -52,7 +49,11 @@ impl<C: Channels> Shown<C> {
     pub(crate) fn shot(&self) -> Option<&Shot>
         ensures { option_map (λ s. s.now) result ≡ last_shot self.now }
     {
-        self.shot.as_ref()
+        if self.is_there {
+            Some(&self.shot)
+        } else {
+            None
+        }
     }
 
     // All that were published.
@@ -61,10 +62,19 @@ impl<C: Channels> Shown<C> {
     {
         &self.published
     }
+
+    // Shows what was published with a change.
+    fn follow<A: Allocator>(&mut self, change: &Change<C, A>)
+        ensures { self.new ≡ change.now }
+    {
+        change.fill(&mut self.shot);
+        self.is_there = true;
+        self.published = change.published().copied();
+    }
 }
 
 /// A place for what is to be shown next. It is filled once memory was found for all of the change.
-pub type Next<C, A> = Arc<OnceLock<Shown<C>>, A>;
+pub type Next<C, A> = Arc<OnceLock<Change<C, A>>, A>;
 
 impl<C: Channels, A: Allocator> Absorb<Next<C, A>> for Shown<C> {
     type State = ();
@@ -81,8 +91,8 @@ impl<C: Channels, A: Allocator> Absorb<Next<C, A>> for Shown<C> {
         operation: &Next<C, A>,
         _other: &Shown<C>,
     ) -> Result<(), AllocError> {
-        if let Some(next) = operation.get() {
-            *self = next.copied();
+        if let Some(change) = operation.get() {
+            self.follow(change);
         }
         Ok(())
     }

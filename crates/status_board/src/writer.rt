@@ -2,6 +2,7 @@
 ghost use Rattle.std.specs.Prelude.{◌≡◌, ◌^◌, ◌<◌, [], ◌∷◌, ◌++◌, IfErr, IfOk, OnErr, OnOk};
 ghost use Rattle.status_board.specs.History.{count_of};
 
+use crate::change::{Change, StandingRows};
 use crate::history::{Count, Log, Published};
 use crate::reader::BoardReader;
 use crate::shot::Shot;
@@ -66,8 +67,8 @@ impl NewBoard {
     {
         let NewBoard { word, log } = self;
         let published: Published<C> = Published::over(log);
-        let first = Shown::new(None, published.copied());
-        let second = first.copied();
+        let first = Shown::nothing(published.copied());
+        let second = Shown::nothing(published.copied());
         let Ok(handle) = WriteHandle::new(alloc, rt, first, second, readers) else {
             return Err((NewBoard::again(word, published), NoMemory));
         };
@@ -138,13 +139,15 @@ impl<C: Channels, R: Wait + Drop, A: Allocator + Copy> BoardWriter<C, R, A> {
         NewBoard::again(word, published)
     }
 
-    /// Shows this shot from now on. `NoMemory` where a growth was refused: the board is then as it was. It may wait for readers
-    /// that are reading, and is the only call of the board that waits.
+    /// Shows this shot from now on. `NoMemory` where a growth was refused: the board is then as it was. Of the shot only the rows that stand
+    /// are copied, once into memory of their own, and from there into each of the two copies that readers see. It may wait for readers that
+    /// are reading, and is the only call of the board that waits.
     #[tactic(auto, using(crate::proofs::Lasts::last_or_snoc))]
     pub fn publish(&mut self, shot: &Shot) -> Result<(), NoMemory>
         ensures added { OnOk result (self.new ≡ self.old ++ shot.now ∷ []) }
         ensures same { OnErr result (self.new ≡ self.old) }
     {
+        let rows = StandingRows::of(self.alloc, shot)?;
         let next: Next<C, A> = Arc::new(self.alloc, OnceLock::new())?;
         let theirs = Arc::try_clone(&next)?;
         if self.handle.append(theirs).is_err() {
@@ -156,7 +159,7 @@ impl<C: Channels, R: Wait + Drop, A: Allocator + Copy> BoardWriter<C, R, A> {
             return Err(NoMemory);
         }
         self.published = published.copied();
-        let _set = next.try_set(Shown::new(Some(shot.copied()), published));
+        let _set = next.try_set(Change::new(rows, published));
         let _shown = self.handle.publish();
         Ok(())
     }

@@ -35,7 +35,12 @@ pub fn deliver_all<C: Channels + Lanes, D: Board<C>, B: Backend, R: Wait, E: Wri
     if state.lasting.roster.len() > ROSTER_LIMIT {
         let moment = state.shown_moment();
         let rows = &context.shared().rows;
-        rows.forget_gone(context.rt, &mut state.reader, moment, &mut state.lasting.roster);
+        rows.forget_gone(
+            context.rt,
+            &mut state.reader,
+            moment,
+            &mut state.lasting.roster,
+        );
     }
     true
 }
@@ -48,18 +53,35 @@ fn deliver_next<C: Channels + Lanes, D: Board<C>, B: Backend, R: Wait, E: Write>
     errors: &mut E,
 ) -> Result<bool, NoMemory> {
     let number = state.steps.saturating_add(1);
-    let Some(actor) = office.actor(context.rt, number) else {
-        return Ok(false);
+    let mut effect = state.lasting.take_effect(context.alloc())?;
+    let filled = office.fill(context.rt, number, &mut effect);
+    let delivered = match filled {
+        Ok(true) => deliver(context, office, state, number, &effect, errors),
+        _ => Ok(()),
     };
-    let Some(effect) = office.effect(context.rt, number)? else {
-        return Ok(false);
+    state.lasting.effect = Some(effect);
+    delivered?;
+    filled
+}
+
+// Hands out what the step of this number gave.
+fn deliver<C: Channels + Lanes, D: Board<C>, B: Backend, R: Wait, E: Write>(
+    context: &Context<'_, R>,
+    office: &Office<C, D, B>,
+    state: &mut DriverState<C>,
+    number: u64,
+    effect: &Effect<Global>,
+    errors: &mut E,
+) -> Result<(), NoMemory> {
+    let Some(actor) = office.actor(context.rt, number) else {
+        return Ok(());
     };
     let moment = office.moment(context.rt, number);
     state.lasting.clock = later_of(state.lasting.clock, moment);
-    note_step(state, number, moment, &effect)?;
+    note_step(state, number, moment, effect)?;
     let mut posts = mem::replace(&mut state.posts, Vec::new(context.alloc()));
     let place = place_of(actor);
-    let handed = hand_out_of(state, place, &effect, &mut posts);
+    let handed = hand_out_of(state, place, effect, &mut posts);
     if handed.is_ok() {
         state.steps = number;
         if place == Place::Scanner {
@@ -73,8 +95,7 @@ fn deliver_next<C: Channels + Lanes, D: Board<C>, B: Backend, R: Wait, E: Write>
         posts.clear();
     }
     state.posts = posts;
-    handed?;
-    Ok(true)
+    handed
 }
 
 // The tree's clock after an input that was handed in at this moment.
@@ -100,7 +121,10 @@ fn note_step<C: Channels>(
     }
     if !effect.events.is_empty() {
         let roster = &mut state.lasting.roster;
-        roster.note(later_of(state.lasting.noted_clock, moment), effect.events.as_slice());
+        roster.note(
+            later_of(state.lasting.noted_clock, moment),
+            effect.events.as_slice(),
+        );
     }
     state.lasting.noted_clock = later_of(state.lasting.noted_clock, moment);
     state.noted = number;
@@ -143,7 +167,14 @@ fn hand_out_of<C: Channels>(
     } = &mut state.lasting;
     match place {
         Place::Scanner if is_scan => {
-            hand_out(plans.served.as_slice(), at, roster, effect, connections, posts)
+            hand_out(
+                plans.served.as_slice(),
+                at,
+                roster,
+                effect,
+                connections,
+                posts,
+            )
         }
         Place::Client(seat) => hand_out(&[seat], at, roster, effect, connections, posts),
         Place::Scanner | Place::Lane(_) => hand_out(&[], at, roster, effect, connections, posts),

@@ -88,7 +88,11 @@ fn post_clock<C: Channels, R: Wait>(
     seat: usize,
 ) {
     let since = context.shared().clock.since;
-    post_text(context, seat, &clock_line(context.alloc(), since, state.lasting.now));
+    post_text(
+        context,
+        seat,
+        &clock_line(context.alloc(), since, state.lasting.now),
+    );
     note_answer(context, state, seat);
 }
 

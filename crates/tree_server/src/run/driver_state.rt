@@ -11,7 +11,7 @@ use server_rules::{
 use server_threads::moment_of;
 use status_board::BoardReader;
 use std::alloc::Global;
-use tree_core::Act;
+use tree_core::{Act, Effect};
 
 /// What goes on from one run to the next, beside the tree and its backends.
 #[derive(Drop)]
@@ -38,6 +38,8 @@ pub struct Lasting {
     /// The reports that no seat took yet, by lane.
     pub kept: Vec<Option<Report>>,
     pub full: FullServices,
+    /// What a step gave, once one was read: a place that is filled anew by each.
+    pub effect: Option<Box<Effect<Global>>>,
     /// The tree's clock after the last step that was handed out.
     pub clock: At,
     /// The tree's clock after the last step that the roster has noted.
@@ -74,11 +76,20 @@ impl Lasting {
             awaits_first: true,
             kept,
             full: FullServices::new(alloc),
+            effect: None,
             clock: At::zero(),
             noted_clock: At::zero(),
             now: 0,
             handed_in: 0,
         })
+    }
+
+    /// The place for what a step gave, which is to be put back.
+    pub fn take_effect(&mut self, alloc: Global) -> Result<Box<Effect<Global>>, NoMemory> {
+        match self.effect.take() {
+            Some(effect) => Ok(effect),
+            None => Ok(Box::new(alloc, Effect::new(alloc))?),
+        }
     }
 
     /// Whether something is still to be told to the connection on this seat, though it asks nothing.

@@ -1,0 +1,99 @@
+//! A shot on its way to the two copies of a board.
+ghost use Rattle.std.specs.Prelude.{◌≡◌, IfOk, Some};
+ghost use Rattle.status_board.specs.Board.{last_shot};
+
+use crate::history::Published;
+use crate::shot::Shot;
+use channel_names::Channels;
+use std::alloc::{AllocError, Allocator};
+use std::marker::Model;
+use supervise_core::Row;
+
+/// The rows of a shot that stand, in memory of their own.
+#[derive(Drop)]
+pub struct StandingRows<A: Allocator> {
+    at: u64,
+    rows: Vec<Row, A>,
+}
+
+impl<A: Allocator> Model for StandingRows<A> {
+    ghost use Rattle.std.specs.Prelude.{◌≤◌, length};
+    ghost use Rattle.status_board.specs.declared.shot.Shot.{Shot};
+
+    ghost Value = { Shot };
+
+    ghost view = { λ s. record { at = s.at; rows = record { items = s.rows.items } } };
+
+    ghost invariant = { λ s. length s.rows.items ≤ 256 };
+}
+
+impl<A: Allocator + Copy> StandingRows<A> {
+    // Those of this shot.
+    pub(crate) fn of(alloc: A, shot: &Shot) -> Result<StandingRows<A>, AllocError>
+        ensures { IfOk result (λ rows. rows ≡ shot.now) }
+    {
+        let mut rows = Vec::new(alloc);
+        rows.extend_from_slice(shot.rows.as_slice())?;
+        Ok(StandingRows { at: shot.at, rows })
+    }
+}
+
+impl<A: Allocator> StandingRows<A> {
+    // A shot becomes these.
+    fn fill(&self, shot: &mut Shot)
+        ensures { shot.new ≡ self.now }
+    {
+        shot.at = self.at;
+        shot.rows.clear();
+        if shot
+            .rows
+            .try_extend_from_slice(self.rows.as_slice())
+            .is_err()
+        {
+            unreachable!()
+        }
+    }
+}
+
+/// A shot that was published, and all that were published with it: contracts see these.
+#[derive(Drop)]
+pub struct Change<C: Channels, A: Allocator> {
+    rows: StandingRows<A>,
+    published: Published<C>,
+}
+
+impl<C: Channels, A: Allocator> Model for Change<C, A> {
+    ghost use Rattle.std.specs.Prelude.{◌≡◌, List, Some};
+    ghost use Rattle.status_board.specs.declared.shot.Shot.{Shot};
+    ghost use Rattle.status_board.specs.Board.{last_shot};
+
+    ghost Value = { List Shot };
+
+    ghost view = { λ c. c.published };
+
+    ghost invariant = { λ c. last_shot c.published ≡ Some c.rows };
+}
+
+impl<C: Channels, A: Allocator> Change<C, A> {
+    // The shot that was published last, with all that were.
+    pub(crate) fn new(rows: StandingRows<A>, published: Published<C>) -> Change<C, A>
+        requires { last_shot published ≡ Some rows }
+        ensures { result ≡ published }
+    {
+        Change { rows, published }
+    }
+
+    // A shot becomes the one that was published last.
+    pub(crate) fn fill(&self, shot: &mut Shot)
+        ensures { last_shot self.now ≡ Some shot.new }
+    {
+        self.rows.fill(shot);
+    }
+
+    // All that were published.
+    pub(crate) fn published(&self) -> &Published<C>
+        ensures { result.now ≡ self.now }
+    {
+        &self.published
+    }
+}
