@@ -8,4 +8,5 @@ mod tool;
 
 pub use buffered::replay;
 pub use fault_lines::replay_fault;
+pub use help_texts::{HELP, REPLAY_HELP};
 pub use tool::run_tool;

@@ -3,10 +3,13 @@ use Rattle.std.specs.Prelude.{ℕ, Bool, true, false, codes}
 use Rattle.std.specs.Str.{bytes_eq}
 use Rattle.s6_tools.specs.declared.answer.Outcome.{Outcome}
 use Rattle.s6_tools.specs.declared.answer.Outcome.TheVariants as outcome
+use Rattle.s6_tools.specs.declared.misuse.Misuse.TheVariants as misuse
 use Rattle.s6_tools.specs.declared.tool.Tool.{Tool}
 use Rattle.s6_tools.specs.declared.tool.Tool.TheVariants as tool
 use Rattle.s6_tools.specs.declared.tool_fault.ToolFault.{ToolFault}
 use Rattle.s6_tools.specs.declared.tool_fault.ToolFault.TheVariants as fault
+use Rattle.svc_commands.specs.declared.usage_fault.UsageFault.{UsageFault}
+use Rattle.svc_commands.specs.declared.usage_fault.UsageFault.TheVariants as usage
 
 -- of a waiter that was released so
 abbrev pub status_of_outcome : Outcome → ℕ
@@ -23,7 +26,7 @@ status_of_refusal t = 1
 
 -- of a tool that didn't do what it was asked for
 abbrev pub status_of_fault : Tool → ToolFault → ℕ
-status_of_fault t fault.Usage = 100
+status_of_fault t (fault.Usage m) = 100
 status_of_fault t (fault.Refused reason) = status_of_refusal t
 status_of_fault t f = 111
 
@@ -32,3 +35,13 @@ abbrev pub is_busy : ToolFault → Bool
 is_busy fault.Busy = true
 is_busy (fault.Refused reason) = bytes_eq reason (codes "Busy")
 is_busy f = false
+
+-- what a fault of the words is told as
+abbrev pub fault_of_usage : UsageFault → ToolFault
+fault_of_usage usage.Unknown = fault.Usage misuse.Unknown
+fault_of_usage usage.Missing = fault.Usage misuse.Missing
+fault_of_usage usage.TooMany = fault.Usage misuse.TooMany
+fault_of_usage usage.BadNumber = fault.Usage misuse.BadNumber
+fault_of_usage usage.BadList = fault.Usage misuse.BadList
+fault_of_usage usage.BadName = fault.Usage misuse.BadName
+fault_of_usage usage.NoMemory = fault.NoMemory

@@ -22,9 +22,12 @@ name_of tool.Permafailon = codes "permafailon"
 
 -- why it didn't
 abbrev pub reason_of : ToolFault → List ℕ
-reason_of fault.Usage = codes "usage"
+reason_of (fault.Usage m) = codes "usage"
 reason_of (fault.Refused reason) = codes "refused " ++ reason
 reason_of fault.Busy = codes "busy"
+reason_of fault.NoServer = codes "socket"
+reason_of fault.Forbidden = codes "socket"
+reason_of fault.LongPath = codes "socket"
 reason_of fault.Socket = codes "socket"
 reason_of fault.Program = codes "program"
 reason_of fault.Write = codes "write"

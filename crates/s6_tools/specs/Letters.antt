@@ -1,5 +1,5 @@
 -- A letter that a follower is told, and what is printed of it.
-use Rattle.std.specs.Prelude.{ℕ, List, [], ◌∷◌, ◌++◌, Bool, true, false, codes, decimal, if◌then◌else◌, ◌==◌}
+use Rattle.std.specs.Prelude.{ℕ, List, [], ◌∷◌, ◌++◌, Bool, true, false, codes, if◌then◌else◌, ◌==◌}
 use Rattle.s6_tools.specs.declared.followed_letter.FollowedLetter.{FollowedLetter}
 use Rattle.s6_tools.specs.JsonLines.{key_text, member, number_member, quoted}
 use Rattle.std.specs.Prelude.{Some}

@@ -1,5 +1,6 @@
 pub mod Ages
 pub mod Answers
+pub mod Culprits
 pub mod Endings
 pub mod FaultLines
 pub mod JsonLines
@@ -8,8 +9,11 @@ pub mod ListEntries
 pub mod Listing
 pub mod Patience
 pub mod Requests
+pub mod SecondLines
+pub mod Sentences
 pub mod ServiceRows
 pub mod StatusLine
 pub mod Tables
 pub mod Targets
+pub mod Told
 pub mod Words

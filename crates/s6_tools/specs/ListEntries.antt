@@ -1,5 +1,5 @@
 -- What a line of the server says of a service, to `list`.
-use Rattle.std.specs.Prelude.{◌≡◌, ◌==◌, ◌+◌, ℕ, List, [], ◌∷◌, Option, Some, None, codes, drop, take}
+use Rattle.std.specs.Prelude.{◌≡◌, ◌==◌, ◌+◌, ℕ, List, [], Option, Some, None, drop, take}
 use Rattle.std.specs.List.{position}
 use Rattle.s6_tools.specs.declared.list_entry.ListEntry.{ListEntry}
 use Rattle.s6_tools.specs.declared.list_entry.ListEntry.TheVariants.{Service, Unread}

@@ -1,13 +1,21 @@
-//! The line and the status for what a tool could not do.
-ghost use Rattle.std.specs.Prelude.{◌≡◌, IfOk, OnOk};
-ghost use Rattle.std.specs.Io.KnownBytes.{Appends};
+//! The lines and the status for what a tool could not do.
+ghost use Rattle.std.specs.Prelude.{◌≡◌, ◌++◌, IfOk, OnOk, map, option_map};
 ghost use Rattle.s6_tools.specs.Endings.{status_of_fault};
 ghost use Rattle.s6_tools.specs.FaultLines.{fault_line, reason_of};
+ghost use Rattle.s6_tools.specs.SecondLines.{advice_text, cause_of, cause_word, misuse_text, refusal_text, hint_of, told_text};
+ghost use Rattle.s6_tools.specs.Told.{escaped};
 
+use crate::culprit::{culprit_of, program_of, subject_of};
+use crate::misuse::Misuse;
+use crate::sentences::{
+    cause_before, cause_behind, complaint_of, help_words, refusal_of_subject, refusal_of_tree,
+    right_of, see_words,
+};
+use crate::told::{Told, add_escaped, add_named};
 use crate::tool::Tool;
 use crate::tool_fault::ToolFault;
-use arrayvec::ArrayVec;
-use std::io::{self, Write};
+use arrayvec::CapacityError;
+use std::io::Write;
 
 /// The status of a request that was refused.
 const REFUSED_STATUS: u8 = 1;
@@ -18,12 +26,21 @@ const USAGE_STATUS: u8 = 100;
 /// The status of a tool to which the system refused something.
 const SYSTEM_STATUS: u8 = 111;
 
-/// Writes the line that tells of a fault, by one write, and answers the exit status. Takes no memory.
-pub fn tell_fault<E: Write>(tool: Tool, fault: &ToolFault, errors: &mut E) -> u8
+/// How many bytes the path of a socket has at most.
+const PATH_BYTES: usize = 107;
+
+/// Writes what tells of a fault, by one write, and answers the exit status: a line for programs, and a line for people. Takes no memory.
+pub fn tell_fault<E: Write>(
+    tool: Tool,
+    socket: &str,
+    words: &[&str],
+    fault: &ToolFault,
+    errors: &mut E,
+) -> u8
     ensures { result ≡ status_of_fault tool fault.now }
 {
-    if let Ok(line) = line_of(tool, fault) {
-        let _ = errors.write_all(line.as_slice());
+    if let Ok(told) = told_of(tool, socket, words, fault) {
+        let _ = errors.write_all(told.as_slice());
     }
     status_of(tool, fault)
 }
@@ -32,52 +49,155 @@ fn status_of(tool: Tool, fault: &ToolFault) -> u8
     ensures { result ≡ status_of_fault tool fault.now }
 {
     match fault {
-        ToolFault::Usage => USAGE_STATUS,
+        ToolFault::Usage(_) => USAGE_STATUS,
         ToolFault::Refused(_) => match tool {
             Tool::Svwait | Tool::Svlisten => SYSTEM_STATUS,
             _ => REFUSED_STATUS,
         },
-        ToolFault::Busy
-        | ToolFault::Socket
-        | ToolFault::Program
-        | ToolFault::Write
-        | ToolFault::NoMemory => SYSTEM_STATUS,
+        _ => SYSTEM_STATUS,
     }
 }
 
-// The line that tells of a fault. The longest has 55 bytes.
-fn line_of(tool: Tool, fault: &ToolFault) -> io::Result<ArrayVec<u8, 64>>
-    ensures { IfOk result (λ line. line.items ≡ fault_line tool fault.now) }
+// Both lines.
+fn told_of(
+    tool: Tool,
+    socket: &str,
+    words: &[&str],
+    fault: &ToolFault,
+) -> Result<Told, CapacityError>
+    ensures { IfOk result (λ told. told.items
+        ≡ told_text tool socket.now (map (λ w. w.now) words.now) fault.now) }
 {
-    let mut line = ArrayVec::new();
-    write_line(tool, fault, &mut line)?;
-    Ok(line)
+    let mut told = Told::new();
+    add_first_line(&mut told, tool, fault)?;
+    told.try_extend_from_slice(tool.name().as_bytes())?;
+    told.try_extend_from_slice(b": ")?;
+    add_hint(&mut told, tool, socket, words, fault)?;
+    told.try_extend_from_slice(b"\n")?;
+    Ok(told)
 }
 
-fn write_line<W: Write>(tool: Tool, fault: &ToolFault, line: &mut W) -> io::Result<()>
-    ensures { OnOk result (Appends (W.contents line.old) (W.contents line.new)
-        (fault_line tool fault.now)) }
+fn add_first_line(told: &mut Told, tool: Tool, fault: &ToolFault) -> Result<(), CapacityError>
+    ensures { OnOk result (told.new.items ≡ told.old.items ++ fault_line tool fault.now) }
 {
-    line.write_all(tool.name().as_bytes())?;
-    line.write_all(b": ")?;
-    write_reason(fault, line)?;
-    line.write_all(b"\n")
+    told.try_extend_from_slice(tool.name().as_bytes())?;
+    told.try_extend_from_slice(b": ")?;
+    add_reason(told, fault)?;
+    told.try_extend_from_slice(b"\n")
 }
 
-fn write_reason<W: Write>(fault: &ToolFault, line: &mut W) -> io::Result<()>
-    ensures { OnOk result (Appends (W.contents line.old) (W.contents line.new)
-        (reason_of fault.now)) }
+fn add_reason(told: &mut Told, fault: &ToolFault) -> Result<(), CapacityError>
+    ensures { OnOk result (told.new.items ≡ told.old.items ++ reason_of fault.now) }
 {
     match fault {
-        ToolFault::Usage => line.write_all(b"usage"),
+        ToolFault::Usage(_) => told.try_extend_from_slice(b"usage"),
         ToolFault::Refused(reason) => {
-            line.write_all(b"refused ")?;
-            line.write_all(reason.as_bytes())
+            told.try_extend_from_slice(b"refused ")?;
+            told.try_extend_from_slice(reason.as_bytes())
         }
-        ToolFault::Busy => line.write_all(b"busy"),
-        ToolFault::Socket => line.write_all(b"socket"),
-        ToolFault::Program => line.write_all(b"program"),
-        ToolFault::Write => line.write_all(b"write"),
-        ToolFault::NoMemory => line.write_all(b"no memory"),
+        ToolFault::Busy => told.try_extend_from_slice(b"busy"),
+        ToolFault::NoServer | ToolFault::Forbidden | ToolFault::LongPath | ToolFault::Socket =>
+            told.try_extend_from_slice(b"socket"),
+        ToolFault::Program => told.try_extend_from_slice(b"program"),
+        ToolFault::Write => told.try_extend_from_slice(b"write"),
+        ToolFault::NoMemory => told.try_extend_from_slice(b"no memory"),
+    }
+}
+
+// What the second line says.
+fn add_hint(
+    told: &mut Told,
+    tool: Tool,
+    socket: &str,
+    words: &[&str],
+    fault: &ToolFault,
+) -> Result<(), CapacityError>
+    ensures { OnOk result (told.new.items
+        ≡ told.old.items ++ hint_of tool socket.now (map (λ w. w.now) words.now) fault.now) }
+{
+    match fault {
+        ToolFault::Usage(misuse) => {
+            add_misuse(told, tool, *misuse, culprit_of(tool, *misuse, words))
+        }
+        ToolFault::Refused(reason) => add_refusal(told, subject_of(tool, words), reason.as_bytes()),
+        _ => add_cause(told, socket, words, fault),
+    }
+}
+
+// What the system or the server was asked for in vain.
+fn add_cause(
+    told: &mut Told,
+    socket: &str,
+    words: &[&str],
+    fault: &ToolFault,
+) -> Result<(), CapacityError>
+    ensures { OnOk result (told.new.items
+        ≡ told.old.items ++ cause_of socket.now (map (λ w. w.now) words.now) fault.now) }
+{
+    told.try_extend_from_slice(cause_before(fault).as_bytes())?;
+    add_cause_word(told, socket, words, fault)?;
+    told.try_extend_from_slice(cause_behind(fault).as_bytes())
+}
+
+// The path or the program that it is about.
+fn add_cause_word(
+    told: &mut Told,
+    socket: &str,
+    words: &[&str],
+    fault: &ToolFault,
+) -> Result<(), CapacityError>
+    ensures { OnOk result (told.new.items
+        ≡ told.old.items ++ cause_word socket.now (map (λ w. w.now) words.now) fault.now) }
+{
+    match fault {
+        ToolFault::NoServer | ToolFault::Forbidden | ToolFault::Socket => {
+            add_escaped(told, PATH_BYTES, socket.as_bytes())
+        }
+        ToolFault::Program => add_named(told, b"the program", program_of(words)),
+        _ => Ok(()),
+    }
+}
+
+// What is wrong with the words of a tool.
+fn add_misuse(
+    told: &mut Told,
+    tool: Tool,
+    misuse: Misuse,
+    word: Option<&str>,
+) -> Result<(), CapacityError>
+    ensures { OnOk result (told.new.items
+        ≡ told.old.items ++ misuse_text tool misuse (option_map (λ w. w.now) word.entry)) }
+{
+    told.try_extend_from_slice(misuse.word().as_bytes())?;
+    told.try_extend_from_slice(b": ")?;
+    add_named(told, b"a word", word)?;
+    told.try_extend_from_slice(complaint_of(tool, misuse).as_bytes())?;
+    add_advice(told, tool, misuse)
+}
+
+// What would be right, and where to read on.
+fn add_advice(told: &mut Told, tool: Tool, misuse: Misuse) -> Result<(), CapacityError>
+    ensures { OnOk result (told.new.items ≡ told.old.items ++ advice_text tool misuse) }
+{
+    told.try_extend_from_slice(b": ")?;
+    told.try_extend_from_slice(right_of(tool, misuse).as_bytes())?;
+    told.try_extend_from_slice(see_words().as_bytes())?;
+    told.try_extend_from_slice(tool.name().as_bytes())?;
+    told.try_extend_from_slice(help_words().as_bytes())
+}
+
+// Why the server refused what was asked of this word.
+fn add_refusal(told: &mut Told, word: Option<&str>, reason: &[u8]) -> Result<(), CapacityError>
+    ensures { OnOk result (told.new.items
+        ≡ told.old.items ++ refusal_text (option_map (λ w. w.now) word.entry) reason.now) }
+{
+    told.try_extend_from_slice(reason)?;
+    told.try_extend_from_slice(b": ")?;
+    match refusal_of_subject(reason) {
+        Some(text) => {
+            add_named(told, b"a name", word)?;
+            told.try_extend_from_slice(text.as_bytes())
+        }
+        None => told.try_extend_from_slice(refusal_of_tree(reason).as_bytes()),
     }
 }

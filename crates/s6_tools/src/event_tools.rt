@@ -1,12 +1,16 @@
 //! `mkfifodir`, `ftrig-notify` and `ftrig-wait`.
-ghost use Rattle.std.specs.Prelude.{◌≡◌, All, IfOk, IsOk, option_map};
+ghost use Rattle.std.specs.Prelude.{◌≡◌, All, IfOk, IsOk, OnOk, nat_lt, option_map, true, if◌then◌else◌};
+ghost use Rattle.event_directory.specs.Pattern.{is_expression};
+ghost use Rattle.s6_tools.specs.declared.misuse.Misuse.TheVariants as misuse;
 ghost use Rattle.s6_tools.specs.Targets.{before_event, target_of, IsPrintable};
 
 use crate::answer::Answer;
 use crate::connection::{ask_server, ask_within};
+use crate::misuse::Misuse;
 use crate::patience::Patience;
 use crate::request::{make_directory_request, send_request, subscribe_request};
 use crate::tool_fault::ToolFault;
+use event_directory::{Pattern, PatternFault};
 use s6_events::Name;
 use std::alloc::Global;
 use std::io::Write;
@@ -33,11 +37,11 @@ fn target_of(word: &[u8]) -> Option<Target>
 }
 
 fn read_target(word: &str) -> Result<Target, ToolFault> {
-    target_of(word.as_bytes()).ok_or(ToolFault::Usage)
+    target_of(word.as_bytes()).ok_or(ToolFault::Usage(Misuse::BadName))
 }
 
 fn name_of(word: &str) -> Result<Name, ToolFault> {
-    Name::new(word.as_bytes()).ok_or(ToolFault::Usage)
+    Name::new(word.as_bytes()).ok_or(ToolFault::Usage(Misuse::BadName))
 }
 
 // A pattern is printable; a newline in it would begin another request.
@@ -49,7 +53,29 @@ fn read_pattern(word: &str) -> Result<&str, ToolFault>
     if word.bytes().all(|byte| matches!(byte, 32..=126)) {
         Ok(word)
     } else {
-        Err(ToolFault::Usage)
+        Err(ToolFault::Usage(Misuse::BadPattern))
+    }
+}
+
+// Whether a pattern is one that the server takes is found out here, before anything is sent.
+fn try_pattern(alloc: Global, pattern: &str) -> Result<(), ToolFault>
+    ensures { OnOk result (is_expression pattern.now ≡ true) }
+{
+    match Pattern::build(alloc, pattern) {
+        Ok(_pattern) => Ok(()),
+        Err(PatternFault::NoMemory) => Err(ToolFault::NoMemory),
+        Err(_) => Err(ToolFault::Usage(Misuse::BadPattern)),
+    }
+}
+
+// What is wrong with so many words, where another number is taken.
+fn misuse_of(count: usize, taken: usize) -> Misuse
+    ensures { result ≡ (if nat_lt count taken then misuse.Missing else misuse.TooMany) }
+{
+    if count < taken {
+        Misuse::Missing
+    } else {
+        Misuse::TooMany
     }
 }
 
@@ -61,7 +87,7 @@ pub fn run_mkfifodir<R: Net + Clock>(
     words: &[&str],
 ) -> Result<u8, ToolFault> {
     let [name] = words else {
-        return Err(ToolFault::Usage);
+        return Err(ToolFault::Usage(misuse_of(words.len(), 1)));
     };
     let request = make_directory_request(alloc, &name_of(name)?)?;
     ask_server(rt, alloc, socket, request.as_slice())?;
@@ -76,10 +102,10 @@ pub fn run_ftrig_notify<R: Net + Clock>(
     words: &[&str],
 ) -> Result<u8, ToolFault> {
     let [target, message] = words else {
-        return Err(ToolFault::Usage);
+        return Err(ToolFault::Usage(misuse_of(words.len(), 2)));
     };
     let target = read_target(target)?;
-    let message = Message::new(message.as_bytes()).ok_or(ToolFault::Usage)?;
+    let message = Message::new(message.as_bytes()).ok_or(ToolFault::Usage(Misuse::BadMessage))?;
     let request = send_request(alloc, &target, &message)?;
     ask_server(rt, alloc, socket, request.as_slice())?;
     Ok(0)
@@ -94,9 +120,10 @@ pub fn run_ftrig_wait<R: Net + Clock, W: Write>(
     output: &mut W,
 ) -> Result<u8, ToolFault> {
     let [target, pattern] = words else {
-        return Err(ToolFault::Usage);
+        return Err(ToolFault::Usage(misuse_of(words.len(), 2)));
     };
     let (target, pattern) = (read_target(target)?, read_pattern(pattern)?);
+    try_pattern(alloc, pattern)?;
     let request = subscribe_request(alloc, &target, pattern)?;
     let mut patience = Patience::of(None);
     let asked = ask_within(rt, alloc, socket, request.as_slice(), &mut patience)?;

@@ -2,6 +2,7 @@
 use crate::connection::{Connection, ask_server, await_room};
 use crate::followed_letter::{FollowedLetter, letter_line, letter_of};
 use crate::list_command::{ListCommand, compile_list, is_among};
+use crate::misuse::Misuse;
 use crate::patience::Patience;
 use crate::request::follow_request;
 use crate::tool_fault::ToolFault;
@@ -90,7 +91,7 @@ pub fn run_record<R: Net + Clock, W: Write>(
     output: &mut W,
 ) -> Result<u8, ToolFault> {
     if !words.is_empty() {
-        return Err(ToolFault::Usage);
+        return Err(ToolFault::Usage(Misuse::TooMany));
     }
     let (connection, _recorded) = ask_server(rt, alloc, socket, b"record")?;
     let mut line = Vec::new(alloc);

@@ -1,4 +1,5 @@
-//! What `TOOL --help` prints.
+//! What `TOOL --help` prints: of the tools for services. docs/man and docs/completion are made of these texts, by examples/manual.py.
+use crate::help_waits::{FTRIG_NOTIFY, FTRIG_WAIT, MKFIFODIR, PERMAFAILON, SVLISTEN, SVWAIT};
 use crate::tool::Tool;
 
 /// What `TOOL --help` prints.
@@ -21,19 +22,42 @@ pub fn help_of(tool: Tool) -> &'static str {
 
 const SVC: &str = "usage: s6_tree svc SOCKET -LETTERS.. NAME
 
-Sends letters to a service of the tree on SOCKET.
+Sends letters to a service of the tree on SOCKET: 1 to 63, in the order
+in which they are written, all in one step.
 
 letters:
-  u d         start it and keep it up, stop it and keep it down
-  o O         start it once, leave it down once it is down
+  u           start it, and keep it up
+  d           stop it, and keep it down
+  o           start it once: it stays down once it is down
+  O           it stays down once it is down
   r           stop it: it starts again where it is to be up
-  x           let its supervisor end once it is down
-  a b q h k i t 1 2 p c y
-              send it a signal: ALRM ABRT QUIT HUP KILL INT TERM USR1
-              USR2 STOP CONT WINCH
+  x           its supervisor ends once it is down: no letter reaches it
+              any more
+  a           send it ALRM
+  b           send it ABRT
+  q           send it QUIT
+  h           send it HUP
+  k           send it KILL
+  i           send it INT
+  t           send it TERM
+  1           send it USR1
+  2           send it USR2
+  p           send it STOP
+  c           send it CONT
+  y           send it WINCH
+
+limits:
+  A NAME has 1 to 64 of A-Z a-z 0-9 . _ - @, and no dot in front. One
+  that begins with a dash can't be named here.
+
+examples:
+  s6_tree svc SOCKET -u web          start web
+  s6_tree svc SOCKET -d web          stop it
+  s6_tree svc SOCKET -h web          have it read its configuration
+
 exit status:
   0           done
-  1           the server refused it: the reason is on standard error
+  1           the server refused it: standard error says why
   100         wrong usage
   111         no server, or the system refused something
 ";
@@ -41,13 +65,28 @@ exit status:
 const SVSTAT: &str = "usage: s6_tree svstat SOCKET -o FIELDS NAME
 
 Prints fields of the status of a service, with a space between each two.
+A table for people is printed by s6_tree list SOCKET.
 
 fields, with commas between them:
-  up wantedup normallyup ready paused pid exitcode signum updownfor
-  readyfor
+  up          true or false: its run is there
+  wantedup    it is to be started when it is down
+  normallyup  there is no file down in its directory
+  ready       while it is up: it has said that it is ready; while it is
+              down: its finish is done, and it may be started anew
+  paused      it was stopped by SIGSTOP
+  pid         the number of its process; -1 while it is down
+  exitcode    the exit code of its last run; -1 while it is up, and where
+              a signal killed it
+  signum      the signal that killed its last run; -1 where none did
+  updownfor   for how many seconds it has been up, or down
+  readyfor    for how many seconds it has been ready; -1 where it isn't
+So up false and ready true is \"down and ready\": svwait -D waits for it.
+Never send a signal to a pid of -1: kill takes that for every process.
+svc sends signals.
+
 exit status:
   0           done
-  1           the server refused it: the reason is on standard error
+  1           the server refused it: standard error says why
   100         wrong usage
   111         no server, or the system refused something
 ";
@@ -60,10 +99,13 @@ columns:
   NAME        its name
   STATE       its state in one word
   PID         the number of its process, while it is up
-  SINCE       for how long it has been up, or down
+  SINCE       the time of day at which it came up, or went down
+  FOR         for how long that is
   READY       for how long it has been ready, while it is up
-  LAST-EXIT   how its last run ended, while it is down: code 1, signal 9
+  LAST-EXIT   how its last run ended, while it is down: code 1, signal 9;
+              of one that is unread the fault, as NoRun
   WANTED      up: it is to be started when it is down; else down
+
 states:
   ready       it is up, and has said that it is ready
   up          it is up, and has not said that
@@ -71,117 +113,84 @@ states:
   finishing   it has died, and its finish is not done
   restarting  its finish is done: it starts once its pause is over
   starting    it is to start, and has not run yet
-  down        it is down, and stays so
-With --json each line is an object: name serial state up wantedup
-normallyup ready paused pid exitcode signal updownfor readyfor. Ages are
-in seconds, and null is what there is not.
+  down        it is down, and stays so until it is told to start
+  failed      it failed for good: it stays down until it is told to start
+  gone        its supervisor has ended, and no letter reaches it
+  unread      the last scan could not read its directory
+
+options:
+  --json      print an object a line: name serial state up wantedup
+              normallyup ready paused pid exitcode signal updownfor
+              readyfor since fault. Ages are in seconds, and null is
+              what there is not
+  --          what follows are names, also with a dash in front
 
 exit status:
   0           done
   1           a NAME is no service of the tree: the others are printed;
-              or the server refused it: the reason is on standard error
+              or the server refused it: standard error says why
   100         wrong usage
   111         no server, or the system refused something
 ";
 
-const FOLLOW: &str = "";
+const FOLLOW: &str = "usage: s6_tree follow SOCKET [--json] [--] [NAME..]
 
-const RECORD: &str = "";
+Prints each letter of each service, or of those of these names, as it
+comes, until the connection ends. A line is the time of day, the name,
+the letter and what it says: 2026-11-27T11:18:48.123Z web u up
 
-const SVWAIT: &str = "usage: s6_tree svwait SOCKET [-u | -U | -d | -D] [-a | -o] [-t MS] NAME..
+letters, each with its word:
+  s           supervised: its supervisor begins
+  u           up
+  U           ready
+  d           died
+  D           down: it has died, and its finish is done
+  O           failed: for good
+  x           gone: its supervisor has ended
 
-Waits until services are up (-u, as without an option), ready (-U), down
-(-d), or down and ready to be started anew (-D): all of them (-a, as
-without an option) or one (-o), at most MS milliseconds (0: for ever).
+options:
+  --json      print an object a line: time at serial name letter event.
+              at is in milliseconds from the start of the tree
+  --          what follows are names, also with a dash in front
 
 exit status:
-  0           what it waited for holds
-  1           it can't hold any more: a service failed for good
-  2           it can't hold any more: a supervisor has ended
-  99          the time is up
+  1           the server refused it: standard error says why
   100         wrong usage
-  111         refused, no server, or the system refused something
+  111         the tree has ended, no server, or the system refused something
 ";
 
-const SVLISTEN: &str = "usage: s6_tree svlisten SOCKET [-u | -U | -d | -D | -r | -R] [-a | -o]
-                       [-t MS] NAME.. -- PROGRAM..
+const RECORD: &str = "usage: s6_tree record SOCKET
 
-Subscribes as svwait does, starts PROGRAM, and waits. -r and -R wait for
-a start, and for a readiness, that comes after the subscription.
+Has svscan hand its run over now, so that RECORD holds all that came up to
+here, and prints recorded N: how many steps it has then. Services, waiters
+and subscriptions go on. Then s6_tree replay --check < RECORD says whether
+the tree did what it is to do.
 
 exit status:
-  0           what it waited for holds
-  1           it can't hold any more: a service failed for good
-  2           it can't hold any more: a supervisor has ended
-  99          the time is up
+  0           done
+  1           the server refused it, as Record where svscan was started
+              without RECORD
   100         wrong usage
-  111         refused, no server, no program, or the system refused
-              something
+  111         no server, or the system refused something
 ";
 
 const SVSCANCTL: &str = "usage: s6_tree svscanctl SOCKET -LETTERS..
 
-Tells the supervisor of the scan directory what to do, letter by letter.
+Tells the supervisor of the scan directory what to do, letter by letter;
+the first refusal ends it.
 
 letters:
   a           look at the scan directory: services that are new start
   n           services whose directories are gone leave
   h           a, then n
   t q         end: all services leave, and then svscan ends
+
+limits:
+  At most 63 letters, and 256 services in the tree.
+
 exit status:
   0           all done
-  1           the server refused one: the reason is on standard error
-  100         wrong usage
-  111         no server, or the system refused something
-";
-
-const MKFIFODIR: &str = "usage: s6_tree mkfifodir SOCKET NAME
-
-Makes a free event directory in the tree on SOCKET.
-
-exit status:
-  0           done
-  1           the server refused it: the reason is on standard error
-  100         wrong usage
-  111         no server, or the system refused something
-";
-
-const FTRIG_NOTIFY: &str = "usage: s6_tree ftrig-notify SOCKET TARGET MESSAGE
-
-Sends the letters of MESSAGE to an event directory: NAME is a free one,
-NAME/event is that of a service, which takes none.
-
-exit status:
-  0           done
-  1           the server refused it: the reason is on standard error
-  100         wrong usage
-  111         no server, or the system refused something
-";
-
-const FTRIG_WAIT: &str = "usage: s6_tree ftrig-wait SOCKET TARGET PATTERN
-
-Waits until the letters of an event directory match PATTERN, and prints
-the letter at which they do. NAME is a free directory, NAME/event is that
-of a service.
-
-exit status:
-  0           they match
-  1           refused, or too many letters came
-  100         wrong usage
-  111         no server, or the system refused something
-";
-
-const PERMAFAILON: &str = "usage: s6_tree permafailon SOCKET NAME SECS COUNT LIST
-
-Tells whether at least COUNT of the last deaths of a service are in LIST
-and came no longer than SECS seconds ago.
-
-list, with commas between its items:
-  1  1-5  SEGV  SIGKILL
-exit status:
-  125         it fails for good
-  0           it does not
-  1           the server refused it: the reason is on standard error
+  1           the server refused one: standard error says why
   100         wrong usage
   111         no server, or the system refused something
 ";

@@ -3,6 +3,7 @@ ghost use Rattle.std.specs.Prelude.{◌≡◌, filter};
 ghost use Rattle.s6_tools.specs.Listing.{is_among, is_asked, is_there, are_there};
 
 use crate::list_entry::ListEntry;
+use crate::misuse::Misuse;
 use crate::tool_fault::ToolFault;
 use s6_events::Name;
 use std::alloc::Global;
@@ -40,13 +41,13 @@ impl ListCommand {
             return Ok(());
         }
         if word.starts_with('-') {
-            return Err(ToolFault::Usage);
+            return Err(ToolFault::Usage(Misuse::Unknown));
         }
         self.add_name(word)
     }
 
     fn add_name(&mut self, word: &str) -> Result<(), ToolFault> {
-        let name = Name::new(word.as_bytes()).ok_or(ToolFault::Usage)?;
+        let name = Name::new(word.as_bytes()).ok_or(ToolFault::Usage(Misuse::BadName))?;
         self.names.push(name).map_err(|_| ToolFault::NoMemory)
     }
 }

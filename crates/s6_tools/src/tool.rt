@@ -8,6 +8,7 @@ use crate::follow_tool::{run_follow, run_record};
 use crate::help_texts::help_of;
 use crate::letter_tools::{run_svc, run_svscanctl};
 use crate::list_tool::run_list;
+use crate::misuse::Misuse;
 use crate::status_tools::{run_permafailon, run_svstat};
 use crate::tool_fault::ToolFault;
 use crate::wait_tools::{run_svlisten, run_svwait};
@@ -88,8 +89,8 @@ pub fn tool_named(name: &str) -> Option<Tool> {
     ALL.iter().copied().find(|tool| tool.name() == name)
 }
 
-/// Runs a client: the words are those behind its name, the path of the socket first, or `--help` alone. Answers its exit status. Where
-/// that isn't one of a result, a line on `errors` says why. Each line that it writes is one write.
+/// Runs a client: the words are those behind its name, the path of the socket first, or they ask for help. Answers its exit status. Where
+/// that isn't one of a result, a line on `errors` says why, and a second one what would be right, in one write.
 pub fn run_client<R: Net + Processes + Clock, W: Write, E: Write>(
     rt: &R,
     alloc: Global,
@@ -100,13 +101,23 @@ pub fn run_client<R: Net + Processes + Clock, W: Write, E: Write>(
 ) -> u8 {
     match run(rt, alloc, tool, words, output) {
         Ok(status) => status,
-        Err(fault) => tell_fault(tool, &fault, errors),
+        Err(fault) => {
+            let (socket, further) = match words {
+                [socket, further @ ..] => (*socket, further),
+                [] => ("", words),
+            };
+            tell_fault(tool, socket, further, &fault, errors)
+        }
     }
 }
 
-// Whether the words ask for the help text.
-fn is_help(word: &str, further: &[&str]) -> bool {
-    word == "--help" && further.is_empty()
+// Whether the words ask for the help text. Behind a socket `-h` is a letter.
+fn asks_help(words: &[&str]) -> bool {
+    match words {
+        [word] => matches!(*word, "--help" | "-h"),
+        [_socket, word] => *word == "--help",
+        _ => false,
+    }
 }
 
 fn print_help<W: Write>(tool: Tool, output: &mut W) -> Result<u8, ToolFault> {
@@ -124,12 +135,12 @@ fn run<R: Net + Processes + Clock, W: Write>(
     words: &[&str],
     output: &mut W,
 ) -> Result<u8, ToolFault> {
-    let [socket, words @ ..] = words else {
-        return Err(ToolFault::Usage);
-    };
-    if is_help(socket, words) {
+    if asks_help(words) {
         return print_help(tool, output);
     }
+    let [socket, words @ ..] = words else {
+        return Err(ToolFault::Usage(Misuse::Missing));
+    };
     match tool {
         Tool::Svc => run_svc(rt, alloc, socket, words),
         Tool::Svstat => run_svstat(rt, alloc, socket, words, output),

@@ -2,6 +2,7 @@
 ghost use Rattle.std.specs.Prelude.{◌≡◌};
 ghost use Rattle.s6_tools.specs.Endings.{is_busy};
 
+use crate::misuse::Misuse;
 use crate::reason::Reason;
 use crate::words::is_word;
 use std::alloc::AllocError;
@@ -12,12 +13,18 @@ use svc_commands::UsageFault;
 #[derive(Debug, Drop)]
 pub enum ToolFault {
     /// Its words are not those of the tool. Status 100.
-    Usage,
+    Usage(Misuse),
     /// The server refused the request, for this reason. Status 1; of a wait 111.
     Refused(Reason),
     /// The server had no seat for one more connection, as often as it was tried. Status 111.
     Busy,
-    /// The socket could not be reached, or failed, or the server ended. Status 111.
+    /// There is no server at the path. Status 111.
+    NoServer,
+    /// The socket is another user's. Status 111.
+    Forbidden,
+    /// The path is longer than that of a socket may be. Status 111.
+    LongPath,
+    /// The connection failed, or the server ended, or wrote no line of a server. Status 111.
     Socket,
     /// The program behind `svlisten` could not be started. Status 111.
     Program,
@@ -41,10 +48,19 @@ impl ToolFault {
 }
 
 impl From<UsageFault> for ToolFault {
-    fn from(fault: UsageFault) -> ToolFault {
-        match fault {
+    ghost use Rattle.s6_tools.specs.Endings.{fault_of_usage};
+
+    ghost from_gives = { λ usage fault. fault ≡ fault_of_usage usage };
+
+    fn from(usage: UsageFault) -> ToolFault {
+        match usage {
+            UsageFault::Unknown => ToolFault::Usage(Misuse::Unknown),
+            UsageFault::Missing => ToolFault::Usage(Misuse::Missing),
+            UsageFault::TooMany => ToolFault::Usage(Misuse::TooMany),
+            UsageFault::BadNumber => ToolFault::Usage(Misuse::BadNumber),
+            UsageFault::BadList => ToolFault::Usage(Misuse::BadList),
+            UsageFault::BadName => ToolFault::Usage(Misuse::BadName),
             UsageFault::NoMemory => ToolFault::NoMemory,
-            _ => ToolFault::Usage,
         }
     }
 }
@@ -59,6 +75,9 @@ impl From<io::Error> for ToolFault {
     fn from(error: io::Error) -> ToolFault {
         match error.kind() {
             io::ErrorKind::OutOfMemory => ToolFault::NoMemory,
+            io::ErrorKind::NotFound | io::ErrorKind::ConnectionRefused => ToolFault::NoServer,
+            io::ErrorKind::PermissionDenied => ToolFault::Forbidden,
+            io::ErrorKind::InvalidInput => ToolFault::LongPath,
             _ => ToolFault::Socket,
         }
     }

@@ -4,6 +4,7 @@ ghost use Rattle.s6_tools.specs.Endings.{status_of_outcome};
 
 use crate::answer::{Answer, Outcome};
 use crate::connection::{Connection, ask_once, await_room};
+use crate::misuse::Misuse;
 use crate::patience::Patience;
 use crate::request::wait_request;
 use crate::tool_fault::ToolFault;
@@ -87,7 +88,7 @@ pub fn run_svlisten<R: Net + Processes + Clock>(
 // Starts a program: its name first, then its arguments.
 fn start_program<R: Processes>(rt: &R, alloc: Global, words: &[&str]) -> Result<(), ToolFault> {
     let [name, arguments @ ..] = words else {
-        return Err(ToolFault::Usage);
+        return Err(ToolFault::Usage(Misuse::Missing));
     };
     let mut command = Command::new(alloc, *name)?;
     for argument in arguments {

@@ -24,5 +24,5 @@ fn main(rt: HostRuntime) -> ExitCode {
         Begun::Tree(tree) => tree,
     };
     let done = run_tree(&rt, alloc, lanes, probe, place.options(HANDOVER), &notes);
-    ExitCode::from(end_program(&rt, keeper, &notes, done))
+    ExitCode::from(end_program(&rt, &place, keeper, &notes, done))
 }

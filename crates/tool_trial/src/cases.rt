@@ -13,7 +13,7 @@ use std::rt::Files;
 use std::sync::Wait;
 use std::thread::{self, Scope, Threads};
 use std::time::{Clock, Duration};
-use std::{fs, io};
+use std::{fs, io, str};
 
 /// The words of each case, a line for each; the socket's path stands behind the first.
 const CASES: &str = "svc -o web
@@ -90,11 +90,14 @@ impl Told {
         }
     }
 
-    fn add(&mut self, written: &CountedText) -> io::Result<()> {
+    // The path of the socket is another in each run.
+    fn add(&mut self, alloc: Global, path: &str, written: &CountedText) -> io::Result<()> {
         if !written.is_one_write() {
             self.pieces = self.pieces.saturating_add(1);
         }
-        self.text.extend_from_slice(written.as_slice())?;
+        let text = str::from_utf8(written.as_slice()).unwrap_or("?");
+        let same = text.replace(alloc, path, "SOCKET")?;
+        self.text.extend_from_slice(same.as_bytes())?;
         Ok(())
     }
 }
@@ -218,8 +221,8 @@ fn try_one<R: Net + Processes + Clock>(
     let mut errors = CountedText::new(alloc);
     let status = run_case(rt, alloc, path, case, &mut output, &mut errors)?;
     writeln!(&mut told.text, "{case}: {status}")?;
-    told.add(&output)?;
-    told.add(&errors)
+    told.add(alloc, path, &output)?;
+    told.add(alloc, path, &errors)
 }
 
 // Runs the client of a case. Its status.

@@ -8,9 +8,11 @@ const TABLE: &str = "svc web uO=done\n\n\
 #svc nobody u=refused NoService\n\n\
 #status web=row 1 web true true true false false 7 -1 -1 1 -1\n\n\
 #status nobody=refused NoService\n\n\
-#rows=row 1 web true true true true false 4711 -1 -1 18185 18180\n\
-row 2 database-main false false true true false -1 1 -1 192 192\n\
-row 4 log false true false true false -1 -1 9 3 2\n\n\
+#clock=clock 1795000000000\n\n\
+#states=state ready 1000 row 1 web true true true true false 4711 -1 -1 18185 18180\n\
+state failed 17994000 row 2 database-main false false true true false -1 1 -1 192 192\n\
+state restarting 18183000 row 4 log false true false true false -1 -1 9 3 2\n\
+unread broken NoRun\n\n\
 #wait u a 0 web=wait 1\n\nr 1 held\n\n\
 #wait U a 0 web log=wait 2\n\nr 2 failed\n\n\
 #wait d o 0 web=wait 3\n\nr 3 gone\n\n\

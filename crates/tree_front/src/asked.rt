@@ -1,5 +1,5 @@
 //! Which program a first word names.
-ghost use Rattle.std.specs.Prelude.{◌≡◌, codes, true};
+ghost use Rattle.std.specs.Prelude.{◌≡◌, codes, false, true};
 ghost use Rattle.std.specs.Str.{bytes_eq};
 ghost use Rattle.tree_front.specs.declared.asked.Program.TheVariants as program;
 
@@ -10,10 +10,18 @@ use s6_tools::{Tool, tool_named};
 pub enum Program {
     /// `svscan`.
     Svscan,
+    /// `svcheck`.
+    Svcheck,
     /// A client.
     Client(Tool),
-    /// Whatever else: `replay`, the texts of the program itself, or a strange word.
-    Other,
+    /// `replay`.
+    Replay,
+    /// `--version`.
+    Version,
+    /// `help`, `--help` or `-h`.
+    Help,
+    /// A strange word.
+    Strange,
 }
 
 /// Which program this word names.
@@ -26,6 +34,24 @@ pub fn program_named(word: &str) -> Program
     }
     match tool_named(word) {
         Some(tool) => Program::Client(tool),
-        None => Program::Other,
+        None => other_named(word),
     }
+}
+
+// Which program this word names, which is neither the server nor a client.
+fn other_named(word: &str) -> Program
+    ensures { result ≡ program.Svscan → bytes_eq word.now (codes "svscan") ≡ true }
+{
+    match word {
+        "svcheck" => Program::Svcheck,
+        "replay" => Program::Replay,
+        "--version" => Program::Version,
+        "help" | "--help" | "-h" => Program::Help,
+        _ => Program::Strange,
+    }
+}
+
+/// Whether a word that stands alone behind a program's name asks for its help text.
+pub fn asks_help(word: &str) -> bool {
+    matches!(word, "--help" | "-h")
 }

@@ -1,42 +1,29 @@
-//! What the words ask for: a client that is run here, or a tree or a replay that the program runs.
-use crate::asked::{Program, program_named};
-use crate::help_text::SVSCAN_HELP;
+//! What the words ask for: a client or a check that is run here, or a tree or a replay that the program runs.
+use crate::asked::{Program, asks_help, program_named};
+use crate::check_dir::check_directory;
+use crate::help::{print_help, print_help_of, refuse_tool};
+use crate::help_text::{SVCHECK_HELP, SVSCAN_HELP};
+use crate::place::TreePlace;
+use crate::usage::refuse_words;
 use arrayvec::ArrayVec;
-use s6_tools::run_client;
+use s6_tools::{Misuse, run_client};
 use std::alloc::Global;
 use std::env::Env;
 use std::io::Write;
 use std::net::Net;
 use std::process::Processes;
+use std::rt::Files;
 use std::time::Clock;
 use std::{env, io};
-use tree_server::{ServeOptions, refuse_usage};
 
 /// The status of a program to which the system refused something.
 const SYSTEM_STATUS: u8 = 111;
 
-/// Where a tree is to run.
-#[derive(Drop)]
-pub struct TreePlace {
-    /// The scan directory.
-    pub directory: String,
-    /// The path of the socket.
-    pub socket: String,
-    /// The file in which its runs are recorded, if any.
-    pub record: Option<String>,
-}
+/// The words that `svscan` takes.
+const SVSCAN_FORM: &str = "svscan DIRECTORY SOCKET [RECORD]";
 
-impl TreePlace {
-    /// How a tree here is served, whose next run goes on after so many steps.
-    pub fn options(&self, handover: u64) -> ServeOptions<'_> {
-        ServeOptions {
-            directory: self.directory.as_str(),
-            socket: self.socket.as_str(),
-            record: self.record.as_deref(),
-            handover,
-        }
-    }
-}
+/// The words that `svcheck` takes.
+const SVCHECK_FORM: &str = "svcheck DIRECTORY";
 
 /// What the words ask for.
 #[derive(Drop)]
@@ -49,24 +36,45 @@ pub enum Asked {
     Replay,
 }
 
-/// Does what the command line asks for, with these outputs, but for a tree and a replay, which its caller runs. Where it was not done one
-/// line on `errors` says why. Without memory for its words a replay is done all the same, since it needs none for them.
-pub fn run_words<R: Env + Net + Processes + Clock, W: Write, E: Write>(
+/// Does what the command line asks for, with these outputs, but for a tree and a replay, which its caller runs. Where it was not done a
+/// line on `errors` says why, and a second one what would be right. Without memory for its words a replay is done all the same, since it
+/// needs none for them.
+pub fn run_words<R: Env + Net + Files + Processes + Clock + Copy + Drop, W: Write, E: Write>(
     rt: &R,
     alloc: Global,
     output: &mut W,
     errors: &mut E,
 ) -> Asked {
     let Ok(words) = words_of(rt, alloc) else {
-        return refuse_words(rt, alloc, errors);
+        return refuse_program(rt, alloc, errors);
     };
     match program_of(words.as_slice()) {
-        Program::Other => Asked::Replay,
         Program::Svscan => read_place(words, output, errors),
-        Program::Client(tool) => match borrowed(alloc, words.as_slice()) {
-            Ok(all) => Asked::Done(run_client(rt, alloc, tool, all.as_slice(), output, errors)),
-            Err(_) => Asked::Done(tell_no_memory(tool.name(), errors)),
-        },
+        Program::Replay | Program::Version => Asked::Replay,
+        Program::Strange => {
+            let word = words.get(1).map(|word| word.as_str());
+            Asked::Done(refuse_tool(word, errors))
+        }
+        program => Asked::Done(match borrowed(alloc, words.as_slice()) {
+            Ok(further) => run_program(rt, alloc, program, further.as_slice(), output, errors),
+            Err(_) => tell_no_memory(name_of(program), errors),
+        }),
+    }
+}
+
+// Runs a program that is done here, with the words behind its name.
+fn run_program<R: Env + Net + Files + Processes + Clock + Copy + Drop, W: Write, E: Write>(
+    rt: &R,
+    alloc: Global,
+    program: Program,
+    words: &[&str],
+    output: &mut W,
+    errors: &mut E,
+) -> u8 {
+    match program {
+        Program::Client(tool) => run_client(rt, alloc, tool, words, output, errors),
+        Program::Svcheck => run_check(rt, alloc, words, output, errors),
+        _ => print_help_of(words, output, errors),
     }
 }
 
@@ -80,22 +88,40 @@ fn words_of<R: Env>(rt: &R, alloc: Global) -> io::Result<Vec<String>> {
 }
 
 fn program_of(words: &[String]) -> Program {
-    match words.get(1) {
-        Some(word) => program_named(word.as_str()),
-        None => Program::Other,
+    match words {
+        [_, word] => program_named(word.as_str()),
+        [_, word, ..] => match program_named(word.as_str()) {
+            Program::Version => Program::Strange,
+            program => program,
+        },
+        _ => Program::Strange,
+    }
+}
+
+// The name under which a fault of a program is told.
+fn name_of(program: Program) -> &'static str {
+    match program {
+        Program::Svscan => "svscan",
+        Program::Svcheck => "svcheck",
+        Program::Client(tool) => tool.name(),
+        _ => "s6_tree",
     }
 }
 
 // What comes of words for which there is no memory, by the first of them alone, if there is memory for that.
-fn refuse_words<R: Env, E: Write>(rt: &R, alloc: Global, errors: &mut E) -> Asked {
-    match first_word(rt, alloc) {
-        Ok(Some(word)) => match program_named(word.as_str()) {
-            Program::Other => Asked::Replay,
-            Program::Svscan => Asked::Done(tell_no_memory("svscan", errors)),
-            Program::Client(tool) => Asked::Done(tell_no_memory(tool.name(), errors)),
-        },
-        Ok(None) => Asked::Replay,
-        Err(_) => Asked::Done(tell_no_memory("s6_tree", errors)),
+fn refuse_program<R: Env, E: Write>(rt: &R, alloc: Global, errors: &mut E) -> Asked {
+    let Ok(word) = first_word(rt, alloc) else {
+        return Asked::Done(tell_no_memory("s6_tree", errors));
+    };
+    let Some(word) = word else {
+        return Asked::Replay;
+    };
+    let program = program_named(word.as_str());
+    match program {
+        Program::Svscan | Program::Svcheck | Program::Client(_) => {
+            Asked::Done(tell_no_memory(name_of(program), errors))
+        }
+        _ => Asked::Replay,
     }
 }
 
@@ -113,23 +139,54 @@ fn borrowed(alloc: Global, words: &[String]) -> io::Result<Vec<&str>> {
     Ok(all)
 }
 
-// One write, so that the line is whole.
+// Two lines in one write.
 fn tell_no_memory<E: Write>(program: &str, errors: &mut E) -> u8 {
-    let mut line = ArrayVec::<u8, 64>::new();
-    let _ = line.try_extend_from_slice(program.as_bytes());
-    let _ = line.try_extend_from_slice(b": no memory\n");
-    let _ = errors.write_all(line.as_slice());
+    let mut lines = ArrayVec::<u8, 128>::new();
+    let _ = lines.try_extend_from_slice(program.as_bytes());
+    let _ = lines.try_extend_from_slice(b": no memory\n");
+    let _ = lines.try_extend_from_slice(program.as_bytes());
+    let _ = lines.try_extend_from_slice(b": the system refused memory; try again later\n");
+    let _ = errors.write_all(lines.as_slice());
     SYSTEM_STATUS
+}
+
+// Runs `svcheck` with the words behind it.
+fn run_check<R: Files + Copy + Drop, W: Write, E: Write>(
+    rt: &R,
+    alloc: Global,
+    words: &[&str],
+    output: &mut W,
+    errors: &mut E,
+) -> u8 {
+    match words {
+        [word] if asks_help(word) => print_help("svcheck", SVCHECK_HELP.as_bytes(), output, errors),
+        [directory] => check_directory(rt, alloc, directory, output, errors),
+        [] => refuse_words("svcheck", Misuse::Missing, None, SVCHECK_FORM, errors),
+        [_, word, ..] => refuse_words(
+            "svcheck",
+            Misuse::TooMany,
+            Some(*word),
+            SVCHECK_FORM,
+            errors,
+        ),
+    }
 }
 
 // The words behind `svscan`.
 fn read_place<W: Write, E: Write>(words: Vec<String>, output: &mut W, errors: &mut E) -> Asked {
-    if words.len() == 3 && words.as_slice()[2].as_str() == "--help" {
-        return print_help(output, errors);
+    match words.as_slice() {
+        [_, _, word] if asks_help(word.as_str()) => {
+            return Asked::Done(print_help("svscan", SVSCAN_HELP.as_bytes(), output, errors));
+        }
+        [_, _, _, _, _, word, ..] => {
+            let word = Some(word.as_str());
+            return Asked::Done(refuse_words("svscan", Misuse::TooMany, word, SVSCAN_FORM, errors));
+        }
+        _ => {}
     }
     match place_of(words) {
         Some(place) => Asked::Tree(place),
-        None => Asked::Done(refuse_usage(errors)),
+        None => Asked::Done(refuse_words("svscan", Misuse::Missing, None, SVSCAN_FORM, errors)),
     }
 }
 
@@ -148,12 +205,4 @@ fn place_of(words: Vec<String>) -> Option<TreePlace> {
         }),
         _ => None,
     }
-}
-
-fn print_help<W: Write, E: Write>(output: &mut W, errors: &mut E) -> Asked {
-    if output.write_all(SVSCAN_HELP.as_bytes()).is_ok() && output.flush().is_ok() {
-        return Asked::Done(0);
-    }
-    let _ = errors.write_all(b"svscan: write\n");
-    Asked::Done(SYSTEM_STATUS)
 }

@@ -1,15 +1,30 @@
-//! What `svscan --help` prints.
+//! What `svscan --help` and `svcheck --help` print.
 
 /// What `svscan --help` prints.
 pub const SVSCAN_HELP: &str = "usage: s6_tree svscan DIRECTORY SOCKET [RECORD]
 
 Runs a supervision tree of the service directories in DIRECTORY, and
-serves clients on SOCKET, until a client says `svscanctl -t` and every
-service is gone. A service directory that has a fault is told of on
-standard error. RECORD is made empty, for its owner alone, and each run
-is appended to it at its end, as a script with replies: see `replay
---check`. SOCKET has at most 101 bytes; it is made in SOCKET.new, a
-folder that is gone afterwards.
+serves clients on SOCKET, until a client says svscanctl -t and every
+service is gone. What is wrong with a service directory is told on
+standard error; svcheck tells it before.
+
+RECORD is made empty, for its owner alone, and each run is appended to it
+at its end, as a script with replies: see replay --check. The tool record
+has that done at once.
+
+limits:
+  A tree has at most 256 services. A name has 1 to 64 of A-Z a-z 0-9 . _ -
+  @, and no dot in front: what has one there is passed over. SOCKET has at
+  most 101 bytes: it is made in SOCKET.new, a folder that is gone
+  afterwards. Eleven clients may be connected, and one more is told busy;
+  ten of them may wait. A new run of the same tree goes on after 260,000
+  steps; each is told of on standard error.
+
+environment:
+  Services get that of svscan, and it sets none of its own. They run in
+  their own directories, so a SOCKET that they are to use is absolute.
+
+A signal ends it at once, and its services live on: send none.
 
 exit status, and the line on standard error:
   0           the tree has ended
@@ -30,9 +45,33 @@ exit status, and the line on standard error:
                                    no regular file, or is used by another
                                    server. Services were ended in order
                                    first, in ten seconds at most
+";
 
-A new run of the same tree goes on after 260,000 steps; each is told of
-on standard error.
+/// What `svcheck --help` prints.
+pub const SVCHECK_HELP: &str = "usage: s6_tree svcheck DIRECTORY
 
-A signal ends it at once, and its services live on: send none.
+Reads a scan directory as svscan does, and says of each entry what svscan
+would do. It starts nothing. A name that begins with a dot is passed over.
+
+lines:
+  NAME: supervised, ..          whether it starts at once, on which
+                                descriptor it tells its readiness, and
+                                whether it has a finish
+  NAME: noted FAULT: .., ..     the same, but for this
+  NAME: refused FAULT: ..       it is not supervised
+
+faults:
+  NoRun       there is no file run in its directory
+  NotLongrun  its file type says something else than longrun
+  NotifyFd    its notification-fd names none of 1 and 3 to 9: it runs, and
+              tells no readiness
+  Io          it is no directory, or a file in it can't be read
+  BadName     a name has 1 to 64 of A-Z a-z 0-9 . _ - @, no dot in front
+  full        there are more than 256 services
+
+exit status:
+  0           nothing is refused
+  1           something is
+  100         wrong usage
+  111         DIRECTORY can't be read, or the system refused something
 ";

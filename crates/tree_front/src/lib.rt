@@ -1,11 +1,16 @@
-//! What the words of the program ask for: a tool that is done here, a replay, or a tree that is to run.
+//! What the words of the program ask for: a tool or a check that is done here, a replay, or a tree that is to run.
 #![tactic(auto)]
 
 mod asked;
+mod check_dir;
 mod descriptors;
 mod front;
+mod help;
 mod help_text;
+mod place;
 mod program;
+mod serve_lines;
+mod usage;
 
-pub use front::TreePlace;
+pub use place::TreePlace;
 pub use program::{Begun, BegunTree, Standard, begin_program, end_program};

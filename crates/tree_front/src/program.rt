@@ -1,6 +1,8 @@
 //! The program: what its words ask for is done, but for a tree, which is begun and ended here, and run by its caller.
 use crate::descriptors::open_standard;
-use crate::front::{Asked, TreePlace, run_words};
+use crate::front::{Asked, run_words};
+use crate::place::TreePlace;
+use crate::serve_lines::tell_fault;
 use child_runner::{Keeper, ShellProbe};
 use error_notes::{NoteWriter, Notes, start_notes};
 use replay_tool::run_tool;
@@ -14,7 +16,7 @@ use std::rt::Files;
 use std::sync::{Arc, Wait};
 use std::thread::Threads;
 use std::time::{Clock, Duration};
-use tree_server::{ServeFault, ServiceLanes, open_service_lanes, tell_serve_fault};
+use tree_server::{ServeFault, ServiceLanes, open_service_lanes};
 
 /// How long a program that ends waits for whoever reads its standard error, in milliseconds.
 const LAST_NOTES_WAIT: u64 = 1000;
@@ -38,6 +40,33 @@ pub struct BegunTree<R: Drop> {
     pub keeper: Keeper<R>,
     pub notes: Arc<Notes, Global>,
     pub probe: ShellProbe,
+}
+
+// The same, but for its place.
+#[derive(Drop)]
+struct TreeParts<R: Drop> {
+    lanes: ServiceLanes<R>,
+    keeper: Keeper<R>,
+    notes: Arc<Notes, Global>,
+    probe: ShellProbe,
+}
+
+impl<R: Drop> TreeParts<R> {
+    fn at(self, place: TreePlace) -> BegunTree<R> {
+        let TreeParts {
+            lanes,
+            keeper,
+            notes,
+            probe,
+        } = self;
+        BegunTree {
+            place,
+            lanes,
+            keeper,
+            notes,
+            probe,
+        }
+    }
 }
 
 /// What the words of a command line came to.
@@ -78,10 +107,12 @@ pub fn begin_program<
     match run_words(&rt, alloc, &mut output, &mut errors) {
         Asked::Done(status) => Begun::Done(status),
         Asked::Replay => Begun::Done(run_tool(&rt, alloc, alloc, input, output, &mut errors)),
-        Asked::Tree(place) => match begin_tree(rt, alloc, place, notes_output) {
-            Ok(tree) => Begun::Tree(tree),
-            Err(fault) => Begun::Done(tell_serve_fault(fault, &mut errors)),
-        },
+        Asked::Tree(place) => {
+            match begin_tree(rt, alloc, place.directory.as_str(), notes_output) {
+                Ok(parts) => Begun::Tree(parts.at(place)),
+                Err(fault) => Begun::Done(tell_fault(&rt, fault, &place, &mut errors)),
+            }
+        }
     }
 }
 
@@ -97,7 +128,7 @@ fn begin_tree<
         + Drop
         + 'static,
     N: Write + Send + Drop + 'static,
->(rt: R, alloc: Global, place: TreePlace, notes_output: N) -> Result<BegunTree<R>, ServeFault> {
+>(rt: R, alloc: Global, root: &str, notes_output: N) -> Result<TreeParts<R>, ServeFault> {
     let probe = ShellProbe::start(&rt, alloc);
     let Some(notes) = start_notes(rt, alloc, notes_output) else {
         return Err(ServeFault::Thread);
@@ -105,10 +136,8 @@ fn begin_tree<
     let Ok(keeper) = Keeper::start(rt, alloc) else {
         return Err(ServeFault::Thread);
     };
-    let root = place.directory.as_str();
     match open_service_lanes(rt, alloc, &keeper, root, &notes) {
-        Ok(lanes) => Ok(BegunTree {
-            place,
+        Ok(lanes) => Ok(TreeParts {
             lanes,
             keeper,
             notes,
@@ -121,9 +150,11 @@ fn begin_tree<
     }
 }
 
-/// Ends a tree that was run: kills what still lives of its services, and tells why it did not run to its end. The exit status.
-pub fn end_program<R: Processes + Threads + Wait + Clock + Drop>(
+/// Ends the tree at this place that was run: kills what still lives of its services, and tells why it did not run to its end. The exit
+/// status.
+pub fn end_program<R: Processes + Files + Threads + Wait + Clock + Drop>(
     rt: &R,
+    place: &TreePlace,
     keeper: Keeper<R>,
     notes: &Notes,
     done: Result<(), ServeFault>,
@@ -131,7 +162,7 @@ pub fn end_program<R: Processes + Threads + Wait + Clock + Drop>(
     keeper.end();
     let status = match done {
         Ok(()) => 0,
-        Err(fault) => tell_serve_fault(fault, &mut NoteWriter::new(rt, notes)),
+        Err(fault) => tell_fault(rt, fault, place, &mut NoteWriter::new(rt, notes)),
     };
     notes.close(rt);
     let _ = notes.await_written(rt, Duration::from_millis(LAST_NOTES_WAIT));

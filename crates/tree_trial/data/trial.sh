@@ -37,10 +37,17 @@ write() {
 # The lines that were written, in one line.
 joined() { sed '/^$/d' | paste -s -d ' ' -; }
 
+# The lines that were written, without the line for people behind one that tells of a fault.
+without_hints() {
+    awk -F : 'told != "" && told == $1 { told = ""; next }
+        { told = /^[a-z0-9_-]+: (usage|refused [A-Za-z]+|busy|socket|program|write|no memory|no shell|directory|record|thread|clock)$/ ? $1 : "" }
+        1'
+}
+
 # Runs a command: its status, and what it wrote.
 outcome() {
     written=$("$@" </dev/null 2>&1)
-    printf '%s\n' $? "$written" | joined
+    printf '%s\n' $? "$written" | without_hints | joined
 }
 
 # The words of a client, the socket's path behind the first.
@@ -166,6 +173,6 @@ ask() {
     soon has_replies "$1" 1
 }
 
-for part in lives connections crowd endings handovers starts records scans waiting looking; do
+for part in lives connections crowd endings handovers starts records scans waiting looking usage; do
     . "$scripts/$part.sh"
 done

@@ -49,5 +49,5 @@ fn main(rt: HostRuntime) -> ExitCode {
         place.options(handover(&(&rt, alloc))),
         &notes,
     );
-    ExitCode::from(end_program(&rt, keeper, &notes, done))
+    ExitCode::from(end_program(&rt, &place, keeper, &notes, done))
 }

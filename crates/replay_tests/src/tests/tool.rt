@@ -322,19 +322,23 @@ fn a_flush_that_fails_is_told(rt: HostRuntime) {
 }
 
 const HELP: &str = "usage: s6_tree TOOL ..
-       s6_tree --help | --version
+       s6_tree help [TOOL]
        s6_tree TOOL --help
+       s6_tree --help | --version
 
 The programs of a proved s6 supervision tree.
 
 tools:
   svscan        run a supervision tree, and serve its clients
+  svcheck       say what svscan would do with a scan directory
   svc           send letters to a service
-  svstat        print the status of a service
+  svstat        print fields of the status of a service
   list          print the state of all services
+  follow        print what happens to services, as it happens
   svwait        wait for services
   svlisten      wait for services, with a program started meanwhile
   svscanctl     tell the tree to scan or to end
+  record        have the record of the tree written up to now
   mkfifodir     make an event directory
   ftrig-notify  send letters to an event directory
   ftrig-wait    wait for letters of an event directory
@@ -342,14 +346,27 @@ tools:
   replay        read a script of inputs, write what the tree answers
 
 options:
-  --help        print this text
+  -h, --help    print this text; behind a TOOL, that of the tool
   --version     print the version
 
 exit status:
-  0             done
-  1             a client was refused, or what it asked for isn't so
-  100           wrong usage, or the input is no script
-  111           the system refused something, or no server answers
+  0             done; of a wait: held; of permafailon: it doesn't fail for
+                good; of svcheck: nothing is refused
+  1             refused by the server; of a wait: failed for good; of
+                ftrig-wait also: the text got too long; of list also: a
+                name is of no service; of replay --check: a reply differs;
+                of svcheck: something is refused
+  2             of a wait: gone, the supervisor of a service has ended
+  99            of a wait: timed out, also where the server was busy all
+                the time
+  100           the words are not those of the tool; of replay also: the
+                input is no script
+  111           the server can't be reached or has no seat, or the system
+                refused something; of a wait also: refused by the server
+  125           of permafailon: it fails for good
+At 100 and 111, and where the server refused something, standard error
+has two lines: one for programs, which stays as it is, and one for
+people; of replay one.
 ";
 
 const REPLAY_HELP: &str = "usage: s6_tree replay < SCRIPT

@@ -1,4 +1,4 @@
-use Rattle.std.proofs.Common.{rules, ◌∙◌, ◌+◌, ◌-◌, ◌≡◌, length, drop, take, sym, ap, arith}
+use Rattle.std.proofs.Common.{◌∙◌, ◌+◌, sym, ap, arith}
 use Rattle.std.proofs.lemmas.List.{take_all, length-drop}
 use Rattle.s6_tools.specs.ListEntries.{behind_at}
 use Rattle.s6_tools.proofs.list_entry.behind_word.Goals as goal

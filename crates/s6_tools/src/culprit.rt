@@ -1,0 +1,261 @@
+//! Which word of a command line is the wrong one.
+ghost use Rattle.std.specs.Prelude.{◌≡◌, ◌<◌, ◌≤◌, IfSome, codes, length, map, option_map, position, slice_get};
+ghost use Rattle.std.specs.List.{find};
+ghost use Rattle.std.specs.Str.{bytes_eq};
+ghost use Rattle.s6_tools.specs.Culprits.{is_wrong, behind, before_dashes, own_words, seen_by, strange_of, spare_of, excess_of, number_clues, list_clues, name_clues, clues_of, seen_by_either, culprit_of, subject_clues, subject_of, program_of};
+
+use crate::misuse::Misuse;
+use crate::tool::Tool;
+use crate::wrong_word::{Wrong, is_wrong};
+
+/// Where a wrong word may stand.
+#[derive(Clone, Copy, Debug, PartialEq, Eq)]
+enum Clue {
+    /// Nowhere: no word is wrong, or it isn't known which.
+    Nowhere,
+    /// At this place.
+    At(usize),
+    /// At this place, if it is so.
+    AtIf(usize, Wrong),
+    /// Behind the first that is so.
+    Behind(Wrong),
+    /// The first that is so.
+    First(Wrong),
+    /// The second that is so.
+    Second(Wrong),
+    /// The only one that is so.
+    Only(Wrong),
+}
+
+// The word at a place.
+fn word_at<'a>(words: &'a [&'a str], place: usize) -> Option<&'a str>
+    ensures { option_map (λ w. w.now) result ≡ slice_get (map (λ w. w.now) words.entry.now) place }
+{
+    words.get(place).copied()
+}
+
+// The first word that is so.
+fn first_wrong<'a>(words: &'a [&'a str], wrong: Wrong) -> Option<&'a str>
+    ensures { option_map (λ w. w.now) result ≡ find (is_wrong wrong) (map (λ w. w.now) words.entry.now) }
+{
+    words
+        .iter()
+        .copied()
+        .find(|word| is_wrong(wrong, word.as_bytes()))
+}
+
+// The place of the first word that is so.
+fn place_of(words: &[&str], wrong: Wrong) -> Option<usize>
+    ensures place { result ≡ position (λ w. is_wrong wrong w.now) words.now }
+    ensures bound { IfSome result (λ place. place < length words.now) }
+{
+    words
+        .iter()
+        .position(|word| is_wrong(wrong, word.as_bytes()))
+}
+
+// The words behind the first that is so; none where there is none.
+fn words_behind<'a>(words: &'a [&'a str], wrong: Wrong) -> &'a [&'a str]
+    ensures { map (λ w. w.now) result.now ≡ behind wrong (map (λ w. w.now) words.entry.now) }
+{
+    match place_of(words, wrong) {
+        Some(place) => &words[place + 1..],
+        None => &[],
+    }
+}
+
+// The word at a place, if it is so.
+fn word_at_if<'a>(words: &'a [&'a str], place: usize, wrong: Wrong) -> Option<&'a str>
+    ensures { option_map (λ w. w.now) result ≡ seen_by (Clue.AtIf place wrong) (map (λ w. w.now) words.entry.now) }
+{
+    let word = word_at(words, place)?;
+    if is_wrong(wrong, word.as_bytes()) {
+        Some(word)
+    } else {
+        None
+    }
+}
+
+// The only word that is so.
+fn only_wrong<'a>(words: &'a [&'a str], wrong: Wrong) -> Option<&'a str>
+    ensures { option_map (λ w. w.now) result ≡ seen_by (Clue.Only wrong) (map (λ w. w.now) words.entry.now) }
+{
+    match first_wrong(words_behind(words, wrong), wrong) {
+        Some(_) => None,
+        None => first_wrong(words, wrong),
+    }
+}
+
+// The word that a clue leads to.
+fn seen_by<'a>(clue: Clue, words: &'a [&'a str]) -> Option<&'a str>
+    ensures { option_map (λ w. w.now) result ≡ seen_by clue (map (λ w. w.now) words.entry.now) }
+{
+    match clue {
+        Clue::Nowhere => None,
+        Clue::At(place) => word_at(words, place),
+        Clue::AtIf(place, wrong) => word_at_if(words, place, wrong),
+        Clue::Behind(wrong) => word_at(words_behind(words, wrong), 0),
+        Clue::First(wrong) => first_wrong(words, wrong),
+        Clue::Second(wrong) => first_wrong(words_behind(words, wrong), wrong),
+        Clue::Only(wrong) => only_wrong(words, wrong),
+    }
+}
+
+fn strange_of(tool: Tool) -> Wrong
+    ensures { result ≡ strange_of tool }
+{
+    match tool {
+        Tool::List | Tool::Follow => Wrong::StrangeOption,
+        _ => Wrong::Strange(tool),
+    }
+}
+
+// What else is not taken: a dash alone, or a word too many.
+fn spare_of(tool: Tool) -> Clue
+    ensures { result ≡ spare_of tool }
+{
+    match tool {
+        Tool::Svc | Tool::Svscanctl => Clue::First(Wrong::Dash),
+        Tool::Svstat => Clue::At(3),
+        Tool::Permafailon => Clue::At(4),
+        _ => Clue::Nowhere,
+    }
+}
+
+fn excess_of(tool: Tool) -> (Clue, Clue)
+    ensures { result ≡ excess_of tool }
+{
+    match tool {
+        Tool::Svc => (Clue::Second(Wrong::Plain), Clue::Nowhere),
+        Tool::Svscanctl => (Clue::First(Wrong::Plain), Clue::Nowhere),
+        Tool::Svwait | Tool::Svlisten => {
+            (Clue::Second(Wrong::Condition), Clue::Second(Wrong::Mode))
+        }
+        Tool::Record => (Clue::At(0), Clue::Nowhere),
+        Tool::Mkfifodir => (Clue::At(1), Clue::Nowhere),
+        _ => (Clue::At(2), Clue::Nowhere),
+    }
+}
+
+fn number_clues(tool: Tool) -> (Clue, Clue)
+    ensures { result ≡ number_clues tool }
+{
+    match tool {
+        Tool::Permafailon => (Clue::AtIf(1, Wrong::NoNumber), Clue::At(2)),
+        _ => (
+            Clue::Behind(Wrong::Ended(b't')),
+            Clue::First(Wrong::Valued(b't')),
+        ),
+    }
+}
+
+fn list_clues(tool: Tool) -> (Clue, Clue)
+    ensures { result ≡ list_clues tool }
+{
+    match tool {
+        Tool::Permafailon => (Clue::At(3), Clue::Nowhere),
+        _ => (
+            Clue::Behind(Wrong::Ended(b'o')),
+            Clue::First(Wrong::Valued(b'o')),
+        ),
+    }
+}
+
+fn name_clues(tool: Tool) -> (Clue, Clue)
+    ensures { result ≡ name_clues tool }
+{
+    match tool {
+        Tool::Svstat => (Clue::First(Wrong::NoSingleName), Clue::Nowhere),
+        Tool::Permafailon | Tool::Mkfifodir | Tool::FtrigNotify | Tool::FtrigWait => {
+            (Clue::At(0), Clue::Nowhere)
+        }
+        _ => (Clue::First(Wrong::NoName), Clue::Nowhere),
+    }
+}
+
+// Where to look for the wrong word, and where else.
+fn clues_of(tool: Tool, misuse: Misuse) -> (Clue, Clue)
+    ensures { result ≡ clues_of tool misuse }
+{
+    match misuse {
+        Misuse::Missing => (Clue::Nowhere, Clue::Nowhere),
+        Misuse::Unknown => (Clue::First(strange_of(tool)), spare_of(tool)),
+        Misuse::TooMany => excess_of(tool),
+        Misuse::BadNumber => number_clues(tool),
+        Misuse::BadList => list_clues(tool),
+        Misuse::BadName => name_clues(tool),
+        Misuse::BadMessage | Misuse::BadPattern => (Clue::At(1), Clue::Nowhere),
+    }
+}
+
+fn dashes_in(words: &[&str]) -> Option<usize>
+    ensures place { result ≡ position (λ w. bytes_eq w.now (codes "--")) words.now }
+    ensures bound { IfSome result (λ place. place < length words.now) }
+{
+    words.iter().position(|word| *word == "--")
+}
+
+// The words before the first `--`.
+fn before_dashes<'a>(words: &'a [&'a str]) -> &'a [&'a str]
+    ensures { map (λ w. w.now) result.now ≡ before_dashes (map (λ w. w.now) words.entry.now) }
+{
+    match dashes_in(words) {
+        Some(place) => &words[..place],
+        None => words,
+    }
+}
+
+// The words of the tool itself: of `svlisten` those before the first `--`.
+fn own_words<'a>(tool: Tool, words: &'a [&'a str]) -> &'a [&'a str]
+    ensures { map (λ w. w.now) result.now ≡ own_words tool (map (λ w. w.now) words.entry.now) }
+{
+    match tool {
+        Tool::Svlisten => before_dashes(words),
+        _ => words,
+    }
+}
+
+// The first of two clues that leads to a word.
+fn seen_by_either<'a>(clues: (Clue, Clue), words: &'a [&'a str]) -> Option<&'a str>
+    ensures { option_map (λ w. w.now) result ≡ seen_by_either clues (map (λ w. w.now) words.entry.now) }
+{
+    match seen_by(clues.0, words) {
+        Some(word) => Some(word),
+        None => seen_by(clues.1, words),
+    }
+}
+
+/// The wrong word, where it is known which.
+pub fn culprit_of<'a>(tool: Tool, misuse: Misuse, words: &'a [&'a str]) -> Option<&'a str>
+    ensures { option_map (λ w. w.now) result ≡ culprit_of tool misuse (map (λ w. w.now) words.entry.now) }
+{
+    seen_by_either(clues_of(tool, misuse), own_words(tool, words))
+}
+
+fn subject_clues(tool: Tool) -> (Clue, Clue)
+    ensures { result ≡ subject_clues tool }
+{
+    match tool {
+        Tool::Svc => (Clue::First(Wrong::Plain), Clue::Nowhere),
+        Tool::Svstat => (Clue::AtIf(0, Wrong::Plain), Clue::At(2)),
+        Tool::Svscanctl | Tool::Record => (Clue::Nowhere, Clue::Nowhere),
+        Tool::Svwait | Tool::Svlisten | Tool::List | Tool::Follow => {
+            (Clue::Only(Wrong::Plain), Clue::Nowhere)
+        }
+        _ => (Clue::At(0), Clue::Nowhere),
+    }
+}
+
+/// The word that says of what a tool asks, where it is known which.
+pub fn subject_of<'a>(tool: Tool, words: &'a [&'a str]) -> Option<&'a str>
+    ensures { option_map (λ w. w.now) result ≡ subject_of tool (map (λ w. w.now) words.entry.now) }
+{
+    seen_by_either(subject_clues(tool), own_words(tool, words))
+}
+
+/// The program of `svlisten`: the word behind the first `--`.
+pub fn program_of<'a>(words: &'a [&'a str]) -> Option<&'a str>
+    ensures { option_map (λ w. w.now) result ≡ program_of (map (λ w. w.now) words.entry.now) }
+{
+    seen_by(Clue::Behind(Wrong::Dashes), words)
+}

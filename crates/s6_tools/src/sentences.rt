@@ -1,0 +1,205 @@
+//! What is said of a fault, and what would be right.
+ghost use Rattle.std.specs.Prelude.{◌≡◌, option_map};
+ghost use Rattle.s6_tools.specs.Sentences.{complaint_of, number_complaint, list_complaint, name_complaint, form_of, list_form, name_form, right_of, refusal_of_subject, refusal_of_tree};
+ghost use Rattle.s6_tools.specs.Sentences.{cause_before, cause_behind, help_words, see_words};
+
+use crate::misuse::Misuse;
+use crate::tool::Tool;
+use crate::tool_fault::ToolFault;
+use crate::words::is_word;
+
+fn number_complaint(tool: Tool) -> &'static str
+    ensures { result.now ≡ number_complaint tool }
+{
+    match tool {
+        Tool::Permafailon => " is no number",
+        _ => " is no number of milliseconds",
+    }
+}
+
+fn list_complaint(tool: Tool) -> &'static str
+    ensures { result.now ≡ list_complaint tool }
+{
+    match tool {
+        Tool::Permafailon => " is no list of exits",
+        _ => " is no list of fields",
+    }
+}
+
+fn name_complaint(tool: Tool) -> &'static str
+    ensures { result.now ≡ name_complaint tool }
+{
+    match tool {
+        Tool::FtrigNotify | Tool::FtrigWait => " is no event directory",
+        _ => " is no name",
+    }
+}
+
+/// What is wrong with a word.
+pub fn complaint_of(tool: Tool, misuse: Misuse) -> &'static str
+    ensures { result.now ≡ complaint_of tool misuse }
+{
+    match misuse {
+        Misuse::Unknown => " is not taken",
+        Misuse::Missing => " is missing",
+        Misuse::TooMany => " is one too many",
+        Misuse::BadNumber => number_complaint(tool),
+        Misuse::BadList => list_complaint(tool),
+        Misuse::BadName => name_complaint(tool),
+        Misuse::BadMessage => " is no message",
+        Misuse::BadPattern => " is no pattern",
+    }
+}
+
+// The words that a tool takes.
+fn form_of(tool: Tool) -> &'static str
+    ensures { result.now ≡ form_of tool }
+{
+    match tool {
+        Tool::Svc => "svc SOCKET -LETTERS.. NAME, at most 63 letters",
+        Tool::Svstat => "svstat SOCKET -o FIELDS NAME",
+        Tool::List => "list SOCKET [--json] [--] [NAME..]",
+        Tool::Follow => "follow SOCKET [--json] [--] [NAME..]",
+        Tool::Record => "record SOCKET",
+        Tool::Svwait => {
+            "svwait SOCKET [-u | -U | -d | -D] [-a | -o] [-t MS] NAME.., at most 16 names"
+        }
+        Tool::Svlisten => {
+            "svlisten SOCKET [-u | -U | -d | -D | -r | -R] [-a | -o] [-t MS] NAME.. -- PROGRAM.., at most 16 names"
+        }
+        Tool::Svscanctl => "svscanctl SOCKET -LETTERS.., at most 63 letters",
+        Tool::Mkfifodir => "mkfifodir SOCKET NAME",
+        Tool::FtrigNotify => "ftrig-notify SOCKET TARGET MESSAGE",
+        Tool::FtrigWait => "ftrig-wait SOCKET TARGET PATTERN",
+        Tool::Permafailon => "permafailon SOCKET NAME SECS COUNT LIST",
+    }
+}
+
+fn list_form(tool: Tool) -> &'static str
+    ensures { result.now ≡ list_form tool }
+{
+    match tool {
+        Tool::Permafailon => "at most 32 of 1, 1-5, SEGV and the like, with one comma between two",
+        _ => {
+            "up, wantedup, normallyup, ready, paused, pid, exitcode, signum, updownfor, readyfor, with one comma between two"
+        }
+    }
+}
+
+fn name_form(tool: Tool) -> &'static str
+    ensures { result.now ≡ name_form tool }
+{
+    match tool {
+        Tool::FtrigNotify | Tool::FtrigWait => "NAME for a free one, NAME/event for a service's",
+        _ => "1 to 64 of A-Z a-z 0-9 . _ - @, with no dot in front",
+    }
+}
+
+/// What would be right.
+pub fn right_of(tool: Tool, misuse: Misuse) -> &'static str
+    ensures { result.now ≡ right_of tool misuse }
+{
+    match misuse {
+        Misuse::Unknown | Misuse::Missing | Misuse::TooMany => form_of(tool),
+        Misuse::BadNumber => "digits, at most 4294967295",
+        Misuse::BadList => list_form(tool),
+        Misuse::BadName => name_form(tool),
+        Misuse::BadMessage => "1 to 64 printable bytes, none of them a space",
+        Misuse::BadPattern => {
+            "1 to 256 printable bytes, a regular expression of Rust's regex that is not too large"
+        }
+    }
+}
+
+/// What a reason says of the word that the request names; None where it says nothing of a word.
+pub fn refusal_of_subject(reason: &[u8]) -> Option<&'static str>
+    ensures { option_map (λ text. text.now) result ≡ refusal_of_subject reason.now }
+{
+    if is_word(reason, b"NoService") {
+        Some(" is no service of this tree; see s6_tree list SOCKET")
+    } else if is_word(reason, b"NoSuch") {
+        Some(" is no free event directory of this tree; see s6_tree mkfifodir --help")
+    } else if is_word(reason, b"Exists") {
+        Some(" is there already")
+    } else if is_word(reason, b"Reserved") {
+        Some(" belongs to a service, and takes no letters of others")
+    } else if is_word(reason, b"Ended") {
+        Some(" takes no letters any more: its supervisor has ended")
+    } else {
+        None
+    }
+}
+
+/// What any other reason says.
+pub fn refusal_of_tree(reason: &[u8]) -> &'static str
+    ensures { result.now ≡ refusal_of_tree reason.now }
+{
+    if is_word(reason, b"Repeated") {
+        "a name stands twice: leave one out"
+    } else if is_word(reason, b"TooMany") {
+        "the tree has no room for it: it keeps 1,024 waiters, 256 subscriptions and 256 free event directories"
+    } else if is_word(reason, b"Busy") {
+        "too many wait at once, and the last seat is kept for short requests; try again later"
+    } else if is_word(reason, b"Pattern") {
+        "the pattern is none, or too large; see s6_tree ftrig-wait --help"
+    } else if is_word(reason, b"Line") {
+        "the server doesn't know this request: it may be of another version"
+    } else if is_word(reason, b"Directory") {
+        "svscan can't read its directory, or there is too much in it; its standard error says more"
+    } else if is_word(reason, b"Full") {
+        "scans are asked for too often; try again later"
+    } else if is_word(reason, b"Closing") {
+        "the tree is ending"
+    } else if is_word(reason, b"Record") {
+        "svscan was started without RECORD"
+    } else if is_word(reason, b"NoMemory") {
+        "the server has no memory for it; try again later"
+    } else {
+        "see docs/SCRIPT.md"
+    }
+}
+
+/// Where to read on, in front of the name of a tool.
+#[tactic(auto, unfolding(crate::specs::Sentences::see_words))]
+pub fn see_words() -> &'static str
+    ensures { result.now ≡ see_words }
+{
+    "; see s6_tree "
+}
+
+/// The same, behind it.
+#[tactic(auto, unfolding(crate::specs::Sentences::help_words))]
+pub fn help_words() -> &'static str
+    ensures { result.now ≡ help_words }
+{
+    " --help"
+}
+
+/// What the system or the server was asked for in vain, up to the word that it is about.
+pub fn cause_before(fault: &ToolFault) -> &'static str
+    ensures { result.now ≡ cause_before fault.now }
+{
+    match fault {
+        ToolFault::NoServer => "no server at ",
+        ToolFault::Forbidden => "no permission for ",
+        ToolFault::Socket => "the server at ",
+        ToolFault::LongPath => "path is longer than 107 bytes",
+        ToolFault::Busy => "no seat was free in ten seconds; try again later",
+        ToolFault::Write => "standard output took nothing: is it closed, or its disk full?",
+        ToolFault::Program => "",
+        _ => "the system refused memory; try again later",
+    }
+}
+
+/// The same, behind that word.
+pub fn cause_behind(fault: &ToolFault) -> &'static str
+    ensures { result.now ≡ cause_behind fault.now }
+{
+    match fault {
+        ToolFault::NoServer => " (is svscan running?)",
+        ToolFault::Forbidden => " (it is its owner's)",
+        ToolFault::Socket => " ended the connection, or answered strangely",
+        ToolFault::Program => " can't be started: is it there, and executable?",
+        _ => "",
+    }
+}

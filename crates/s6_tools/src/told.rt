@@ -1,0 +1,70 @@
+//! What is told of a fault, and the words in it.
+ghost use Rattle.std.specs.Prelude.{◌≡◌, ◌++◌, ◌<◌, OnOk, option_map, take};
+ghost use Rattle.std.specs.List.{flat_map};
+ghost use Rattle.s6_tools.specs.Told.{hex_digit, escaped_byte, escaped, named};
+
+use arrayvec::{ArrayVec, CapacityError};
+
+/// How many bytes of a word are told.
+const TOLD_BYTES: usize = 64;
+
+/// What is told of a fault, so that it takes no memory. The longest has some 700 bytes.
+pub type Told = ArrayVec<u8, 1024>;
+
+/// Adds a word between quotes, or what stands for it.
+pub fn add_named(told: &mut Told, unknown: &[u8], word: Option<&str>) -> Result<(), CapacityError>
+    ensures { OnOk result (told.new.items
+        ≡ told.old.items ++ named unknown.now (option_map (λ w. w.now) word.entry)) }
+{
+    match word {
+        Some(word) => {
+            told.try_extend_from_slice(b"'")?;
+            add_escaped(told, TOLD_BYTES, word.as_bytes())?;
+            told.try_extend_from_slice(b"'")
+        }
+        None => told.try_extend_from_slice(unknown),
+    }
+}
+
+// The first bytes of a word, at most so many.
+fn first_bytes(most: usize, bytes: &[u8]) -> &[u8]
+    ensures { result.now ≡ take most bytes.entry.now }
+{
+    match bytes.get(..most) {
+        Some(first) => first,
+        None => bytes,
+    }
+}
+
+/// Adds the first bytes of a word, at most so many. What isn't printable is escaped.
+pub fn add_escaped(told: &mut Told, most: usize, bytes: &[u8]) -> Result<(), CapacityError>
+    ensures { OnOk result (told.new.items ≡ told.old.items ++ escaped most bytes.now) }
+{
+    let first = first_bytes(most, bytes);
+    add_escaped_bytes(told, first)
+}
+
+fn add_escaped_bytes(told: &mut Told, bytes: &[u8]) -> Result<(), CapacityError>
+    ensures { OnOk result (told.new.items ≡ told.old.items ++ flat_map escaped_byte bytes.now) }
+{
+    for byte in bytes {
+        add_escaped_byte(told, *byte)?;
+    }
+    Ok(())
+}
+
+fn hex_digit(digit: u8) -> u8
+    requires { digit < 16 }
+    ensures { result ≡ hex_digit digit }
+{
+    if digit < 10 { b'0' + digit } else { 87 + digit }
+}
+
+fn add_escaped_byte(told: &mut Told, byte: u8) -> Result<(), CapacityError>
+    ensures { OnOk result (told.new.items ≡ told.old.items ++ escaped_byte byte) }
+{
+    if matches!(byte, 32..=126) {
+        return told.try_extend_from_slice(&[byte]);
+    }
+    told.try_extend_from_slice(&[b'\\', b'x', hex_digit(byte / 16), hex_digit(byte % 16)])
+}

@@ -1,0 +1,151 @@
+//! What a wrong word of a command line may be.
+ghost use Rattle.std.specs.Prelude.{◌≡◌, ◌==◌};
+ghost use Rattle.std.specs.List.{list_any};
+ghost use Rattle.s6_tools.specs.Culprits.{letters_of, valued_of, is_dashed, has_strange_letter, is_strange, is_list_option, is_no_name, is_condition, is_mode, is_ended, is_valued, is_wrong};
+
+use crate::tool::Tool;
+use crate::words::is_word;
+use s6_events::Name;
+use servicedir::parse_number;
+
+/// What a wrong word may be.
+#[derive(Clone, Copy, Debug, PartialEq, Eq)]
+pub enum Wrong {
+    /// An option, or a run of letters, with one that the tool hasn't.
+    Strange(Tool),
+    /// A dash alone.
+    Dash,
+    /// Two dashes alone.
+    Dashes,
+    /// An option that isn't that of `list`.
+    StrangeOption,
+    /// No option.
+    Plain,
+    /// No option, and no name.
+    NoName,
+    /// No option, no name, and no list.
+    NoSingleName,
+    /// No number.
+    NoNumber,
+    /// A condition of a wait.
+    Condition,
+    /// A mode of a wait.
+    Mode,
+    /// An option that ends with this letter.
+    Ended(u8),
+    /// An option of this letter, with its value.
+    Valued(u8),
+}
+
+// The letters that a tool has behind a dash.
+fn letters_of(tool: Tool) -> &'static [u8]
+    ensures { result.now ≡ letters_of tool }
+{
+    match tool {
+        Tool::Svc => b"abqhkti12pcyudoOrx",
+        Tool::Svscanctl => b"anhtq",
+        Tool::Svwait => b"uUdDaot",
+        Tool::Svlisten => b"uUdDrRaot",
+        Tool::Svstat => b"o",
+        _ => b"",
+    }
+}
+
+// The letter of the option that has a value; a space where there is none.
+fn valued_of(tool: Tool) -> u8
+    ensures { result ≡ valued_of tool }
+{
+    match tool {
+        Tool::Svwait | Tool::Svlisten => b't',
+        Tool::Svstat => b'o',
+        _ => b' ',
+    }
+}
+
+fn is_dashed(word: &[u8]) -> bool
+    ensures { result ≡ is_dashed word.now }
+{
+    word.first() == Some(&b'-')
+}
+
+fn is_letter(letters: &[u8], byte: u8) -> bool
+    ensures { result ≡ list_any (λ l. l == byte) letters.now }
+{
+    letters.iter().any(|letter| *letter == byte)
+}
+
+// Whether a letter behind the dash, before the value, is none of the tool.
+fn has_strange_letter(letters: &[u8], valued: u8, word: &[u8]) -> bool
+    ensures { result ≡ has_strange_letter letters.now valued word.now }
+{
+    word.iter()
+        .skip(1)
+        .take_while(|byte| **byte != valued)
+        .any(|byte| !is_letter(letters, *byte))
+}
+
+fn is_strange(tool: Tool, word: &[u8]) -> bool
+    ensures { result ≡ is_strange tool word.now }
+{
+    is_dashed(word)
+        && !is_word(word, b"--")
+        && has_strange_letter(letters_of(tool), valued_of(tool), word)
+}
+
+fn is_list_option(word: &[u8]) -> bool
+    ensures { result ≡ is_list_option word.now }
+{
+    is_word(word, b"--") || is_word(word, b"--json")
+}
+
+fn is_no_name(word: &[u8]) -> bool
+    ensures { result ≡ is_no_name word.now }
+{
+    !is_dashed(word) && Name::new(word).is_none()
+}
+
+fn is_condition(word: &[u8]) -> bool
+    ensures { result ≡ is_condition word.now }
+{
+    word.len() == 2 && is_dashed(word) && is_letter(b"uUdDrR", word[1])
+}
+
+fn is_mode(word: &[u8]) -> bool
+    ensures { result ≡ is_mode word.now }
+{
+    is_word(word, b"-a") || is_word(word, b"-o")
+}
+
+// Whether a word is the option of this letter with its value.
+fn is_valued(letter: u8, word: &[u8]) -> bool
+    ensures { result ≡ is_valued letter word.now }
+{
+    is_dashed(word) && word.get(1) == Some(&letter)
+}
+
+// Whether a word is an option that ends with this letter.
+fn is_ended(letter: u8, word: &[u8]) -> bool
+    ensures { result ≡ is_ended letter word.now }
+{
+    is_dashed(word) && word.last() == Some(&letter)
+}
+
+/// Whether a word is so.
+pub fn is_wrong(wrong: Wrong, word: &[u8]) -> bool
+    ensures { result ≡ is_wrong wrong word.now }
+{
+    match wrong {
+        Wrong::Strange(tool) => is_strange(tool, word),
+        Wrong::Dash => is_word(word, b"-"),
+        Wrong::Dashes => is_word(word, b"--"),
+        Wrong::StrangeOption => is_dashed(word) && !is_list_option(word),
+        Wrong::Plain => !is_dashed(word),
+        Wrong::NoName => is_no_name(word),
+        Wrong::NoSingleName => is_no_name(word) && !is_letter(word, b','),
+        Wrong::NoNumber => parse_number(word).is_none(),
+        Wrong::Condition => is_condition(word),
+        Wrong::Mode => is_mode(word),
+        Wrong::Ended(letter) => is_ended(letter, word),
+        Wrong::Valued(letter) => is_valued(letter, word),
+    }
+}

@@ -1,0 +1,55 @@
+//! What is said of a service.
+ghost use Rattle.std.specs.Prelude.{◌≡◌};
+ghost use Rattle.svcheck.specs.Sentences.{fault_word, fault_sentence, start_words, finish_words};
+
+use servicedir::DirFault;
+
+/// The word of a fault, as svscan tells it.
+pub fn fault_word(fault: DirFault) -> &'static str
+    ensures { result.now ≡ fault_word fault }
+{
+    match fault {
+        DirFault::NoRun => "NoRun",
+        DirFault::NotLongrun => "NotLongrun",
+        DirFault::NotifyFd => "NotifyFd",
+        DirFault::Io => "Io",
+        DirFault::BadName => "BadName",
+        DirFault::NoMemory => "NoMemory",
+    }
+}
+
+/// What a fault says.
+pub fn fault_sentence(fault: DirFault) -> &'static str
+    ensures { result.now ≡ fault_sentence fault }
+{
+    match fault {
+        DirFault::NoRun => "there is no file run in its directory",
+        DirFault::NotLongrun => "its file type says something else than longrun",
+        DirFault::NotifyFd => "its notification-fd names none of 1 and 3 to 9",
+        DirFault::Io => "it is no directory, or a file in it can't be read",
+        DirFault::BadName => "a name has 1 to 64 of A-Z a-z 0-9 . _ - @, and no dot in front",
+        DirFault::NoMemory => "the system refused memory",
+    }
+}
+
+/// Whether a service starts.
+pub fn start_words(down: bool) -> &'static str
+    ensures { result.now ≡ start_words down }
+{
+    if down {
+        ", down until it is told to start"
+    } else {
+        ", starts at once"
+    }
+}
+
+/// Whether there is a `finish`.
+pub fn finish_words(finish: bool) -> &'static str
+    ensures { result.now ≡ finish_words finish }
+{
+    if finish {
+        ", has a finish"
+    } else {
+        ", has no finish"
+    }
+}

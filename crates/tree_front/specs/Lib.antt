@@ -1,0 +1,2 @@
+pub mod ServeLines
+pub mod Usage

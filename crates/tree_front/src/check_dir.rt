@@ -1,0 +1,100 @@
+//! `svcheck`: what svscan would do with each entry of a scan directory. It starts nothing.
+use s6_tools::{Told, add_escaped};
+use server_rules::{Found, read_listing};
+use std::alloc::{AllocError, Global};
+use std::io::{self, Write};
+use std::rt::Files;
+use svcheck::{Remark, checked_entries, push_bad_names};
+use svscan_core::Entry;
+
+/// The status of a check that found something that is refused.
+const REFUSED_STATUS: u8 = 1;
+
+/// The status of a program to which the system refused something.
+const SYSTEM_STATUS: u8 = 111;
+
+/// How many bytes of a path are told.
+const PATH_BYTES: usize = 107;
+
+/// Reads a scan directory, and says of each entry what svscan would do. The exit status: 0 where nothing is refused, 1 where something
+/// is, 111 where the directory can't be read.
+pub fn check_directory<R: Files + Copy + Drop, W: Write, E: Write>(
+    rt: &R,
+    alloc: Global,
+    directory: &str,
+    output: &mut W,
+    errors: &mut E,
+) -> u8 {
+    match report_of(rt, alloc, directory) {
+        Ok((text, is_refused)) => print_report(text.as_slice(), is_refused, output, errors),
+        Err(error) => match error.kind() {
+            io::ErrorKind::OutOfMemory => tell(
+                b"svcheck: no memory\nsvcheck: the system refused memory; try again later\n",
+                errors,
+            ),
+            io::ErrorKind::InvalidData => tell_directory(
+                b" has too much in it for a line of a script: svscan would not start\n",
+                directory,
+                errors,
+            ),
+            _ => tell_directory(b" can't be read\n", directory, errors),
+        },
+    }
+}
+
+// What is said of the entries, and whether one is refused.
+fn report_of<R: Files + Copy + Drop>(
+    rt: &R,
+    alloc: Global,
+    directory: &str,
+) -> io::Result<(Vec<u8>, bool)> {
+    let mut told = Vec::new(alloc);
+    let Found { listing, remarks } = read_listing(rt, alloc, directory, &mut told)?;
+    let entries = sorted_entries(alloc, listing.entries())?;
+    let mut known = Vec::new(alloc);
+    for remark in &remarks {
+        known.push(Remark {
+            name: remark.name,
+            fault: remark.fault,
+        })?;
+    }
+    let mut checked = checked_entries(alloc, known.as_slice(), entries.as_slice())?;
+    let is_bad = push_bad_names(&mut checked.text, told.as_slice())?;
+    Ok((checked.text, checked.is_refused || is_bad))
+}
+
+// The entries by name, as svscan takes them.
+fn sorted_entries(alloc: Global, entries: &[Entry]) -> Result<Vec<Entry>, AllocError> {
+    let mut sorted = Vec::from_slice(alloc, entries)?;
+    sorted.sort_unstable_by_key(|entry| entry.name);
+    Ok(sorted)
+}
+
+fn print_report<W: Write, E: Write>(
+    text: &[u8],
+    is_refused: bool,
+    output: &mut W,
+    errors: &mut E,
+) -> u8 {
+    if output.write_all(text).is_err() || output.flush().is_err() {
+        return tell(
+            b"svcheck: write\nsvcheck: standard output took nothing: is it closed, or its disk full?\n",
+            errors,
+        );
+    }
+    if is_refused { REFUSED_STATUS } else { 0 }
+}
+
+fn tell<E: Write>(lines: &[u8], errors: &mut E) -> u8 {
+    let _ = errors.write_all(lines);
+    SYSTEM_STATUS
+}
+
+// Two lines in one write.
+fn tell_directory<E: Write>(sentence: &[u8], directory: &str, errors: &mut E) -> u8 {
+    let mut told = Told::new();
+    let _ = told.try_extend_from_slice(b"svcheck: directory\nsvcheck: ");
+    let _ = add_escaped(&mut told, PATH_BYTES, directory.as_bytes());
+    let _ = told.try_extend_from_slice(sentence);
+    tell(told.as_slice(), errors)
+}

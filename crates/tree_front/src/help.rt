@@ -1,0 +1,92 @@
+//! Printing help texts, and what is told of a word that is no program.
+ghost use Rattle.std.specs.Prelude.{◌≡◌, ◌++◌, IfOk, option_map};
+ghost use Rattle.tree_front.specs.Usage.{strange_text, strange_words, tools_words};
+
+use crate::asked::{Program, program_named};
+use crate::help_text::{SVCHECK_HELP, SVSCAN_HELP};
+use arrayvec::CapacityError;
+use replay_tool::{HELP, REPLAY_HELP};
+use s6_tools::{Told, add_named, help_of};
+use std::io::Write;
+
+/// The status of a program that was not used as it says.
+const USAGE_STATUS: u8 = 100;
+
+/// The status of a program to which the system refused something.
+const SYSTEM_STATUS: u8 = 111;
+
+/// Prints a help text of this program.
+pub fn print_help<W: Write, E: Write>(
+    program: &str,
+    text: &[u8],
+    output: &mut W,
+    errors: &mut E,
+) -> u8 {
+    if output.write_all(text).is_ok() && output.flush().is_ok() {
+        return 0;
+    }
+    let mut lines = Told::new();
+    let _ = lines.try_extend_from_slice(program.as_bytes());
+    let _ = lines.try_extend_from_slice(b": write\n");
+    let _ = lines.try_extend_from_slice(program.as_bytes());
+    let _ = lines.try_extend_from_slice(
+        b": standard output took nothing: is it closed, or its disk full?\n",
+    );
+    let _ = errors.write_all(lines.as_slice());
+    SYSTEM_STATUS
+}
+
+/// Prints the help text that these words behind `help` name: that of a program, or the overview where there is none.
+pub fn print_help_of<W: Write, E: Write>(words: &[&str], output: &mut W, errors: &mut E) -> u8 {
+    match words {
+        [] => print_help("s6_tree", HELP, output, errors),
+        [word] => match program_named(word) {
+            Program::Svscan => print_help("svscan", SVSCAN_HELP.as_bytes(), output, errors),
+            Program::Svcheck => print_help("svcheck", SVCHECK_HELP.as_bytes(), output, errors),
+            Program::Replay => print_help("replay", REPLAY_HELP, output, errors),
+            Program::Client(tool) => print_help(
+                tool.name(),
+                help_of(tool).as_bytes(),
+                output,
+                errors,
+            ),
+            Program::Version | Program::Help => print_help("s6_tree", HELP, output, errors),
+            Program::Strange => refuse_tool(Some(*word), errors),
+        },
+        [_, word, ..] => refuse_tool(Some(*word), errors),
+    }
+}
+
+/// Tells that a word is no program, or that there is none, by one write. The exit status, 100.
+pub fn refuse_tool<E: Write>(word: Option<&str>, errors: &mut E) -> u8
+    ensures { result ≡ 100 }
+{
+    if let Ok(told) = told_of(word) {
+        let _ = errors.write_all(told.as_slice());
+    }
+    USAGE_STATUS
+}
+
+#[tactic(auto, unfolding(crate::specs::Usage::strange_words))]
+fn strange_words() -> &'static str
+    ensures { result.now ≡ strange_words }
+{
+    "s6_tree: unknown tool\ns6_tree: "
+}
+
+#[tactic(auto, unfolding(crate::specs::Usage::tools_words))]
+fn tools_words() -> &'static str
+    ensures { result.now ≡ tools_words }
+{
+    " is no tool; see s6_tree --help\n"
+}
+
+fn told_of(word: Option<&str>) -> Result<Told, CapacityError>
+    ensures { IfOk result (λ told. told.items ≡ strange_text (option_map (λ w. w.now) word.entry)) }
+{
+    let mut told = Told::new();
+    told.try_extend_from_slice(strange_words().as_bytes())?;
+    add_named(&mut told, b"no word", word)?;
+    told.try_extend_from_slice(tools_words().as_bytes())?;
+    Ok(told)
+}

@@ -1,0 +1,116 @@
+//! What is told of a tree that did not run to its end: the line of its fault, and a second one that says what was wrong.
+ghost use Rattle.std.specs.Prelude.{◌≡◌, ◌++◌, OnOk};
+ghost use Rattle.s6_tools.specs.Told.{escaped};
+ghost use Rattle.tree_front.specs.ServeLines.{trouble_before, before_of, second_line};
+
+use crate::place::TreePlace;
+use arrayvec::CapacityError;
+use s6_tools::{Told, add_escaped};
+use std::fs;
+use std::io::Write;
+use std::os::unix::fs::FileTypeExt;
+use std::rt::Files;
+use tree_server::{ServeFault, tell_serve_fault};
+
+/// How many bytes of a path are told.
+const PATH_BYTES: usize = 107;
+
+/// How many bytes the path of a server's socket has at most.
+const LONGEST_SOCKET: usize = 101;
+
+/// Why no socket can be made at a path, as far as can be seen afterwards.
+#[derive(Clone, Copy, Debug, PartialEq, Eq)]
+enum Trouble {
+    /// The path is too long.
+    Length,
+    /// A socket is there, and its server answers or starts just now.
+    Server,
+    /// Another file is there.
+    File,
+    /// Nothing is there.
+    Folder,
+}
+
+// What is at the path of a socket that could not be made.
+fn trouble_at<R: Files>(rt: &R, path: &str) -> Trouble {
+    if path.len() > LONGEST_SOCKET {
+        return Trouble::Length;
+    }
+    match fs::symlink_metadata(rt, path) {
+        Ok(found) if found.file_type().is_socket() => Trouble::Server,
+        Ok(_) => Trouble::File,
+        Err(_) => Trouble::Folder,
+    }
+}
+
+// What stands before the path of a socket.
+fn trouble_before(trouble: Trouble) -> &'static str
+    ensures { result.now ≡ trouble_before trouble }
+{
+    match trouble {
+        Trouble::Length => "path is longer than 101 bytes: ",
+        Trouble::Server => "another server answers or starts at ",
+        Trouble::File => "another file is at ",
+        Trouble::Folder => "no socket can be made in the folder of ",
+    }
+}
+
+// What stands before the path.
+fn before_of(fault: ServeFault, trouble: Trouble) -> &'static str
+    ensures { result.now ≡ before_of fault trouble }
+{
+    match fault {
+        ServeFault::Shell => "/bin/sh can't be run, by which signals are sent",
+        ServeFault::Socket => trouble_before(trouble),
+        ServeFault::Directory => "can't be read, or has too much in it for a line of a script: ",
+        ServeFault::NoMemory => "the system refused memory; try again later",
+        ServeFault::Thread => "the system refused a thread; see ulimit -u",
+        ServeFault::Clock => "the system has no clock",
+        ServeFault::Full | ServeFault::Close => "a run could not go over into the next",
+        ServeFault::Lanes => "1 to 4 lanes are needed",
+        ServeFault::Record => {
+            "can't be made or written, is no regular file, or another svscan uses it: "
+        }
+    }
+}
+
+// The path that is told.
+fn path_of<'a>(fault: ServeFault, place: &'a TreePlace) -> &'a str {
+    match fault {
+        ServeFault::Socket => place.socket.as_str(),
+        ServeFault::Directory => place.directory.as_str(),
+        ServeFault::Record => place.record.as_deref().unwrap_or(""),
+        _ => "",
+    }
+}
+
+fn add_second_line(
+    told: &mut Told,
+    fault: ServeFault,
+    trouble: Trouble,
+    path: &str,
+) -> Result<(), CapacityError>
+    ensures { OnOk result (told.new.items ≡ told.old.items ++ second_line fault trouble path.now) }
+{
+    told.try_extend_from_slice(b"svscan: ")?;
+    told.try_extend_from_slice(before_of(fault, trouble).as_bytes())?;
+    add_escaped(told, PATH_BYTES, path.as_bytes())?;
+    told.try_extend_from_slice(b"\n")
+}
+
+/// Tells of a fault of the tree at this place, by one write, and answers the exit status, 111.
+pub fn tell_fault<R: Files, E: Write>(
+    rt: &R,
+    fault: ServeFault,
+    place: &TreePlace,
+    errors: &mut E,
+) -> u8
+    ensures { result ≡ 111 }
+{
+    let mut told = Told::new();
+    let status = tell_serve_fault(fault, &mut told);
+    let trouble = trouble_at(rt, place.socket.as_str());
+    let _ = add_second_line(&mut told, fault, trouble, path_of(fault, place));
+    let _ = errors.write_all(told.as_slice());
+    status
+}

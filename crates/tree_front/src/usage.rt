@@ -1,0 +1,83 @@
+//! What is told of words that are not those of a program that isn't a client.
+ghost use Rattle.std.specs.Prelude.{◌≡◌, ◌++◌, IfOk, OnOk, option_map};
+ghost use Rattle.tree_front.specs.Usage.{advice_text, complaint_of, complaint_text, program_text, usage_text};
+
+use arrayvec::CapacityError;
+use s6_tools::{Misuse, Told, add_named, help_words, see_words};
+use std::io::Write;
+
+/// The status of a program that was not used as it says.
+const USAGE_STATUS: u8 = 100;
+
+/// Tells that the words are not those of the program, with the word that is wrong, if any, and what would be right, by one write. The
+/// exit status, 100.
+pub fn refuse_words<E: Write>(
+    program: &str,
+    misuse: Misuse,
+    word: Option<&str>,
+    form: &str,
+    errors: &mut E,
+) -> u8
+    ensures { result ≡ 100 }
+{
+    if let Ok(told) = told_of(program, misuse, word, form) {
+        let _ = errors.write_all(told.as_slice());
+    }
+    USAGE_STATUS
+}
+
+fn complaint_of(misuse: Misuse) -> &'static str
+    ensures { result.now ≡ complaint_of misuse }
+{
+    match misuse {
+        Misuse::Missing => " is missing",
+        _ => " is one too many",
+    }
+}
+
+// Both lines.
+fn told_of(
+    program: &str,
+    misuse: Misuse,
+    word: Option<&str>,
+    form: &str,
+) -> Result<Told, CapacityError>
+    ensures { IfOk result (λ told. told.items
+        ≡ usage_text program.now misuse (option_map (λ w. w.now) word.entry) form.now) }
+{
+    let mut told = Told::new();
+    add_program(&mut told, program)?;
+    add_complaint(&mut told, misuse, word)?;
+    add_advice(&mut told, program, form)?;
+    Ok(told)
+}
+
+fn add_program(told: &mut Told, program: &str) -> Result<(), CapacityError>
+    ensures { OnOk result (told.new.items ≡ told.old.items ++ program_text program.now) }
+{
+    told.try_extend_from_slice(program.as_bytes())?;
+    told.try_extend_from_slice(b": usage\n")?;
+    told.try_extend_from_slice(program.as_bytes())?;
+    told.try_extend_from_slice(b": ")
+}
+
+fn add_complaint(told: &mut Told, misuse: Misuse, word: Option<&str>) -> Result<(), CapacityError>
+    ensures { OnOk result (told.new.items
+        ≡ told.old.items ++ complaint_text misuse (option_map (λ w. w.now) word.entry)) }
+{
+    told.try_extend_from_slice(misuse.word().as_bytes())?;
+    told.try_extend_from_slice(b": ")?;
+    add_named(told, b"a word", word)?;
+    told.try_extend_from_slice(complaint_of(misuse).as_bytes())
+}
+
+fn add_advice(told: &mut Told, program: &str, form: &str) -> Result<(), CapacityError>
+    ensures { OnOk result (told.new.items ≡ told.old.items ++ advice_text program.now form.now) }
+{
+    told.try_extend_from_slice(b": ")?;
+    told.try_extend_from_slice(form.as_bytes())?;
+    told.try_extend_from_slice(see_words().as_bytes())?;
+    told.try_extend_from_slice(program.as_bytes())?;
+    told.try_extend_from_slice(help_words().as_bytes())?;
+    told.try_extend_from_slice(b"\n")
+}
