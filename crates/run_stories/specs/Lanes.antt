@@ -23,7 +23,7 @@ up_shade false = shade.Up
 
 -- of one that is down with finish done, by whether it is wanted up, and whether it failed for good
 abbrev pub done_shade : Bool → Standing → Shade
-done_shade true s = shade.Waiting
+done_shade true s = shade.Pausing
 done_shade false standing.Failed = shade.Failed
 done_shade false s = shade.Down
 

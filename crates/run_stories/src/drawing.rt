@@ -1,5 +1,6 @@
 //! The drawing of a timeline: a picture in SVG that needs nothing else.
-use crate::intervals::{Interval, Scale, WIDTH};
+use crate::intervals::Interval;
+use crate::scale::{MARKS, Scale, WIDTH};
 use crate::shade::Shade;
 use s6_events::Name;
 use std::io::{self, Write};
@@ -9,7 +10,7 @@ const SHADES: &[Shade] = &[
     Shade::Up,
     Shade::Ready,
     Shade::Finishing,
-    Shade::Waiting,
+    Shade::Pausing,
     Shade::Down,
     Shade::Failed,
 ];
@@ -19,16 +20,18 @@ const TOP: u64 = 40;
 
 const LANE: u64 = 22;
 
-const BOTTOM: u64 = 36;
+const BOTTOM: u64 = 44;
 
 const LANES_WIDTH: u64 = WIDTH / 10;
 
-const RIGHT: u64 = 40;
+const RIGHT: u64 = 60;
 
-/// How wide a letter of a name is at most, and what is free beside the names, in pixels.
+/// How wide a letter of a name is at most, what is free beside the names, and where the lanes begin at least, in pixels.
 const LETTER: u64 = 8;
 
 const MARGIN: u64 = 20;
+
+const LEFT: u64 = 60;
 
 /// How far the words of the legend are from one another, in pixels.
 const LEGEND_STEP: u64 = 150;
@@ -48,7 +51,7 @@ impl Layout {
         let left = (letters as u64).saturating_mul(LETTER);
         let height = (lanes as u64).saturating_mul(LANE);
         Layout {
-            left: left.saturating_add(MARGIN),
+            left: left.saturating_add(MARGIN).max(LEFT),
             axis: height.saturating_add(TOP),
         }
     }
@@ -61,17 +64,21 @@ fn colour_of(shade: Shade) -> &'static str {
         Shade::Up => "#56B4E9",
         Shade::Ready => "#009E73",
         Shade::Finishing => "#CC79A7",
-        Shade::Waiting => "#F0E442",
+        Shade::Pausing => "#F0E442",
         Shade::Down => "#999999",
         Shade::Failed => "#D55E00",
     }
 }
 
-// How high the line of a shade is: what is down and stays so is thin.
+// How high the line of a shade is, so that shades are told apart without their colours too.
 fn thickness_of(shade: Shade) -> u64 {
     match shade {
-        Shade::Absent | Shade::Down => 4,
-        _ => 14,
+        Shade::Absent => 0,
+        Shade::Up => 11,
+        Shade::Ready | Shade::Failed => 16,
+        Shade::Finishing => 8,
+        Shade::Pausing => 5,
+        Shade::Down => 2,
     }
 }
 
@@ -82,7 +89,7 @@ fn word_of(shade: Shade) -> &'static str {
         Shade::Up => "up",
         Shade::Ready => "ready",
         Shade::Finishing => "finishing",
-        Shade::Waiting => "to be started",
+        Shade::Pausing => "pause",
         Shade::Down => "down",
         Shade::Failed => "failed for good",
     }
@@ -125,39 +132,56 @@ fn write_legend<W: Write>(writer: &mut W, layout: Layout) -> io::Result<()> {
     Ok(())
 }
 
-// Writes a mark of the axis: so many quarters of the width, and the moment there.
+// Writes a mark of the axis: a line through all lanes, and the moment below it. Moments are told in milliseconds where marks are closer
+// than a second.
 fn write_mark<W: Write>(
     writer: &mut W,
     layout: Layout,
     scale: &Scale,
-    quarters: u64,
+    step: u64,
+    millis: u64,
 ) -> io::Result<()> {
-    let x = layout
-        .left
-        .saturating_add((LANES_WIDTH / 4).saturating_mul(quarters));
+    let x = layout.left.saturating_add(scale.place(millis) / 10);
     let height = layout.axis.saturating_sub(TOP).saturating_add(6);
-    let y = layout.axis.saturating_add(22);
-    let past = scale.millis.saturating_mul(quarters) / 4;
-    let at = scale.first.saturating_add(past);
-    let (seconds, millis) = (at / 1000, at % 1000);
+    let y = layout.axis.saturating_add(20);
     write!(
         writer,
-        "<path stroke=\"#CCCCCC\" d=\"M{x} {TOP}v{height}\"/>"
+        "<path stroke=\"#CCCCCC\" d=\"M{x} {TOP}v{height}\"/><text x=\"{x}\" y=\"{y}\" text-anchor=\"middle\">"
     )?;
-    write!(
-        writer,
-        "<text x=\"{x}\" y=\"{y}\" text-anchor=\"middle\">{seconds}.{millis:03}</text>\n"
-    )
+    let (seconds, rest) = (millis / 1000, millis % 1000);
+    if step < 1000 {
+        write!(writer, "{seconds}.{rest:03}</text>\n")
+    } else {
+        write!(writer, "{seconds}</text>\n")
+    }
+}
+
+// Writes the marks of the axis, at whole steps.
+fn write_marks<W: Write>(writer: &mut W, layout: Layout, scale: &Scale) -> io::Result<()> {
+    let step = scale.mark_step();
+    let mut millis = scale.first_mark(step);
+    for _ in 0..MARKS {
+        if millis <= scale.last {
+            write_mark(writer, layout, scale, step, millis)?;
+        }
+        millis = millis.saturating_add(step);
+    }
+    Ok(())
 }
 
 /// Writes all of the picture but the lanes and its end: the legend, and the time along the bottom.
 pub fn write_frame<W: Write>(writer: &mut W, layout: Layout, scale: &Scale) -> io::Result<()> {
     write_head(writer, layout)?;
     write_legend(writer, layout)?;
-    for quarters in 0..5 {
-        write_mark(writer, layout, scale, quarters)?;
-    }
-    Ok(())
+    write_marks(writer, layout, scale)?;
+    let (x, y) = (
+        layout.left.saturating_add(LANES_WIDTH / 2),
+        layout.axis.saturating_add(36),
+    );
+    write!(
+        writer,
+        "<text x=\"{x}\" y=\"{y}\" text-anchor=\"middle\">seconds</text>\n"
+    )
 }
 
 // Writes a number of tenths.

@@ -1,14 +1,12 @@
 //! The intervals of a lane, in tenths of a pixel.
-ghost use Rattle.std.specs.Prelude.{◌≤◌, ◌<◌, OnOk, IfOk};
-ghost use Rattle.run_stories.specs.Intervals.{Fill};
+ghost use Rattle.std.specs.Prelude.{◌≡◌, OnOk};
+ghost use Rattle.run_stories.specs.Intervals.{Fill, shown_at, with_interval};
+ghost use Rattle.run_stories.specs.declared.shade.Shade.TheVariants.{Absent};
 
 use crate::lanes::Change;
+use crate::scale::{Scale, WIDTH};
 use crate::shade::Shade;
-use s6_events::At;
 use std::alloc::{AllocError, Allocator};
-
-/// The width of all lanes, in tenths of a pixel.
-pub const WIDTH: u64 = 10_000;
 
 /// A lane shows this from here to there, in tenths of a pixel.
 #[derive(Clone, Copy)]
@@ -18,86 +16,38 @@ pub struct Interval {
     pub shade: Shade,
 }
 
-/// Which moments the width stands for: from the first one on, so many milliseconds.
-#[derive(Clone, Copy)]
-pub struct Scale {
-    pub first: u64,
-    pub millis: u64,
-}
-
-impl Scale {
-    /// The scale from one moment to another.
-    pub fn between(first: At, last: At) -> Scale {
-        Scale {
-            first: first.millis(),
-            millis: last.millis().saturating_sub(first.millis()),
-        }
-    }
-
-    // The place of a moment.
-    fn place(&self, at: At) -> u64
-        ensures { result ≤ 10000 }
-    {
-        let past = at.millis().saturating_sub(self.first);
-        (past * WIDTH / self.millis.max(1)).min(WIDTH)
-    }
-}
-
-// Adds an interval behind the others.
+// Adds an interval from here to there, unless it would be empty.
 fn cut<A: Allocator>(
     intervals: &mut Vec<Interval, A>,
     from: u64,
     to: u64,
     shade: Shade,
 ) -> Result<(), AllocError>
-    requires fill { Fill 0 intervals.old.items from }
-    requires some { from < to }
-    ensures { OnOk result (Fill 0 intervals.new.items to) }
+    ensures { OnOk result (intervals.new.items ≡ with_interval intervals.old.items from to shade) }
 {
-    intervals.push(Interval { from, to, shade })?;
+    if from < to {
+        intervals.push(Interval { from, to, shade })?;
+    }
     Ok(())
 }
 
-// Ends an interval where the next shade is another one and the interval is not empty. Where the next one begins.
-fn step_on<A: Allocator>(
-    intervals: &mut Vec<Interval, A>,
-    from: u64,
-    to: u64,
-    shade: Shade,
-    next: Shade,
-) -> Result<u64, AllocError>
-    requires fill { Fill 0 intervals.old.items from }
-    requires from_within { from ≤ 10000 }
-    requires to_within { to ≤ 10000 }
-    ensures fill { IfOk result (λ reached. Fill 0 intervals.new.items reached) }
-    ensures within { IfOk result (λ reached. reached ≤ 10000) }
-{
-    if to <= from || next == shade {
-        return Ok(from);
-    }
-    cut(intervals, from, to, shade)?;
-    Ok(to)
-}
-
-/// Makes the intervals those of a lane with these changes: they fill the whole width, each begins where the one before it ends, and what
-/// is narrower than a tenth of a pixel is left out. An error where a growth was refused.
+/// Makes the intervals those of a lane with these changes: they fill the whole width, one behind the other, and show at each tenth of a
+/// pixel what the last change up to there showed. An error where a growth was refused.
 pub fn cut_lane<A: Allocator>(
     scale: &Scale,
     changes: &[Change],
     intervals: &mut Vec<Interval, A>,
 ) -> Result<(), AllocError>
-    ensures { OnOk result (Fill 0 intervals.new.items 10000) }
+    ensures { OnOk result (Fill (shown_at scale.now Absent changes.now) 0 intervals.new.items 10000) }
 {
     intervals.clear();
     let mut from = 0;
     let mut shade = Shade::Absent;
     for change in changes {
-        let to = scale.place(change.at);
-        from = step_on(intervals, from, to, shade, change.shade)?;
+        let place = scale.place(change.at);
+        cut(intervals, from, place, shade)?;
+        from = place.max(from);
         shade = change.shade;
     }
-    if from < WIDTH {
-        cut(intervals, from, WIDTH, shade)?;
-    }
-    Ok(())
+    cut(intervals, from, WIDTH, shade)
 }

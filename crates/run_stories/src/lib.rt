@@ -10,6 +10,7 @@ mod lanes;
 mod moments;
 mod reading;
 mod reply_words;
+mod scale;
 mod shade;
 mod story;
 mod timeline;

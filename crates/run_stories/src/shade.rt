@@ -16,8 +16,8 @@ pub enum Shade {
     Ready,
     /// It has died, and its `finish` isn't done.
     Finishing,
-    /// It is down and wanted up: it waits for its next start, or for its first.
-    Waiting,
+    /// It is down and wanted up: it pauses before its next start, or its first has not come yet.
+    Pausing,
     /// It is down, and stays so.
     Down,
     /// Its `finish` reported a permanent failure, and it is down.
@@ -52,7 +52,7 @@ fn done_shade(standing: Standing, wanted_up: bool) -> Shade
     ensures { result ≡ done_shade wanted_up standing }
 {
     if wanted_up {
-        return Shade::Waiting;
+        return Shade::Pausing;
     }
     match standing {
         Standing::Failed => Shade::Failed,

@@ -2,9 +2,10 @@
 ghost use Rattle.std.specs.Prelude.{◌<◌};
 
 use crate::drawing::{Layout, write_end, write_frame, write_lane};
-use crate::intervals::{Interval, Scale, cut_lane};
+use crate::intervals::{Interval, cut_lane};
 use crate::lanes::{Lane, Lanes};
 use crate::reading::{INPUT_LIMIT, Reading};
+use crate::scale::Scale;
 use crate::story::follow_scan;
 use arrayvec::ArrayVec;
 use s6_events::{At, Name};
