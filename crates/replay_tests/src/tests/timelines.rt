@@ -29,34 +29,41 @@ const SCRIPT: &str = "s6-script 1
 const LANES: &[(&str, &str)] = &[
     (
         ">db</text>",
-        "\"#56B4E9\" stroke-width=\"14\" d=\"M0 0h50\"/>
-<path stroke=\"#009E73\" stroke-width=\"14\" d=\"M50 0h950\"/>
+        "\"#56B4E9\" stroke-width=\"11\" d=\"M0 0h50\"/>
+<path stroke=\"#009E73\" stroke-width=\"16\" d=\"M50 0h950\"/>
 </g>",
     ),
     (
         ">job</text>",
-        "\"#56B4E9\" stroke-width=\"14\" d=\"M0 0h150\"/>
-<path stroke=\"#CC79A7\" stroke-width=\"14\" d=\"M150 0h50\"/>
-<path stroke=\"#D55E00\" stroke-width=\"14\" d=\"M200 0h800\"/>
+        "\"#56B4E9\" stroke-width=\"11\" d=\"M0 0h150\"/>
+<path stroke=\"#CC79A7\" stroke-width=\"8\" d=\"M150 0h50\"/>
+<path stroke=\"#D55E00\" stroke-width=\"16\" d=\"M200 0h800\"/>
 </g>",
     ),
     (
         ">off</text>",
-        "\"#999999\" stroke-width=\"4\" d=\"M0 0h1000\"/>
+        "\"#999999\" stroke-width=\"2\" d=\"M0 0h1000\"/>
 </g>",
     ),
     (
         ">old</text>",
-        "\"#56B4E9\" stroke-width=\"14\" d=\"M0 0h250M500 0h500\"/>
-<path stroke=\"#F0E442\" stroke-width=\"14\" d=\"M450 0h50\"/>
+        "\"#56B4E9\" stroke-width=\"11\" d=\"M0 0h250M500 0h500\"/>
+<path stroke=\"#F0E442\" stroke-width=\"5\" d=\"M450 0h50\"/>
 </g>",
     ),
     (
         ">web</text>",
-        "\"#56B4E9\" stroke-width=\"14\" d=\"M0 0h150\"/>
-<path stroke=\"#F0E442\" stroke-width=\"14\" d=\"M150 0h850\"/>
+        "\"#56B4E9\" stroke-width=\"11\" d=\"M0 0h150\"/>
+<path stroke=\"#F0E442\" stroke-width=\"5\" d=\"M150 0h850\"/>
 </g>",
     ),
+];
+
+// Marks of the axis, written by hand: eleven, each a fifth of a second behind the one before it. The lanes begin at 60.
+const MARKS: &[&str] = &[
+    "<text x=\"60\" y=\"170\" text-anchor=\"middle\">0.000</text>",
+    "<text x=\"160\" y=\"170\" text-anchor=\"middle\">0.200</text>",
+    "<text x=\"1060\" y=\"170\" text-anchor=\"middle\">2.000</text>",
 ];
 
 // A number of tenths.
@@ -134,6 +141,10 @@ fn a_lane_for_each_service(rt: HostRuntime) -> Result<(), Fail> {
     );
     holds(&rt, "status", status == 0 && errors.is_empty());
     let picture = str::from_utf8(output.as_slice()).unwrap_or("");
+    for mark in MARKS {
+        holds(&rt, mark, picture.contains(mark));
+    }
+    holds(&rt, "marks", picture.split("#CCCCCC").count() == 12);
     let mut lanes = picture.split("<g class=\"lane\"").skip(1);
     for wanted in LANES {
         check_lane(&rt, rt.alloc(), lanes.next().unwrap_or(""), wanted)?;
