@@ -2,7 +2,7 @@
 use crate::intervals::Interval;
 use crate::scale::{MARKS, Scale, WIDTH};
 use crate::shade::Shade;
-use s6_events::Name;
+use s6_events::{At, Name};
 use std::io::{self, Write};
 
 /// The shades that are drawn, in the order of the legend.
@@ -139,18 +139,18 @@ fn write_mark<W: Write>(
     layout: Layout,
     scale: &Scale,
     step: u64,
-    millis: u64,
+    at: At,
 ) -> io::Result<()> {
-    let x = layout.left.saturating_add(scale.place(millis) / 10);
+    let x = layout.left.saturating_add(scale.place(at) / 10);
     let height = layout.axis.saturating_sub(TOP).saturating_add(6);
     let y = layout.axis.saturating_add(20);
     write!(
         writer,
         "<path stroke=\"#CCCCCC\" d=\"M{x} {TOP}v{height}\"/><text x=\"{x}\" y=\"{y}\" text-anchor=\"middle\">"
     )?;
-    let (seconds, rest) = (millis / 1000, millis % 1000);
+    let (seconds, millis) = (at.millis() / 1000, at.millis() % 1000);
     if step < 1000 {
-        write!(writer, "{seconds}.{rest:03}</text>\n")
+        write!(writer, "{seconds}.{millis:03}</text>\n")
     } else {
         write!(writer, "{seconds}</text>\n")
     }
@@ -161,8 +161,9 @@ fn write_marks<W: Write>(writer: &mut W, layout: Layout, scale: &Scale) -> io::R
     let step = scale.mark_step();
     let mut millis = scale.first_mark(step);
     for _ in 0..MARKS {
-        if millis <= scale.last {
-            write_mark(writer, layout, scale, step, millis)?;
+        match At::new(millis) {
+            Some(at) if at <= scale.last => write_mark(writer, layout, scale, step, at)?,
+            _ => return Ok(()),
         }
         millis = millis.saturating_add(step);
     }

@@ -10,34 +10,26 @@ pub const WIDTH: u64 = 10_000;
 /// The most marks of the axis.
 pub const MARKS: u64 = 11;
 
-/// Which moments the width stands for: from the first one to the last, in milliseconds.
+/// Which moments the width stands for: from the first one to the last.
 #[derive(Clone, Copy)]
 pub struct Scale {
-    pub first: u64,
-    pub last: u64,
+    pub first: At,
+    pub last: At,
 }
 
 impl Scale {
-    /// The scale from one moment to another.
-    pub fn between(first: At, last: At) -> Scale {
-        Scale {
-            first: first.millis(),
-            last: last.millis(),
-        }
-    }
-
     // How many milliseconds the width stands for.
     fn whole(&self) -> u64
         ensures { result ≡ self.now.last - self.now.first }
     {
-        self.last.saturating_sub(self.first)
+        self.last.millis().saturating_sub(self.first.millis())
     }
 
     /// The place of a moment, in tenths of a pixel.
     pub fn place(&self, at: At) -> u64
         ensures { result ≡ place_of self.now at }
     {
-        let past = at.millis().saturating_sub(self.first);
+        let past = at.millis().saturating_sub(self.first.millis());
         (past * WIDTH / self.whole().max(1)).min(WIDTH)
     }
 
@@ -63,8 +55,7 @@ impl Scale {
 
     /// The first moment that is marked where the marks are so far apart, in milliseconds.
     pub fn first_mark(&self, step: u64) -> u64 {
-        self.first
-            .checked_next_multiple_of(step)
-            .unwrap_or(self.first)
+        let first = self.first.millis();
+        first.checked_next_multiple_of(step).unwrap_or(first)
     }
 }

@@ -158,7 +158,10 @@ fn draw_all<A: Allocator + Copy, W: Write>(
 ) -> Result<(), ReplayFault> {
     let lanes = watcher.lanes.lanes.as_slice();
     let layout = Layout::of(lanes.len(), longest_name(lanes));
-    let scale = Scale::between(watcher.first.unwrap_or(last), last);
+    let scale = Scale {
+        first: watcher.first.unwrap_or(last),
+        last,
+    };
     if write_frame(writer, layout, &scale).is_err() {
         return Err(ReplayFault::Write);
     }
