@@ -1,6 +1,6 @@
 -- The story of a run that goes on by one step, stops or ends.
 use Rattle.std.proofs.Common.{◌≡◌, ℕ, List, [], ◌∷◌, ◌++◌, refl, sym, ap, ◌∙◌, subst, append_assoc, append-nil, inl, inr}
-use Rattle.std.specs.Prelude.{Option, true, ◌⊎◌}
+use Rattle.std.specs.Prelude.{Option, true, ◌⊎◌, Result, Ok, Err, OnOk, OnErr}
 use Rattle.std.specs.Io.KnownBytes.{Appends}
 use Rattle.std.proofs.KnownBytes.{Appends-trans, Appends-nil}
 use Rattle.supervise_core.specs.declared.row.Row.{Row}
@@ -77,3 +77,12 @@ module _ (A : Type 0) (x y z : Option (List ℕ)) (rows : List Row) (tree : Stor
           ),
         ),
       )
+
+-- what holds whatever a call answered
+pub holds_at_ok : {T E : Type 0} (P : Type 0) (r : Result T E) → P → OnOk r P
+holds_at_ok P (Ok x) p = p
+holds_at_ok P (Err e) p = tt
+
+pub holds_at_err : {T E : Type 0} (P : Type 0) (r : Result T E) → P → OnErr r P
+holds_at_err P (Ok x) p = tt
+holds_at_err P (Err e) p = p

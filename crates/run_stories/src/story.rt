@@ -216,10 +216,7 @@ fn tell_all<A: Allocator + Copy, R: BufRead, W: Write>(
             Err(fault) => return Err(fault),
         }
     }
-    match reading.read_end(reader) {
-        Ok(()) => Ok(()),
-        Err(fault) => Err(fault),
-    }
+    reading.read_end(reader)
 }
 
 /// Reads a script of either version, hands its inputs to a new tree one after the other, and writes what happens, a line for each event, as
