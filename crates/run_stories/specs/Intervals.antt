@@ -1,5 +1,5 @@
 -- The intervals of a lane, in tenths of a pixel.
-use Rattle.std.specs.Prelude.{◌≡◌, ℕ, ◌+◌, ◌-◌, ◌*◌, ◌/◌, ◌<◌, ◌≤◌, List, [], ◌∷◌, ◌++◌, nat_le, nat_lt, min, max, if◌then◌else◌}
+use Rattle.std.specs.Prelude.{◌≡◌, ℕ, ◌-◌, ◌*◌, ◌/◌, ◌<◌, ◌≤◌, List, [], ◌∷◌, ◌++◌, nat_le, nat_lt, min, max, if◌then◌else◌}
 use Rattle.run_stories.specs.declared.intervals.Interval.{Interval}
 use Rattle.run_stories.specs.declared.lanes.Change.{Change}
 use Rattle.run_stories.specs.declared.scale.Scale.{Scale}
