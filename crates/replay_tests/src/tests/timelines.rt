@@ -173,5 +173,9 @@ fn no_picture_of_a_fault(rt: HostRuntime) {
         &mut errors,
     );
     holds(&rt, "status", status == 100 && output.is_empty());
-    holds(&rt, "line", errors.as_slice() == b"replay: line 3\n");
+    holds(
+        &rt,
+        "line",
+        errors.as_slice() == b"replay: line 3\n".as_slice(),
+    );
 }
