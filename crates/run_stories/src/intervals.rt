@@ -38,7 +38,8 @@ pub fn cut_lane<A: Allocator>(
     changes: &[Change],
     intervals: &mut Vec<Interval, A>,
 ) -> Result<(), AllocError>
-    ensures { OnOk result (Fill (shown_at scale.now Absent changes.now) 0 intervals.new.items 10000) }
+    ensures { OnOk result
+        (Fill (shown_at scale.now Absent changes.now) 0 intervals.new.items 10000) }
 {
     intervals.clear();
     let mut from = 0;
