@@ -1,7 +1,9 @@
 //! What the tests share: assertions, scripts with what is expected of them, texts that are made of templates.
 mod cases;
 mod replay;
+mod stories;
 mod templates;
+mod timelines;
 mod tool;
 mod tree;
 

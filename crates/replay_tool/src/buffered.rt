@@ -1,10 +1,12 @@
 //! The tool `replay`: buffers round what it reads and writes.
-ghost use Rattle.std.specs.Prelude.{◌≡◌, ◌⊎◌, IfOk, IfErr};
+ghost use Rattle.std.specs.Prelude.{◌≡◌, ◌⊎◌, IfOk, IfErr, OnOk};
 ghost use Rattle.s6_replay.specs.Replay.{IsWhole, Stops};
 ghost use Rattle.s6_replay.specs.Migration.{Migrates, MigrateStops};
 ghost use Rattle.replay_tool.specs.Flushed.{IsFlushed};
+ghost use Rattle.run_stories.specs.Stories.{IsStory, StoryStops};
 ghost use Rattle.s6_replay.specs.declared.fault.ReplayFault.TheVariants.{Write};
 
+use run_stories::{draw_timeline, tell_story};
 use s6_replay::{Checked, Counts, ReplayFault, check, migrate, run};
 use std::alloc::{Allocator, Global};
 use std::io::{BufRead, BufReader, BufWriter, Read, Write};
@@ -100,4 +102,71 @@ pub fn check_replies<A: Allocator + Copy, R: Read + Drop>(
         return Err(ReplayFault::NoMemory);
     };
     check(alloc, patterns, &mut reader)
+}
+
+// Tells the story of a script, and hands on what a buffer still holds. A writer that fails then is told as `Write`, whatever else was wrong.
+fn tell_whole<A: Allocator + Copy, R: BufRead, W: Write>(
+    alloc: A,
+    patterns: Global,
+    reader: &mut R,
+    writer: &mut W,
+) -> Result<(), ReplayFault>
+    ensures ok { OnOk result (IsStory A (W.contents writer.old) (W.contents writer.new)) }
+    ensures fault { IfErr result (λ fault. (fault ≡ Write) ⊎ IsFlushed
+        (StoryStops A (W.contents writer.old)) (W.contents writer.new)) }
+{
+    let told = tell_story(alloc, patterns, reader, writer);
+    if writer.flush().is_err() {
+        return Err(ReplayFault::Write);
+    }
+    told
+}
+
+/// Reads the script that the input gives, and writes its story, each through a buffer of 8,192 bytes. Memory and faults are as those of
+/// `replay`.
+pub fn story<A: Allocator + Copy, R: Read + Drop, W: Write + Drop>(
+    alloc: A,
+    patterns: Global,
+    input: R,
+    output: W,
+) -> Result<(), ReplayFault> {
+    let Ok(mut reader) = BufReader::new(alloc, input) else {
+        return Err(ReplayFault::NoMemory);
+    };
+    let Ok(mut writer) = BufWriter::new(alloc, output) else {
+        return Err(ReplayFault::NoMemory);
+    };
+    tell_whole(alloc, patterns, &mut reader, &mut writer)
+}
+
+// Draws the timeline of a script, and hands on what a buffer still holds. A writer that fails then is told as `Write`, whatever else was
+// wrong.
+fn draw_whole<A: Allocator + Copy, R: BufRead, W: Write>(
+    alloc: A,
+    patterns: Global,
+    reader: &mut R,
+    writer: &mut W,
+) -> Result<(), ReplayFault> {
+    let drawn = draw_timeline(alloc, patterns, reader, writer);
+    if writer.flush().is_err() {
+        return Err(ReplayFault::Write);
+    }
+    drawn
+}
+
+/// Reads the script that the input gives, and writes its timeline, each through a buffer of 8,192 bytes. Memory and faults are as those
+/// of `replay`; nothing is written before the whole script was read.
+pub fn timeline<A: Allocator + Copy, R: Read + Drop, W: Write + Drop>(
+    alloc: A,
+    patterns: Global,
+    input: R,
+    output: W,
+) -> Result<(), ReplayFault> {
+    let Ok(mut reader) = BufReader::new(alloc, input) else {
+        return Err(ReplayFault::NoMemory);
+    };
+    let Ok(mut writer) = BufWriter::new(alloc, output) else {
+        return Err(ReplayFault::NoMemory);
+    };
+    draw_whole(alloc, patterns, &mut reader, &mut writer)
 }

@@ -56,6 +56,8 @@ pub const VERSION: &[u8] = b"s6_tree (Reskjavin) 0.1.0\n";
 pub const REPLAY_HELP: &[u8] = b"usage: s6_tree replay < SCRIPT
        s6_tree replay --check < RECORDED
        s6_tree replay --migrate < SCRIPT
+       s6_tree replay --story < SCRIPT
+       s6_tree replay --timeline < SCRIPT > PICTURE
 
 Reads a script on standard input and writes its transcript to standard
 output: for each input line a reply, and then its events, orders,
@@ -67,6 +69,8 @@ options:
               tree answers: print legal N for N inputs, or differs at
               line N, the first reply that is another
   --migrate   read a script of version 1, and write that of version 2
+  --story     write in words what happened, a line for each event
+  --timeline  write a picture in SVG, with a lane for each service
   --help      print this text
 
 limits:
@@ -75,7 +79,7 @@ limits:
   1,000,000 input lines
 
 exit status, and the line on standard error:
-  0           the whole script was replayed, checked or migrated
+  0           the whole script was read, and all was written
   1           a reply differs
   100         replay: no head line
               replay: line N
@@ -86,5 +90,6 @@ exit status, and the line on standard error:
               replay: write
               replay: no memory
 Lines are counted from 1, the head line included. At a fault the
-transcript of the inputs before it was written.
+transcript or the story of the inputs before it was written, and
+nothing of a picture.
 ";

@@ -1,5 +1,5 @@
 //! What the command line asks for, and doing it: `replay`, or the texts of the program. Its other tools are looked for before.
-use crate::buffered::{check_replies, record_replies, replay};
+use crate::buffered::{check_replies, record_replies, replay, story, timeline};
 use crate::fault_lines::{NO_TOOL, REPLAY_USAGE, SYSTEM_STATUS, USAGE_STATUS, replay_fault};
 use crate::help_texts::{HELP, REPLAY_HELP, VERSION};
 use s6_replay::{Checked, ReplayFault};
@@ -21,6 +21,8 @@ enum Asked {
     Replay,
     Check,
     Migrate,
+    Story,
+    Timeline,
     ReplayHelp,
     ReplayUsage,
     Unknown,
@@ -51,6 +53,10 @@ fn asked_of_replay(env: &impl Env) -> Asked {
         Asked::Check
     } else if is_word(env, 2, b"--migrate") {
         Asked::Migrate
+    } else if is_word(env, 2, b"--story") {
+        Asked::Story
+    } else if is_word(env, 2, b"--timeline") {
+        Asked::Timeline
     } else if is_word(env, 2, b"--help") {
         Asked::ReplayHelp
     } else {
@@ -131,6 +137,8 @@ pub fn run_tool<A: Allocator + Copy, R: Read + Drop, W: Write + Drop, E: Write>(
         Asked::ReplayHelp => print(output, errors, REPLAY_HELP),
         Asked::Replay => ended(replay(alloc, patterns, input, output), errors),
         Asked::Migrate => ended(record_replies(alloc, patterns, input, output), errors),
+        Asked::Story => ended(story(alloc, patterns, input, output), errors),
+        Asked::Timeline => ended(timeline(alloc, patterns, input, output), errors),
         Asked::Check => match check_replies(alloc, patterns, input) {
             Ok(checked) => print_checked(output, errors, checked),
             Err(fault) => replay_fault(&fault, errors),

@@ -44,7 +44,7 @@ fn tells_of_each_fault_with_its_status(rt: HostRuntime) {
 
 // The words of a command line, behind the program's name.
 #[derive(Drop)]
-struct Words<'a>(&'a [&'a [u8]]);
+pub struct Words<'a>(pub &'a [&'a [u8]]);
 
 // Copies the word to the front of the buffer.
 fn fill(word: &[u8], buf: &mut [u8]) -> Result<usize, FillError>
@@ -193,6 +193,9 @@ const UNKNOWN_OPTIONS: &[&[&[u8]]] = &[
     &[b"replay", b"\xff"],
     &[b"replay", b"a word that is longer than each known one"],
     &[b"replay", b"--help", b"--help"],
+    &[b"replay", b"--story", b"--timeline"],
+    &[b"replay", b"--check", b"--story"],
+    &[b"replay", b"--stories"],
 ];
 
 // Runs the program, and compares how it ends.
@@ -372,6 +375,8 @@ people; of replay one.
 const REPLAY_HELP: &str = "usage: s6_tree replay < SCRIPT
        s6_tree replay --check < RECORDED
        s6_tree replay --migrate < SCRIPT
+       s6_tree replay --story < SCRIPT
+       s6_tree replay --timeline < SCRIPT > PICTURE
 
 Reads a script on standard input and writes its transcript to standard
 output: for each input line a reply, and then its events, orders,
@@ -383,6 +388,8 @@ options:
               tree answers: print legal N for N inputs, or differs at
               line N, the first reply that is another
   --migrate   read a script of version 1, and write that of version 2
+  --story     write in words what happened, a line for each event
+  --timeline  write a picture in SVG, with a lane for each service
   --help      print this text
 
 limits:
@@ -391,7 +398,7 @@ limits:
   1,000,000 input lines
 
 exit status, and the line on standard error:
-  0           the whole script was replayed, checked or migrated
+  0           the whole script was read, and all was written
   1           a reply differs
   100         replay: no head line
               replay: line N
@@ -402,5 +409,6 @@ exit status, and the line on standard error:
               replay: write
               replay: no memory
 Lines are counted from 1, the head line included. At a fault the
-transcript of the inputs before it was written.
+transcript or the story of the inputs before it was written, and
+nothing of a picture.
 ";

@@ -1,0 +1,6 @@
+pub mod Moments
+pub mod Words
+pub mod Requests
+pub mod Stories
+pub mod Lanes
+pub mod Intervals

@@ -1,0 +1,54 @@
+//! The intervals of a lane, in tenths of a pixel.
+ghost use Rattle.std.specs.Prelude.{◌≡◌, OnOk};
+ghost use Rattle.run_stories.specs.Intervals.{Fill, shown_at, with_interval};
+ghost use Rattle.run_stories.specs.declared.shade.Shade.TheVariants.{Absent};
+
+use crate::lanes::Change;
+use crate::scale::{Scale, WIDTH};
+use crate::shade::Shade;
+use std::alloc::{AllocError, Allocator};
+
+/// A lane shows this from here to there, in tenths of a pixel.
+#[derive(Clone, Copy)]
+pub struct Interval {
+    pub from: u64,
+    pub to: u64,
+    pub shade: Shade,
+}
+
+// Adds an interval from here to there, unless it would be empty.
+fn cut<A: Allocator>(
+    intervals: &mut Vec<Interval, A>,
+    from: u64,
+    to: u64,
+    shade: Shade,
+) -> Result<(), AllocError>
+    ensures { OnOk result (intervals.new.items ≡ with_interval intervals.old.items from to shade) }
+{
+    if from < to {
+        intervals.push(Interval { from, to, shade })?;
+    }
+    Ok(())
+}
+
+/// Makes the intervals those of a lane with these changes: they fill the whole width, one behind the other, and show at each tenth of a
+/// pixel what the last change up to there showed. An error where a growth was refused.
+pub fn cut_lane<A: Allocator>(
+    scale: &Scale,
+    changes: &[Change],
+    intervals: &mut Vec<Interval, A>,
+) -> Result<(), AllocError>
+    ensures { OnOk result
+        (Fill (shown_at scale.now Absent changes.now) 0 intervals.new.items 10000) }
+{
+    intervals.clear();
+    let mut from = 0;
+    let mut shade = Shade::Absent;
+    for change in changes {
+        let place = scale.place(change.at);
+        cut(intervals, from, place, shade)?;
+        from = place.max(from);
+        shade = change.shade;
+    }
+    cut(intervals, from, WIDTH, shade)
+}

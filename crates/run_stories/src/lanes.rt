@@ -1,0 +1,123 @@
+//! The lanes of a timeline: what each shows, and from when on.
+ghost use Rattle.std.specs.Prelude.{◌<◌, IfSome, IfOk, length};
+
+use crate::effect_words::row_of;
+use crate::shade::{Shade, Standing, shade_of, standing_after};
+use s6_events::{At, Mark, Name};
+use std::alloc::{AllocError, Allocator};
+use supervise_core::Row;
+use tree_core::{Effect, Tree};
+
+/// From this moment on a lane shows this.
+#[derive(Clone, Copy)]
+pub struct Change {
+    pub at: At,
+    pub shade: Shade,
+}
+
+/// The lane of the services of one name. One that was dropped and comes again has the same lane.
+#[derive(Drop)]
+pub struct Lane<A: Allocator> {
+    pub name: Name,
+    standing: Standing,
+    pub changes: Vec<Change, A>,
+}
+
+/// The lanes of all services, in the order in which they were added.
+#[derive(Drop)]
+pub struct Lanes<A: Allocator> {
+    pub lanes: Vec<Lane<A>, A>,
+}
+
+// Adds a change, where it is one. Of two at one moment the later one stays.
+fn note<A: Allocator>(
+    changes: &mut Vec<Change, A>,
+    at: At,
+    shade: Shade,
+) -> Result<(), AllocError> {
+    match changes.as_slice().last().copied() {
+        Some(last) if last.shade == shade => return Ok(()),
+        Some(last) if last.at == at => {
+            let _replaced = changes.pop();
+        }
+        _ => {}
+    }
+    changes.push(Change { at, shade })?;
+    Ok(())
+}
+
+impl<A: Allocator + Copy> Lanes<A> {
+    pub fn new(alloc: A) -> Lanes<A> {
+        Lanes {
+            lanes: Vec::new(alloc),
+        }
+    }
+
+    // The place of the lane of this name, which is made where there is none.
+    fn place_of(&mut self, alloc: A, name: Name) -> Result<usize, AllocError>
+        ensures { IfOk result (λ place. place < length self.new.lanes.items) }
+    {
+        let found = self
+            .lanes
+            .as_slice()
+            .iter()
+            .position(|lane| lane.name == name);
+        if let Some(place) = found {
+            return Ok(place);
+        }
+        let place = self.lanes.len();
+        self.lanes.push(Lane {
+            name,
+            standing: Standing::Supervised,
+            changes: Vec::new(alloc),
+        })?;
+        Ok(place)
+    }
+
+    // Notes what the service of this name shows now, after this mark if one was made.
+    fn hear(
+        &mut self,
+        alloc: A,
+        name: Name,
+        mark: Option<Mark>,
+        row: Option<Row>,
+        now: At,
+    ) -> Result<(), AllocError> {
+        let place = self.place_of(alloc, name)?;
+        let lane = &mut self.lanes[place];
+        if let Some(mark) = mark {
+            lane.standing = standing_after(lane.standing, mark);
+        }
+        let shade = match row {
+            Some(row) => shade_of(lane.standing, &row),
+            None => Shade::Absent,
+        };
+        note(&mut lane.changes, now, shade)
+    }
+
+    /// Notes what a step made of each service that told a mark in it, and of the one of this name, if there is one. Services are named by
+    /// these rows. An error where a growth was refused.
+    pub fn note_step(
+        &mut self,
+        alloc: A,
+        tree: &Tree<A>,
+        rows: &[Row],
+        effect: &Effect<A>,
+        named: Option<Name>,
+    ) -> Result<(), AllocError> {
+        let now = tree.now();
+        for event in effect.events.as_slice() {
+            if let Some(known) = row_of(rows, event.sid) {
+                let name = known.name;
+                self.hear(alloc, name, Some(event.mark), tree.row(name), now)?;
+            }
+        }
+        let Some(name) = named else {
+            return Ok(());
+        };
+        match tree.row(name) {
+            Some(row) => self.hear(alloc, name, None, Some(row), now),
+            None => Ok(()),
+        }
+    }
+}

@@ -1,0 +1,19 @@
+//! What has happened in a run, told to people: its script as a story of one line an event, and as a timeline with a lane a service.
+#![tactic(auto)]
+
+mod act_words;
+mod cause;
+mod drawing;
+mod effect_words;
+mod intervals;
+mod lanes;
+mod moments;
+mod reading;
+mod reply_words;
+mod scale;
+mod shade;
+mod story;
+mod timeline;
+
+pub use story::tell_story;
+pub use timeline::draw_timeline;

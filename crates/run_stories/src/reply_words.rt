@@ -1,0 +1,187 @@
+//! The lines of a reply.
+ghost use Rattle.std.specs.Prelude.{◌≡◌, ◌++◌, [], codes, OnOk, if◌then◌else◌};
+ghost use Rattle.std.specs.List.{flat_map};
+ghost use Rattle.run_stories.specs.Moments.{moment_text};
+ghost use Rattle.run_stories.specs.Requests.{reason_word, act_line, serial_line, dropped_line, name_line, listed_line, reply_lines};
+
+use crate::effect_words::{push_service_line, subscription_bytes};
+use crate::moments::{push_moment, push_serial};
+use s6_events::{At, Name, Sid};
+use std::alloc::{AllocError, Allocator};
+use supervise_core::Row;
+use tree_core::{Listed, Refusal, Reply};
+
+fn reason_bytes(refusal: Refusal) -> &'static [u8]
+    ensures { result.now ≡ reason_word refusal }
+{
+    match refusal {
+        Refusal::NoService => b"unknown",
+        Refusal::Stale => b"late",
+        Refusal::Reserved => b"reserved",
+        Refusal::TooMany => b"full",
+        Refusal::NoSuch => b"missing",
+        Refusal::Closing => b"closing",
+        Refusal::Repeated => b"twice",
+        Refusal::Empty => b"empty",
+        Refusal::Exists => b"exists",
+        Refusal::Ended => b"ended",
+        Refusal::Spent => b"spent",
+    }
+}
+
+// Adds what an act is, and of what, behind the moment.
+fn push_act<A: Allocator>(
+    text: &mut Vec<u8, A>,
+    now: At,
+    head: &[u8],
+    body: &[u8],
+) -> Result<(), AllocError>
+    ensures { OnOk result (text.new.items
+        ≡ text.old.items ++ ((moment_text now ++ head.now) ++ body.now)) }
+{
+    push_moment(text, now)?;
+    text.extend_from_slice(head)?;
+    text.extend_from_slice(body)
+}
+
+// Adds the line of an act that was refused.
+fn push_refused<A: Allocator>(
+    text: &mut Vec<u8, A>,
+    now: At,
+    head: &[u8],
+    body: &[u8],
+    refusal: Refusal,
+) -> Result<(), AllocError>
+    ensures { OnOk result (text.new.items ≡ text.old.items
+        ++ act_line now head.now body.now (codes " refused: " ++ reason_word refusal)) }
+{
+    push_act(text, now, head, body)?;
+    text.extend_from_slice(b" refused: ")?;
+    text.extend_from_slice(reason_bytes(refusal))?;
+    text.extend_from_slice(b"\n")
+}
+
+// Adds the line of an act that was done, where it is told.
+fn push_act_done<A: Allocator>(
+    text: &mut Vec<u8, A>,
+    now: At,
+    told: bool,
+    head: &[u8],
+    body: &[u8],
+) -> Result<(), AllocError>
+    ensures { OnOk result (text.new.items ≡ text.old.items
+        ++ (if told then act_line now head.now body.now [] else [])) }
+{
+    if !told {
+        return Ok(());
+    }
+    push_act(text, now, head, body)?;
+    text.extend_from_slice(b"\n")
+}
+
+// Adds the line of a new waiter, or a new subscription.
+fn push_made<A: Allocator>(
+    text: &mut Vec<u8, A>,
+    now: At,
+    word: &[u8],
+    serial: u64,
+    body: &[u8],
+) -> Result<(), AllocError>
+    ensures { OnOk result (text.new.items
+        ≡ text.old.items ++ serial_line now word.now serial body.now) }
+{
+    push_serial(text, now, word, serial)?;
+    text.extend_from_slice(b": ")?;
+    text.extend_from_slice(body)?;
+    text.extend_from_slice(b"\n")
+}
+
+// Adds a line for each service that was dropped.
+fn push_all_dropped<A: Allocator>(
+    text: &mut Vec<u8, A>,
+    now: At,
+    rows: &[Row],
+    sids: &[Sid],
+) -> Result<(), AllocError>
+    ensures { OnOk result (text.new.items
+        ≡ text.old.items ++ flat_map (dropped_line now rows.now) sids.now) }
+{
+    for sid in sids {
+        push_service_line(text, now, rows, *sid, b"dropped")?;
+    }
+    Ok(())
+}
+
+// Adds a line that begins with a name.
+fn push_name_line<A: Allocator>(
+    text: &mut Vec<u8, A>,
+    now: At,
+    name: &Name,
+    words: &[u8],
+) -> Result<(), AllocError>
+    ensures { OnOk result (text.new.items
+        ≡ text.old.items ++ name_line now name.now words.now) }
+{
+    push_moment(text, now)?;
+    text.extend_from_slice(name.as_bytes())?;
+    text.extend_from_slice(words)
+}
+
+// Adds the line of a listed name.
+fn push_listed<A: Allocator>(
+    text: &mut Vec<u8, A>,
+    now: At,
+    listed: &Listed,
+) -> Result<(), AllocError>
+    ensures { OnOk result (text.new.items ≡ text.old.items ++ listed_line now listed.now) }
+{
+    match listed {
+        Listed::Added(_, name) => push_name_line(text, now, name, b" added\n"),
+        Listed::Full(name) => push_name_line(text, now, name, b" has no place\n"),
+        Listed::Unread(name) => push_name_line(text, now, name, b" not read\n"),
+    }
+}
+
+// Adds a line for each listed name.
+fn push_all_listed<A: Allocator>(
+    text: &mut Vec<u8, A>,
+    now: At,
+    all: &[Listed],
+) -> Result<(), AllocError>
+    ensures { OnOk result (text.new.items
+        ≡ text.old.items ++ flat_map (listed_line now) all.now) }
+{
+    for listed in all {
+        push_listed(text, now, listed)?;
+    }
+    Ok(())
+}
+
+/// Adds the lines of a reply to an act of these words, which is told where it was done or is not. What was dropped is named by these rows.
+/// An error where a growth was refused.
+pub fn push_reply_lines<A: Allocator>(
+    text: &mut Vec<u8, A>,
+    now: At,
+    rows: &[Row],
+    told: bool,
+    head: &[u8],
+    body: &[u8],
+    reply: &Reply<A>,
+) -> Result<(), AllocError>
+    ensures { OnOk result (text.new.items
+        ≡ text.old.items ++ reply_lines now rows.now told head.now body.now reply.now) }
+{
+    match reply {
+        Reply::Done => push_act_done(text, now, told, head, body),
+        Reply::Refused(refusal) => push_refused(text, now, head, body, *refusal),
+        Reply::Scanned(report) => {
+            push_all_dropped(text, now, rows, report.dropped())?;
+            push_all_listed(text, now, report.listed())
+        }
+        Reply::Waiter(waiter) => push_made(text, now, b"wait ", waiter.0, body),
+        Reply::Subscription(subscription) => {
+            push_made(text, now, subscription_bytes(), subscription.0, body)
+        }
+        Reply::Row(_) | Reply::Tally(_) | Reply::PermanentFailure(_) => Ok(()),
+    }
+}

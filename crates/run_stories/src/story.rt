@@ -1,0 +1,240 @@
+//! The story of a script: a line for each event.
+ghost use Rattle.std.specs.Prelude.{◌≡◌, ◌<◌, ◌++◌, [], OnOk, OnErr, IfOk, IfErr};
+ghost use Rattle.std.specs.Io.KnownBytes.{Appends};
+ghost use Rattle.tree_core.specs.Effect.{outcome_of};
+ghost use Rattle.tree_core.specs.Machine.{Machine, new_machine};
+ghost use Rattle.s6_replay.specs.Lines.{AppendsFront};
+ghost use Rattle.tree_core.specs.Rows.{all_rows};
+ghost use Rattle.tree_core.specs.StandsFor.{StandsFor};
+ghost use Rattle.run_stories.specs.Requests.{body_words, reply_lines};
+ghost use Rattle.run_stories.specs.Stories.{rows_after, effect_lines, IsTold, TellsNext, NextStops, IsStory, StoryStops};
+ghost use Rattle.s6_replay.specs.declared.fault.ReplayFault.TheVariants.{NoMemory};
+
+use crate::act_words::{head_of, is_told, push_body};
+use crate::cause::{Cause, cause_of};
+use crate::effect_words::push_effect;
+use crate::reading::{INPUT_LIMIT, Reading};
+use crate::reply_words::push_reply_lines;
+use arrayvec::ArrayVec;
+use s6_replay::{ReplayFault, write_whole};
+use std::alloc::{AllocError, Allocator, Global};
+use std::io::{BufRead, Write};
+use supervise_core::Row;
+use tree_core::{Act, Effect, Input, Reply, SERVICE_LIMIT, Tree};
+
+// What is used again for each step, and the rows of the last scan, by which services are named.
+#[derive(Drop)]
+struct Teller<A: Allocator> {
+    rows: ArrayVec<Row, SERVICE_LIMIT>,
+    body: Vec<u8, A>,
+    text: Vec<u8, A>,
+    effect: Effect<A>,
+}
+
+impl<A: Allocator + Copy> Teller<A> {
+    fn new(alloc: A) -> Teller<A>
+        ensures { result.rows.items ≡ [] }
+    {
+        Teller {
+            rows: ArrayVec::new(),
+            body: Vec::new(alloc),
+            text: Vec::new(alloc),
+            effect: Effect::new(alloc),
+        }
+    }
+}
+
+/// Takes the rows of the services that stand, where a scan was done.
+pub fn follow_scan<A: Allocator + Copy>(
+    rows: &mut ArrayVec<Row, SERVICE_LIMIT>,
+    tree: &Tree<A>,
+    reply: &Reply<A>,
+)
+    ensures { (m : Machine) → StandsFor tree.now m
+        → rows.new.items ≡ rows_after rows.old.items reply.now (all_rows m) }
+{
+    if let Reply::Scanned(_) = reply {
+        *rows = tree.rows();
+    }
+}
+
+// Makes the text that of what an act is.
+fn make_body<A: Allocator>(
+    body: &mut Vec<u8, A>,
+    rows: &ArrayVec<Row, SERVICE_LIMIT>,
+    act: &Act<A>,
+) -> Result<(), AllocError>
+    ensures { OnOk result (body.new.items ≡ body_words rows.now.items act.now) }
+{
+    body.clear();
+    push_body(body, rows.as_slice(), act)
+}
+
+// Makes the text the story of a step that the tree took. The act had these words.
+fn make_story<A: Allocator + Copy>(
+    tree: &Tree<A>,
+    rows: &mut ArrayVec<Row, SERVICE_LIMIT>,
+    text: &mut Vec<u8, A>,
+    effect: &Effect<A>,
+    told: bool,
+    head: &[u8],
+    body: &Vec<u8, A>,
+    cause: Cause,
+) -> Result<(), AllocError>
+    ensures story { OnOk result ((m : Machine) → StandsFor tree.now m → text.new.items
+        ≡ reply_lines m.clock rows.old.items told head.now body.now.items effect.now.reply
+        ++ effect_lines m.clock (rows_after rows.old.items effect.now.reply (all_rows m)) cause
+        (outcome_of effect.now)) }
+    ensures named { OnOk result ((m : Machine) → StandsFor tree.now m
+        → rows.new.items ≡ rows_after rows.old.items effect.now.reply (all_rows m)) }
+{
+    let now = tree.now();
+    text.clear();
+    push_reply_lines(
+        text,
+        now,
+        rows.as_slice(),
+        told,
+        head,
+        body.as_slice(),
+        &effect.reply,
+    )?;
+    follow_scan(rows, tree, &effect.reply);
+    push_effect(text, now, rows.as_slice(), cause, effect)?;
+    Ok(())
+}
+
+// Applies an input, and makes the text the story of the step.
+fn tell_step<A: Allocator + Copy>(
+    tree: &mut Tree<A>,
+    teller: &mut Teller<A>,
+    input: Input<A>,
+) -> Result<(), ReplayFault>
+    ensures told { OnOk result (IsTold teller.old.rows.items teller.new.rows.items
+        teller.new.text.items tree.old tree.new input) }
+    ensures fault { IfErr result (λ fault. fault ≡ NoMemory) }
+{
+    let told = is_told(&input.act);
+    let head = head_of(&input.act);
+    let cause = cause_of(&input.act);
+    let Teller {
+        rows,
+        body,
+        text,
+        effect,
+    } = teller;
+    let Ok(()) = make_body(body, rows, &input.act) else {
+        return Err(ReplayFault::NoMemory);
+    };
+    let Ok(()) = tree.apply_into(input, effect) else {
+        return Err(ReplayFault::NoMemory);
+    };
+    match make_story(tree, rows, text, effect, told, head, body, cause) {
+        Ok(()) => Ok(()),
+        Err(_) => Err(ReplayFault::NoMemory),
+    }
+}
+
+// Writes the story of a step.
+fn write_story<A: Allocator, W: Write>(
+    teller: &Teller<A>,
+    writer: &mut W,
+) -> Result<(), ReplayFault>
+    ensures ok { OnOk result (Appends (W.contents writer.old) (W.contents writer.new)
+        teller.now.text.items) }
+    ensures fault { OnErr result (AppendsFront (W.contents writer.old) (W.contents writer.new)
+        teller.now.text.items) }
+{
+    match write_whole(writer, teller.text.as_slice()) {
+        Ok(()) => Ok(()),
+        Err(_) => Err(ReplayFault::Write),
+    }
+}
+
+// Reads the input behind so many others, and tells its step. Whether there was one.
+fn tell_next<A: Allocator + Copy, R: BufRead, W: Write>(
+    alloc: A,
+    patterns: Global,
+    reader: &mut R,
+    writer: &mut W,
+    tree: &mut Tree<A>,
+    reading: &mut Reading<A>,
+    teller: &mut Teller<A>,
+    done: u64,
+) -> Result<bool, ReplayFault>
+    requires { done < 1000000 }
+    ensures ok { IfOk result (λ more. TellsNext A more teller.old.rows.items teller.new.rows.items
+        tree.old tree.new (W.contents writer.old) (W.contents writer.new)) }
+    ensures fault { OnErr result (NextStops A teller.old.rows.items tree.old
+        (W.contents writer.old) (W.contents writer.new)) }
+{
+    let input = match reading.next_input(alloc, patterns, reader, done) {
+        Ok(Some(input)) => input,
+        Ok(None) => return Ok(false),
+        Err(fault) => return Err(fault),
+    };
+    if let Err(fault) = tell_step(tree, teller, input) {
+        return Err(fault);
+    }
+    match write_story(teller, writer) {
+        Ok(()) => Ok(true),
+        Err(fault) => Err(fault),
+    }
+}
+
+// Tells the story of a script on a tree that has taken no step.
+fn tell_all<A: Allocator + Copy, R: BufRead, W: Write>(
+    alloc: A,
+    patterns: Global,
+    reader: &mut R,
+    writer: &mut W,
+    tree: &mut Tree<A>,
+    teller: &mut Teller<A>,
+) -> Result<(), ReplayFault>
+    requires fresh { StandsFor tree.old new_machine }
+    requires unnamed { teller.old.rows.items ≡ [] }
+    ensures ok { OnOk result (IsStory A (W.contents writer.old) (W.contents writer.new)) }
+    ensures fault { OnErr result (StoryStops A (W.contents writer.old) (W.contents writer.new)) }
+{
+    let mut reading = match Reading::begin(alloc, reader) {
+        Ok(reading) => reading,
+        Err(fault) => return Err(fault),
+    };
+    for done in 0..INPUT_LIMIT {
+        match tell_next(
+            alloc,
+            patterns,
+            reader,
+            writer,
+            tree,
+            &mut reading,
+            teller,
+            done,
+        ) {
+            Ok(true) => {}
+            Ok(false) => return Ok(()),
+            Err(fault) => return Err(fault),
+        }
+    }
+    reading.read_end(reader)
+}
+
+/// Reads a script of either version, hands its inputs to a new tree one after the other, and writes what happens, a line for each event, as
+/// docs/STORY.md tells. Replies in the script are read and not compared. Hand in a buffered reader and a buffered writer; it is not flushed
+/// here. Patterns take their memory from `patterns`, and all else from `alloc`.
+///
+/// The limits and the faults are those of `s6_replay::run`. At `Line`, `Pattern`, `Truncated`, `Read` and `NoMemory` the story of all steps
+/// before was written, and nothing more; at `Write` a part of it, from its beginning on; at `Head` nothing.
+pub fn tell_story<A: Allocator + Copy, R: BufRead, W: Write>(
+    alloc: A,
+    patterns: Global,
+    reader: &mut R,
+    writer: &mut W,
+) -> Result<(), ReplayFault>
+    ensures ok { OnOk result (IsStory A (W.contents writer.old) (W.contents writer.new)) }
+    ensures fault { OnErr result (StoryStops A (W.contents writer.old) (W.contents writer.new)) }
+{
+    let mut tree = Tree::new(alloc);
+    let mut teller = Teller::new(alloc);
+    tell_all(alloc, patterns, reader, writer, &mut tree, &mut teller)
+}

@@ -1,0 +1,205 @@
+//! The timeline of a script: a lane for each service.
+ghost use Rattle.std.specs.Prelude.{◌<◌};
+
+use crate::drawing::{Layout, write_end, write_frame, write_lane};
+use crate::intervals::{Interval, cut_lane};
+use crate::lanes::{Lane, Lanes};
+use crate::reading::{INPUT_LIMIT, Reading};
+use crate::scale::Scale;
+use crate::story::follow_scan;
+use arrayvec::ArrayVec;
+use s6_events::{At, Name};
+use s6_replay::ReplayFault;
+use std::alloc::{Allocator, Global};
+use std::io::{BufRead, Write};
+use supervise_core::Row;
+use tree_core::{Act, Effect, Input, SERVICE_LIMIT, Tree};
+
+// What was seen of a run so far: its lanes, the moment of its first step, the rows of its last scan, by which services are named, and what
+// the last step gave.
+#[derive(Drop)]
+struct Watcher<A: Allocator> {
+    lanes: Lanes<A>,
+    first: Option<At>,
+    rows: ArrayVec<Row, SERVICE_LIMIT>,
+    effect: Effect<A>,
+}
+
+impl<A: Allocator + Copy> Watcher<A> {
+    fn new(alloc: A) -> Watcher<A> {
+        Watcher {
+            lanes: Lanes::new(alloc),
+            first: None,
+            rows: ArrayVec::new(),
+            effect: Effect::new(alloc),
+        }
+    }
+}
+
+// The service that a user sends letters.
+fn lettered<A: Allocator>(act: &Act<A>) -> Option<Name> {
+    match act {
+        Act::Svc(name, _) => Some(*name),
+        _ => None,
+    }
+}
+
+// Applies an input, and notes what it made of the services.
+fn watch_step<A: Allocator + Copy>(
+    alloc: A,
+    tree: &mut Tree<A>,
+    watcher: &mut Watcher<A>,
+    input: Input<A>,
+) -> Result<(), ReplayFault> {
+    let named = lettered(&input.act);
+    let Watcher {
+        lanes,
+        first,
+        rows,
+        effect,
+    } = watcher;
+    let Ok(()) = tree.apply_into(input, effect) else {
+        return Err(ReplayFault::NoMemory);
+    };
+    if first.is_none() {
+        *first = Some(tree.now());
+    }
+    follow_scan(rows, tree, &effect.reply);
+    match lanes.note_step(alloc, tree, rows.as_slice(), effect, named) {
+        Ok(()) => Ok(()),
+        Err(_) => Err(ReplayFault::NoMemory),
+    }
+}
+
+// Reads the input behind so many others, and takes its step. Whether there was one.
+fn watch_next<A: Allocator + Copy, R: BufRead>(
+    alloc: A,
+    patterns: Global,
+    reader: &mut R,
+    tree: &mut Tree<A>,
+    reading: &mut Reading<A>,
+    watcher: &mut Watcher<A>,
+    done: u64,
+) -> Result<bool, ReplayFault>
+    requires { done < 1000000 }
+{
+    let Some(input) = reading.next_input(alloc, patterns, reader, done)? else {
+        return Ok(false);
+    };
+    watch_step(alloc, tree, watcher, input)?;
+    Ok(true)
+}
+
+// Watches the whole of a script on a tree that has taken no step.
+fn watch_all<A: Allocator + Copy, R: BufRead>(
+    alloc: A,
+    patterns: Global,
+    reader: &mut R,
+    tree: &mut Tree<A>,
+    watcher: &mut Watcher<A>,
+) -> Result<(), ReplayFault> {
+    let mut reading = Reading::begin(alloc, reader)?;
+    for done in 0..INPUT_LIMIT {
+        if !watch_next(alloc, patterns, reader, tree, &mut reading, watcher, done)? {
+            return Ok(());
+        }
+    }
+    reading.read_end(reader)
+}
+
+// How many letters the longest name of a lane has.
+fn longest_name<A: Allocator>(lanes: &[Lane<A>]) -> usize {
+    let mut longest = 0;
+    for lane in lanes {
+        longest = lane.name.as_bytes().len().max(longest);
+    }
+    longest
+}
+
+// Draws a lane.
+fn draw_lane<A: Allocator, W: Write>(
+    writer: &mut W,
+    layout: Layout,
+    scale: &Scale,
+    intervals: &mut Vec<Interval, A>,
+    place: usize,
+    lane: &Lane<A>,
+) -> Result<(), ReplayFault> {
+    if cut_lane(scale, lane.changes.as_slice(), intervals).is_err() {
+        return Err(ReplayFault::NoMemory);
+    }
+    match write_lane(writer, layout, place, &lane.name, intervals.as_slice()) {
+        Ok(()) => Ok(()),
+        Err(_) => Err(ReplayFault::Write),
+    }
+}
+
+// Draws the lanes, one below the other.
+fn draw_lanes<A: Allocator + Copy, W: Write>(
+    alloc: A,
+    writer: &mut W,
+    layout: Layout,
+    scale: &Scale,
+    lanes: &[Lane<A>],
+) -> Result<(), ReplayFault> {
+    let mut intervals = Vec::new(alloc);
+    for (place, lane) in lanes.iter().enumerate() {
+        draw_lane(writer, layout, scale, &mut intervals, place, lane)?;
+    }
+    Ok(())
+}
+
+// Draws what was seen, up to this moment.
+fn draw_all<A: Allocator + Copy, W: Write>(
+    alloc: A,
+    writer: &mut W,
+    watcher: &Watcher<A>,
+    last: At,
+) -> Result<(), ReplayFault> {
+    let lanes = watcher.lanes.lanes.as_slice();
+    let layout = Layout::of(lanes.len(), longest_name(lanes));
+    let scale = Scale {
+        first: watcher.first.unwrap_or(last),
+        last,
+    };
+    if write_frame(writer, layout, &scale).is_err() {
+        return Err(ReplayFault::Write);
+    }
+    draw_lanes(alloc, writer, layout, &scale, lanes)?;
+    match write_end(writer) {
+        Ok(()) => Ok(()),
+        Err(_) => Err(ReplayFault::Write),
+    }
+}
+
+// Watches a script on a tree that has taken no step, and draws what was seen.
+fn draw_script<A: Allocator + Copy, R: BufRead, W: Write>(
+    alloc: A,
+    patterns: Global,
+    reader: &mut R,
+    writer: &mut W,
+    tree: &mut Tree<A>,
+    watcher: &mut Watcher<A>,
+) -> Result<(), ReplayFault> {
+    watch_all(alloc, patterns, reader, tree, watcher)?;
+    draw_all(alloc, writer, watcher, tree.now())
+}
+
+/// Reads a script of either version, hands its inputs to a new tree one after the other, and writes a picture in SVG: a lane for each name
+/// of a service, with what the service was from when to when, as docs/STORY.md tells. Replies in the script are read and not compared.
+/// Hand in a buffered reader and a buffered writer; it is not flushed here. Patterns take their memory from `patterns`, and all else from
+/// `alloc`: some 16 bytes for each change that a lane shows.
+///
+/// The limits and the faults are those of `s6_replay::run`. The picture is written once the whole script was read: at a fault of the
+/// script, at `Read` and at `NoMemory` while it is read nothing was written; at `Write`, and at `NoMemory` later, a part of the picture, from
+/// its beginning on.
+pub fn draw_timeline<A: Allocator + Copy, R: BufRead, W: Write>(
+    alloc: A,
+    patterns: Global,
+    reader: &mut R,
+    writer: &mut W,
+) -> Result<(), ReplayFault> {
+    let mut tree = Tree::new(alloc);
+    let mut watcher = Watcher::new(alloc);
+    draw_script(alloc, patterns, reader, writer, &mut tree, &mut watcher)
+}
