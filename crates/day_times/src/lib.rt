@@ -27,17 +27,24 @@ fn day_text(millis: u64, places: u8) -> Option<DayText> {
     Some(printer.timestamp_text(instant))
 }
 
+// Whether it is this text.
 #[cfg(test)]
-mod tests {
-    use super::*;
-
-    #[test]
-    fn times_are_told() {
-        assert!(day_second(0).is_some_and(|text| text.as_str() == "1970-01-01T00:00:00Z"));
-        assert!(day_second(1_795_778_328_999).is_some_and(|text| text.as_str()
-            == "2026-11-27T11:18:48Z"));
-        assert!(day_millisecond(1_795_778_328_023).is_some_and(|text| text.as_str()
-            == "2026-11-27T11:18:48.023Z"));
-        assert!(day_second(u64::MAX).is_none());
+fn is_told(told: Option<DayText>, text: &str) -> bool {
+    match told {
+        Some(told) => told.as_str() == text,
+        None => false,
     }
+}
+
+#[test]
+fn times_of_day_are_told(rt: HostRuntime) {
+    assert!(rt; is_told(day_second(0), "1970-01-01T00:00:00Z"));
+    assert!(rt; is_told(day_second(1_795_778_328_999), "2026-11-27T11:18:48Z"));
+    assert!(rt;
+        is_told(
+            day_millisecond(1_795_778_328_023),
+            "2026-11-27T11:18:48.023Z"
+        )
+    );
+    assert!(rt; day_second(u64::MAX).is_none());
 }

@@ -3,14 +3,6 @@ use Rattle.std.specs.Prelude.{ℕ, List, Bool, true, false, codes}
 use Rattle.servicedir.specs.declared.dir_fault.DirFault.{DirFault}
 use Rattle.servicedir.specs.declared.dir_fault.DirFault.TheVariants as fault
 
-abbrev pub fault_word : DirFault → List ℕ
-fault_word fault.NoRun = codes "NoRun"
-fault_word fault.NotLongrun = codes "NotLongrun"
-fault_word fault.NotifyFd = codes "NotifyFd"
-fault_word fault.Io = codes "Io"
-fault_word fault.BadName = codes "BadName"
-fault_word fault.NoMemory = codes "NoMemory"
-
 abbrev pub fault_sentence : DirFault → List ℕ
 fault_sentence fault.NoRun = codes "there is no file run in its directory"
 fault_sentence fault.NotLongrun = codes "its file type says something else than longrun"

@@ -3,22 +3,16 @@ ghost use Rattle.std.specs.Prelude.{◌≡◌, ◌++◌, ◌∷◌, ◌||◌, []
 ghost use Rattle.std.specs.List.{flat_map, list_any};
 ghost use Rattle.svcheck.specs.Lines.{fault_of, readiness_words, kind_words, supervised_line, refused_line, entry_line, is_usable, full_line, checked_text, is_refused};
 
-use crate::sentences::{fault_sentence, fault_word, finish_words, start_words};
+use crate::sentences::{fault_sentence, finish_words, start_words};
 use s6_events::Name;
 use s6_script::push_number;
+use server_rules::{Remark, fault_word};
 use servicedir::{Config, DirFault};
 use std::alloc::{AllocError, Global};
 use svscan_core::Entry;
 
 /// The most services that a tree supervises.
 const MOST_SERVICES: usize = 256;
-
-/// What is not as it should be in a service's directory.
-#[derive(Clone, Copy, Debug, PartialEq, Eq)]
-pub struct Remark {
-    pub name: Name,
-    pub fault: DirFault,
-}
 
 /// What came of the entries of a scan directory.
 #[derive(Drop)]

@@ -1,22 +1,8 @@
 //! What is said of a service.
 ghost use Rattle.std.specs.Prelude.{◌≡◌};
-ghost use Rattle.svcheck.specs.Sentences.{fault_word, fault_sentence, start_words, finish_words};
+ghost use Rattle.svcheck.specs.Sentences.{fault_sentence, start_words, finish_words};
 
 use servicedir::DirFault;
-
-/// The word of a fault, as svscan tells it.
-pub fn fault_word(fault: DirFault) -> &'static str
-    ensures { result.now ≡ fault_word fault }
-{
-    match fault {
-        DirFault::NoRun => "NoRun",
-        DirFault::NotLongrun => "NotLongrun",
-        DirFault::NotifyFd => "NotifyFd",
-        DirFault::Io => "Io",
-        DirFault::BadName => "BadName",
-        DirFault::NoMemory => "NoMemory",
-    }
-}
 
 /// What a fault says.
 pub fn fault_sentence(fault: DirFault) -> &'static str

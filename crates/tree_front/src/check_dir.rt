@@ -4,7 +4,7 @@ use server_rules::{Found, read_listing};
 use std::alloc::{AllocError, Global};
 use std::io::{self, Write};
 use std::rt::Files;
-use svcheck::{Remark, checked_entries, push_bad_names};
+use svcheck::{checked_entries, push_bad_names};
 use svscan_core::Entry;
 
 /// The status of a check that found something that is refused.
@@ -51,14 +51,7 @@ fn report_of<R: Files + Copy + Drop>(
     let mut told = Vec::new(alloc);
     let Found { listing, remarks } = read_listing(rt, alloc, directory, &mut told)?;
     let entries = sorted_entries(alloc, listing.entries())?;
-    let mut known = Vec::new(alloc);
-    for remark in &remarks {
-        known.push(Remark {
-            name: remark.name,
-            fault: remark.fault,
-        })?;
-    }
-    let mut checked = checked_entries(alloc, known.as_slice(), entries.as_slice())?;
+    let mut checked = checked_entries(alloc, remarks.as_slice(), entries.as_slice())?;
     let is_bad = push_bad_names(&mut checked.text, told.as_slice())?;
     Ok((checked.text, checked.is_refused || is_bad))
 }
