@@ -21,7 +21,7 @@ _s6_tree() {
         ftrig-notify) words='--help' ;;
         ftrig-wait) words='--help' ;;
         permafailon) words='--help' ;;
-        replay) words='--check --migrate --help' ;;
+        replay) words='--check --migrate --story --timeline --help' ;;
     esac
     case $word in
         -*) COMPREPLY=($(compgen -W "$words" -- "$word")) ;;

@@ -36,7 +36,7 @@ say 'killed, and ready again' "$(outcome client svlisten -R three -- "$program" 
 tell svstat -o up,ready three
 
 # All services, without their ages and process numbers.
-client list --json | sed 's/"pid":[1-9][0-9]*/"pid":N/; s/downfor":[0-9][0-9]*/downfor":N/; s/readyfor":[0-9][0-9]*/readyfor":N/'
+client list --json | sed 's/"pid":[1-9][0-9]*/"pid":N/; s/downfor":[0-9][0-9]*/downfor":N/; s/readyfor":[0-9][0-9]*/readyfor":N/; s/"since":"20[^"]*"/"since":T/'
 tell list nobody
 
 # Free event directories, and those of services.
