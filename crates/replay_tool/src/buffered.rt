@@ -3,7 +3,7 @@ ghost use Rattle.std.specs.Prelude.{◌≡◌, ◌⊎◌, IfOk, IfErr, OnOk};
 ghost use Rattle.s6_replay.specs.Replay.{IsWhole, Stops};
 ghost use Rattle.s6_replay.specs.Migration.{Migrates, MigrateStops};
 ghost use Rattle.replay_tool.specs.Flushed.{IsFlushed};
-ghost use Rattle.run_stories.specs.Stories.{IsStory, StoryStops};
+ghost use Rattle.run_stories.specs.Scripts.{IsStory, StoryStops};
 ghost use Rattle.s6_replay.specs.declared.fault.ReplayFault.TheVariants.{Write};
 
 use run_stories::{draw_timeline, tell_story};
@@ -111,9 +111,11 @@ fn tell_whole<A: Allocator + Copy, R: BufRead, W: Write>(
     reader: &mut R,
     writer: &mut W,
 ) -> Result<(), ReplayFault>
-    ensures ok { OnOk result (IsStory A (W.contents writer.old) (W.contents writer.new)) }
+    ensures ok { OnOk result (IsStory A (R.remaining reader.old) (R.remaining reader.new)
+        (W.contents writer.old) (W.contents writer.new)) }
     ensures fault { IfErr result (λ fault. (fault ≡ Write) ⊎ IsFlushed
-        (StoryStops A (W.contents writer.old)) (W.contents writer.new)) }
+        (StoryStops A fault (R.remaining reader.old) (R.remaining reader.new)
+        (W.contents writer.old)) (W.contents writer.new)) }
 {
     let told = tell_story(alloc, patterns, reader, writer);
     if writer.flush().is_err() {

@@ -2,5 +2,6 @@ pub mod Moments
 pub mod Words
 pub mod Requests
 pub mod Stories
+pub mod Scripts
 pub mod Lanes
 pub mod Intervals

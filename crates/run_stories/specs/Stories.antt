@@ -1,17 +1,15 @@
 -- The story of a step, and of a run.
-use Rattle.std.specs.Prelude.{◌≡◌, ℕ, List, [], ◌∷◌, ◌++◌, Bool, true, false, Option, ◌⊎◌}
+use Rattle.std.specs.Prelude.{◌≡◌, ℕ, List, [], ◌∷◌, ◌++◌}
 use Rattle.std.specs.List.{flat_map}
-use Rattle.std.specs.Io.KnownBytes.{Appends}
 use Rattle.supervise_core.specs.declared.row.Row.{Row}
 use Rattle.tree_core.specs.declared.input.Act.{Act}
 use Rattle.tree_core.specs.declared.input.Input.{Input}
 use Rattle.tree_core.specs.declared.reply.Reply.{Reply}
 use Rattle.tree_core.specs.declared.reply.Reply.TheVariants as answers
-use Rattle.tree_core.specs.Machine.{Machine, Outcome, new_machine}
+use Rattle.tree_core.specs.Machine.{Machine, Outcome}
 use Rattle.tree_core.specs.Rows.{all_rows}
-use Rattle.tree_core.specs.Run.{after, after_all, outcome}
+use Rattle.tree_core.specs.Run.{after, outcome}
 use Rattle.tree_core.specs.StandsFor.{StoredTree, StandsFor}
-use Rattle.s6_replay.specs.Lines.{AppendsFront}
 use Rattle.run_stories.specs.Words.{event_line, order_line, match_line, release_line}
 use Rattle.run_stories.specs.Requests.{cause_of, is_told, head_words, body_words, reply_lines}
 use Rattle.run_stories.specs.declared.cause.Cause.{Cause}
@@ -50,18 +48,6 @@ pub record Tells {A : Type 0} (rows rows' : List Row) (text : List ℕ) (tree' :
 abbrev pub IsTold : {A : Type 0} → (rows rows' : List Row) → List ℕ → (tree tree' : StoredTree) → Input A → Type 0
 IsTold rows rows' text tree tree' input = (m : Machine) → StandsFor tree m → Tells rows rows' text tree' input m
 
--- the next step was told and written, or there was none
-abbrev pub TellsNext : (A : Type 0) → Bool → (rows rows' : List Row) → (tree tree' : StoredTree) → (held held' : Option (List ℕ)) → Type 0
-TellsNext A true rows rows' tree tree' held held' =
-    (input : Input A) × ((text : List ℕ) × IsTold rows rows' text tree tree' input × Appends held held' text)
-TellsNext A false rows rows' tree tree' held held' = held' ≡ held
-
--- it was not told, or not all of its story was written
-abbrev pub NextStops : (A : Type 0) → (rows : List Row) → (tree : StoredTree) → (held held' : Option (List ℕ)) → Type 0
-NextStops A rows tree held held' =
-    (held' ≡ held)
-    ⊎ ((input : Input A) × ((m : Machine) → StandsFor tree m → AppendsFront held held' (story_of rows m input)))
-
 -- by which rows services are named after some inputs
 abbrev pub named_after_all : {A : Type 0} → List Row → Machine → List (Input A) → List Row
 named_after_all rows m [] = rows
@@ -71,15 +57,3 @@ named_after_all rows m (input ∷ inputs) = named_after_all (named_after rows m 
 abbrev pub run_story : {A : Type 0} → List Row → Machine → List (Input A) → List ℕ
 run_story rows m [] = []
 run_story rows m (input ∷ inputs) = story_of rows m input ++ run_story (named_after rows m input) (after m input) inputs
-
--- what was written is the story of a run of a new machine
-abbrev pub IsStory : (A : Type 0) → (held held' : Option (List ℕ)) → Type 0
-IsStory A held held' = (inputs : List (Input A)) × Appends held held' (run_story [] new_machine inputs)
-
--- or some of the story of one step more was written behind it, and not all
-abbrev pub StoryStops : (A : Type 0) → (held held' : Option (List ℕ)) → Type 0
-StoryStops A held held' =
-    IsStory A held held'
-    ⊎ ((inputs : List (Input A)) × ((last : Input A) × ((between : Option (List ℕ))
-    × Appends held between (run_story [] new_machine inputs)
-    × AppendsFront between held' (story_of (named_after_all [] new_machine inputs) (after_all new_machine inputs) last))))

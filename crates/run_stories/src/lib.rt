@@ -8,7 +8,6 @@ mod effect_words;
 mod intervals;
 mod lanes;
 mod moments;
-mod reading;
 mod reply_words;
 mod scale;
 mod shade;

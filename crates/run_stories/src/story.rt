@@ -1,34 +1,37 @@
 //! The story of a script: a line for each event.
-ghost use Rattle.std.specs.Prelude.{◌≡◌, ◌<◌, ◌++◌, [], OnOk, OnErr, IfOk, IfErr};
+ghost use Rattle.std.specs.Prelude.{◌≡◌, ◌<◌, ◌++◌, [], OnOk, IfOk, IfErr};
 ghost use Rattle.std.specs.Io.KnownBytes.{Appends};
 ghost use Rattle.tree_core.specs.Effect.{outcome_of};
 ghost use Rattle.tree_core.specs.Machine.{Machine, new_machine};
 ghost use Rattle.s6_replay.specs.Lines.{AppendsFront};
+ghost use Rattle.s6_replay.specs.Script.{input_limit};
 ghost use Rattle.tree_core.specs.Rows.{all_rows};
 ghost use Rattle.tree_core.specs.StandsFor.{StandsFor};
 ghost use Rattle.run_stories.specs.Requests.{body_words, reply_lines};
-ghost use Rattle.run_stories.specs.Stories.{rows_after, effect_lines, IsTold, TellsNext, NextStops, IsStory, StoryStops};
-ghost use Rattle.s6_replay.specs.declared.fault.ReplayFault.TheVariants.{NoMemory};
+ghost use Rattle.run_stories.specs.Scripts.{TellsNext, NextStops, IsStory, StoryStops};
+ghost use Rattle.run_stories.specs.Stories.{rows_after, effect_lines, IsTold};
+ghost use Rattle.s6_replay.specs.declared.fault.ReplayFault.TheVariants.{NoMemory, Write};
 
 use crate::act_words::{head_of, is_told, push_body};
 use crate::cause::{Cause, cause_of};
 use crate::effect_words::push_effect;
-use crate::reading::{INPUT_LIMIT, Reading};
 use crate::reply_words::push_reply_lines;
 use arrayvec::ArrayVec;
-use s6_replay::{ReplayFault, write_whole};
+use s6_replay::{
+    INPUT_LIMIT, ReplayFault, Scratch, Version, read_end, read_head, read_step, write_whole,
+};
 use std::alloc::{AllocError, Allocator, Global};
 use std::io::{BufRead, Write};
 use supervise_core::Row;
 use tree_core::{Act, Effect, Input, Reply, SERVICE_LIMIT, Tree};
 
-// What is used again for each step, and the rows of the last scan, by which services are named.
+// The rows of the last scan, by which services are named, and what is used again for each step: of what its act is, and its story, which
+// is the text of the scratch.
 #[derive(Drop)]
 struct Teller<A: Allocator> {
     rows: ArrayVec<Row, SERVICE_LIMIT>,
     body: Vec<u8, A>,
-    text: Vec<u8, A>,
-    effect: Effect<A>,
+    scratch: Scratch<A>,
 }
 
 impl<A: Allocator + Copy> Teller<A> {
@@ -38,8 +41,7 @@ impl<A: Allocator + Copy> Teller<A> {
         Teller {
             rows: ArrayVec::new(),
             body: Vec::new(alloc),
-            text: Vec::new(alloc),
-            effect: Effect::new(alloc),
+            scratch: Scratch::new(alloc),
         }
     }
 }
@@ -111,7 +113,7 @@ fn tell_step<A: Allocator + Copy>(
     input: Input<A>,
 ) -> Result<(), ReplayFault>
     ensures told { OnOk result (IsTold teller.old.rows.items teller.new.rows.items
-        teller.new.text.items tree.old tree.new input) }
+        teller.new.scratch.text.items tree.old tree.new input) }
     ensures fault { IfErr result (λ fault. fault ≡ NoMemory) }
 {
     let told = is_told(&input.act);
@@ -120,9 +122,9 @@ fn tell_step<A: Allocator + Copy>(
     let Teller {
         rows,
         body,
-        text,
-        effect,
+        scratch,
     } = teller;
+    let Scratch { text, effect, .. } = scratch;
     let Ok(()) = make_body(body, rows, &input.act) else {
         return Err(ReplayFault::NoMemory);
     };
@@ -141,37 +143,41 @@ fn write_story<A: Allocator, W: Write>(
     writer: &mut W,
 ) -> Result<(), ReplayFault>
     ensures ok { OnOk result (Appends (W.contents writer.old) (W.contents writer.new)
-        teller.now.text.items) }
-    ensures fault { OnErr result (AppendsFront (W.contents writer.old) (W.contents writer.new)
-        teller.now.text.items) }
+        teller.now.scratch.text.items) }
+    ensures fault { IfErr result (λ fault. (fault ≡ Write)
+        × AppendsFront (W.contents writer.old) (W.contents writer.new)
+        teller.now.scratch.text.items) }
 {
-    match write_whole(writer, teller.text.as_slice()) {
+    match write_whole(writer, teller.scratch.text.as_slice()) {
         Ok(()) => Ok(()),
         Err(_) => Err(ReplayFault::Write),
     }
 }
 
-// Reads the input behind so many others, and tells its step. Whether there was one.
+// Reads the step behind so many others, and tells it. Whether there was one.
 fn tell_next<A: Allocator + Copy, R: BufRead, W: Write>(
     alloc: A,
     patterns: Global,
     reader: &mut R,
     writer: &mut W,
     tree: &mut Tree<A>,
-    reading: &mut Reading<A>,
     teller: &mut Teller<A>,
+    version: Version,
     done: u64,
 ) -> Result<bool, ReplayFault>
-    requires { done < 1000000 }
-    ensures ok { IfOk result (λ more. TellsNext A more teller.old.rows.items teller.new.rows.items
-        tree.old tree.new (W.contents writer.old) (W.contents writer.new)) }
-    ensures fault { OnErr result (NextStops A teller.old.rows.items tree.old
+    requires { done < input_limit }
+    ensures ok { IfOk result (λ more. TellsNext A more version
+        teller.old.rows.items teller.new.rows.items tree.old tree.new
+        (R.remaining reader.old) (R.remaining reader.new)
+        (W.contents writer.old) (W.contents writer.new)) }
+    ensures fault { IfErr result (λ fault. NextStops A fault version done
+        teller.old.rows.items tree.old
+        (R.remaining reader.old) (R.remaining reader.new)
         (W.contents writer.old) (W.contents writer.new)) }
 {
-    let input = match reading.next_input(alloc, patterns, reader, done) {
-        Ok(Some(input)) => input,
-        Ok(None) => return Ok(false),
-        Err(fault) => return Err(fault),
+    let scratch = &mut teller.scratch;
+    let Some(input) = read_step(alloc, patterns, reader, scratch, version, done)? else {
+        return Ok(false);
     };
     if let Err(fault) = tell_step(tree, teller, input) {
         return Err(fault);
@@ -193,30 +199,27 @@ fn tell_all<A: Allocator + Copy, R: BufRead, W: Write>(
 ) -> Result<(), ReplayFault>
     requires fresh { StandsFor tree.old new_machine }
     requires unnamed { teller.old.rows.items ≡ [] }
-    ensures ok { OnOk result (IsStory A (W.contents writer.old) (W.contents writer.new)) }
-    ensures fault { OnErr result (StoryStops A (W.contents writer.old) (W.contents writer.new)) }
+    ensures ok { OnOk result (IsStory A (R.remaining reader.old) (R.remaining reader.new)
+        (W.contents writer.old) (W.contents writer.new)) }
+    ensures fault { IfErr result (λ fault. StoryStops A fault
+        (R.remaining reader.old) (R.remaining reader.new)
+        (W.contents writer.old) (W.contents writer.new)) }
 {
-    let mut reading = match Reading::begin(alloc, reader) {
-        Ok(reading) => reading,
+    let version = match read_head(reader) {
+        Ok(version) => version,
         Err(fault) => return Err(fault),
     };
     for done in 0..INPUT_LIMIT {
-        match tell_next(
-            alloc,
-            patterns,
-            reader,
-            writer,
-            tree,
-            &mut reading,
-            teller,
-            done,
-        ) {
+        match tell_next(alloc, patterns, reader, writer, tree, teller, version, done) {
             Ok(true) => {}
             Ok(false) => return Ok(()),
             Err(fault) => return Err(fault),
         }
     }
-    reading.read_end(reader)
+    match read_end(reader, version) {
+        Ok(()) => Ok(()),
+        Err(fault) => Err(fault),
+    }
 }
 
 /// Reads a script of either version, hands its inputs to a new tree one after the other, and writes what happens, a line for each event, as
@@ -224,15 +227,18 @@ fn tell_all<A: Allocator + Copy, R: BufRead, W: Write>(
 /// here. Patterns take their memory from `patterns`, and all else from `alloc`.
 ///
 /// The limits and the faults are those of `s6_replay::run`. At `Line`, `Pattern`, `Truncated`, `Read` and `NoMemory` the story of all steps
-/// before was written, and nothing more; at `Write` a part of it, from its beginning on; at `Head` nothing.
+/// before was written, and nothing more; at `Write` some of it and of the next step's, from its beginning on; at `Head` nothing.
 pub fn tell_story<A: Allocator + Copy, R: BufRead, W: Write>(
     alloc: A,
     patterns: Global,
     reader: &mut R,
     writer: &mut W,
 ) -> Result<(), ReplayFault>
-    ensures ok { OnOk result (IsStory A (W.contents writer.old) (W.contents writer.new)) }
-    ensures fault { OnErr result (StoryStops A (W.contents writer.old) (W.contents writer.new)) }
+    ensures ok { OnOk result (IsStory A (R.remaining reader.old) (R.remaining reader.new)
+        (W.contents writer.old) (W.contents writer.new)) }
+    ensures fault { IfErr result (λ fault. StoryStops A fault
+        (R.remaining reader.old) (R.remaining reader.new)
+        (W.contents writer.old) (W.contents writer.new)) }
 {
     let mut tree = Tree::new(alloc);
     let mut teller = Teller::new(alloc);

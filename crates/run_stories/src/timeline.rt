@@ -1,28 +1,28 @@
 //! The timeline of a script: a lane for each service.
 ghost use Rattle.std.specs.Prelude.{◌<◌};
+ghost use Rattle.s6_replay.specs.Script.{input_limit};
 
 use crate::drawing::{Layout, write_end, write_frame, write_lane};
 use crate::intervals::{Interval, cut_lane};
 use crate::lanes::{Lane, Lanes};
-use crate::reading::{INPUT_LIMIT, Reading};
 use crate::scale::Scale;
 use crate::story::follow_scan;
 use arrayvec::ArrayVec;
 use s6_events::{At, Name};
-use s6_replay::ReplayFault;
+use s6_replay::{INPUT_LIMIT, ReplayFault, Scratch, Version, read_end, read_head, read_step};
 use std::alloc::{Allocator, Global};
 use std::io::{BufRead, Write};
 use supervise_core::Row;
-use tree_core::{Act, Effect, Input, SERVICE_LIMIT, Tree};
+use tree_core::{Act, Input, SERVICE_LIMIT, Tree};
 
 // What was seen of a run so far: its lanes, the moment of its first step, the rows of its last scan, by which services are named, and what
-// the last step gave.
+// is used again for each step.
 #[derive(Drop)]
 struct Watcher<A: Allocator> {
     lanes: Lanes<A>,
     first: Option<At>,
     rows: ArrayVec<Row, SERVICE_LIMIT>,
-    effect: Effect<A>,
+    scratch: Scratch<A>,
 }
 
 impl<A: Allocator + Copy> Watcher<A> {
@@ -31,7 +31,7 @@ impl<A: Allocator + Copy> Watcher<A> {
             lanes: Lanes::new(alloc),
             first: None,
             rows: ArrayVec::new(),
-            effect: Effect::new(alloc),
+            scratch: Scratch::new(alloc),
         }
     }
 }
@@ -56,8 +56,9 @@ fn watch_step<A: Allocator + Copy>(
         lanes,
         first,
         rows,
-        effect,
+        scratch,
     } = watcher;
+    let effect = &mut scratch.effect;
     let Ok(()) = tree.apply_into(input, effect) else {
         return Err(ReplayFault::NoMemory);
     };
@@ -77,13 +78,14 @@ fn watch_next<A: Allocator + Copy, R: BufRead>(
     patterns: Global,
     reader: &mut R,
     tree: &mut Tree<A>,
-    reading: &mut Reading<A>,
     watcher: &mut Watcher<A>,
+    version: Version,
     done: u64,
 ) -> Result<bool, ReplayFault>
-    requires { done < 1000000 }
+    requires { done < input_limit }
 {
-    let Some(input) = reading.next_input(alloc, patterns, reader, done)? else {
+    let scratch = &mut watcher.scratch;
+    let Some(input) = read_step(alloc, patterns, reader, scratch, version, done)? else {
         return Ok(false);
     };
     watch_step(alloc, tree, watcher, input)?;
@@ -98,13 +100,13 @@ fn watch_all<A: Allocator + Copy, R: BufRead>(
     tree: &mut Tree<A>,
     watcher: &mut Watcher<A>,
 ) -> Result<(), ReplayFault> {
-    let mut reading = Reading::begin(alloc, reader)?;
+    let version = read_head(reader)?;
     for done in 0..INPUT_LIMIT {
-        if !watch_next(alloc, patterns, reader, tree, &mut reading, watcher, done)? {
+        if !watch_next(alloc, patterns, reader, tree, watcher, version, done)? {
             return Ok(());
         }
     }
-    reading.read_end(reader)
+    read_end(reader, version)
 }
 
 // How many letters the longest name of a lane has.

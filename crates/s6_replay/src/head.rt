@@ -48,7 +48,7 @@ fn read_version<R: BufRead>(reader: &mut R) -> Result<Version, ReplayFault>
     }
 }
 
-// Reads the head line.
+/// Reads the head line of a script. `Head` where the input begins otherwise, `Read` where the reader answered an error.
 pub fn read_head<R: BufRead>(reader: &mut R) -> Result<Version, ReplayFault>
     ensures ok { IfOk result (λ version. Consumes (R.remaining reader.old) (R.remaining reader.new)
         (head_line version)) }

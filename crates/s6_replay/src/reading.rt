@@ -14,8 +14,8 @@ use std::alloc::{Allocator, Global};
 use std::io::{BufRead, Read};
 use tree_core::{Effect, Input};
 
-// What is used again for each step, so that one that needs no more room than those before it takes no memory: its lines, a text of what
-// was read or is written, and what the tree gave.
+/// What is used again for each step, so that one that needs no more room than those before it takes no memory: its lines, a text of what
+/// was read or is written, and what the tree gave.
 #[derive(Drop)]
 pub struct Scratch<A: Allocator> {
     pub line: Vec<u8, A>,
@@ -125,7 +125,7 @@ fn read_reply<A: Allocator + Copy, R: BufRead>(
     }
 }
 
-// Reads the lines of the next step, if there is one, behind so many steps.
+/// Reads the lines of the next step, if there is one, behind so many steps. The limits and the faults are those of `run`.
 pub fn read_step<A: Allocator + Copy, R: BufRead>(
     alloc: A,
     patterns: Global,
@@ -160,7 +160,7 @@ pub fn read_step<A: Allocator + Copy, R: BufRead>(
     }
 }
 
-// Looks for the end of the input, after the last line that a script may have.
+/// Looks for the end of the input, after the last line that a script may have.
 pub fn read_end<R: BufRead>(reader: &mut R, version: Version) -> Result<(), ReplayFault>
     ensures ok { OnOk result (Consumes (R.remaining reader.old) (R.remaining reader.new) []
         × IsAtEnd (R.remaining reader.new)) }

@@ -3,8 +3,8 @@
 /// The two versions of a script.
 #[derive(Clone, Copy, Debug, PartialEq, Eq)]
 pub enum Version {
-    // Inputs alone.
+    /// Inputs alone.
     One,
-    // Each input with its reply.
+    /// Each input with its reply.
     Two,
 }

@@ -1,20 +1,21 @@
-use Rattle.std.proofs.Common.{refl, inl}
-use Rattle.run_stories.proofs.Runs.{starts, goes_on, ends, stops, holds_at_ok, holds_at_err}
+use Rattle.std.proofs.Common.{arith, refl}
+use Rattle.run_stories.proofs.Runs.{starts, goes_on, next_stops, end_stops}
 use Rattle.run_stories.proofs.story.tell_all.Goals as goal
 
 pub loop-done-init : goal.loop-done-init
-loop-done-init g c = starts _ _ _ _ c.requires.fresh c.requires.unnamed
+loop-done-init g c = starts _ c.in-Ok.version _ _ _ _ _ c.in-Ok.ensures.ok c.requires.fresh c.requires.unnamed
 
 pub loop-done-preserved : goal.loop-done-preserved
 loop-done-preserved g c =
-    goes_on _ _ _ _ _ _ c.loop-done.invariant.0 c.loop-done.invariant.1 _ _ (rw c.in-Ok-true.field-0-test at c.in-Ok-true.ensures.ok)
+    goes_on _ _ _ _ _ _ _ _ _ _ c.loop-done.done c.loop-done.invariant.0 c.loop-done.invariant.1 _ _
+    (rw c.in-Ok-true.field-0-test at c.in-Ok-true.ensures.ok)
 
 pub returns-in-Err-tell_next-clause-fault : goal.returns-in-Err-tell_next-clause-fault
 returns-in-Err-tell_next-clause-fault g c =
-    stops _ _ _ _ _ _ c.loop-done.invariant.0 c.loop-done.invariant.1 c.in-Err-tell_next.ensures.fault
+    next_stops _ _ _ _ _ _ _ _ _ c.loop-done.tree c.loop-done.done c.loop-done.invariant.0 c.loop-done.invariant.1
+    c.in-Err-tell_next.fault (omega arith) c.in-Err-tell_next.ensures.fault
 
-pub returns-clause-ok : goal.returns-clause-ok
-returns-clause-ok g c = holds_at_ok _ c.read_end.result (ends _ _ _ _ _ _ c.loop-done.invariant.0 c.loop-done.invariant.1 refl)
-
-pub returns-clause-fault : goal.returns-clause-fault
-returns-clause-fault g c = holds_at_err _ c.read_end.result (inl (ends _ _ _ _ _ _ c.loop-done.invariant.0 c.loop-done.invariant.1 refl))
+pub returns-in-Err-read_end-clause-fault : goal.returns-in-Err-read_end-clause-fault
+returns-in-Err-read_end-clause-fault g c =
+    end_stops _ _ _ _ _ _ _ _ _ c.loop-done.tree c.loop-done.done c.loop-done.invariant.0 c.loop-done.invariant.1
+    c.in-Err-read_end.fault (omega arith) c.in-Err-read_end.ensures.fault refl

@@ -1,9 +1,10 @@
 use Rattle.std.proofs.Common.{List}
-use Rattle.tree_core.specs.declared.input.Input.{Input}
+use Rattle.s6_replay.specs.Script.{Recorded}
 use Rattle.run_stories.proofs.Runs.{RunsTo}
 use Rattle.run_stories.proofs.story.tell_all.Given as goal
 
 abbrev pub invariant-loop-done : goal.invariant-loop-done
 invariant-loop-done g l =
-    (inputs : List (Input g.row.A.Denot))
-    × RunsTo (g.W.Write.contents l.fn.writer) (g.W.Write.contents l.writer) l.teller.rows.items l.tree inputs
+    (steps : List (Recorded g.row.A.Denot))
+    × RunsTo l.version (g.R.Read.remaining l.fn.reader) (g.R.Read.remaining l.reader) (g.W.Write.contents l.fn.writer)
+    (g.W.Write.contents l.writer) l.teller.rows.items l.tree l.done steps
