@@ -4,9 +4,9 @@ use crate::run::driver_state::{DriverState, Lasting};
 use channel_names::Channels;
 use office::Office;
 use order_lanes::{Backend, Lanes};
-use s6_events::{At, NoMemory};
+use s6_events::NoMemory;
 use server_rules::{Answer, Line, Place, Post, Subject, hand_out, place_of};
-use server_threads::Context;
+use server_threads::{Context, moment_of};
 use status_board::Board;
 use std::alloc::Global;
 use std::io::Write;
@@ -76,8 +76,8 @@ fn deliver<C: Channels + Lanes, D: Board<C>, B: Backend, R: Wait, E: Write>(
     let Some(actor) = office.actor(context.rt, number) else {
         return Ok(());
     };
-    let moment = office.moment(context.rt, number);
-    state.lasting.clock = later_of(state.lasting.clock, moment);
+    let moment = moment_of_step(context, office, number);
+    state.lasting.clock = state.lasting.clock.max(moment);
     note_step(state, number, moment, effect)?;
     let mut posts = mem::replace(&mut state.posts, Vec::new(context.alloc()));
     let place = place_of(actor);
@@ -98,35 +98,36 @@ fn deliver<C: Channels + Lanes, D: Board<C>, B: Backend, R: Wait, E: Write>(
     handed
 }
 
-// The tree's clock after an input that was handed in at this moment.
-fn later_of(clock: At, moment: Option<At>) -> At {
-    match moment {
-        Some(moment) => clock.max(moment),
-        None => clock,
+// The moment at which the input of the step of this number was handed in, in milliseconds.
+fn moment_of_step<C: Channels + Lanes, D: Board<C>, B: Backend, R: Wait>(
+    context: &Context<'_, R>,
+    office: &Office<C, D, B>,
+    number: u64,
+) -> u64 {
+    match office.moment(context.rt, number) {
+        Some(moment) => moment.millis(),
+        None => 0,
     }
 }
 
-// The roster notes what the step of this number gave, unless it has already.
+// The roster notes what the step of this number gave, unless it has already. Its input was handed in at this moment, in milliseconds.
 fn note_step<C: Channels>(
     state: &mut DriverState<C>,
     number: u64,
-    moment: Option<At>,
+    moment: u64,
     effect: &Effect<Global>,
 ) -> Result<(), NoMemory> {
     if number <= state.noted {
         return Ok(());
     }
+    state.lasting.noted_clock = state.lasting.noted_clock.max(moment);
     if let Reply::Scanned(report) = &effect.reply {
         state.lasting.roster.add(report.listed())?;
     }
     if !effect.events.is_empty() {
-        let roster = &mut state.lasting.roster;
-        roster.note(
-            later_of(state.lasting.noted_clock, moment),
-            effect.events.as_slice(),
-        );
+        let at = moment_of(state.lasting.noted_clock);
+        state.lasting.roster.note(at, effect.events.as_slice());
     }
-    state.lasting.noted_clock = later_of(state.lasting.noted_clock, moment);
     state.noted = number;
     Ok(())
 }
@@ -144,7 +145,12 @@ fn catch_up<C: Channels + Lanes, D: Board<C>, B: Backend, R: Wait>(
 ) -> Result<(), NoMemory> {
     for number in state.noted.saturating_add(1)..=state.made {
         if let Some(effect) = office.effect(context.rt, number)? {
-            note_step(state, number, office.moment(context.rt, number), &effect)?;
+            note_step(
+                state,
+                number,
+                moment_of_step(context, office, number),
+                &effect,
+            )?;
         }
     }
     Ok(())
@@ -158,7 +164,7 @@ fn hand_out_of<C: Channels>(
     posts: &mut Vec<Post>,
 ) -> Result<(), NoMemory> {
     let is_scan = state.is_scan_next();
-    let at = state.lasting.clock;
+    let at = moment_of(state.lasting.clock);
     let Lasting {
         plans,
         roster,

@@ -4,7 +4,7 @@ use channel_names::Channels;
 use inbox::Seat;
 use line_server::SEAT_COUNT;
 use order_lanes::Report;
-use s6_events::{At, NoMemory};
+use s6_events::NoMemory;
 use server_rules::{
     Askers, Connection, Found, FullServices, LANE_COUNT, Plans, Post, Remark, Roster, SCANNER,
 };
@@ -40,10 +40,10 @@ pub struct Lasting {
     pub full: FullServices,
     /// What a step gave, once one was read: a place that is filled anew by each.
     pub effect: Option<Box<Effect<Global>>>,
-    /// The tree's clock after the last step that was handed out.
-    pub clock: At,
-    /// The tree's clock after the last step that the roster has noted.
-    pub noted_clock: At,
+    /// The tree's clock after the last step that was handed out, in milliseconds.
+    pub clock: u64,
+    /// The tree's clock after the last step that the roster has noted, in milliseconds.
+    pub noted_clock: u64,
     /// The clock of the tree, in milliseconds: the greatest moment of what was handed in, once all of that was done.
     pub now: u64,
     /// The greatest moment of what was handed in.
@@ -77,8 +77,8 @@ impl Lasting {
             kept,
             full: FullServices::new(alloc),
             effect: None,
-            clock: At::zero(),
-            noted_clock: At::zero(),
+            clock: 0,
+            noted_clock: 0,
             now: 0,
             handed_in: 0,
         })
