@@ -1,5 +1,5 @@
 -- The story of a script that goes on by one step, stops or ends.
-use Rattle.std.proofs.Common.{◌≡◌, ℕ, ◌+◌, ◌<◌, ◌≤◌, List, [], ◌∷◌, ◌++◌, length, refl, sym, ap, ◌∙◌, subst, append_assoc, append-nil}
+use Rattle.std.proofs.Common.{◌≡◌, ℕ, ◌+◌, ◌<◌, ◌≤◌, List, [], ◌∷◌, ◌++◌, refl, sym, ap, ◌∙◌, subst, append_assoc, append-nil}
 use Rattle.std.proofs.Common.{arith, inl, inr}
 use Rattle.std.specs.Prelude.{Option, true, false}
 use Rattle.std.specs.Io.KnownBytes.{Consumes, Appends}
@@ -12,7 +12,7 @@ use Rattle.tree_core.specs.Run.{after, after_all}
 use Rattle.tree_core.specs.StandsFor.{StoredTree, StandsFor}
 use Rattle.s6_script.specs.Spelling.{spelling}
 use Rattle.s6_replay.specs.Lines.{HasNoNewline, AppendsFront}
-use Rattle.s6_replay.specs.Script.{Recorded, HasLines, StopsBehind, head_line, step_lines, script, inputs_of, input_limit}
+use Rattle.s6_replay.specs.Script.{Recorded, HasLines, StopsBehind, head_line, step_lines, inputs_of, input_limit}
 use Rattle.s6_replay.specs.Turn.{HeadStops, EndStops}
 use Rattle.s6_replay.specs.declared.version.Version.{Version}
 use Rattle.s6_replay.specs.declared.fault.ReplayFault.{ReplayFault}
@@ -20,7 +20,7 @@ use Rattle.s6_replay.specs.declared.fault.ReplayFault.TheVariants.{Head, Line, P
 use Rattle.s6_replay.proofs.Migrations.{front_more}
 use Rattle.s6_replay.proofs.Places.{whole_step}
 use Rattle.s6_replay.proofs.Steps.{ReadsTo, all_more, reads_more, reads_none, make_script, are_read, stops_after, inputs_more, script_more, stops_at_end}
-use Rattle.run_stories.specs.Stories.{IsTold, Tells, story_of, named_after, named_after_all, run_story}
+use Rattle.run_stories.specs.Stories.{Tells, story_of, named_after, named_after_all, run_story}
 use Rattle.run_stories.specs.Scripts.{script_story, TellsNext, NextStops, IsStory, StopsTelling, StoryStops}
 
 -- the story has come so far: these steps were read and told
@@ -43,7 +43,7 @@ story_more rows m (x ∷ xs) i =
     ∙ sym (append_assoc (story_of rows m x) (run_story (named_after rows m x) (after m x) xs) _)
 
 -- the story of a step behind some others
-last_story : {A : Type 0} → List (Recorded A) → Recorded A → List ℕ
+abbrev last_story : {A : Type 0} → List (Recorded A) → Recorded A → List ℕ
 last_story steps s = story_of (named_after_all [] new_machine (inputs_of steps)) (after_all new_machine (inputs_of steps)) s.input
 
 text_more : {A : Type 0} (steps : List (Recorded A)) (s : Recorded A) → script_story (steps ++ s ∷ []) ≡ script_story steps ++ last_story steps s
