@@ -15,7 +15,6 @@ start "$record"
 tell svwait -U ready
 tell svc -d stopped
 tell svwait -D stopped
-soon comes_to '1' svwait -U -t 1 broken
 
 # Which services there are, and why each is down. What dies at once is up, or in its pause.
 states() { client list --json | sed 's/.*"name":"\([^"]*\)".*"state":"\([^"]*\)".*"fault":\([^}]*\)}/\1 \2 \3/'; }
