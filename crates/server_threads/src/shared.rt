@@ -4,7 +4,7 @@ use crate::clock::ServerClock;
 use crate::scan_desk::ScanDesk;
 use child_runner::Bell;
 use line_server::{Answers, Mailbox, Next};
-use server_rules::{OwnAnswer, Request, RowCache, Subject, client_actor, clock_line, read_request};
+use server_rules::{OwnAnswer, Request, RowCache, Subject, client_actor, read_request};
 use std::alloc::Global;
 use std::sync::Wait;
 use std::time::Clock;
@@ -62,8 +62,8 @@ impl Answers for Shared {
 }
 
 impl Shared {
-    // Answers a request for which the thread that drives isn't needed: a status of rows that are fresh, the clock, or one that is refused.
-    // Not while an earlier one is not answered.
+    // Answers a request for which the thread that drives isn't needed: a status of rows that are fresh, or one that is refused. Not while
+    // an earlier one is not answered.
     fn is_answered_at_once<R: Wait + Clock>(
         &self,
         rt: &R,
@@ -81,21 +81,12 @@ impl Shared {
                 let _ = mailbox.post(rt, reason.text());
                 true
             }
-            Request::Clock => {
-                self.tell_clock(rt, caller, mailbox);
-                true
-            }
-            Request::Scan | Request::Record | Request::Follow(_) | Request::Step(_) => false,
+            Request::Clock
+            | Request::Scan
+            | Request::Record
+            | Request::Follow(_)
+            | Request::Step(_) => false,
         }
-    }
-
-    fn tell_clock<R: Wait + Clock>(&self, rt: &R, caller: &Caller, mailbox: &Mailbox) {
-        caller.note_here(rt);
-        let now = self.clock.millis(rt);
-        let _ = match clock_line(self.alloc, self.clock.since, now) {
-            Ok(text) => mailbox.post(rt, text.as_slice()),
-            Err(_) => mailbox.post(rt, OwnAnswer::NoMemory.text()),
-        };
     }
 
     // Tells a status from the rows that were last read. False where they are not fresh.

@@ -63,7 +63,7 @@ fn post_status<C: Channels, R: Wait>(
     seat: usize,
     subject: &Subject,
 ) {
-    if *subject == Subject::States && !state.is_noted() {
+    if *subject == Subject::States && !(state.is_noted() && state.is_shown) {
         return post_answer(context, state, seat, OwnAnswer::NoMemory.text());
     }
     let shared = context.shared();

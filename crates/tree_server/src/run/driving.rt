@@ -87,7 +87,7 @@ fn drive_once<C: Channels + Lanes, D: Board<C>, B: Backend, R: Wait + Clock, E: 
     errors: &mut E,
 ) -> After {
     let now = context.shared().clock.millis(context.rt);
-    let is_open = takes_inputs(state, last_step(state, handover));
+    let is_open = takes_inputs(state, handover);
     let mut is_full = false;
     if is_open {
         hand_in_all(context, state, now);
@@ -121,7 +121,7 @@ fn last_step<C: Channels>(state: &DriverState<C>, handover: u64) -> u64 {
 
 // Once a run has so many steps nothing more is handed in, unless a lane has to be waited for, and then as far as the run has room.
 fn takes_inputs<C: Channels>(state: &DriverState<C>, handover: u64) -> bool {
-    state.steps < handover
+    state.steps < last_step(state, handover)
         || (state.is_lane_busy && state.steps < handover.saturating_add(SPARE_STEPS))
 }
 

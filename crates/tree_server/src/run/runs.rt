@@ -164,12 +164,9 @@ fn run_opened<
     let mut state = DriverState::new(context.alloc(), seats, reader, lasting);
     let finishes = take_memory(context, &mut state.lasting, &mut settings.recorder);
     let end = drive_run(context, &office, &mut state, settings.handover, errors);
-    let recorded = record(context, &office, &mut state.lasting, &mut settings.recorder);
+    let recorded = record(context, &office, &mut state, &mut settings.recorder);
     match (end, recorded) {
-        (RunEnd::Handover, Ok(())) => {
-            tell_recorded(context, &mut state, settings.recorder.steps());
-            close(office, state, finishes, log)
-        }
+        (RunEnd::Handover, Ok(())) => close(office, state, finishes, log),
         (RunEnd::Handover, Err(fault)) => {
             end_services(context, &office, &mut state, errors);
             AfterRun::Over(Err(fault))
@@ -198,19 +195,22 @@ fn take_memory<C: Channels, R: Wait + Clock, W: Write + Drop>(
     Vec::new(alloc)
 }
 
-// Records the run, once there is memory for it; connections are answered meanwhile.
+// Records the run, once there is memory for it; connections are answered meanwhile. Those that wait for it are told.
 fn record<C: Channels + Lanes, D: Board<C>, B: Backend, R: Wait + Clock, W: Write + Drop>(
     context: &Context<'_, R>,
     office: &Office<C, D, B>,
-    lasting: &mut Lasting,
+    state: &mut DriverState<C>,
     recorder: &mut Recorder<W>,
 ) -> Result<(), ServeFault> {
     for _ in context.rt.forever() {
         match recorder.append(context.rt, office) {
-            Ok(()) => return Ok(()),
+            Ok(()) => {
+                tell_recorded(context, state, recorder.steps());
+                return Ok(());
+            }
             Err(RecordFault::Write) => return Err(ServeFault::Record),
             Err(RecordFault::NoMemory) => {
-                refuse_all(context, lasting);
+                refuse_all(context, &mut state.lasting);
                 wait_for_bell(context, Some(RETRY_WAIT));
             }
         }
