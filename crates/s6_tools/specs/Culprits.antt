@@ -54,9 +54,9 @@ is_condition word = (length word == 2) && (is_dashed word && list_any (λ l. l =
 abbrev pub is_mode : List ℕ → Bool
 is_mode word = bytes_eq word (codes "-a") || bytes_eq word (codes "-o")
 
--- the option of this letter, with its value
+-- the option of this letter, and its value in the same word
 abbrev pub is_valued : ℕ → List ℕ → Bool
-is_valued letter word = is_dashed word && (nat_le 2 (length word) && (slice_index word 1 == letter))
+is_valued letter word = is_dashed word && (nat_le 3 (length word) && (slice_index word 1 == letter))
 
 -- an option that ends with this letter
 abbrev pub is_ended : ℕ → List ℕ → Bool
@@ -128,12 +128,12 @@ excess_of t = (clue.At 2, clue.Nowhere)
 -- the value of `-t`; of `permafailon` the first of SECS and COUNT that is no number
 abbrev pub number_clues : Tool → Clue × Clue
 number_clues tool.Permafailon = (clue.AtIf 1 wrong.NoNumber, clue.At 2)
-number_clues t = (clue.Behind (wrong.Ended 116), clue.First (wrong.Valued 116))
+number_clues t = (clue.First (wrong.Valued 116), clue.Behind (wrong.Ended 116))
 
 -- the value of `-o`; of `permafailon` the last word
 abbrev pub list_clues : Tool → Clue × Clue
 list_clues tool.Permafailon = (clue.At 3, clue.Nowhere)
-list_clues t = (clue.Behind (wrong.Ended 111), clue.First (wrong.Valued 111))
+list_clues t = (clue.First (wrong.Valued 111), clue.Behind (wrong.Ended 111))
 
 abbrev pub name_clues : Tool → Clue × Clue
 name_clues tool.Svstat = (clue.First wrong.NoSingleName, clue.Nowhere)
@@ -176,7 +176,7 @@ culprit_of t m words = seen_by_either (clues_of t m) (own_words t words)
 
 abbrev pub subject_clues : Tool → Clue × Clue
 subject_clues tool.Svc = (clue.First wrong.Plain, clue.Nowhere)
-subject_clues tool.Svstat = (clue.AtIf 0 wrong.Plain, clue.At 2)
+subject_clues tool.Svstat = (clue.AtIf 0 wrong.Plain, clue.AtIf 2 wrong.Plain)
 subject_clues tool.Svscanctl = (clue.Nowhere, clue.Nowhere)
 subject_clues tool.Record = (clue.Nowhere, clue.Nowhere)
 subject_clues tool.Svwait = (clue.Only wrong.Plain, clue.Nowhere)

@@ -28,6 +28,7 @@ status_of_refusal t = 1
 abbrev pub status_of_fault : Tool → ToolFault → ℕ
 status_of_fault t (fault.Usage m) = 100
 status_of_fault t (fault.Refused reason) = status_of_refusal t
+status_of_fault t (fault.Unread why) = status_of_refusal t
 status_of_fault t f = 111
 
 -- the server had no room, and nothing was done

@@ -24,6 +24,7 @@ name_of tool.Permafailon = codes "permafailon"
 abbrev pub reason_of : ToolFault → List ℕ
 reason_of (fault.Usage m) = codes "usage"
 reason_of (fault.Refused reason) = codes "refused " ++ reason
+reason_of (fault.Unread why) = codes "refused NoService"
 reason_of fault.Busy = codes "busy"
 reason_of fault.NoServer = codes "socket"
 reason_of fault.Forbidden = codes "socket"

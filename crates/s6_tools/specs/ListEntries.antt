@@ -1,6 +1,7 @@
 -- What a line of the server says of a service, to `list`.
-use Rattle.std.specs.Prelude.{◌≡◌, ◌==◌, ◌+◌, ℕ, List, [], Option, Some, None, drop, take}
+use Rattle.std.specs.Prelude.{◌≡◌, ◌==◌, ◌+◌, ℕ, List, [], Option, Some, None, drop, take, if◌then◌else◌}
 use Rattle.std.specs.List.{position}
+use Rattle.std.specs.Str.{bytes_eq}
 use Rattle.s6_tools.specs.declared.list_entry.ListEntry.{ListEntry}
 use Rattle.s6_tools.specs.declared.list_entry.ListEntry.TheVariants.{Service, Unread}
 use Rattle.s6_tools.specs.ServiceRows.{row_of}
@@ -22,3 +23,8 @@ Tells (Unread name fault) line = (name ≡ word_in line 1) × (fault ≡ take 32
 abbrev pub name_of_entry : ListEntry → List ℕ
 name_of_entry (Service s) = s.row.name
 name_of_entry (Unread name fault) = name
+
+-- the fault of what the last scan could not read, where it has this name
+abbrev pub why_unread : List ℕ → ListEntry → Option (List ℕ)
+why_unread name (Unread unread fault) = if bytes_eq unread name then Some (take 32 fault) else None
+why_unread name (Service s) = None

@@ -26,6 +26,11 @@ refusal_by word tree None = tree
 abbrev pub refusal_text : Option (List ℕ) → List ℕ → List ℕ
 refusal_text word reason = reason ++ (codes ": " ++ refusal_by word (refusal_of_tree reason) (refusal_of_subject reason))
 
+-- of a service whose directory the last scan could not read
+abbrev pub unread_text : Option (List ℕ) → List ℕ → List ℕ
+unread_text word why =
+    codes "NoService: the last scan could not read " ++ (named (codes "a name") word ++ (codes " (" ++ (why ++ codes ")")))
+
 -- the path or the program that a fault is about
 abbrev pub cause_word : List ℕ → List (List ℕ) → ToolFault → List ℕ
 cause_word socket words fault.NoServer = escaped 107 socket
@@ -42,6 +47,7 @@ cause_of socket words f = cause_before f ++ (cause_word socket words f ++ cause_
 abbrev pub hint_of : Tool → List ℕ → List (List ℕ) → ToolFault → List ℕ
 hint_of t socket words (fault.Usage m) = misuse_text t m (culprit_of t m words)
 hint_of t socket words (fault.Refused reason) = refusal_text (subject_of t words) reason
+hint_of t socket words (fault.Unread why) = unread_text (subject_of t words) why
 hint_of t socket words f = cause_of socket words f
 
 -- both lines: the one for programs, and the one for people

@@ -84,7 +84,7 @@ refusal_of_subject reason =
     if bytes_eq reason (codes "NoSuch") then Some (codes " is no free event directory of this tree; see s6_tree mkfifodir --help") else
     if bytes_eq reason (codes "Exists") then Some (codes " is there already") else
     if bytes_eq reason (codes "Reserved") then Some (codes " belongs to a service, and takes no letters of others") else
-    if bytes_eq reason (codes "Ended") then Some (codes " takes no letters any more: its supervisor has ended") else
+    if bytes_eq reason (codes "Ended") then Some (codes " takes no letters now: its supervisor has ended") else
     None
 
 -- what any other reason says

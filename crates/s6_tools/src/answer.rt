@@ -2,7 +2,7 @@
 ghost use Rattle.std.specs.Prelude.{◌≡◌};
 ghost use Rattle.s6_tools.specs.Answers.{is_done, kind_of, outcome_of, release_of, match_of, failure_of, answer_of};
 
-use crate::reason::Reason;
+use crate::told_word::ToldWord;
 use crate::words::{is_word, word_or_none};
 
 /// How a waiter was released.
@@ -25,7 +25,7 @@ pub enum Answer {
     /// `done`, `scanned ..`, `tally ..`, `recorded ..` or `clock ..`: the request was carried out.
     Done,
     /// `refused REASON`.
-    Refused(Reason),
+    Refused(ToldWord),
     /// `row ..`: a status.
     Row,
     /// `wait WAIT`: the waiter stands.
@@ -156,7 +156,7 @@ pub fn read_answer(line: &[u8]) -> Answer
 {
     match kind_of(word_or_none(line, 0)) {
         Kind::Done => Answer::Done,
-        Kind::Refused => Answer::Refused(Reason::new(word_or_none(line, 1))),
+        Kind::Refused => Answer::Refused(ToldWord::new(word_or_none(line, 1))),
         Kind::Row => Answer::Row,
         Kind::Waiter => Answer::Waiter,
         Kind::Subscription => Answer::Subscription,

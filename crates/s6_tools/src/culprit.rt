@@ -143,8 +143,8 @@ fn number_clues(tool: Tool) -> (Clue, Clue)
     match tool {
         Tool::Permafailon => (Clue::AtIf(1, Wrong::NoNumber), Clue::At(2)),
         _ => (
-            Clue::Behind(Wrong::Ended(b't')),
             Clue::First(Wrong::Valued(b't')),
+            Clue::Behind(Wrong::Ended(b't')),
         ),
     }
 }
@@ -155,8 +155,8 @@ fn list_clues(tool: Tool) -> (Clue, Clue)
     match tool {
         Tool::Permafailon => (Clue::At(3), Clue::Nowhere),
         _ => (
-            Clue::Behind(Wrong::Ended(b'o')),
             Clue::First(Wrong::Valued(b'o')),
+            Clue::Behind(Wrong::Ended(b'o')),
         ),
     }
 }
@@ -237,7 +237,7 @@ fn subject_clues(tool: Tool) -> (Clue, Clue)
 {
     match tool {
         Tool::Svc => (Clue::First(Wrong::Plain), Clue::Nowhere),
-        Tool::Svstat => (Clue::AtIf(0, Wrong::Plain), Clue::At(2)),
+        Tool::Svstat => (Clue::AtIf(0, Wrong::Plain), Clue::AtIf(2, Wrong::Plain)),
         Tool::Svscanctl | Tool::Record => (Clue::Nowhere, Clue::Nowhere),
         Tool::Svwait | Tool::Svlisten | Tool::List | Tool::Follow => {
             (Clue::Only(Wrong::Plain), Clue::Nowhere)

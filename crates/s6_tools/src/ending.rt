@@ -2,7 +2,7 @@
 ghost use Rattle.std.specs.Prelude.{◌≡◌, ◌++◌, IfOk, OnOk, map, option_map};
 ghost use Rattle.s6_tools.specs.Endings.{status_of_fault};
 ghost use Rattle.s6_tools.specs.FaultLines.{fault_line, reason_of};
-ghost use Rattle.s6_tools.specs.SecondLines.{advice_text, cause_of, cause_word, misuse_text, refusal_text, hint_of, told_text};
+ghost use Rattle.s6_tools.specs.SecondLines.{advice_text, cause_of, cause_word, misuse_text, refusal_text, unread_text, hint_of, told_text};
 ghost use Rattle.s6_tools.specs.Told.{escaped};
 
 use crate::culprit::{culprit_of, program_of, subject_of};
@@ -50,7 +50,7 @@ fn status_of(tool: Tool, fault: &ToolFault) -> u8
 {
     match fault {
         ToolFault::Usage(_) => USAGE_STATUS,
-        ToolFault::Refused(_) => match tool {
+        ToolFault::Refused(_) | ToolFault::Unread(_) => match tool {
             Tool::Svwait | Tool::Svlisten => SYSTEM_STATUS,
             _ => REFUSED_STATUS,
         },
@@ -95,6 +95,7 @@ fn add_reason(told: &mut Told, fault: &ToolFault) -> Result<(), CapacityError>
             told.try_extend_from_slice(b"refused ")?;
             told.try_extend_from_slice(reason.as_bytes())
         }
+        ToolFault::Unread(_) => told.try_extend_from_slice(b"refused NoService"),
         ToolFault::Busy => told.try_extend_from_slice(b"busy"),
         ToolFault::NoServer | ToolFault::Forbidden | ToolFault::LongPath | ToolFault::Socket =>
             told.try_extend_from_slice(b"socket"),
@@ -120,6 +121,7 @@ fn add_hint(
             add_misuse(told, tool, *misuse, culprit_of(tool, *misuse, words))
         }
         ToolFault::Refused(reason) => add_refusal(told, subject_of(tool, words), reason.as_bytes()),
+        ToolFault::Unread(why) => add_unread(told, subject_of(tool, words), why.as_bytes()),
         _ => add_cause(told, socket, words, fault),
     }
 }
@@ -200,4 +202,16 @@ fn add_refusal(told: &mut Told, word: Option<&str>, reason: &[u8]) -> Result<(),
         }
         None => told.try_extend_from_slice(refusal_of_tree(reason).as_bytes()),
     }
+}
+
+// Why the last scan could not read the directory of this service.
+fn add_unread(told: &mut Told, word: Option<&str>, why: &[u8]) -> Result<(), CapacityError>
+    ensures { OnOk result (told.new.items
+        ≡ told.old.items ++ unread_text (option_map (λ w. w.now) word.entry) why.now) }
+{
+    told.try_extend_from_slice(b"NoService: the last scan could not read ")?;
+    add_named(told, b"a name", word)?;
+    told.try_extend_from_slice(b" (")?;
+    told.try_extend_from_slice(why)?;
+    told.try_extend_from_slice(b")")
 }

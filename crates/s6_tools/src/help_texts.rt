@@ -31,8 +31,8 @@ letters:
   o           start it once: it stays down once it is down
   O           it stays down once it is down
   r           stop it: it starts again where it is to be up
-  x           its supervisor ends once it is down: no letter reaches it
-              any more
+  x           its supervisor ends once it is down; while its directory
+              is there, a new one begins a second later
   a           send it ALRM
   b           send it ABRT
   q           send it QUIT
@@ -115,7 +115,7 @@ states:
   starting    it is to start, and has not run yet
   down        it is down, and stays so until it is told to start
   failed      it failed for good: it stays down until it is told to start
-  gone        its supervisor has ended, and no letter reaches it
+  gone        its supervisor has ended: no letter reaches it now
   unread      the last scan could not read its directory
 
 options:

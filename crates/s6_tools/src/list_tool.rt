@@ -7,7 +7,6 @@ use crate::json_line::json_lines;
 use crate::list_command::{ListCommand, are_there, compile_list, keep_asked};
 use crate::list_entry::ListEntry;
 use crate::patience::{Patience, TRY_TIME};
-use crate::reason::Reason;
 use crate::table::table_of;
 use crate::told_word::ToldWord;
 use crate::tool_fault::ToolFault;
@@ -47,7 +46,8 @@ fn ask_states<R: Net + Clock>(
     Err(ToolFault::Busy)
 }
 
-fn ask_states_once<R: Net>(
+/// The states of all services, asked for once.
+pub fn ask_states_once<R: Net>(
     rt: &R,
     alloc: Global,
     socket: &str,
@@ -90,7 +90,7 @@ fn print_entries<W: Write>(
     if are_there(entries.as_slice(), names) {
         Ok(0)
     } else {
-        Err(ToolFault::Refused(Reason::new(b"NoService")))
+        Err(ToolFault::Refused(ToldWord::new(b"NoService")))
     }
 }
 

@@ -124,7 +124,7 @@ pub fn refusal_of_subject(reason: &[u8]) -> Option<&'static str>
     } else if is_word(reason, b"Reserved") {
         Some(" belongs to a service, and takes no letters of others")
     } else if is_word(reason, b"Ended") {
-        Some(" takes no letters any more: its supervisor has ended")
+        Some(" takes no letters now: its supervisor has ended")
     } else {
         None
     }

@@ -1,7 +1,6 @@
 //! A word that the server told.
-ghost use Rattle.std.specs.Prelude.{◌≡◌, take};
+ghost use Rattle.std.specs.Prelude.{◌≡◌, ◌≤◌, length, take};
 
-use crate::reason::first_bytes;
 use arrayvec::ArrayVec;
 use std::marker::Model;
 
@@ -17,6 +16,18 @@ impl Model for ToldWord {
     ghost Value = { List ℕ };
 
     ghost view = { λ w. w.text.items };
+}
+
+// The first bytes, at most 32.
+fn first_bytes(bytes: &[u8]) -> &[u8]
+    ensures first { result.now ≡ take 32 bytes.entry.now }
+    ensures bound { length result.now ≤ 32 }
+{
+    if bytes.len() <= 32 {
+        bytes
+    } else {
+        &bytes[..32]
+    }
 }
 
 impl ToldWord {

@@ -2,6 +2,7 @@
 ghost use Rattle.std.specs.Prelude.{◌≡◌};
 ghost use Rattle.s6_tools.specs.FaultLines.{name_of};
 
+use crate::culprit::subject_of;
 use crate::ending::tell_fault;
 use crate::event_tools::{run_ftrig_notify, run_ftrig_wait, run_mkfifodir};
 use crate::follow_tool::{run_follow, run_record};
@@ -9,6 +10,7 @@ use crate::help_texts::help_of;
 use crate::letter_tools::{run_svc, run_svscanctl};
 use crate::list_tool::run_list;
 use crate::misuse::Misuse;
+use crate::scan_fault::with_scan_fault;
 use crate::status_tools::{run_permafailon, run_svstat};
 use crate::tool_fault::ToolFault;
 use crate::wait_tools::{run_svlisten, run_svwait};
@@ -106,6 +108,7 @@ pub fn run_client<R: Net + Processes + Clock, W: Write, E: Write>(
                 [socket, further @ ..] => (*socket, further),
                 [] => ("", words),
             };
+            let fault = with_scan_fault(rt, alloc, socket, subject_of(tool, further), fault);
             tell_fault(tool, socket, further, &fault, errors)
         }
     }

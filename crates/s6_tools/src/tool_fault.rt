@@ -3,7 +3,7 @@ ghost use Rattle.std.specs.Prelude.{◌≡◌};
 ghost use Rattle.s6_tools.specs.Endings.{is_busy};
 
 use crate::misuse::Misuse;
-use crate::reason::Reason;
+use crate::told_word::ToldWord;
 use crate::words::is_word;
 use std::alloc::AllocError;
 use std::io;
@@ -15,7 +15,9 @@ pub enum ToolFault {
     /// Its words are not those of the tool. Status 100.
     Usage(Misuse),
     /// The server refused the request, for this reason. Status 1; of a wait 111.
-    Refused(Reason),
+    Refused(ToldWord),
+    /// The server refused the request, NoService: the last scan could not read the service's directory, for this fault. The status of a refusal.
+    Unread(ToldWord),
     /// The server had no seat for one more connection, as often as it was tried. Status 111.
     Busy,
     /// There is no server at the path. Status 111.

@@ -33,7 +33,7 @@ pub enum Wrong {
     Mode,
     /// An option that ends with this letter.
     Ended(u8),
-    /// An option of this letter, with its value.
+    /// An option of this letter and its value, in one word.
     Valued(u8),
 }
 
@@ -116,11 +116,11 @@ fn is_mode(word: &[u8]) -> bool
     is_word(word, b"-a") || is_word(word, b"-o")
 }
 
-// Whether a word is the option of this letter with its value.
+// Whether a word is the option of this letter and its value.
 fn is_valued(letter: u8, word: &[u8]) -> bool
     ensures { result ≡ is_valued letter word.now }
 {
-    is_dashed(word) && word.get(1) == Some(&letter)
+    is_dashed(word) && word.len() >= 3 && word[1] == letter
 }
 
 // Whether a word is an option that ends with this letter.

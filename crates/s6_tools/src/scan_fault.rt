@@ -1,0 +1,69 @@
+//! Why there is no service of a name: what the last scan could not read.
+ghost use Rattle.std.specs.Prelude.{◌≡◌, option_map};
+ghost use Rattle.s6_tools.specs.ListEntries.{why_unread};
+
+use crate::list_entry::ListEntry;
+use crate::list_tool::ask_states_once;
+use crate::told_word::ToldWord;
+use crate::tool_fault::ToolFault;
+use crate::words::is_word;
+use std::alloc::Global;
+use std::net::Net;
+
+/// The fault of a tool, more exactly: where the server has no service of this name since the last scan could not read its directory, that
+/// is the fault. The server is asked for that once; where it doesn't answer, the fault stays as it is.
+pub fn with_scan_fault<R: Net>(
+    rt: &R,
+    alloc: Global,
+    socket: &str,
+    name: Option<&str>,
+    fault: ToolFault,
+) -> ToolFault {
+    match why_refused(rt, alloc, socket, name, &fault) {
+        Some(why) => ToolFault::Unread(why),
+        None => fault,
+    }
+}
+
+fn is_no_service(fault: &ToolFault) -> bool {
+    match fault {
+        ToolFault::Refused(reason) => is_word(reason.as_bytes(), b"NoService"),
+        _ => false,
+    }
+}
+
+fn why_refused<R: Net>(
+    rt: &R,
+    alloc: Global,
+    socket: &str,
+    name: Option<&str>,
+    fault: &ToolFault,
+) -> Option<ToldWord> {
+    let name = name?;
+    if !is_no_service(fault) {
+        return None;
+    }
+    let entries = ask_states_once(rt, alloc, socket).ok()?;
+    for entry in entries.as_slice() {
+        if let Some(why) = why_unread(entry, name) {
+            return Some(why);
+        }
+    }
+    None
+}
+
+// The fault of what the last scan could not read, where it has this name.
+fn why_unread(entry: &ListEntry, name: &str) -> Option<ToldWord>
+    ensures { option_map (λ w. w) result ≡ why_unread name.now entry.now }
+{
+    match entry {
+        ListEntry::Unread(unread, why) => {
+            if is_word(unread.as_bytes(), name.as_bytes()) {
+                Some(ToldWord::new(why.as_bytes()))
+            } else {
+                None
+            }
+        }
+        ListEntry::Service(_) => None,
+    }
+}
