@@ -6,6 +6,7 @@ ghost use Rattle.replay_tool.specs.Flushed.{IsFlushed};
 ghost use Rattle.run_stories.specs.Scripts.{IsStory, StoryStops};
 ghost use Rattle.s6_replay.specs.declared.fault.ReplayFault.TheVariants.{Write};
 
+use crate::dated::Dated;
 use run_stories::{draw_timeline, tell_story};
 use s6_replay::{Checked, Counts, ReplayFault, check, migrate, run};
 use std::alloc::{Allocator, Global};
@@ -138,6 +139,24 @@ pub fn story<A: Allocator + Copy, R: Read + Drop, W: Write + Drop>(
     let Ok(mut writer) = BufWriter::new(alloc, output) else {
         return Err(ReplayFault::NoMemory);
     };
+    tell_whole(alloc, patterns, &mut reader, &mut writer)
+}
+
+/// The same with times of day, where the script's clock was 0 so many milliseconds after the beginning of 1970.
+pub fn dated_story<A: Allocator + Copy, R: Read + Drop, W: Write + Drop>(
+    alloc: A,
+    patterns: Global,
+    start: u64,
+    input: R,
+    output: W,
+) -> Result<(), ReplayFault> {
+    let Ok(mut reader) = BufReader::new(alloc, input) else {
+        return Err(ReplayFault::NoMemory);
+    };
+    let Ok(writer) = BufWriter::new(alloc, output) else {
+        return Err(ReplayFault::NoMemory);
+    };
+    let mut writer = Dated::new(writer, start);
     tell_whole(alloc, patterns, &mut reader, &mut writer)
 }
 

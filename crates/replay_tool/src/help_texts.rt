@@ -56,7 +56,7 @@ pub const VERSION: &[u8] = b"s6_tree (Reskjavin) 0.1.0\n";
 pub const REPLAY_HELP: &[u8] = b"usage: s6_tree replay < SCRIPT
        s6_tree replay --check < RECORDED
        s6_tree replay --migrate < SCRIPT
-       s6_tree replay --story < SCRIPT
+       s6_tree replay --story [--since TIME] < SCRIPT
        s6_tree replay --timeline < SCRIPT > PICTURE
 
 Reads a script on standard input and writes its transcript to standard
@@ -69,7 +69,9 @@ options:
               tree answers: print legal N for N inputs, or differs at
               line N, the first reply that is another
   --migrate   read a script of version 1, and write that of version 2
-  --story     write in words what happened, a line for each event
+  --story     write in words what happened, a line for each event;
+              with --since TIME, as 2026-11-27T11:18:48Z, by times of
+              day, where TIME is that of the line since of svscan
   --timeline  write a picture in SVG, with a lane for each service
   --help      print this text
 

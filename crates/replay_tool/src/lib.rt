@@ -2,6 +2,7 @@
 #![tactic(auto)]
 
 mod buffered;
+mod dated;
 mod fault_lines;
 mod help_texts;
 mod tool;

@@ -1,7 +1,8 @@
 //! What the command line asks for, and doing it: `replay`, or the texts of the program. Its other tools are looked for before.
-use crate::buffered::{check_replies, record_replies, replay, story, timeline};
+use crate::buffered::{check_replies, dated_story, record_replies, replay, story, timeline};
 use crate::fault_lines::{NO_TOOL, REPLAY_USAGE, SYSTEM_STATUS, USAGE_STATUS, replay_fault};
 use crate::help_texts::{HELP, REPLAY_HELP, VERSION};
+use jiff_fmt::temporal::parse_timestamp;
 use s6_replay::{Checked, ReplayFault};
 use std::alloc::{Allocator, Global};
 use std::env::{Env, FillError};
@@ -13,6 +14,12 @@ const DIFFERS_STATUS: u8 = 1;
 // No word that is known is longer.
 const LONGEST_WORD: usize = 16;
 
+// No time of day is longer that is taken.
+const LONGEST_DAY: usize = 40;
+
+// The nanoseconds of a millisecond.
+const MILLISECOND: i128 = 1_000_000;
+
 // What the command line asks for.
 #[derive(Clone, Copy, Debug, PartialEq, Eq)]
 enum Asked {
@@ -22,6 +29,8 @@ enum Asked {
     Check,
     Migrate,
     Story,
+    // With times of day, where the clock was 0 so many milliseconds after the beginning of 1970.
+    DatedStory(u64),
     Timeline,
     ReplayHelp,
     ReplayUsage,
@@ -43,12 +52,35 @@ fn is_word(env: &impl Env, place: usize, text: &[u8]) -> bool {
     }
 }
 
+// The milliseconds from the beginning of 1970 to the time of day at this place of the command line; None where it is none, or before.
+fn day_at(env: &impl Env, place: usize) -> Option<u64> {
+    let mut word = [0; LONGEST_DAY];
+    let count = env.arg(place, &mut word).ok()?;
+    let instant = parse_timestamp(&word[..count]).ok()?;
+    u64::try_from(instant.nanosecond / MILLISECOND).ok()
+}
+
+// What the words behind `replay --story` ask for, where there are some.
+fn asked_of_story(env: &impl Env) -> Asked {
+    if !is_word(env, 3, b"--since") || has_word(env, 5) {
+        return Asked::ReplayUsage;
+    }
+    match day_at(env, 4) {
+        Some(start) => Asked::DatedStory(start),
+        None => Asked::ReplayUsage,
+    }
+}
+
 // What the words behind `replay` ask for.
 fn asked_of_replay(env: &impl Env) -> Asked {
     if !has_word(env, 2) {
         Asked::Replay
     } else if has_word(env, 3) {
-        Asked::ReplayUsage
+        if is_word(env, 2, b"--story") {
+            asked_of_story(env)
+        } else {
+            Asked::ReplayUsage
+        }
     } else if is_word(env, 2, b"--check") {
         Asked::Check
     } else if is_word(env, 2, b"--migrate") {
@@ -138,6 +170,9 @@ pub fn run_tool<A: Allocator + Copy, R: Read + Drop, W: Write + Drop, E: Write>(
         Asked::Replay => ended(replay(alloc, patterns, input, output), errors),
         Asked::Migrate => ended(record_replies(alloc, patterns, input, output), errors),
         Asked::Story => ended(story(alloc, patterns, input, output), errors),
+        Asked::DatedStory(start) => {
+            ended(dated_story(alloc, patterns, start, input, output), errors)
+        }
         Asked::Timeline => ended(timeline(alloc, patterns, input, output), errors),
         Asked::Check => match check_replies(alloc, patterns, input) {
             Ok(checked) => print_checked(output, errors, checked),

@@ -6,6 +6,15 @@ use replay_tool::run_tool;
 use std::alloc::Global;
 use std::process::Abort;
 
+// A service that dies, and is started again once its pause is over.
+const RESTART: &str = "s6-script 1
+0 1 scan web
+0 1 started 1 1 500
+300 1 death 1 1 code 1
+1299 1 tick
+1300 1 tick
+";
+
 // Scripts, each with the status and its story.
 const ROWS: &str = "restart-after-pause
 s6-script 1
@@ -226,4 +235,37 @@ fn what_happened_in_words(rt: HostRuntime) {
     for row in ROWS.split("# ") {
         check_story(&rt, rt.alloc(), &Case::read(row));
     }
+}
+
+// The first of the scripts, by times of day: a second after midnight it is to be started again.
+const DATED: &str = "2026-11-27T23:59:58.750Z web added
+2026-11-27T23:59:58.750Z web supervised
+2026-11-27T23:59:58.750Z web to be started
+2026-11-27T23:59:58.750Z web up, process 500
+2026-11-27T23:59:59.050Z web died, code 1
+2026-11-27T23:59:59.050Z web down
+2026-11-28T00:00:00.050Z web to be started
+";
+
+#[test]
+fn what_happened_by_times_of_day(rt: HostRuntime) {
+    let mut output = Vec::new(rt.alloc());
+    let mut errors = Vec::new(rt.alloc());
+    let words = Words(&[
+        b"replay",
+        b"--story",
+        b"--since",
+        b"2026-11-28T00:59:58.75+01:00",
+    ]);
+    let input = RESTART.as_bytes();
+    let status = run_tool(
+        &words,
+        rt.alloc(),
+        rt.alloc(),
+        input,
+        &mut output,
+        &mut errors,
+    );
+    same(&rt, "times of day", output.as_slice(), DATED.as_bytes());
+    assert!(rt; status == 0 && errors.is_empty());
 }

@@ -196,6 +196,19 @@ const UNKNOWN_OPTIONS: &[&[&[u8]]] = &[
     &[b"replay", b"--story", b"--timeline"],
     &[b"replay", b"--check", b"--story"],
     &[b"replay", b"--stories"],
+    &[b"replay", b"--story", b"--since"],
+    &[b"replay", b"--story", b"--since", b"yesterday"],
+    &[b"replay", b"--story", b"--since", b"1969-12-31T23:59:59Z"],
+    &[b"replay", b"--story", b"--since", b"2026-11-27T11:18:48"],
+    &[b"replay", b"--story", b"2026-11-27T11:18:48Z", b"--since"],
+    &[b"replay", b"--check", b"--since", b"2026-11-27T11:18:48Z"],
+    &[
+        b"replay",
+        b"--story",
+        b"--since",
+        b"2026-11-27T11:18:48Z",
+        b"--since",
+    ],
 ];
 
 // Runs the program, and compares how it ends.
@@ -375,7 +388,7 @@ people; of replay one.
 const REPLAY_HELP: &str = "usage: s6_tree replay < SCRIPT
        s6_tree replay --check < RECORDED
        s6_tree replay --migrate < SCRIPT
-       s6_tree replay --story < SCRIPT
+       s6_tree replay --story [--since TIME] < SCRIPT
        s6_tree replay --timeline < SCRIPT > PICTURE
 
 Reads a script on standard input and writes its transcript to standard
@@ -388,7 +401,9 @@ options:
               tree answers: print legal N for N inputs, or differs at
               line N, the first reply that is another
   --migrate   read a script of version 1, and write that of version 2
-  --story     write in words what happened, a line for each event
+  --story     write in words what happened, a line for each event;
+              with --since TIME, as 2026-11-27T11:18:48Z, by times of
+              day, where TIME is that of the line since of svscan
   --timeline  write a picture in SVG, with a lane for each service
   --help      print this text
 

@@ -1,0 +1,66 @@
+//! A story with times of day in place of its seconds.
+use day_times::day_millisecond;
+use std::io::{Result, Write};
+
+/// A writer of a story. The seconds with which each line begins become the time of day, by the time of day at which they were 0.
+#[derive(Debug, Drop)]
+pub struct Dated<W> {
+    writer: W,
+    /// When the seconds were 0, in milliseconds since the beginning of 1970.
+    start: u64,
+    /// The milliseconds that were read of the moment of a line; None behind that.
+    moment: Option<u64>,
+}
+
+impl<W> Dated<W> {
+    /// A writer that writes to this one.
+    pub fn new(writer: W, start: u64) -> Dated<W> {
+        Dated {
+            writer,
+            start,
+            moment: Some(0),
+        }
+    }
+}
+
+// The milliseconds of a moment, one more of its bytes read: its decimals are three.
+fn read_further(moment: u64, byte: u8) -> u64 {
+    match byte {
+        b'0'..=b'9' => moment
+            .saturating_mul(10)
+            .saturating_add(u64::from(byte - b'0')),
+        _ => moment,
+    }
+}
+
+// Writes the time of day, and a space; a dash where it is past the year 9999.
+fn write_day<W: Write>(writer: &mut W, millis: u64) -> Result<()> {
+    match day_millisecond(millis) {
+        Some(day) => writer.write_all(day.as_str().as_bytes())?,
+        None => writer.write_all(b"-")?,
+    }
+    writer.write_all(b" ")
+}
+
+impl<W: Write> Write for Dated<W> {
+    fn write(&mut self, bytes: &[u8]) -> Result<usize> {
+        for byte in bytes {
+            match self.moment {
+                Some(moment) if *byte == b' ' => {
+                    write_day(&mut self.writer, self.start.saturating_add(moment))?;
+                    self.moment = None;
+                }
+                Some(moment) => self.moment = Some(read_further(moment, *byte)),
+                None => self.writer.write_all(&[*byte])?,
+            }
+            if *byte == b'\n' {
+                self.moment = Some(0);
+            }
+        }
+        Ok(bytes.len())
+    }
+
+    fn flush(&mut self) -> Result<()> {
+        self.writer.flush()
+    }
+}
