@@ -4,13 +4,17 @@ ghost use Rattle.tree_front.specs.Usage.{strange_text, strange_words, tools_word
 
 use crate::asked::{Program, program_named};
 use crate::help_text::{SVCHECK_HELP, SVSCAN_HELP};
+use crate::usage::refuse_words;
 use arrayvec::CapacityError;
 use replay_tool::{HELP, REPLAY_HELP};
-use s6_tools::{Told, add_named, help_of};
+use s6_tools::{Misuse, Told, add_named, help_of};
 use std::io::Write;
 
 /// The status of a program that was not used as it says.
 const USAGE_STATUS: u8 = 100;
+
+/// The words that `help` takes.
+const HELP_FORM: &str = "help [TOOL]";
 
 /// The status of a program to which the system refused something.
 const SYSTEM_STATUS: u8 = 111;
@@ -53,7 +57,7 @@ pub fn print_help_of<W: Write, E: Write>(words: &[&str], output: &mut W, errors:
             Program::Version | Program::Help => print_help("s6_tree", HELP, output, errors),
             Program::Strange => refuse_tool(Some(*word), errors),
         },
-        [_, word, ..] => refuse_tool(Some(*word), errors),
+        [_, word, ..] => { refuse_words("help", Misuse::TooMany, Some(*word), HELP_FORM, errors) }
     }
 }
 

@@ -25,6 +25,7 @@ wrong_client() {
 
 wrong frob
 wrong help frob
+wrong help svc svwait
 wrong --version now
 wrong svscan
 wrong svscan a
@@ -56,7 +57,10 @@ wrong_client svstat -o up,what web
 wrong_client svstat -o up we/b
 wrong_client svstat -o up web log
 wrong_client svstat -x web
+wrong_client svstat -oup,what web
 wrong_client svstat -o pid nobody
+wrong_client svstat -o pid empty
+wrong_client svwait empty
 wrong_client svwait
 wrong_client svwait -t 5s web
 wrong_client svwait -u -d web
