@@ -33,7 +33,6 @@ says() {
     grep -qsE "(^|[^[:alnum:]_-])($1)([^[:alnum:]_-]|\$)" "$name/run" "$name/finish"
 }
 
-# The files of a number that are not as svscan takes them are at their default there.
 for place in ./* ; do
     name=${place#./}
     clean=yes
@@ -67,11 +66,11 @@ for place in ./* ; do
     *"readiness on descriptor 1"*) ;;
     *"readiness on descriptor"*) note "what run writes to descriptor 1 goes to svscan's standard error" ;;
     esac
-    [ -e "$name/nosetsid" ] || says 'setsid|s6-setsid' || note "it leads no session here: where that matters, run ends with exec setsid DAEMON"
     if [ -f "$name/down-signal" ] && ! printf 'SIG%s\n' "$(sed 's/^SIG//' "$name/down-signal")" | grep -qE '^SIG([A-Z][A-Z0-9]*|[1-9]|[1-5][0-9]|6[0-4])$'; then
         change "down-signal: a name in capitals, or 1 to 64"
     fi
     [ -z "$clean" ] || printf '%s: works as it is\n' "$name"
 done
+echo "all: note: services lead no session of their own: where that matters, run ends with exec setsid DAEMON"
 [ ! -d .s6-svscan ] || echo ".s6-svscan: note: its scripts are not run; entry.sh makes of TERM and INT an end, of HUP a scan"
 exit "$status"
