@@ -30,10 +30,11 @@ note() {
 
 # Whether `run` or `finish` has this word.
 says() {
-    grep -qsE "(^|[^[:alnum:]_-])($1)([^[:alnum:]_-]|\$)" "$name/run" "$name/finish"
+    grep -qsE "(^|[^[:alnum:]_-])($1)([^[:alnum:]_-]|\$)" "./$name/run" "./$name/finish"
 }
 
-for place in ./* ; do
+for place in ./*; do
+    [ -e "$place" ] || [ -L "$place" ] || continue
     name=${place#./}
     clean=yes
     case $name in
@@ -61,12 +62,12 @@ for place in ./* ; do
     [ ! -e "$name/flag-newpidns" ] || change "flag-newpidns is not read: begin run with exec unshare --pid --fork"
     [ ! -e "$name/lock-fd" ] || change "lock-fd is not read"
     [ ! -e "$name/instance" ] && [ ! -e "$name/instances" ] || change "instances are not made: one directory each"
-    grep -qsE '(^|[^0-9$])\$\{?4|getenv 4|"\$@"|\$\*' "$name/finish" && note "finish gets three arguments: exit code, signal number, name"
+    grep -qsE '(^|[^0-9$])\$\{?4|getenv 4|"\$@"|\$\*' "./$name/finish" && note "finish gets three arguments: exit code, signal number, name"
     case $verdict in
     *"readiness on descriptor 1"*) ;;
     *"readiness on descriptor"*) note "what run writes to descriptor 1 goes to svscan's standard error" ;;
     esac
-    if [ -f "$name/down-signal" ] && ! printf 'SIG%s\n' "$(sed 's/^SIG//' "$name/down-signal")" | grep -qE '^SIG([A-Z][A-Z0-9]*|[1-9]|[1-5][0-9]|6[0-4])$'; then
+    if [ -f "$name/down-signal" ] && ! printf 'SIG%s\n' "$(sed 's/^SIG//' "./$name/down-signal")" | grep -qE '^SIG([A-Z][A-Z0-9]*|[1-9]|[1-5][0-9]|6[0-4])$'; then
         change "down-signal: a name in capitals, or 1 to 64"
     fi
     [ -z "$clean" ] || printf '%s: works as it is\n' "$name"
