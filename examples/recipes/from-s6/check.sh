@@ -1,0 +1,77 @@
+#!/bin/sh
+# check.sh DIRECTORY: says of each service directory of an s6 scan directory whether svscan can run it as it is. Status 0 if all can, else 1.
+#
+#   S6_TREE=PROGRAM sh check.sh /run/service
+#
+# Of each directory its `run` and `finish` are searched for words; what those call is not. It changes nothing, and runs nothing of it.
+S6_TREE=${S6_TREE:-s6_tree}
+[ $# -eq 1 ] && [ -d "$1" ] || {
+    echo "usage: check.sh DIRECTORY" >&2
+    exit 100
+}
+cd -- "$1" || exit 111
+verdicts=$("$S6_TREE" svcheck .)
+case $? in
+0 | 1) ;;
+*) exit 111 ;;
+esac
+status=0
+clean=
+
+change() {
+    clean=
+    status=1
+    printf '%s: change: %s\n' "$name" "$1"
+}
+
+note() {
+    printf '%s: note: %s\n' "$name" "$1"
+}
+
+# Whether `run` or `finish` has this word.
+says() {
+    grep -qsE "(^|[^[:alnum:]_-])($1)([^[:alnum:]_-]|\$)" "./$name/run" "./$name/finish"
+}
+
+for place in ./*; do
+    [ -e "$place" ] || [ -L "$place" ] || continue
+    name=${place#./}
+    clean=yes
+    case $name in
+    *[!A-Za-z0-9._@-]*)
+        change "its name: svscan takes 1 to 64 of A-Z a-z 0-9 . _ - @, so no colon"
+        continue
+        ;;
+    esac
+    [ -d "$name" ] || {
+        note "no directory: s6 passes it over in silence, svscan tells it at each scan"
+        continue
+    }
+    verdict=$(printf '%s\n' "$verdicts" | grep -F -- "$name: " | grep "^$name: " | head -n 1)
+    case $verdict in
+    *": refused "*) change "svscan doesn't take it: ${verdict#*: refused }" ;;
+    *": noted "*) change "${verdict#*: noted }" ;;
+    esac
+    [ ! -e "$name/log" ] || change "log/ is not run: make the logger a service of its own (docs/RECIPES.md, Logs)"
+    says s6-permafailon && change "s6-permafailon: exec \"\$S6_TREE\" permafailon \"\$SOCKET\" \"\$3\" SECS COUNT LIST, as the last line"
+    says 's6-notifyoncheck' && change "s6-notifyoncheck: write a loop that checks, and then a newline to the descriptor (docs/RECIPES.md, Waiting)"
+    says 's6-svwait|s6-svlisten|s6-svlisten1' && change "s6-svwait, s6-svlisten: \"\$S6_TREE\" svwait \"\$SOCKET\" -U NAME, with names and no paths"
+    says 's6-svc|s6-svstat|s6-svok|s6-svscanctl|s6-svdt|s6-permafailon' && ! says s6-permafailon &&
+        change "s6-svc and its like find no supervise/ here: \"\$S6_TREE\" svc \"\$SOCKET\" -LETTERS NAME, svstat, list"
+    says 's6-ftrig-[a-z0-9]*|s6-mkfifodir' && change "event directories lie in svscan: ftrig-notify, ftrig-wait and mkfifodir of s6_tree take names"
+    [ ! -e "$name/flag-newpidns" ] || change "flag-newpidns is not read: begin run with exec unshare --pid --fork"
+    [ ! -e "$name/lock-fd" ] || change "lock-fd is not read"
+    [ ! -e "$name/instance" ] && [ ! -e "$name/instances" ] || change "instances are not made: one directory each"
+    grep -qsE '(^|[^0-9$])\$\{?4|getenv 4|"\$@"|\$\*' "./$name/finish" && note "finish gets three arguments: exit code, signal number, name"
+    case $verdict in
+    *"readiness on descriptor 1"*) ;;
+    *"readiness on descriptor"*) note "what run writes to descriptor 1 goes to svscan's standard error" ;;
+    esac
+    if [ -f "$name/down-signal" ] && ! printf 'SIG%s\n' "$(sed 's/^SIG//' "./$name/down-signal")" | grep -qE '^SIG([A-Z][A-Z0-9]*|[1-9]|[1-5][0-9]|6[0-4])$'; then
+        change "down-signal: a name in capitals, or 1 to 64"
+    fi
+    [ -z "$clean" ] || printf '%s: works as it is\n' "$name"
+done
+echo "all: note: services lead no session of their own: where that matters, run ends with exec setsid DAEMON"
+[ ! -d .s6-svscan ] || echo ".s6-svscan: note: its scripts are not run; entry.sh makes of TERM and INT an end, of HUP a scan"
+exit "$status"
