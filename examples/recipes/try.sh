@@ -31,9 +31,10 @@ start_tree() {
     soon grep -q '^svscan: serving' "$place/.out"
 }
 
+# Ends the tree, if what was started is still a child of this script.
 stop_tree() {
     [ -z "$entry" ] || {
-        kill -TERM "$entry" 2>/dev/null
+        ! grep -qs "^PPid:[[:space:]]*$$\$" "/proc/$entry/status" || kill -TERM "$entry"
         wait "$entry"
     }
     entry=
@@ -59,10 +60,12 @@ pid() { "$t" svstat "$SOCKET" -o pid "$1"; }
 recipe() {
     what=$1
     shift
-    why=$("$@" 2>&1) && echo "ok $what" || {
-        echo "failed $what: $(printf '%s' "$why" | tr '\n' ' ')"
+    if "$@" >"$folder/why" 2>&1; then
+        echo "ok $what"
+    else
+        echo "failed $what: $(tr '\n' ' ' <"$folder/why")"
         status=1
-    }
+    fi
     stop_tree
 }
 
@@ -197,6 +200,7 @@ try_container() {
     "$t" svc "$SOCKET" -u send-TERM || return
     wait "$entry"
     ended=$?
+    entry=
     is "$ended" 0 || { echo "TERM: status $ended"; return 1; }
     "$t" replay --check <"$place/record" || { echo "the record is not legal"; return 1; }
 }
