@@ -6,7 +6,7 @@ use Rattle.s6_tools.specs.declared.tool_fault.ToolFault.{ToolFault}
 use Rattle.s6_tools.specs.declared.tool_fault.ToolFault.TheVariants as fault
 use Rattle.s6_tools.specs.Culprits.{culprit_of, program_of, subject_of}
 use Rattle.s6_tools.specs.FaultLines.{fault_line, name_of}
-use Rattle.s6_tools.specs.Sentences.{cause_before, cause_behind, complaint_of, help_words, misuse_word, refusal_of_subject, refusal_of_tree, right_of, see_words}
+use Rattle.s6_tools.specs.Sentences.{cause_before, cause_behind, complaint_of, help_words, misuse_word, refusal_of_subject, refusal_of_tree, right_of, see_words, unread_words}
 use Rattle.s6_tools.specs.Told.{escaped, named}
 
 -- what would be right, and where to read on
@@ -29,7 +29,7 @@ refusal_text word reason = reason ++ (codes ": " ++ refusal_by word (refusal_of_
 -- of a service whose directory the last scan could not read
 abbrev pub unread_text : Option (List ℕ) → List ℕ → List ℕ
 unread_text word why =
-    codes "NoService: the last scan could not read " ++ (named (codes "a name") word ++ (codes " (" ++ (why ++ codes ")")))
+    unread_words ++ (named (codes "a name") word ++ (codes " (" ++ (why ++ codes ")")))
 
 -- the path or the program that a fault is about
 abbrev pub cause_word : List ℕ → List (List ℕ) → ToolFault → List ℕ

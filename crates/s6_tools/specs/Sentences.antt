@@ -109,6 +109,10 @@ see_words = codes "; see s6_tree "
 unfoldable pub help_words : List ℕ
 help_words = codes " --help"
 
+-- in front of the name of a service whose directory could not be read
+unfoldable pub unread_words : List ℕ
+unread_words = codes "NoService: the last scan could not read "
+
 -- what the system or the server was asked for in vain, up to the word that it is about, and behind it
 abbrev pub cause_before : ToolFault → List ℕ
 cause_before fault.NoServer = codes "no server at "

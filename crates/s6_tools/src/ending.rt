@@ -9,7 +9,7 @@ use crate::culprit::{culprit_of, program_of, subject_of};
 use crate::misuse::Misuse;
 use crate::sentences::{
     cause_before, cause_behind, complaint_of, help_words, refusal_of_subject, refusal_of_tree,
-    right_of, see_words,
+    right_of, see_words, unread_words,
 };
 use crate::told::{Told, add_escaped, add_named};
 use crate::tool::Tool;
@@ -209,7 +209,7 @@ fn add_unread(told: &mut Told, word: Option<&str>, why: &[u8]) -> Result<(), Cap
     ensures { OnOk result (told.new.items
         ≡ told.old.items ++ unread_text (option_map (λ w. w.now) word.entry) why.now) }
 {
-    told.try_extend_from_slice(b"NoService: the last scan could not read ")?;
+    told.try_extend_from_slice(unread_words().as_bytes())?;
     add_named(told, b"a name", word)?;
     told.try_extend_from_slice(b" (")?;
     told.try_extend_from_slice(why)?;

@@ -1,7 +1,7 @@
 //! What is said of a fault, and what would be right.
 ghost use Rattle.std.specs.Prelude.{◌≡◌, option_map};
 ghost use Rattle.s6_tools.specs.Sentences.{complaint_of, number_complaint, list_complaint, name_complaint, form_of, list_form, name_form, right_of, refusal_of_subject, refusal_of_tree};
-ghost use Rattle.s6_tools.specs.Sentences.{cause_before, cause_behind, help_words, see_words};
+ghost use Rattle.s6_tools.specs.Sentences.{cause_before, cause_behind, help_words, see_words, unread_words};
 
 use crate::misuse::Misuse;
 use crate::tool::Tool;
@@ -173,6 +173,14 @@ pub fn help_words() -> &'static str
     ensures { result.now ≡ help_words }
 {
     " --help"
+}
+
+/// What stands before the name of a service whose directory could not be read.
+#[tactic(auto, unfolding(crate::specs::Sentences::unread_words))]
+pub fn unread_words() -> &'static str
+    ensures { result.now ≡ unread_words }
+{
+    "NoService: the last scan could not read "
 }
 
 /// What the system or the server was asked for in vain, up to the word that it is about.

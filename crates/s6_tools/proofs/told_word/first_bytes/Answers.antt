@@ -1,6 +1,6 @@
 use Rattle.std.proofs.Common.{◌≤◌, sym, arith, subst}
 use Rattle.std.proofs.lemmas.List.{take_all, length-take-le}
-use Rattle.s6_tools.proofs.reason.first_bytes.Goals as goal
+use Rattle.s6_tools.proofs.told_word.first_bytes.Goals as goal
 
 pub slice_bounds-result-end : goal.slice_bounds-result-end
 slice_bounds-result-end c = sym (length-take-le 32 c.args.bytes.now (omega arith))
