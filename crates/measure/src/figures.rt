@@ -11,11 +11,11 @@ pub fn now(clock: &impl Clock) -> Result<Instant, Fault> {
 
 // Writes how many there were, how long they took, and so how many there are in a second.
 fn write_figures(output: &mut impl Write, what: &str, load: Load, micros: u128) -> io::Result<()> {
-    let (threads, all, millis) = (load.threads, load.all(), micros / 1000);
+    let (seats, all, millis) = (load.seats, load.all(), micros / 1000);
     let a_second = u128::from(all) * 1_000_000 / micros.max(1);
     writeln!(
         output,
-        "{what}: {threads} threads or seats, {all} in all, {millis} ms, {a_second} a second"
+        "{what}: {seats} seats, {all} in all, {millis} ms, {a_second} a second"
     )?;
     output.flush()
 }

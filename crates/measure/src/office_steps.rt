@@ -60,7 +60,7 @@ fn drive_tree<B: Backend, R: Wait>(
     backends: Vec<B>,
     load: Load,
 ) -> Result<(), Fault> {
-    match NewOffice::new(alloc, tree, usize::from(load.threads), backends) {
+    match NewOffice::new(alloc, tree, usize::from(load.seats), backends) {
         Ok(office) => drive_named::<B, Brand, R>(rt, alloc, office, load),
         Err((fault, _, _)) => Err(Fault::NotOpened(fault)),
     }
@@ -108,7 +108,7 @@ fn drive_rounds<B: Backend, C: Channels + Lanes, D: Board<C>, R: Wait>(
     for first in (0..load.count).step_by(ROUND as usize) {
         submit_round(seats, load, first)?;
         let wanted = u64::from(end_of(load, first).saturating_sub(first));
-        drive(rt, office, wanted.saturating_mul(u64::from(load.threads)))?;
+        drive(rt, office, wanted.saturating_mul(u64::from(load.seats)))?;
     }
     Ok(())
 }

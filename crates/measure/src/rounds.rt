@@ -27,7 +27,7 @@ fn add_entries(entries: &mut Vec<Entry>, seats: u8) -> Result<(), NoMemory> {
 /// A look at a directory with a service for each seat, as the first seat's input.
 pub fn scan_of(alloc: Global, load: Load) -> Result<Input<Global>, Fault> {
     let mut entries = Vec::new(alloc);
-    match add_entries(&mut entries, load.threads) {
+    match add_entries(&mut entries, load.seats) {
         Ok(()) => Ok(Input {
             actor: Actor::default(),
             at: At::zero(),
@@ -39,7 +39,7 @@ pub fn scan_of(alloc: Global, load: Load) -> Result<Input<Global>, Fault> {
 
 // How many runs of services come before this act, where each seat in turn submits all of a round.
 fn runs_before(load: Load, seat: u8, number: u32) -> u64 {
-    let seats = u64::from(load.threads);
+    let seats = u64::from(load.seats);
     let rounds = u64::from(number / ROUND);
     let turns = rounds.saturating_mul(seats).saturating_add(u64::from(seat));
     turns

@@ -45,7 +45,7 @@ fn apply_round(
     load: Load,
     first: u32,
 ) -> Result<(), Fault> {
-    for seat in 0..load.threads {
+    for seat in 0..load.seats {
         apply_turn(tree, effect, load, seat, first)?;
     }
     Ok(())

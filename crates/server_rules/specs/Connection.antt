@@ -1,4 +1,4 @@
--- The chart of a connection: one equation a phase and cause. docs/COMMANDS.md says the same in words.
+-- The chart of a connection: one equation a phase and cause. docs/PROTOCOL.md says the same in words.
 use Rattle.std.specs.Prelude.{ℕ, ◌+◌, ◌-◌, ◌&&◌, nat_lt, List, [], ◌∷◌, Bool, true, false, Option, Some, None, if◌then◌else◌}
 use Rattle.std.specs.declared.alloc.Global.{Global}
 use Rattle.tree_core.specs.declared.input.Act.{Act}

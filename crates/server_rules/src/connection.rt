@@ -1,4 +1,4 @@
-//! A connection: what it asked, what is under way for it, and what it made. docs/COMMANDS.md has its rules.
+//! A connection: what it asked, what is under way for it, and what it made. docs/PROTOCOL.md has its rules.
 ghost use Rattle.std.specs.Prelude.{◌≡◌, ◌∷◌, [], true, IfSome, IfNone};
 ghost use Rattle.tree_core.specs.declared.input.Act.{Act};
 ghost use Rattle.server_rules.specs.Connection.{View, new_view, answered_move, answered_errand, ask_next, begin_admitted, begin_beside, begin_put_off, begin_first, begin_move, begin_request, ends_by, has_room_on, hands_in, is_for, is_ready, is_step_first, steps_in, leave_next, left_errand, left_unasked, recorded_move, refuse_errand_move, refuse_next_move, told_move};

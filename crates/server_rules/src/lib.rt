@@ -42,7 +42,7 @@ pub use recipients::{Line, Post, hand_out};
 pub use requests::{Request, read_request};
 pub use roster::{Ending, Member, Roster};
 pub use row_cache::{RowCache, is_recent};
-pub use serve_fault::{ServeFault, refuse_usage, tell_serve_fault};
+pub use serve_fault::{ServeFault, tell_serve_fault};
 pub use service_state::{ServiceState, state_of};
 pub use socket_rules::{FileIdentity, says_abandoned};
 pub use standing::{Admission, SUBSCRIPTION_LIMIT, Standing, StandingChange, WAITER_LIMIT};

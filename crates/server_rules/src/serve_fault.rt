@@ -7,9 +7,6 @@ use std::io::Write;
 /// The status of a program to which the system refused something.
 const SYSTEM_STATUS: u8 = 111;
 
-/// The status of a program that was not used as it says.
-const USAGE_STATUS: u8 = 100;
-
 /// Why a tree did not run to its end.
 #[derive(Clone, Copy, Debug, PartialEq, Eq)]
 pub enum ServeFault {
@@ -59,12 +56,4 @@ pub fn tell_serve_fault<E: Write>(fault: ServeFault, errors: &mut E) -> u8
 {
     let _ = errors.write_all(text_of(fault));
     SYSTEM_STATUS
-}
-
-/// Writes the line for words that are not those of `svscan`, and answers the exit status, 100.
-pub fn refuse_usage<E: Write>(errors: &mut E) -> u8
-    ensures { result ≡ 100 }
-{
-    let _ = errors.write_all(b"svscan: usage\n");
-    USAGE_STATUS
 }

@@ -10,6 +10,7 @@ abbrev pub trouble_before : Trouble → List ℕ
 trouble_before trouble.Length = codes "path is longer than 101 bytes: "
 trouble_before trouble.Server = codes "another server answers or starts at "
 trouble_before trouble.File = codes "another file is at "
+trouble_before trouble.Beside = codes "another file has the name, with .new behind it, of "
 trouble_before trouble.Folder = codes "no socket can be made in the folder of "
 
 -- what stands before the path

@@ -4,7 +4,7 @@ ghost use Rattle.s6_tools.specs.Told.{escaped};
 ghost use Rattle.tree_front.specs.ServeLines.{trouble_before, before_of, second_line};
 
 use crate::place::TreePlace;
-use arrayvec::CapacityError;
+use arrayvec::{ArrayString, CapacityError};
 use s6_tools::{Told, add_escaped};
 use std::fs;
 use std::io::Write;
@@ -27,8 +27,28 @@ enum Trouble {
     Server,
     /// Another file is there.
     File,
+    /// Another file stands in the place of the folder in which the socket is made.
+    Beside,
     /// Nothing is there.
     Folder,
+}
+
+// The path of the folder in which the socket is made.
+fn folder_beside(path: &str) -> Option<ArrayString<PATH_BYTES>> {
+    let mut folder = ArrayString::<PATH_BYTES>::from(path).ok()?;
+    folder.try_push_str(".new").ok()?;
+    Some(folder)
+}
+
+// Whether another file stands in the place of that folder.
+fn is_taken<R: Files>(rt: &R, path: &str) -> bool {
+    let Some(folder) = folder_beside(path) else {
+        return false;
+    };
+    match fs::symlink_metadata(rt, folder.as_str()) {
+        Ok(found) => !found.is_dir(),
+        Err(_) => false,
+    }
 }
 
 // What is at the path of a socket that could not be made.
@@ -37,8 +57,9 @@ fn trouble_at<R: Files>(rt: &R, path: &str) -> Trouble {
         return Trouble::Length;
     }
     match fs::symlink_metadata(rt, path) {
-        Ok(found) if found.file_type().is_socket() => Trouble::Server,
-        Ok(_) => Trouble::File,
+        Ok(found) if !found.file_type().is_socket() => Trouble::File,
+        _ if is_taken(rt, path) => Trouble::Beside,
+        Ok(_) => Trouble::Server,
         Err(_) => Trouble::Folder,
     }
 }
@@ -51,6 +72,7 @@ fn trouble_before(trouble: Trouble) -> &'static str
         Trouble::Length => "path is longer than 101 bytes: ",
         Trouble::Server => "another server answers or starts at ",
         Trouble::File => "another file is at ",
+        Trouble::Beside => "another file has the name, with .new behind it, of ",
         Trouble::Folder => "no socket can be made in the folder of ",
     }
 }

@@ -12,4 +12,4 @@ mod threads;
 pub use lane::service_lanes::{ServiceLanes, TreeLanes, open_service_lanes};
 pub use options::{HANDOVER, ServeOptions};
 pub use serve::run_tree;
-pub use server_rules::{ServeFault, refuse_usage, tell_serve_fault};
+pub use server_rules::{ServeFault, tell_serve_fault};

@@ -34,6 +34,8 @@ wrong svscan "$root/none" "$root/other"
 wrong svscan "$root/services" "$socket"
 wrong svscan "$root/services" "$root/services"
 wrong svscan "$root/services" "$root/none/socket"
+: >"$root/taken.new"
+wrong svscan "$root/services" "$root/taken"
 wrong svscan "$root/services" "/$long"
 wrong svcheck
 wrong svcheck a b
