@@ -19,6 +19,7 @@ tools:
   svlisten      wait for services, with a program started meanwhile
   svscanctl     tell the tree to scan or to end
   record        have the record of the tree written up to now
+  connect       send requests by hand, and print the answers
   mkfifodir     make an event directory
   ftrig-notify  send letters to an event directory
   ftrig-wait    wait for letters of an event directory

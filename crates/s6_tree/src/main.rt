@@ -1,9 +1,29 @@
 //! The programs of the supervision tree.
 #![tactic(auto)]
 
+ghost use Rattle.std.specs.Prelude.{◌≤◌};
+
+use std::env;
+use std::env::Env;
 use std::process::ExitCode;
 use tree_front::{Begun, BegunTree, Standard, begin_program, end_program};
 use tree_server::{HANDOVER, run_tree};
+
+// After how many steps the next run goes on.
+fn handover<R: Env + Alloc>(rt: &R) -> u64
+    ensures least { 1 ≤ result }
+    ensures most { result ≤ 260000 }
+{
+    let steps = match env::var(rt, "S6_TREE_HANDOVER") {
+        Ok(text) => text.as_str().parse::<u64>().unwrap_or(HANDOVER),
+        Err(_) => HANDOVER,
+    };
+    if steps == 0 {
+        HANDOVER
+    } else {
+        steps.min(HANDOVER)
+    }
+}
 
 fn main(rt: HostRuntime) -> ExitCode {
     let alloc = rt.alloc();
@@ -23,6 +43,7 @@ fn main(rt: HostRuntime) -> ExitCode {
         Begun::Done(status) => return ExitCode::from(status),
         Begun::Tree(tree) => tree,
     };
-    let done = run_tree(&rt, alloc, lanes, probe, place.options(HANDOVER), &notes);
+    let options = place.options(handover(&(&rt, alloc)));
+    let done = run_tree(&rt, alloc, lanes, probe, options, &notes);
     ExitCode::from(end_program(&rt, &place, keeper, &notes, done))
 }

@@ -14,6 +14,8 @@ pub enum Program {
     Svcheck,
     /// A client.
     Client(Tool),
+    /// `connect`.
+    Connect,
     /// `replay`.
     Replay,
     /// `--version`.
@@ -44,6 +46,7 @@ fn other_named(word: &str) -> Program
 {
     match word {
         "svcheck" => Program::Svcheck,
+        "connect" => Program::Connect,
         "replay" => Program::Replay,
         "--version" => Program::Version,
         "help" | "--help" | "-h" => Program::Help,

@@ -2,7 +2,7 @@
 use crate::asked::{Program, asks_help, program_named};
 use crate::check_dir::check_directory;
 use crate::help::{print_help, print_help_of, refuse_tool};
-use crate::help_text::{SVCHECK_HELP, SVSCAN_HELP};
+use crate::help_text::{CONNECT_HELP, SVCHECK_HELP, SVSCAN_HELP};
 use crate::place::TreePlace;
 use crate::usage::refuse_words;
 use arrayvec::ArrayVec;
@@ -25,6 +25,9 @@ const SVSCAN_FORM: &str = "svscan DIRECTORY SOCKET [RECORD]";
 /// The words that `svcheck` takes.
 const SVCHECK_FORM: &str = "svcheck DIRECTORY";
 
+/// The words that `connect` takes.
+const CONNECT_FORM: &str = "connect SOCKET";
+
 /// What the words ask for.
 #[derive(Drop)]
 pub enum Asked {
@@ -32,6 +35,8 @@ pub enum Asked {
     Done(u8),
     /// A tree is to run here.
     Tree(TreePlace),
+    /// Lines are to go to the socket at this path, and from it.
+    Connect(String),
     /// What `replay_tool` does: a replay, or a text of the program itself.
     Replay,
 }
@@ -50,6 +55,7 @@ pub fn run_words<R: Env + Net + Files + Processes + Clock + Copy + Drop, W: Writ
     };
     match program_of(words.as_slice()) {
         Program::Svscan => read_place(words, output, errors),
+        Program::Connect => read_socket(words, output, errors),
         Program::Replay | Program::Version => Asked::Replay,
         Program::Strange => {
             let word = words.get(1).map(|word| word.as_str());
@@ -103,6 +109,7 @@ fn name_of(program: Program) -> &'static str {
     match program {
         Program::Svscan => "svscan",
         Program::Svcheck => "svcheck",
+        Program::Connect => "connect",
         Program::Client(tool) => tool.name(),
         _ => "s6_tree",
     }
@@ -118,7 +125,7 @@ fn refuse_program<R: Env, E: Write>(rt: &R, alloc: Global, errors: &mut E) -> As
     };
     let program = program_named(word.as_str());
     match program {
-        Program::Svscan | Program::Svcheck | Program::Client(_) => {
+        Program::Svscan | Program::Svcheck | Program::Connect | Program::Client(_) => {
             Asked::Done(tell_no_memory(name_of(program), errors))
         }
         _ => Asked::Replay,
@@ -187,6 +194,32 @@ fn read_place<W: Write, E: Write>(words: Vec<String>, output: &mut W, errors: &m
     match place_of(words) {
         Some(place) => Asked::Tree(place),
         None => Asked::Done(refuse_words("svscan", Misuse::Missing, None, SVSCAN_FORM, errors)),
+    }
+}
+
+// The words behind `connect`.
+fn read_socket<W: Write, E: Write>(words: Vec<String>, output: &mut W, errors: &mut E) -> Asked {
+    match words.as_slice() {
+        [_, _, word] if asks_help(word.as_str()) => {
+            let text = CONNECT_HELP.as_bytes();
+            return Asked::Done(print_help("connect", text, output, errors));
+        }
+        [_, _, _, word, ..] => {
+            let word = Some(word.as_str());
+            return Asked::Done(refuse_words(
+                "connect",
+                Misuse::TooMany,
+                word,
+                CONNECT_FORM,
+                errors,
+            ));
+        }
+        _ => {}
+    }
+    let mut words = words;
+    match words.pop() {
+        Some(socket) if words.len() == 2 => Asked::Connect(socket),
+        _ => Asked::Done(refuse_words("connect", Misuse::Missing, None, CONNECT_FORM, errors)),
     }
 }
 

@@ -3,7 +3,7 @@ ghost use Rattle.std.specs.Prelude.{◌≡◌, ◌++◌, IfOk, option_map};
 ghost use Rattle.tree_front.specs.Usage.{strange_text, strange_words, tools_words};
 
 use crate::asked::{Program, program_named};
-use crate::help_text::{SVCHECK_HELP, SVSCAN_HELP};
+use crate::help_text::{CONNECT_HELP, SVCHECK_HELP, SVSCAN_HELP};
 use crate::usage::refuse_words;
 use arrayvec::CapacityError;
 use replay_tool::{HELP, REPLAY_HELP};
@@ -47,6 +47,7 @@ pub fn print_help_of<W: Write, E: Write>(words: &[&str], output: &mut W, errors:
         [word] => match program_named(word) {
             Program::Svscan => print_help("svscan", SVSCAN_HELP.as_bytes(), output, errors),
             Program::Svcheck => print_help("svcheck", SVCHECK_HELP.as_bytes(), output, errors),
+            Program::Connect => print_help("connect", CONNECT_HELP.as_bytes(), output, errors),
             Program::Replay => print_help("replay", REPLAY_HELP, output, errors),
             Program::Client(tool) => print_help(
                 tool.name(),

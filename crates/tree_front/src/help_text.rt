@@ -1,4 +1,4 @@
-//! What `svscan --help` and `svcheck --help` print.
+//! What `svscan --help`, `svcheck --help` and `connect --help` print.
 
 /// What `svscan --help` prints.
 pub const SVSCAN_HELP: &str = "usage: s6_tree svscan DIRECTORY SOCKET [RECORD]
@@ -23,6 +23,9 @@ limits:
 environment:
   Services get that of svscan, and it sets none of its own. They run in
   their own directories, so a SOCKET that they are to use is absolute.
+
+  S6_TREE_HANDOVER   after how many steps a new run goes on, 1 to 260000:
+                     what happened since takes 0.5 KB a step of memory
 
 A signal ends it at once, and its services live on: send none.
 
@@ -74,4 +77,18 @@ exit status:
   1           something is
   100         wrong usage
   111         DIRECTORY can't be read, or the system refused something
+";
+
+/// What `connect --help` prints.
+pub const CONNECT_HELP: &str = "usage: s6_tree connect SOCKET
+
+Sends what comes on standard input to the server at SOCKET, and prints what
+the server sends, until it ends the connection: once all was answered where
+the input has ended. A line is a request, as status web; an empty line ends
+each answer. docs/PROTOCOL.md has the requests.
+
+exit status:
+  0           the server ended the connection
+  100         wrong usage
+  111         there is no server, or the system refused something
 ";

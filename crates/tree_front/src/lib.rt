@@ -3,6 +3,7 @@
 
 mod asked;
 mod check_dir;
+mod connection;
 mod descriptors;
 mod front;
 mod help;

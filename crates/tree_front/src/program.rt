@@ -1,4 +1,5 @@
 //! The program: what its words ask for is done, but for a tree, which is begun and ended here, and run by its caller.
+use crate::connection::run_connection;
 use crate::descriptors::open_standard;
 use crate::front::{Asked, run_words};
 use crate::place::TreePlace;
@@ -93,7 +94,7 @@ pub fn begin_program<
         + Send
         + Drop
         + 'static,
-    I: Read + Drop,
+    I: Read + Send + Drop + 'static,
     W: Write + Drop,
     E: Write + Send + Drop + 'static,
 >(rt: R, alloc: Global, standard: Standard<I, W, E>) -> Begun<R> {
@@ -107,6 +108,10 @@ pub fn begin_program<
     match run_words(&rt, alloc, &mut output, &mut errors) {
         Asked::Done(status) => Begun::Done(status),
         Asked::Replay => Begun::Done(run_tool(&rt, alloc, alloc, input, output, &mut errors)),
+        Asked::Connect(path) => {
+            let path = path.as_str();
+            Begun::Done(run_connection(&rt, path, input, &mut output, &mut errors))
+        }
         Asked::Tree(place) => {
             match begin_tree(rt, alloc, place.directory.as_str(), notes_output) {
                 Ok(parts) => Begun::Tree(parts.at(place)),

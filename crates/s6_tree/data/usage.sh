@@ -41,6 +41,9 @@ wrong svcheck
 wrong svcheck a b
 wrong svcheck "$root/none"
 wrong svcheck "$root/services"
+wrong connect
+wrong connect a b
+wrong connect "$root/none"
 wrong svc
 wrong svc "$root/none" -u web
 wrong svc "/$long" -u web

@@ -88,17 +88,20 @@ exec 4<"$root/late" 3>&-
 say 'rows behind a half-close' "$(timeout 20 grep -c '^row ' <&4)"
 exec 4<&-
 
-# A client that asks and never reads: others are answered meanwhile, and in the end it is closed.
+# A client that asks and never reads: others are answered meanwhile, and in the end the server closes it, though it waits on.
+yes 'status web' | head -n 105000 >"$root/questions"
 mkfifo "$root/deaf"
-"$program" send "$socket" <"$root/deaf" 2>/dev/null &
+exec 3<>"$root/deaf"
+"$program" connect "$socket" <"$root/questions" >&3 3>&- &
 deaf=$!
-exec 3>"$root/deaf"
-yes 'status web' | head -n 5000 >&3
+has_more() { ! has_at_most $before; }
+soon has_more
 tell svstat -o up three
-yes 'status web' | head -n 100000 >&3 2>/dev/null
-exec 3>&-
+whether 'a client that never reads is closed' soon has_at_most $before
+whether 'it has not read' is_running $deaf
+kill $deaf
 wait $deaf
-whether 'a client that never reads is closed' [ $? = 1 ]
+exec 3>&-
 
 # Bytes that mean nothing.
 seq 200000 | gzip -nc | head -c 100000 >"$root/noise"

@@ -1,8 +1,7 @@
-# Tries a running tree, and prints what comes of it. `trial.sh PROGRAM`: the program under trial, which has the words of s6_tree and three more:
-# `connect SOCKET` sends what it reads and writes what comes, until the server ends the connection; `send SOCKET` only sends; `abandon SOCKET`
-# leaves a socket on which nobody listens.
+# Tries running trees, and prints what comes of them. `trial.sh PROGRAM`: the program under trial. The script is a service of a tree of that
+# program, which it ends when it is done.
 program=$1
-scripts=$PWD server=
+scripts=$PWD outer=$PWD/socket server=
 trial=$(mktemp -d) || exit 1
 trap leave EXIT
 trap 'exit 1' INT TERM HUP
@@ -12,13 +11,15 @@ newline='
 # Whether a process is a child of this shell, which hasn't waited for it: only then its number is no other process's.
 is_child() { [ "$(cut -d ' ' -f 4 "/proc/$1/stat" 2>/dev/null)" = $$ ]; }
 
-# Ends what a trial that stops in the middle leaves: a server in order, and then whatever child there is.
+# Ends what a trial that stops in the middle leaves: a server in order, and then whatever child there is. Then the tree ends whose service it is.
 leave() {
+    trap '' TERM
     is_child "$server" && client svscanctl -t >/dev/null 2>&1 && soon has_ended "$server"
     for place in /proc/[0-9]*; do
         is_child "${place#/proc/}" && kill "${place#/proc/}"
     done 2>/dev/null
     rm -rf "$trial"
+    "$program" svscanctl "$outer" -t
 }
 
 # Begins a stage: a folder with a scan directory, a socket and a record.
@@ -100,6 +101,8 @@ start() {
 
 answers() { "$program" connect "$socket" </dev/null; }
 
+is_running() { ! has_ended "$1"; }
+
 # Whether a child of this shell has ended.
 has_ended() { ! is_child "$1" || [ "$(cut -d ' ' -f 3 "/proc/$1/stat" 2>/dev/null)" = Z ]; }
 
@@ -173,6 +176,6 @@ ask() {
     soon has_replies "$1" 1
 }
 
-for part in lives connections crowd endings handovers starts records scans waiting looking usage; do
+for part in replay lives connections crowd endings handovers starts records scans waiting looking usage; do
     . "$scripts/$part.sh"
 done

@@ -1,0 +1,2 @@
+# A replay, which starts no child.
+"$program" replay <"$scripts/restart.script"
