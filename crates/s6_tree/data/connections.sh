@@ -12,11 +12,21 @@ open waiter
 request waiter 'wait u a 0 web'
 soon has_replies waiter 2
 whether 'a waiter, and then its release' grep -q '^r [0-9]* held$' "$root/waiter.out"
-printf '%09000d' 0 >"$root/waiter.in"
+printf '%08192d\n' 0 >"$root/waiter.in"
 soon has_replies waiter 3
 tail -n 2 "$root/waiter.out"
 whether 'a long line ends its connection' soon has_ended "$client_waiter"
 close waiter
+
+# A line in pieces, and one of 8,192 bytes with its newline, which doesn't end its connection.
+open pieces
+printf 'tally w' >"$root/pieces.in"
+sleep 0.1
+printf 'eb\n' >"$root/pieces.in"
+printf '%08191d\ntally web\n' 0 >"$root/pieces.in"
+soon has_replies pieces 3
+say 'in pieces, and of 8192 bytes' "$(sed '/^$/d; s/^tally.*/tally/' "$root/pieces.out" | joined)"
+close pieces
 
 # Many requests that are sent at once, each answered in its place; a waiter that holds is released before the next reply.
 for number in $(seq 200); do
