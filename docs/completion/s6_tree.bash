@@ -2,11 +2,11 @@
 _s6_tree() {
     local word=${COMP_WORDS[COMP_CWORD]} words=
     if [ "$COMP_CWORD" = 1 ]; then
-        COMPREPLY=($(compgen -W 'help --help --version svscan svcheck svc svstat list follow svwait svlisten svscanctl record mkfifodir ftrig-notify ftrig-wait permafailon replay' -- "$word"))
+        COMPREPLY=($(compgen -W 'help --help --version svscan svcheck svc svstat list follow svwait svlisten svscanctl record connect mkfifodir ftrig-notify ftrig-wait permafailon replay' -- "$word"))
         return
     fi
     case ${COMP_WORDS[1]} in
-        help) [ "$COMP_CWORD" = 2 ] && COMPREPLY=($(compgen -W 'svscan svcheck svc svstat list follow svwait svlisten svscanctl record mkfifodir ftrig-notify ftrig-wait permafailon replay' -- "$word")) && return ;;
+        help) [ "$COMP_CWORD" = 2 ] && COMPREPLY=($(compgen -W 'svscan svcheck svc svstat list follow svwait svlisten svscanctl record connect mkfifodir ftrig-notify ftrig-wait permafailon replay' -- "$word")) && return ;;
         svscan) words='--help' ;;
         svcheck) words='--help' ;;
         svc) words='--help' ;;
@@ -17,6 +17,7 @@ _s6_tree() {
         svlisten) words='-u -U -d -D -r -R -a -o -t --help' ;;
         svscanctl) words='--help' ;;
         record) words='--help' ;;
+        connect) words='--help' ;;
         mkfifodir) words='--help' ;;
         ftrig-notify) words='--help' ;;
         ftrig-wait) words='--help' ;;
