@@ -1,10 +1,9 @@
 #!/usr/bin/env python3
 """Takes the memory of a running tree after 1, 10 and 50 handovers of runs of 10,000 steps.
 
-    handover_memory.py TREE_TRIAL
+    handover_memory.py PROGRAM
 
-TREE_TRIAL is the program of crates/tree_trial, whose runs are as long as S6_TREE_HANDOVER says. One client makes and cancels waiters
-until the runs have gone by. Printed are the server's resident memory and its peak, in kB. All folders are temporary."""
+PROGRAM is s6_tree, whose runs are as long as S6_TREE_HANDOVER says. One client makes and cancels waiters until the runs have gone by. Printed are the server's resident memory and its peak, in kB. All folders are temporary."""
 import os, shutil, socket, subprocess, sys, tempfile, time
 
 STEPS = 10_000
