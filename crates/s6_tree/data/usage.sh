@@ -40,6 +40,7 @@ wrong svscan "$root/services" "/$long"
 wrong svcheck
 wrong svcheck a b
 wrong svcheck "$root/none"
+chmod 644 plain/run
 wrong svcheck "$root/services"
 wrong connect
 wrong connect a b

@@ -49,6 +49,10 @@ full_line count =
 abbrev pub checked_text : List Remark → List Entry → List ℕ
 checked_text remarks entries = flat_map (entry_line remarks) entries ++ full_line (count_by is_usable entries)
 
+-- a program of a service that nobody may execute
+abbrev pub unexecutable_line : List ℕ → List ℕ → List ℕ
+unexecutable_line name file = name ++ (codes ": its " ++ (file ++ codes " can't be started: nobody may execute it\n"))
+
 -- one at least would not be supervised
 abbrev pub is_refused : List Entry → Bool
 is_refused entries = list_any (λ e. is_none e.config) entries || nat_lt 256 (count_by is_usable entries)

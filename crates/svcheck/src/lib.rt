@@ -4,4 +4,4 @@
 mod lines;
 mod sentences;
 
-pub use lines::{Checked, checked_entries, push_bad_names};
+pub use lines::{Checked, checked_entries, push_bad_names, push_unexecutable};

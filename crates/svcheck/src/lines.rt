@@ -1,7 +1,7 @@
 //! A line for each entry of a scan directory.
 ghost use Rattle.std.specs.Prelude.{◌≡◌, ◌++◌, ◌∷◌, ◌||◌, [], IfOk, OnOk, count_by, is_none, nat_lt, option_map};
 ghost use Rattle.std.specs.List.{flat_map, list_any};
-ghost use Rattle.svcheck.specs.Lines.{fault_of, readiness_words, kind_words, supervised_line, refused_line, entry_line, is_usable, full_line, checked_text, is_refused};
+ghost use Rattle.svcheck.specs.Lines.{fault_of, readiness_words, kind_words, supervised_line, refused_line, entry_line, is_usable, full_line, checked_text, is_refused, unexecutable_line};
 
 use crate::sentences::{fault_sentence, finish_words, start_words};
 use s6_events::Name;
@@ -156,6 +156,16 @@ pub fn checked_entries(
     push_full(&mut text, usable_count(entries))?;
     let is_refused = is_refused(entries);
     Ok(Checked { text, is_refused })
+}
+
+/// Adds a line for a program of a service, `run` or `finish`, that nobody may execute.
+pub fn push_unexecutable(text: &mut Vec<u8>, name: Name, file: &str) -> Result<(), AllocError>
+    ensures { OnOk result (text.new.items ≡ text.old.items ++ unexecutable_line name file.now) }
+{
+    text.extend_from_slice(name.as_bytes())?;
+    text.extend_from_slice(b": its ")?;
+    text.extend_from_slice(file.as_bytes())?;
+    text.extend_from_slice(b" can't be started: nobody may execute it\n")
 }
 
 // The name that a line of svscan tells as none of a service, with its quotes.

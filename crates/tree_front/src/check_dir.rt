@@ -1,10 +1,13 @@
 //! `svcheck`: what svscan would do with each entry of a scan directory. It starts nothing.
+use s6_events::Name;
 use s6_tools::{Told, add_escaped};
 use server_rules::{Found, read_listing};
 use std::alloc::{AllocError, Global};
+use std::fs;
 use std::io::{self, Write};
+use std::os::unix::fs::PermissionsExt;
 use std::rt::Files;
-use svcheck::{checked_entries, push_bad_names};
+use svcheck::{checked_entries, push_bad_names, push_unexecutable};
 use svscan_core::Entry;
 
 /// The status of a check that found something that is refused.
@@ -16,8 +19,8 @@ const SYSTEM_STATUS: u8 = 111;
 /// How many bytes of a path are told.
 const PATH_BYTES: usize = 107;
 
-/// Reads a scan directory, and says of each entry what svscan would do. The exit status: 0 where nothing is refused, 1 where something
-/// is, 111 where the directory can't be read.
+/// Reads a scan directory, and says of each entry what svscan would do. The exit status: 0 where nothing is refused and all can be started,
+/// else 1; 111 where the directory can't be read.
 pub fn check_directory<R: Files + Copy + Drop, W: Write, E: Write>(
     rt: &R,
     alloc: Global,
@@ -53,7 +56,65 @@ fn report_of<R: Files + Copy + Drop>(
     let entries = sorted_entries(alloc, listing.entries())?;
     let mut checked = checked_entries(alloc, remarks.as_slice(), entries.as_slice())?;
     let is_bad = push_bad_names(&mut checked.text, told.as_slice())?;
-    Ok((checked.text, checked.is_refused || is_bad))
+    let is_idle = add_unexecutable(rt, alloc, directory, entries.as_slice(), &mut checked.text)?;
+    Ok((checked.text, checked.is_refused || is_bad || is_idle))
+}
+
+// Adds a line for each program of these services that nobody may execute. Whether there was one.
+fn add_unexecutable<R: Files>(
+    rt: &R,
+    alloc: Global,
+    directory: &str,
+    entries: &[Entry],
+    text: &mut Vec<u8>,
+) -> io::Result<bool> {
+    let mut is_there = false;
+    for entry in entries {
+        is_there = add_programs(rt, alloc, directory, entry, text)? || is_there;
+    }
+    Ok(is_there)
+}
+
+// The same of one service.
+fn add_programs<R: Files>(
+    rt: &R,
+    alloc: Global,
+    directory: &str,
+    entry: &Entry,
+    text: &mut Vec<u8>,
+) -> io::Result<bool> {
+    let Some(config) = entry.config else {
+        return Ok(false);
+    };
+    let is_run = add_program(rt, alloc, directory, entry.name, "run", text)?;
+    let is_finish = config.finish && add_program(rt, alloc, directory, entry.name, "finish", text)?;
+    Ok(is_run || is_finish)
+}
+
+// The same of one of its programs.
+fn add_program<R: Files>(
+    rt: &R,
+    alloc: Global,
+    directory: &str,
+    name: Name,
+    file: &str,
+    text: &mut Vec<u8>,
+) -> io::Result<bool> {
+    let service = str::from_utf8(name.as_bytes()).unwrap_or("-");
+    let path = format!(in alloc; "{directory}/{service}/{file}")?;
+    if is_executable(rt, path.as_str()) {
+        return Ok(false);
+    }
+    push_unexecutable(text, name, file)?;
+    Ok(true)
+}
+
+// Whether somebody may execute the file at this path, as far as can be seen.
+fn is_executable<R: Files>(rt: &R, path: &str) -> bool {
+    match fs::metadata(rt, path) {
+        Ok(found) => found.permissions().mode() & 0o111 != 0,
+        Err(_) => true,
+    }
 }
 
 // The entries by name, as svscan takes them.

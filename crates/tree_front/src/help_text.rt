@@ -62,6 +62,8 @@ lines:
                                 whether it has a finish
   NAME: noted FAULT: .., ..     the same, but for this
   NAME: refused FAULT: ..       it is not supervised
+  NAME: its run can't be started: nobody may execute it
+  NAME: its finish can't be started: nobody may execute it
 
 faults:
   NoRun       there is no file run in its directory
@@ -73,8 +75,8 @@ faults:
   full        there are more than 256 services
 
 exit status:
-  0           nothing is refused
-  1           something is
+  0           nothing is wrong
+  1           something is refused, or can't be started
   100         wrong usage
   111         DIRECTORY can't be read, or the system refused something
 ";

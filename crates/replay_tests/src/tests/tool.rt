@@ -368,11 +368,11 @@ options:
 
 exit status:
   0             done; of a wait: held; of permafailon: it doesn't fail for
-                good; of svcheck: nothing is refused
+                good; of svcheck: nothing is wrong
   1             refused by the server; of a wait: failed for good; of
                 ftrig-wait also: the text got too long; of list also: a
                 name is of no service; of replay --check: a reply differs;
-                of svcheck: something is refused
+                of svcheck: something is wrong
   2             of a wait: gone, the supervisor of a service has ended
   99            of a wait: timed out, also where the server was busy all
                 the time
