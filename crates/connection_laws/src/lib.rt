@@ -17,7 +17,7 @@ pub fn silent_once_left()
     ensures { (before : List Event) → (after : List Event) → SilentOnceLeft before after }
 {}
 
-/// News that a connection was told are of a waiter or a subscription that it made.
+/// News that a connection was told are of a waiter or a subscription that it made, or of a service that it follows.
 pub fn told_its_own()
     ensures { (events : List Event) → ToldItsOwn (run events opened) }
 {}
