@@ -27,6 +27,7 @@ wrong frob
 wrong help frob
 wrong help svc svwait
 wrong --version now
+say 'a word that is no text' "$(outcome "$program" svcheck "$(printf 'a\377')")"
 wrong svscan
 wrong svscan a
 wrong svscan a b c d

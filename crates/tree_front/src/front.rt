@@ -1,4 +1,6 @@
 //! What the words ask for: a client or a check that is run here, or a tree or a replay that the program runs.
+ghost use Rattle.std.specs.Prelude.{◌≡◌};
+
 use crate::asked::{Program, asks_help, program_named};
 use crate::check_dir::check_directory;
 use crate::help::{print_help, print_help_of, refuse_tool};
@@ -18,6 +20,9 @@ use std::{env, io};
 
 /// The status of a program to which the system refused something.
 const SYSTEM_STATUS: u8 = 111;
+
+/// The status of a program that was not used as it says.
+const USAGE_STATUS: u8 = 100;
 
 /// The words that `svscan` takes.
 const SVSCAN_FORM: &str = "svscan DIRECTORY SOCKET [RECORD]";
@@ -50,8 +55,12 @@ pub fn run_words<R: Env + Net + Files + Processes + Clock + Copy + Drop, W: Writ
     output: &mut W,
     errors: &mut E,
 ) -> Asked {
-    let Ok(words) = words_of(rt, alloc) else {
-        return refuse_program(rt, alloc, errors);
+    let words = match words_of(rt, alloc) {
+        Ok(words) => words,
+        Err(error) if error.kind() == io::ErrorKind::InvalidData => {
+            return Asked::Done(refuse_bytes(errors));
+        }
+        Err(_) => return refuse_program(rt, alloc, errors),
     };
     match program_of(words.as_slice()) {
         Program::Svscan => read_place(words, output, errors),
@@ -130,6 +139,14 @@ fn refuse_program<R: Env, E: Write>(rt: &R, alloc: Global, errors: &mut E) -> As
         }
         _ => Asked::Replay,
     }
+}
+
+// What comes of words of which one is no text, so that no word is read.
+fn refuse_bytes<E: Write>(errors: &mut E) -> u8
+    ensures { result ≡ 100 }
+{
+    let _ = errors.write_all(b"s6_tree: usage\ns6_tree: BadName: a word is no text in UTF-8\n");
+    USAGE_STATUS
 }
 
 // The word behind the name of the program.

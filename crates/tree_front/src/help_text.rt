@@ -41,7 +41,6 @@ exit status, and the line on standard error:
               svscan: no memory
               svscan: thread
               svscan: clock
-              svscan: lanes
               svscan: full
               svscan: close        a run could not go over into the next
               svscan: record       RECORD could not be made or written, is
