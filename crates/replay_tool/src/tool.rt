@@ -89,7 +89,7 @@ fn asked_of_replay(env: &impl Env) -> Asked {
         Asked::Story
     } else if is_word(env, 2, b"--timeline") {
         Asked::Timeline
-    } else if is_word(env, 2, b"--help") {
+    } else if is_word(env, 2, b"--help") || is_word(env, 2, b"-h") {
         Asked::ReplayHelp
     } else {
         Asked::ReplayUsage

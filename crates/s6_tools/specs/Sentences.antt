@@ -92,7 +92,7 @@ abbrev pub refusal_of_tree : List ℕ → List ℕ
 refusal_of_tree reason =
     if bytes_eq reason (codes "Repeated") then codes "a name stands twice: leave one out" else
     if bytes_eq reason (codes "TooMany") then codes "the tree has no room for it: it keeps 1,024 waiters, 256 subscriptions and 256 free event directories" else
-    if bytes_eq reason (codes "Busy") then codes "too many wait at once, and the last seat is kept for short requests; try again later" else
+    if bytes_eq reason (codes "Busy") then codes "too many wait at once, and the last place is kept for short requests; try again later" else
     if bytes_eq reason (codes "Pattern") then codes "the pattern is none, or too large; see s6_tree ftrig-wait --help" else
     if bytes_eq reason (codes "Line") then codes "the server doesn't know this request: it may be of another version" else
     if bytes_eq reason (codes "Directory") then codes "svscan can't read its directory, or there is too much in it; its standard error says more" else
@@ -119,7 +119,7 @@ cause_before fault.NoServer = codes "no server at "
 cause_before fault.Forbidden = codes "no permission for "
 cause_before fault.Socket = codes "the server at "
 cause_before fault.LongPath = codes "path is longer than 107 bytes"
-cause_before fault.Busy = codes "no seat was free in ten seconds; try again later"
+cause_before fault.Busy = codes "no place was free in ten seconds; try again later"
 cause_before fault.Write = codes "standard output took nothing: is it closed, or its disk full?"
 cause_before fault.Program = []
 cause_before f = codes "the system refused memory; try again later"

@@ -139,7 +139,7 @@ pub fn refusal_of_tree(reason: &[u8]) -> &'static str
     } else if is_word(reason, b"TooMany") {
         "the tree has no room for it: it keeps 1,024 waiters, 256 subscriptions and 256 free event directories"
     } else if is_word(reason, b"Busy") {
-        "too many wait at once, and the last seat is kept for short requests; try again later"
+        "too many wait at once, and the last place is kept for short requests; try again later"
     } else if is_word(reason, b"Pattern") {
         "the pattern is none, or too large; see s6_tree ftrig-wait --help"
     } else if is_word(reason, b"Line") {
@@ -192,7 +192,7 @@ pub fn cause_before(fault: &ToolFault) -> &'static str
         ToolFault::Forbidden => "no permission for ",
         ToolFault::Socket => "the server at ",
         ToolFault::LongPath => "path is longer than 107 bytes",
-        ToolFault::Busy => "no seat was free in ten seconds; try again later",
+        ToolFault::Busy => "no place was free in ten seconds; try again later",
         ToolFault::Write => "standard output took nothing: is it closed, or its disk full?",
         ToolFault::Program => "",
         _ => "the system refused memory; try again later",

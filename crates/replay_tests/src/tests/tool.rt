@@ -110,6 +110,13 @@ const RUNS: &[Run] = &[
         errors: "",
     },
     Run {
+        words: &[b"replay", b"-h"],
+        input: SCRIPT,
+        status: 0,
+        output: REPLAY_HELP,
+        errors: "",
+    },
+    Run {
         words: &[b"replay"],
         input: SCRIPT,
         status: 0,
@@ -378,7 +385,7 @@ exit status:
                 the time
   100           the words are not those of the tool; of replay also: the
                 input is no script
-  111           the server can't be reached or has no seat, or the system
+  111           the server can't be reached or is busy, or the system
                 refused something; of a wait also: refused by the server
   125           of permafailon: it fails for good
 At 100 and 111, and where the server refused something, standard error
@@ -405,8 +412,8 @@ options:
   --story     write in words what happened, a line for each event;
               with --since TIME, as 2026-11-27T11:18:48Z, by times of
               day, where TIME is that of the line since of svscan
-  --timeline  write a picture in SVG, with a lane for each service
-  --help      print this text
+  --timeline  write a picture in SVG, with a row for each service
+  -h, --help  print this text
 
 limits:
   65,536 bytes an input line, with its newline
