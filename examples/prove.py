@@ -15,12 +15,11 @@ import fcntl, hashlib, os, shutil, signal, subprocess, sys, time
 
 # Seconds of processor that a check takes, by which the next crate is chosen and what is left is reckoned; docs/PROOFS.md has them.
 SECONDS = {
-    "s6_events": 81, "control_letters": 20, "servicedir": 82, "death_tally": 46, "svc_commands": 217, "finish_core": 10,
-    "supervise_core": 178, "deadlines": 59, "text_matcher": 60, "svscan_core": 341, "event_directory": 494, "wait_conditions": 276,
-    "tree_core": 342, "s6_script": 294, "s6_replay": 363,
-    "replay_tool": 53, "inbox": 85, "order_lanes": 90, "status_board": 120, "child_runner": 342, "line_server": 180, "run_records": 88,
-    "locked_services": 328, "office": 388, "server_rules": 220, "server_threads": 150, "tree_server": 500, "s6_tools": 270, "tree_front": 42, "s6_tree": 216,
-    "channel_names": 10, "error_notes": 30,
+    "s6_events": 145, "control_letters": 43, "servicedir": 102, "death_tally": 53, "svc_commands": 299, "finish_core": 21, "supervise_core": 195,
+    "deadlines": 63, "text_matcher": 112, "svscan_core": 403, "event_directory": 601, "wait_conditions": 383, "tree_core": 460, "s6_script": 282,
+    "s6_replay": 521, "run_stories": 394, "day_times": 24, "replay_tool": 81, "channel_names": 12, "inbox": 98, "order_lanes": 118,
+    "error_notes": 101, "child_runner": 518, "line_server": 255, "status_board": 107, "s6_tools": 648, "run_records": 247, "locked_services": 464,
+    "office": 483, "server_rules": 690, "svcheck": 55, "server_threads": 171, "tree_server": 800, "tree_front": 80, "s6_tree": 330,
 }
 USUAL_SECONDS = 60
 # The memory that a check may want, in kilobytes.
