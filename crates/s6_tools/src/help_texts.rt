@@ -107,16 +107,17 @@ columns:
   WANTED      up: it is to be started when it is down; else down
 
 states:
-  ready       it is up, and has said that it is ready
-  up          it is up, and has not said that
-  paused      it is up, and was stopped by SIGSTOP
-  finishing   it has died, and its finish is not done
-  restarting  its finish is done: it starts once its pause is over
-  starting    it is to start, and has not run yet
-  down        it is down, and stays so until it is told to start
-  failed      it failed for good: it stays down until it is told to start
-  gone        its supervisor has ended: no letter reaches it now
-  unread      the last scan could not read its directory
+  ready        it is up, and has said that it is ready
+  up           it is up, and has not said that
+  paused       it is up, and was stopped by SIGSTOP
+  finishing    it has died, and its finish is not done
+  restarting   its finish is done: it starts once its pause is over
+  starting     it is to start, and has not run yet
+  startfailed  the system refused its start: it is tried again within a minute
+  down         it is down, and stays so until it is told to start
+  failed       it failed for good: it stays down until it is told to start
+  gone         its supervisor has ended: no letter reaches it now
+  unread       the last scan could not read its directory
 
 options:
   --json      print an object a line: name serial state up wantedup

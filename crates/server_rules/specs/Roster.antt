@@ -1,5 +1,5 @@
 -- Which services there are and have been, by what scans added and by their letters.
-use Rattle.std.specs.Prelude.{ℕ, ◌==◌, Bool, List, [], ◌∷◌, Option, Some, None, fold, if◌then◌else◌}
+use Rattle.std.specs.Prelude.{ℕ, ◌==◌, Bool, true, false, List, [], ◌∷◌, Option, Some, None, fold, if◌then◌else◌}
 use Rattle.std.specs.List.{find, flat_map, list_any}
 use Rattle.s6_events.specs.declared.mark.Mark.{Mark}
 use Rattle.s6_events.specs.declared.mark.Mark.TheVariants.{SupervisorStarted, Spawned, Died, PermanentFailure, SupervisorEnded}
@@ -31,15 +31,21 @@ since_by at mark since = since
 -- a service after a letter at this moment, whoever told it
 abbrev pub after_letter : ℕ → Member → Event → Member
 after_letter at m e =
-    if e.sid == m.sid then record m { ending = ending_by e.mark m.ending; since = since_by at e.mark m.since } else m
+    if e.sid == m.sid
+    then record m { ending = ending_by e.mark m.ending; since = since_by at e.mark m.since; start_failed = false }
+    else m
 
 -- after the letters of a step, one after the other
 abbrev pub after_letters : ℕ → List Event → Member → Member
 after_letters at events m = fold (after_letter at) m events
 
+-- a service after a report that a start of this one failed
+abbrev pub after_failed_start : ℕ → Member → Member
+after_failed_start sid m = if m.sid == sid then record m { start_failed = true } else m
+
 -- a service that a scan added
 abbrev pub member_of : Listed → List Member
-member_of (listed.Added sid name) = record { sid = sid; name = name; ending = None; since = None } ∷ []
+member_of (listed.Added sid name) = record { sid = sid; name = name; ending = None; since = None; start_failed = false } ∷ []
 member_of l = []
 
 abbrev pub added : List Listed → List Member
@@ -71,6 +77,14 @@ since_of None = None
 -- the moment since which it is up or down
 abbrev pub since_in : ℕ → List Member → Option ℕ
 since_in sid roster = since_of (member_in sid roster)
+
+abbrev pub start_failed_of : Option Member → Bool
+start_failed_of (Some m) = m.start_failed
+start_failed_of None = false
+
+-- the last that is known of it is that a start failed
+abbrev pub start_failed_in : ℕ → List Member → Bool
+start_failed_in sid roster = start_failed_of (member_in sid roster)
 
 -- it has a row
 abbrev pub has_row : List Row → Member → Bool

@@ -43,10 +43,20 @@ state_by false when_up when_down = when_down
 abbrev pub supervised_state : Option Ending → Row → ServiceState
 supervised_state e row = state_by row.up (up_state row.paused row.ready) (down_state e row.exit row.ready row.wanted_up)
 
--- the state of a service, by what its letters say of its end, and by its row
-abbrev pub state_of : Option Ending → Row → ServiceState
-state_of (Some ending.Gone) row = state.Gone
-state_of e row = supervised_state e row
+-- where its start failed it neither starts nor restarts
+abbrev pub state_after_failed_start : ServiceState → ServiceState
+state_after_failed_start state.Starting = state.StartFailed
+state_after_failed_start state.Restarting = state.StartFailed
+state_after_failed_start s = s
+
+abbrev pub started_state : Bool → ServiceState → ServiceState
+started_state true s = state_after_failed_start s
+started_state false s = s
+
+-- the state of a service, by what its letters say of its end, by whether its start failed since the last of them, and by its row
+abbrev pub state_of : Option Ending → Bool → Row → ServiceState
+state_of (Some ending.Gone) start_failed row = state.Gone
+state_of e start_failed row = started_state start_failed (supervised_state e row)
 
 abbrev pub state_word : ServiceState → List ℕ
 state_word state.Paused = codes "paused"
@@ -54,6 +64,7 @@ state_word state.Ready = codes "ready"
 state_word state.Up = codes "up"
 state_word state.Finishing = codes "finishing"
 state_word state.Starting = codes "starting"
+state_word state.StartFailed = codes "startfailed"
 state_word state.Restarting = codes "restarting"
 state_word state.Down = codes "down"
 state_word state.Failed = codes "failed"

@@ -10,7 +10,7 @@ use Rattle.server_rules.specs.declared.found.Remark.{Remark}
 use Rattle.server_rules.specs.declared.roster.Ending.{Ending}
 use Rattle.server_rules.specs.declared.roster.Member.{Member}
 use Rattle.server_rules.specs.Found.{unread_line}
-use Rattle.server_rules.specs.Roster.{ending_in, since_in}
+use Rattle.server_rules.specs.Roster.{ending_in, since_in, start_failed_in}
 use Rattle.server_rules.specs.States.{state_of, state_word}
 
 -- a row is told, and where there is none that
@@ -38,14 +38,15 @@ moment_text (Some at) = decimal at
 moment_text None = codes "-1"
 
 -- the word of a service's state, since when it is up or down, and its row
-abbrev pub state_head : Option Ending → Row → List ℕ
-state_head ending row = codes "state " ++ (state_word (state_of ending row) ++ 32 ∷ [])
+abbrev pub state_head : Option Ending → Bool → Row → List ℕ
+state_head ending start_failed row = codes "state " ++ (state_word (state_of ending start_failed row) ++ 32 ∷ [])
 
 abbrev pub state_tail : Option ℕ → Row → List ℕ
 state_tail since row = moment_text since ++ (32 ∷ row_line row)
 
 abbrev pub state_line : List Member → Row → List ℕ
-state_line roster row = state_head (ending_in row.sid roster) row ++ state_tail (since_in row.sid roster) row
+state_line roster row =
+    state_head (ending_in row.sid roster) (start_failed_in row.sid roster) row ++ state_tail (since_in row.sid roster) row
 
 -- the status of one service, the rows of all, or their states and what could not be read; and an empty line behind them
 abbrev pub told_text : Subject → Shown → List ℕ

@@ -1,7 +1,7 @@
 //! Which services there are and have been, and which of them are over.
 ghost use Rattle.std.specs.Prelude.{◌≡◌, ◌++◌, ◌∷◌, [], IfOk, OnOk, OnErr, filter, map, option_map};
 ghost use Rattle.server_rules.specs.Letters.{told_letter};
-ghost use Rattle.server_rules.specs.Roster.{added, after_letter, after_letters, ending_by, ending_in, has_row, member_in, member_of, name_in, since_by, since_in};
+ghost use Rattle.server_rules.specs.Roster.{added, after_failed_start, after_letter, after_letters, ending_by, ending_in, has_row, member_in, member_of, name_in, since_by, since_in, start_failed_in};
 
 use crate::letters::ToldLetter;
 use s6_events::{At, Mark, Name, NoMemory, Sid};
@@ -29,6 +29,8 @@ pub struct Member {
     pub ending: Option<Ending>,
     /// Since when it is up or down: the moment of its last letter `u` or `d`; None where neither came since its last `s`.
     pub since: Option<At>,
+    /// Whether a start of it failed, and no letter of it came since.
+    pub start_failed: bool,
 }
 
 // What a letter makes of how a service is over.
@@ -71,6 +73,16 @@ impl Member {
         if event.sid == self.sid {
             self.ending = ending_by(event.mark, self.ending);
             self.since = since_by(at, event.mark, self.since);
+            self.start_failed = false;
+        }
+    }
+
+    // A start of the service of this serial failed.
+    fn note_failed_start(&mut self, sid: Sid)
+        ensures { self.new ≡ after_failed_start sid self.old }
+    {
+        if self.sid == sid {
+            self.start_failed = true;
         }
     }
 }
@@ -122,6 +134,13 @@ impl Roster {
         note_all(self.members.as_mut_slice(), at, events);
     }
 
+    /// A start of the service of this serial was reported to have failed.
+    pub fn note_failed_start(&mut self, sid: Sid)
+        ensures { self.new ≡ map (after_failed_start sid) self.old }
+    {
+        note_failed_start_in(self.members.as_mut_slice(), sid);
+    }
+
     // The service of this serial.
     fn member(&self, sid: Sid) -> Option<&Member>
         ensures { option_map (λ m. m.now) result ≡ member_in sid self.now }
@@ -146,6 +165,16 @@ impl Roster {
         match self.member(sid) {
             Some(member) => member.since,
             None => None,
+        }
+    }
+
+    /// Whether a start of the service of this serial failed, and no letter of it came since.
+    pub fn start_failed(&self, sid: Sid) -> bool
+        ensures { result ≡ start_failed_in sid self.now }
+    {
+        match self.member(sid) {
+            Some(member) => member.start_failed,
+            None => false,
         }
     }
 
@@ -197,6 +226,15 @@ fn note_all(members: &mut [Member], at: At, events: &[Event])
     }
 }
 
+// A start of the service of this serial failed.
+fn note_failed_start_in(members: &mut [Member], sid: Sid)
+    ensures { members.new ≡ map (after_failed_start sid) members.old }
+{
+    for member in members.iter_mut() {
+        member.note_failed_start(sid);
+    }
+}
+
 // The services that a scan added.
 fn members_of(alloc: Global, listed: &[Listed]) -> Result<Vec<Member>, NoMemory>
     ensures { IfOk result (λ members. members.items ≡ added listed.now) }
@@ -217,6 +255,7 @@ fn push_member(members: &mut Vec<Member>, listed: &Listed) -> Result<(), NoMemor
             name: *name,
             ending: None,
             since: None,
+            start_failed: false,
         })?;
     }
     Ok(())

@@ -1,6 +1,6 @@
 //! The state of a service in one word.
 ghost use Rattle.std.specs.Prelude.{◌≡◌};
-ghost use Rattle.server_rules.specs.States.{state_of, supervised_state, stays_down, up_state, state_word};
+ghost use Rattle.server_rules.specs.States.{started_state, state_after_failed_start, state_of, state_word, stays_down, supervised_state, up_state};
 
 use crate::roster::Ending;
 use supervise_core::Row;
@@ -18,6 +18,8 @@ pub enum ServiceState {
     Finishing,
     /// `starting`: it is to be started, and hasn't run yet.
     Starting,
+    /// `startfailed`: it is to be started, and the system refused its last start.
+    StartFailed,
     /// `restarting`: it has died, its `finish` is done, and it is to be started again.
     Restarting,
     /// `down`: it was told to be down, or never to start, and stays so.
@@ -68,13 +70,35 @@ fn supervised_state(ending: Option<Ending>, row: &Row) -> ServiceState
     }
 }
 
-/// The state of a service, by what its letters say of its end, and by its row. Page `s6-svstat` for the row.
-pub fn state_of(ending: Option<Ending>, row: &Row) -> ServiceState
-    ensures { result ≡ state_of ending row.now }
+// Where its start failed a service neither starts nor restarts.
+fn state_after_failed_start(state: ServiceState) -> ServiceState
+    ensures { result ≡ state_after_failed_start state }
+{
+    match state {
+        ServiceState::Starting | ServiceState::Restarting => ServiceState::StartFailed,
+        _ => state,
+    }
+}
+
+// The state of a service whose supervisor is there.
+fn started_state(start_failed: bool, state: ServiceState) -> ServiceState
+    ensures { result ≡ started_state start_failed state }
+{
+    if start_failed {
+        state_after_failed_start(state)
+    } else {
+        state
+    }
+}
+
+/// The state of a service, by what its letters say of its end, by whether its start failed since the last of them, and by its row. Page
+/// `s6-svstat` for the row.
+pub fn state_of(ending: Option<Ending>, start_failed: bool, row: &Row) -> ServiceState
+    ensures { result ≡ state_of ending start_failed row.now }
 {
     match ending {
         Some(Ending::Gone) => ServiceState::Gone,
-        _ => supervised_state(ending, row),
+        _ => started_state(start_failed, supervised_state(ending, row)),
     }
 }
 
@@ -89,6 +113,7 @@ impl ServiceState {
             ServiceState::Up => b"up",
             ServiceState::Finishing => b"finishing",
             ServiceState::Starting => b"starting",
+            ServiceState::StartFailed => b"startfailed",
             ServiceState::Restarting => b"restarting",
             ServiceState::Down => b"down",
             ServiceState::Failed => b"failed",

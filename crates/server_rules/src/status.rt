@@ -80,11 +80,17 @@ fn push_moment(text: &mut Vec<u8>, moment: Option<At>) -> Result<(), AllocError>
 }
 
 // Adds the word of a service's state.
-fn push_state(text: &mut Vec<u8>, ending: Option<Ending>, row: &Row) -> Result<(), AllocError>
-    ensures { OnOk result (text.new.items ≡ text.old.items ++ state_head ending row.now) }
+fn push_state(
+    text: &mut Vec<u8>,
+    ending: Option<Ending>,
+    start_failed: bool,
+    row: &Row,
+) -> Result<(), AllocError>
+    ensures { OnOk result (text.new.items
+        ≡ text.old.items ++ state_head ending start_failed row.now) }
 {
     text.extend_from_slice(b"state ")?;
-    text.extend_from_slice(state_of(ending, row).word())?;
+    text.extend_from_slice(state_of(ending, start_failed, row).word())?;
     text.extend_from_slice(b" ")
 }
 
@@ -101,7 +107,12 @@ fn push_since(text: &mut Vec<u8>, since: Option<At>, row: &Row) -> Result<(), Al
 fn push_state_line(text: &mut Vec<u8>, roster: &Roster, row: &Row) -> Result<(), AllocError>
     ensures { OnOk result (text.new.items ≡ text.old.items ++ state_line roster.now row.now) }
 {
-    push_state(text, roster.ending(row.sid), row)?;
+    push_state(
+        text,
+        roster.ending(row.sid),
+        roster.start_failed(row.sid),
+        row,
+    )?;
     push_since(text, roster.since(row.sid), row)
 }
 

@@ -82,9 +82,17 @@ pub fn hand_in_reports<C: Channels + Lanes, D: Board<C>, B: Backend, R: Wait>(
                 is_full = true;
                 break;
             }
+            note_report(state, &report);
         }
     }
     is_full
+}
+
+// A failed start, which no letter tells, is shown by the state of its service.
+fn note_report<C: Channels>(state: &mut DriverState<C>, report: &Report) {
+    if let Report::StartFailed(sid, _) = report {
+        state.lasting.roster.note_failed_start(*sid);
+    }
 }
 
 // The report of a lane that was kept, or its next one.
