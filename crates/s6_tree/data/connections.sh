@@ -8,6 +8,7 @@ before=$(census_at_rest)
 
 # Requests that no client sends, and a waiter that is released as it is made.
 printf 'tick\n\nscan web\nstarted 1 1 5\nsvc web\n' | connect
+say 'a full disk' "$(echo clock | connect 2>&1 >/dev/full | without_hints)"
 open waiter
 request waiter 'wait u a 0 web'
 soon has_replies waiter 2

@@ -1,7 +1,7 @@
 //! `connect`: lines from standard input to a server, and from it to standard output.
 use arrayvec::CapacityError;
 use s6_tools::{Told, add_escaped};
-use std::io::{self, Read, Write};
+use std::io::{self, ErrorKind, Read, Write};
 use std::net::{Net, Shutdown};
 use std::os::unix::net::UnixStream;
 use std::thread::{Builder, Threads};
@@ -19,6 +19,27 @@ fn send_all<I: Read + Drop>(stream: UnixStream, mut input: I) -> io::Result<()> 
     stream.shutdown(Shutdown::Write)
 }
 
+// Why a connection did not go to its end.
+#[derive(Clone, Copy, Debug, PartialEq, Eq)]
+enum ConnectFault {
+    // No server is there, or the connection broke.
+    Socket,
+    // The thread that sends could not be started.
+    Thread,
+    // Standard output took no more.
+    Write,
+}
+
+// Why nothing more was copied from the connection to standard output.
+fn fault_of(kind: ErrorKind) -> ConnectFault {
+    match kind {
+        ErrorKind::ConnectionReset | ErrorKind::ConnectionAborted | ErrorKind::TimedOut => {
+            ConnectFault::Socket
+        }
+        _ => ConnectFault::Write,
+    }
+}
+
 // Sends `input` to the socket at this path, and writes what comes to `output`, until the server ends the connection. Nobody joins the
 // thread that sends, since it may sit in a read for ever.
 fn converse<R: Net + Threads, I: Read + Send + Drop + 'static, W: Write>(
@@ -26,18 +47,38 @@ fn converse<R: Net + Threads, I: Read + Send + Drop + 'static, W: Write>(
     path: &str,
     input: I,
     output: &mut W,
-) -> io::Result<()> {
-    let mut stream = UnixStream::connect(rt, path)?;
-    let theirs = stream.try_clone()?;
-    let _unjoined = Builder::new().spawn(rt, move || send_all(theirs, input))?;
-    io::copy(&mut stream, output)?;
-    output.flush()
+) -> Result<(), ConnectFault> {
+    let Ok(mut stream) = UnixStream::connect(rt, path) else {
+        return Err(ConnectFault::Socket);
+    };
+    let Ok(theirs) = stream.try_clone() else {
+        return Err(ConnectFault::Thread);
+    };
+    let sender = Builder::new().spawn(rt, move || send_all(theirs, input));
+    if sender.is_err() {
+        return Err(ConnectFault::Thread);
+    }
+    match io::copy(&mut stream, output) {
+        Err(error) => Err(fault_of(error.kind())),
+        Ok(_) if output.flush().is_err() => Err(ConnectFault::Write),
+        Ok(_) => Ok(()),
+    }
 }
 
-fn add_lines(told: &mut Told, path: &str) -> Result<(), CapacityError> {
-    told.try_extend_from_slice(b"connect: socket\nconnect: ")?;
-    add_escaped(told, PATH_BYTES, path.as_bytes())?;
-    told.try_extend_from_slice(b": no server is there, or the connection broke\n")
+fn add_lines(told: &mut Told, path: &str, fault: ConnectFault) -> Result<(), CapacityError> {
+    match fault {
+        ConnectFault::Socket => {
+            told.try_extend_from_slice(b"connect: socket\nconnect: ")?;
+            add_escaped(told, PATH_BYTES, path.as_bytes())?;
+            told.try_extend_from_slice(b": no server is there, or the connection broke\n")
+        }
+        ConnectFault::Thread => told.try_extend_from_slice(
+            b"connect: thread\nconnect: the system refused a thread or a descriptor; try again later\n",
+        ),
+        ConnectFault::Write => told.try_extend_from_slice(
+            b"connect: write\nconnect: standard output took nothing: is it closed, or its disk full?\n",
+        ),
+    }
 }
 
 /// Does that, and tells a failure by two lines, in one write. The exit status.
@@ -48,11 +89,11 @@ pub fn run_connection<R: Net + Threads, I: Read + Send + Drop + 'static, W: Writ
     output: &mut W,
     errors: &mut E,
 ) -> u8 {
-    if converse(rt, path, input, output).is_ok() {
+    let Err(fault) = converse(rt, path, input, output) else {
         return 0;
-    }
+    };
     let mut told = Told::new();
-    let _ = add_lines(&mut told, path);
+    let _ = add_lines(&mut told, path, fault);
     let _ = errors.write_all(told.as_slice());
     SYSTEM_STATUS
 }
