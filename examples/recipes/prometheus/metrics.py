@@ -2,7 +2,7 @@
 """Text for Prometheus of what `s6_tree list SOCKET --json` prints:  s6_tree list SOCKET --json | metrics.py"""
 import json, sys
 
-STATES = "ready up paused finishing restarting starting down failed gone unread".split()
+STATES = "ready up paused finishing restarting starting startfailed down failed gone unread".split()
 rows = [json.loads(line) for line in sys.stdin]
 
 
