@@ -3,4 +3,5 @@ pub mod Following
 pub mod InOrder
 pub mod Left
 pub mod Silence
+pub mod Ending
 pub mod Telling

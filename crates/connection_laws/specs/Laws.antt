@@ -1,12 +1,13 @@
 -- Laws of every list of events of a connection.
-use Rattle.std.specs.Prelude.{◌≡◌, ◌≤◌, ℕ, Bool, true, false, List, [], ◌∷◌, ◌++◌, All, length}
+use Rattle.std.specs.Prelude.{◌≡◌, ◌≤◌, ℕ, Bool, true, false, List, [], ◌∷◌, ◌++◌, All, length, map}
 use Rattle.std.specs.List.{Contains, flat_map, list_any}
 use Rattle.std.specs.declared.alloc.Global.{Global}
 use Rattle.tree_core.specs.declared.input.Act.{Act}
+use Rattle.tree_core.specs.declared.input.Act.TheVariants.{Cancel, Unsubscribe}
 use Rattle.server_rules.specs.declared.phase.Errand.{Errand}
 use Rattle.server_rules.specs.declared.phase.Errand.TheVariants as errand
 use Rattle.server_rules.specs.declared.phase.Phase.{Phase}
-use Rattle.server_rules.specs.declared.phase.Phase.TheVariants.{Idle, Stepping, UnderWay, PutOff, Gone}
+use Rattle.server_rules.specs.declared.phase.Phase.TheVariants.{Idle, Stepping, UnderWay, PutOff, Leaving, Cancelling, Gone}
 use Rattle.server_rules.specs.declared.requests.Request.{Request}
 use Rattle.server_rules.specs.declared.requests.Request.TheVariants.{Step, Status, Scan, Record, Follow, Clock}
 use Rattle.server_rules.specs.declared.todo.Answer.{Answer}
@@ -14,9 +15,9 @@ use Rattle.server_rules.specs.declared.todo.Answer.TheVariants as answer
 use Rattle.server_rules.specs.declared.todo.News.{News}
 use Rattle.server_rules.specs.declared.todo.News.TheVariants as news
 use Rattle.server_rules.specs.declared.todo.Todo.{Todo}
-use Rattle.server_rules.specs.declared.todo.Todo.TheVariants.{Give, Tell}
+use Rattle.server_rules.specs.declared.todo.Todo.TheVariants.{Give, Submit, Tell}
 use Rattle.server_rules.specs.Connection.{is_here}
-use Rattle.server_rules.specs.Standing.{is_among, is_followed, nothing_made}
+use Rattle.server_rules.specs.Standing.{Made, is_among, is_followed, nothing_made}
 use Rattle.connection_laws.specs.History.{Done, Event, History, Leave, Told, opened, run}
 
 -- what was answered
@@ -106,3 +107,27 @@ ToldItsOwn h = (n : News) → Contains h.done (record { event = Told n; todo = T
 -- of one that is gone nothing stands
 abbrev pub NothingIsLeft : History → Type 0
 NothingIsLeft h = h.now.phase ≡ Gone → h.now.made ≡ nothing_made
+
+-- what is handed in
+abbrev pub submitted_by : Todo → List (Act Global)
+submitted_by (Submit act) = act ∷ []
+submitted_by t = []
+
+abbrev pub submitted : List Done → List (Act Global)
+submitted done = flat_map (λ d. submitted_by d.todo) done
+
+-- what ends all that stands: the released waiters, the others, and the subscriptions, each once
+abbrev pub ends_of : Made → List (Act Global)
+ends_of made = map Cancel (made.released ++ made.waiters) ++ map Unsubscribe made.subscriptions
+
+-- the client has left, and nothing of before is under way
+abbrev pub is_ending : Phase → Bool
+is_ending Leaving = true
+is_ending Cancelling = true
+is_ending Gone = true
+is_ending phase = false
+
+-- from then on what is handed in, and then what ends all that still stands, is what ended all that stood
+abbrev pub EndsOnce : History → List Event → Type 0
+EndsOnce h events =
+    submitted (run events h).done ++ ends_of (run events h).now.made ≡ submitted h.done ++ ends_of h.now.made

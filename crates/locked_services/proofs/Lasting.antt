@@ -1,7 +1,7 @@
 -- What is true of a running tree stays true.
-use Rattle.std.proofs.Common.{◌≡◌, ℕ, ◌<◌, ◌==◌, length, List, [], ◌∷◌, ◌++◌, Option, Some, None, refl, ap, sym, subst, ◌∙◌}
+use Rattle.std.proofs.Common.{◌≡◌, ℕ, ◌≤◌, ◌<◌, ◌==◌, length, List, [], ◌∷◌, ◌++◌, Option, Some, None, option_to_list, refl, ap, sym, subst, ◌∙◌, arith}
 use Rattle.std.proofs.lemmas.Grind.{flat_map-append}
-use Rattle.std.proofs.lemmas.List.{append-nil, map-append}
+use Rattle.std.proofs.lemmas.List.{append-nil, length-append, map-append}
 use Rattle.std.proofs.lemmas.List.Elements.{filter-append}
 use Rattle.std.specs.declared.alloc.Global.{Global}
 use Rattle.s6_events.specs.declared.order.Order.{Order}
@@ -15,8 +15,8 @@ use Rattle.tree_core.specs.Run.{after, outcome, after_all, outcomes}
 use Rattle.tree_core.specs.StandsFor.{StoredTree, StandsFor}
 use Rattle.tree_core.proofs.OneMoreInput.{after_all_more, outcomes_more}
 use Rattle.run_records.specs.Runs.{RunStep, IsLegal, end_of, inputs_of}
-use Rattle.locked_services.specs.Running.{RunningView, IsSoundRunning, orders_of}
-use Rattle.locked_services.specs.Submissions.{AreNumbered, held_by, submissions_of, taken_from}
+use Rattle.locked_services.specs.Running.{RunningView, IsSoundRunning, orders_of, run_limit}
+use Rattle.locked_services.specs.Submissions.{AreNumbered, Give, held_by, submissions_by, submissions_of, taken_from}
 use Rattle.locked_services.proofs.Submitted.{submissions_snoc}
 
 lane_snoc : (n k : ℕ) (steps : List RunStep) (s : RunStep)
@@ -48,13 +48,23 @@ still_begins : (v w : RunningView) → IsSoundRunning v → w.opening ≡ v.open
 still_begins v w sound opening =
     (sound.begins.0, subst (λ (o : StoredTree). StandsFor o sound.begins.0) (sym opening) sound.begins.1)
 
+as_many : (ss ts : List RunStep) → length ss ≤ run_limit → ts ≡ ss → length ts ≤ run_limit
+as_many ss ts few same = subst (λ (xs : List RunStep). length xs ≤ run_limit) (sym same) few
+
+one_more : (ss ts : List RunStep) (s : RunStep) → length ss < run_limit → ts ≡ ss ++ s ∷ [] → length ts ≤ run_limit
+one_more ss ts s few same =
+    let more = length-append ss (s ∷ []) in
+    let within : length (ss ++ s ∷ []) ≤ run_limit = omega (arith, more, few) in
+    subst (λ (xs : List RunStep). length xs ≤ run_limit) (sym same) within
+
 -- the step of the held input was made
 pub sound_step : (v w : RunningView) (s : RunStep) → IsSoundRunning v → v.held ≡ Some s.input → GoesTo v.tree w.tree s
     → w.opening ≡ v.opening → w.steps ≡ v.steps ++ s ∷ [] → w.drains ≡ v.drains → w.held ≡ None → length w.lanes ≡ length v.lanes
     → ((k : ℕ) → k < length v.lanes → sent_in k w.lanes ≡ sent_in k v.lanes ++ orders_of_lane (length v.lanes) k s.outcome.orders)
-    → IsSoundRunning w
-sound_step v w s sound held goes opening steps drains none lanes sent = record {
+    → length v.steps < run_limit → IsSoundRunning w
+sound_step v w s sound held goes opening steps drains none lanes sent few = record {
   begins = still_begins v w sound opening;
+  within = one_more v.steps w.steps s few steps;
   legal = λ m stands.
       let old : StandsFor v.opening m = subst (λ (o : StoredTree). StandsFor o m) opening stands in
       subst (λ (ss : List RunStep). IsLegal m ss) (sym steps)
@@ -81,13 +91,18 @@ sound_step v w s sound held goes opening steps drains none lanes sent = record {
       ∙ ap (λ (ss : List RunStep). orders_of_lane (length v.lanes) k (orders_of ss)) (sym steps))));
 }
 
+submitted_in : (a : ℕ) (o : Option (Input Global)) → submissions_by a (option_to_list o) ≡ held_by a o
+submitted_in a None = refl
+submitted_in a (Some input) = append-nil (held_by a (Some input))
+
 -- an input was taken, or the rings gave none
 pub sound_fetch : (v w : RunningView) → IsSoundRunning v → v.held ≡ None → AreNumbered w.drains
-    → ((a : ℕ) → taken_from a w.drains ≡ taken_from a v.drains ++ held_by a w.held)
+    → Give (option_to_list w.held) v.drains w.drains
     → w.opening ≡ v.opening → w.tree ≡ v.tree → w.steps ≡ v.steps → length w.lanes ≡ length v.lanes
     → ((k : ℕ) → sent_in k w.lanes ≡ sent_in k v.lanes) → IsSoundRunning w
-sound_fetch v w sound none numbered more opening tree steps lanes sent = record {
+sound_fetch v w sound none numbered gives opening tree steps lanes sent = record {
   begins = still_begins v w sound opening;
+  within = as_many v.steps w.steps sound.within steps;
   legal = λ m stands. subst (λ (ss : List RunStep). IsLegal m ss) (sym steps)
       (sound.legal m (subst (λ (o : StoredTree). StandsFor o m) opening stands));
   stands = λ m stands. subst (λ (ss : List RunStep). StandsFor w.tree (end_of m ss)) (sym steps)
@@ -99,7 +114,8 @@ sound_fetch v w sound none numbered more opening tree steps lanes sent = record 
       sym (append-nil (submissions_of a v.steps))
       ∙ (ap (λ (h : Option (Input Global)). submissions_of a v.steps ++ held_by a h) (sym none) ∙ sound.submitted a) in
       ap (λ (ss : List RunStep). submissions_of a ss ++ held_by a w.held) steps
-      ∙ (ap (λ (xs : List Submission). xs ++ held_by a w.held) was ∙ sym (more a));
+      ∙ (ap (λ (xs : List Submission). xs ++ held_by a w.held) was
+      ∙ (ap (λ (xs : List Submission). taken_from a v.drains ++ xs) (sym (submitted_in a w.held)) ∙ sym (gives.taken a)));
   has_lanes = subst (λ (n : ℕ). 0 < n) (sym lanes) sound.has_lanes;
   sent = λ k below.
       let b : k < length v.lanes = subst (λ (n : ℕ). k < n) lanes below in
@@ -112,6 +128,7 @@ pub sound_begin : (v : RunningView) → ((m : Machine) × StandsFor v.tree m) �
     → ((a : ℕ) → taken_from a v.drains ≡ []) → 0 < length v.lanes → ((k : ℕ) → sent_in k v.lanes ≡ []) → IsSoundRunning v
 sound_begin v there tree steps held numbered untaken lanes unsent = record {
   begins = (there.0, subst (λ (o : StoredTree). StandsFor o there.0) (sym tree) there.1);
+  within = as_many [] v.steps (omega arith) steps;
   legal = λ m stands. subst (λ (ss : List RunStep). IsLegal m ss) (sym steps) refl;
   stands = λ m stands. subst (λ (ss : List RunStep). StandsFor v.tree (end_of m ss)) (sym steps)
       (subst (λ (o : StoredTree). StandsFor o m) tree stands);
@@ -129,6 +146,7 @@ pub sound_looked : (v w : RunningView) → IsSoundRunning v → AreNumbered w.dr
     → ((k : ℕ) → sent_in k w.lanes ≡ sent_in k v.lanes) → IsSoundRunning w
 sound_looked v w sound numbered same opening tree steps held lanes sent = record {
   begins = still_begins v w sound opening;
+  within = as_many v.steps w.steps sound.within steps;
   legal = λ m stands. subst (λ (ss : List RunStep). IsLegal m ss) (sym steps)
       (sound.legal m (subst (λ (o : StoredTree). StandsFor o m) opening stands));
   stands = λ m stands. subst (λ (ss : List RunStep). StandsFor w.tree (end_of m ss)) (sym steps)

@@ -1,4 +1,5 @@
 pub mod Submitted
+pub mod Rings
 pub mod Lasting
 pub mod Shown
 pub mod Opened

@@ -1,5 +1,5 @@
 -- Ends of new rings, one after the other.
-use Rattle.std.proofs.Common.{◌≡◌, ℕ, zero, suc, ◌+◌, ◌⊎◌, ⊎_elim, List, [], ◌∷◌, ◌++◌, length, refl, sym, ap, ◌∙◌, arith}
+use Rattle.std.proofs.Common.{◌≡◌, ℕ, zero, suc, ◌+◌, ⊎_elim, List, [], ◌∷◌, ◌++◌, length, refl, sym, ap, ◌∙◌, arith}
 use Rattle.channel_names.specs.RingName.{RingName}
 use Rattle.inbox.specs.Ends.{DrainView, RingView, SeatView}
 use Rattle.locked_services.specs.Opening.{AreNamedFrom, AreUnused}

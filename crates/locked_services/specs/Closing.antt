@@ -6,6 +6,7 @@ use Rattle.order_lanes.specs.Desk.{DeskView}
 use Rattle.order_lanes.specs.Lane.{LaneView}
 use Rattle.order_lanes.specs.LaneOrders.{orders_of_lane}
 use Rattle.run_records.specs.Runs.{RunStep}
+use Rattle.tree_core.specs.StandsFor.{StoredTree}
 use Rattle.locked_services.specs.Chain.{IsLegalRun}
 use Rattle.locked_services.specs.Running.{RunningView, orders_of}
 use Rattle.locked_services.specs.Shots.{RoomView}
@@ -80,6 +81,11 @@ pub record IsClosed {B : Type 0} (asked : B → List Order) (before : ℕ → Li
   pub tree : closed.tree.value ≡ v.tree
   pub steps : closed.steps ≡ length v.steps
   pub legal : IsLegalRun (record { opening = v.opening; steps = v.steps; tree = closed.tree.value })
+
+-- what was closed is a run from this tree: its steps are a legal history, and the tree that is left stands for its end
+abbrev pub IsRunFrom : {B : Type 0} → StoredTree → Closed B → Type 0
+IsRunFrom tree closed = (steps : List RunStep) × (closed.steps ≡ length steps)
+    × IsLegalRun (record { opening = tree; steps = steps; tree = closed.tree.value })
 
 -- why a run isn't closed: the finishes aren't complete, or they are, and something is left
 pub record IsFault (before : ℕ → List Order) (v : RunningView) (desks : List DeskView) (finishes : List FinishedView)

@@ -1,4 +1,5 @@
 pub mod Submissions
+pub mod Rings
 pub mod Running
 pub mod Shots
 pub mod Opening

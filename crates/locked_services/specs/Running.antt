@@ -1,5 +1,5 @@
 -- What is true of a running tree whenever its lock is free.
-use Rattle.std.specs.Prelude.{◌≡◌, ℕ, ◌<◌, List, ◌++◌, flat_map, length, Option}
+use Rattle.std.specs.Prelude.{◌≡◌, ℕ, ◌≤◌, ◌<◌, List, ◌++◌, flat_map, length, Option}
 use Rattle.std.specs.declared.alloc.Global.{Global}
 use Rattle.s6_events.specs.declared.order.Order.{Order}
 use Rattle.inbox.specs.Ends.{DrainView}
@@ -29,10 +29,12 @@ pub record RunningView : Type 0 where
 abbrev pub orders_of : List RunStep → List Order
 orders_of steps = flat_map (λ s. s.outcome.orders) steps
 
--- there is a machine for which the tree stood when the run began; the steps are a legal history from each such machine, and the tree
--- stands for its end; each actor's steps, and then the held input, where it is the actor's, are what its ring gave; and each lane was sent its orders
+-- there is a machine for which the tree stood when the run began; there are no more steps than a run may have; they are a legal history
+-- from each such machine, and the tree stands for its end; each actor's steps, and then the held input, where it is the actor's, are what
+-- its ring gave; and each lane was sent its orders
 pub record IsSoundRunning (v : RunningView) : Type 0 where
   pub begins : (m : Machine) × StandsFor v.opening m
+  pub within : length v.steps ≤ run_limit
   pub legal : (m : Machine) → StandsFor v.opening m → IsLegal m v.steps
   pub stands : (m : Machine) → StandsFor v.opening m → StandsFor v.tree (end_of m v.steps)
   pub numbered : AreNumbered v.drains

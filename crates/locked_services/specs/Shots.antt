@@ -1,10 +1,10 @@
 -- The shots of a run.
 use Rattle.std.specs.Prelude.{◌≡◌, ℕ, ◌≤◌, List, [], ◌∷◌, ◌++◌, All, length, take, Option, Some, None, Bool, true}
 use Rattle.status_board.specs.declared.shot.Shot.{Shot}
-use Rattle.status_board.specs.Board.{last_shot}
+use Rattle.status_board.specs.Board.{last_shot, NeverFalls}
 use Rattle.tree_core.specs.Machine.{Machine}
 use Rattle.tree_core.specs.Rows.{all_rows}
-use Rattle.tree_core.specs.StandsFor.{StandsFor}
+use Rattle.tree_core.specs.StandsFor.{StoredTree, StandsFor}
 use Rattle.run_records.specs.Runs.{RunStep, end_of}
 use Rattle.locked_services.specs.Running.{RunningView, IsSoundRunning}
 
@@ -31,15 +31,17 @@ pub record RoomView : Type 0 where
   pub shots : List Shot
   pub is_shown : Bool
 
--- the first shot is that of the tree with which the run began, each shot is one of the run, and where the present state is shown the
--- last shot is that
-pub record IsSoundRoom (v : RoomView) : Type 0 where
+-- the run began with this tree; the first shot is that of it, each shot is one of the run, none was taken after fewer steps than one
+-- before it, and where the present state is shown the last shot is that
+pub record IsSoundRoom (opening : StoredTree) (v : RoomView) : Type 0 where
+  pub begins : v.running.opening ≡ opening
   pub first : (m : Machine) → StandsFor v.running.opening m → first_shot v.shots ≡ Some (shot_of m)
   pub each : (m : Machine) → StandsFor v.running.opening m → All (IsShotOf m v.running.steps) v.shots
+  pub rising : NeverFalls v.shots
   pub last : v.is_shown ≡ true → (m : Machine) → StandsFor v.running.opening m
       → last_shot v.shots ≡ Some (shot_of (end_of m v.running.steps))
 
--- all that is true of a room whenever its lock is free
-pub record IsSoundHistory (v : RoomView) : Type 0 where
+-- all that is true whenever its lock is free of a room whose run began with this tree
+pub record IsSoundHistory (opening : StoredTree) (v : RoomView) : Type 0 where
   pub running : IsSoundRunning v.running
-  pub room : IsSoundRoom v
+  pub room : IsSoundRoom opening v

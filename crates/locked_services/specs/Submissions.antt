@@ -1,5 +1,6 @@
 -- What actors submitted, and what their rings gave.
-use Rattle.std.specs.Prelude.{◌≡◌, ℕ, ◌==◌, ◌<◌, List, [], ◌∷◌, ◌++◌, slice_get, Option, None, Some, if◌then◌else◌}
+use Rattle.std.specs.Prelude.{◌≡◌, ℕ, ◌==◌, ◌<◌, List, [], ◌∷◌, ◌++◌, length, slice_get, Option, None, Some, if◌then◌else◌}
+use Rattle.std.specs.List.{flat_map}
 use Rattle.std.specs.declared.alloc.Global.{Global}
 use Rattle.inbox.specs.declared.submission.Submission.{Submission}
 use Rattle.inbox.specs.Ends.{DrainView}
@@ -27,6 +28,15 @@ taken_by (Some drain) = drain.taken
 -- what the ring of this actor gave
 abbrev pub taken_from : ℕ → List DrainView → List Submission
 taken_from actor drains = taken_by (slice_get drains actor)
+
+-- what this actor submitted of these inputs, in order
+abbrev pub submissions_by : ℕ → List (Input Global) → List Submission
+submissions_by actor inputs = flat_map (submission_by actor) inputs
+
+-- there are as many rings as before, and each gave its actor's of these inputs, and no more
+pub record Give (given : List (Input Global)) (old new : List DrainView) : Type 0 where
+  pub each : length new ≡ length old
+  pub taken : (actor : ℕ) → taken_from actor new ≡ taken_from actor old ++ submissions_by actor given
 
 -- each drain stands at the place of its actor
 abbrev pub AreNumbered : List DrainView → Type 0

@@ -9,12 +9,13 @@ ghost use Rattle.tree_core.specs.StandsFor.{StandsFor};
 ghost use Rattle.run_records.specs.Runs.{RunStep, end_of, actor_at, moment_at, outcome_at, IsFilled, reply_at};
 ghost use Rattle.run_records.specs.RunText.{IsWritten, StopsWriting};
 ghost use Rattle.locked_services.specs.Closing.{AreComplete, AreDone, AreSameDesks, AreServed, IsClosed, IsFault, IsSameRoom};
+ghost use Rattle.locked_services.specs.Rings.{TakeMost, TakesBy, most_taken};
 ghost use Rattle.locked_services.specs.Submissions.{NoneSeen};
 ghost use Rattle.locked_services.specs.Running.{run_limit};
 ghost use Rattle.locked_services.specs.Shots.{shot_of, Grows, IsSoundHistory};
-ghost use Rattle.status_board.specs.Board.{last_shot};
+ghost use Rattle.status_board.specs.Board.{last_shot, NeverFalls};
 ghost use Rattle.locked_services.specs.declared.stop.Stop.TheVariants.{Done, Idle, RunFull, Blocked};
-ghost use Rattle.order_lanes.specs.Lane.{IsBlocked};
+ghost use Rattle.order_lanes.specs.Lane.{HaveRoom, IsBlocked};
 ghost use Rattle.locked_services.specs.declared.stop.DriveStop.TheVariants as ended;
 
 use crate::closing::{CloseFault, Closed};
@@ -57,17 +58,20 @@ impl<C: Channels + Lanes, D: Board<C>> Model for Room<C, D> {
 
     ghost view = { λ r. record { running = r.running; shots = D.shots r.board; is_shown = r.is_shown } };
 
-    ghost invariant = { λ r. IsSoundRoom (record { running = r.running; shots = D.shots r.board; is_shown = r.is_shown }) };
+    ghost invariant = { λ r. IsSoundRoom C.opening (record { running = r.running; shots = D.shots r.board; is_shown = r.is_shown }) };
 }
 
 impl<C: Channels + Lanes, D: Board<C>> Room<C, D> {
     /// A room of this running tree, in which no step was made, and whose state alone was published on the board.
     pub fn begin(running: RunningTree<C>, board: D) -> Room<C, D>
+        requires opening { running.opening ≡ C.opening }
         requires steps { running.steps ≡ [] }
         requires first { (m : Machine) → StandsFor running.opening m →
             D.shots board ≡ shot_of (end_of m running.steps) ∷ [] }
         ensures { result ≡ record { running = running; shots = D.shots board; is_shown = true } }
     {
+        // There is a machine for which its tree stands.
+        let _steps = running.steps();
         Room {
             running,
             board,
@@ -87,8 +91,10 @@ impl<C: Channels + Lanes, D: Board<C>> Room<C, D> {
         ensures blocked { (k : ℕ) → result ≡ Blocked k
             → IsBlocked order_limit k self.new.running.lanes }
         ensures full { result ≡ RunFull → run_limit ≤ length self.new.running.steps }
+        ensures limit { run_limit ≤ length self.old.running.steps → result ≡ RunFull }
         ensures idle { result ≡ Idle → (self.new.running.held ≡ None)
-            × NoneSeen self.new.running.drains }
+            × NoneSeen self.new.running.drains × HaveRoom order_limit self.new.running.lanes }
+        ensures rings { TakesBy result self.old.running self.new.running }
     {
         let stop = self.running.step_one();
         if stop == Stop::Done {
@@ -114,7 +120,8 @@ impl<C: Channels + Lanes, D: Board<C>> Room<C, D> {
 
     /// Names all that was published so far: first the state with which the run began, and then states that it came to.
     pub fn tell(&self) -> Told<C>
-        ensures { result ≡ self.now.shots }
+        ensures shots { result ≡ self.now.shots }
+        ensures rising { NeverFalls result }
     {
         self.board.tell()
     }
@@ -172,10 +179,10 @@ impl<C: Channels + Lanes, D: Board<C>> Room<C, D> {
 
     /// How many steps were made. What holds at every moment: the steps are a legal history from each machine for which the first tree
     /// stood, and the tree stands for its end; each actor's steps and the held input are what its ring gave; each lane was sent its
-    /// orders; and the shots are states of this history, the first of them that with which it began.
+    /// orders; and the shots are states of this history, each no older than the one before, the first of them that with which it began.
     pub fn steps(&self) -> usize
         ensures count { result ≡ length self.now.running.steps }
-        ensures sound { IsSoundHistory self.now }
+        ensures sound { IsSoundHistory C.opening self.now }
     {
         self.running.steps()
     }
@@ -190,8 +197,12 @@ impl<C: Channels + Lanes, D: Board<C>> Room<C, D> {
         ensures blocked { (k : ℕ) → result.stop ≡ ended.Blocked k
             → IsBlocked order_limit k self.new.running.lanes }
         ensures full { result.stop ≡ ended.RunFull → run_limit ≤ length self.new.running.steps }
+        ensures limit { run_limit ≤ length self.old.running.steps → 1 ≤ most
+            → result.stop ≡ ended.RunFull }
         ensures idle { result.stop ≡ ended.Idle → (self.new.running.held ≡ None)
-            × NoneSeen self.new.running.drains }
+            × NoneSeen self.new.running.drains × HaveRoom order_limit self.new.running.lanes }
+        ensures rings { TakeMost (most_taken result.stop result.steps) self.old.running
+            self.new.running }
     {
         for steps in 0..most {
             let stop = match self.step_one() {
@@ -218,8 +229,12 @@ impl<C: Channels + Lanes, D: Board<C>> Room<C, D> {
         ensures blocked { (k : ℕ) → result.stop ≡ ended.Blocked k
             → IsBlocked order_limit k self.new.running.lanes }
         ensures full { result.stop ≡ ended.RunFull → run_limit ≤ length self.new.running.steps }
+        ensures limit { run_limit ≤ length self.old.running.steps → 1 ≤ most
+            → result.stop ≢ ended.NoMemory → result.stop ≡ ended.RunFull }
         ensures idle { result.stop ≡ ended.Idle → (self.new.running.held ≡ None)
-            × NoneSeen self.new.running.drains }
+            × NoneSeen self.new.running.drains × HaveRoom order_limit self.new.running.lanes }
+        ensures rings { TakeMost (most_taken result.stop result.steps) self.old.running
+            self.new.running }
         ensures shown { result.stop ≢ ended.NoMemory → self.new.is_shown ≡ true }
     {
         if !self.is_shown && self.publish().is_err() {

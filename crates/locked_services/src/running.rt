@@ -1,5 +1,5 @@
 //! A tree with its run, the ends of the rings that it takes from, and the lanes that it sends into.
-ghost use Rattle.std.specs.Prelude.{◌≡◌, ◌≢◌, ◌⊎◌, ◌∷◌, ◌++◌, [], ◌≤◌, ◌<◌, ℕ, length, None, IfSome, IfNone, IsSome, IsTrue, IsFalse, OnOk, OnErr, IfOk, IfErr, Some, true, false, option_map, vec_capacity};
+ghost use Rattle.std.specs.Prelude.{◌≡◌, ◌≢◌, ◌⊎◌, ◌∷◌, ◌++◌, [], ◌≤◌, ◌<◌, ℕ, length, None, IfSome, IfNone, IsSome, IsTrue, IsFalse, OnOk, OnErr, IfOk, IfErr, Some, true, false, option_map, option_to_list, vec_capacity};
 ghost use Rattle.tree_core.specs.Effect.{outcome_of};
 ghost use Rattle.tree_core.specs.Ended.{has_ended};
 ghost use Rattle.tree_core.specs.Limits.{order_limit};
@@ -8,7 +8,8 @@ ghost use Rattle.tree_core.specs.NextDue.{next_due};
 ghost use Rattle.tree_core.specs.StandsFor.{StandsFor};
 ghost use Rattle.run_records.specs.Runs.{RunStep, end_of, actor_at, moment_at, outcome_at, IsFilled, reply_at};
 ghost use Rattle.run_records.specs.RunText.{IsWritten, StopsWriting};
-ghost use Rattle.locked_services.specs.Submissions.{AreNumbered, NoneSeen, taken_from};
+ghost use Rattle.locked_services.specs.Rings.{TakesBy};
+ghost use Rattle.locked_services.specs.Submissions.{AreNumbered, Give, NoneSeen, taken_from};
 ghost use Rattle.locked_services.specs.Running.{run_limit, IsSoundRunning};
 ghost use Rattle.locked_services.specs.Closing.{AreComplete, AreDone, AreSameDesks, AreServed, IsFault, IsInputLeft, IsOrderLeft, IsSameRunning};
 ghost use Rattle.locked_services.specs.declared.closing.CloseFault.TheVariants.{Missing, Left};
@@ -106,7 +107,10 @@ impl<C: Channels + Lanes> RunningTree<C> {
         ensures tree { self.new.tree ≡ self.old.tree }
         ensures steps { self.new.steps ≡ self.old.steps }
         ensures lanes { self.new.lanes ≡ self.old.lanes }
-        ensures kept { IsSome self.old.held → self.new.held ≡ self.old.held }
+        ensures kept { IsSome self.old.held → (self.new.held ≡ self.old.held)
+            × (self.new.drains ≡ self.old.drains) }
+        ensures taken { self.old.held ≡ None
+            → Give (option_to_list self.new.held) self.old.drains self.new.drains }
         ensures yes { IsTrue result → IsSome self.new.held }
         ensures no { IsFalse result → (self.new.held ≡ None) × NoneSeen self.new.drains }
     {
@@ -123,6 +127,7 @@ impl<C: Channels + Lanes> RunningTree<C> {
         ensures tree { self.new.tree ≡ self.old.tree }
         ensures steps { self.new.steps ≡ self.old.steps }
         ensures held { self.new.held ≡ self.old.held }
+        ensures drains { self.new.drains ≡ self.old.drains }
         ensures blocked { IfSome result (λ k. IsBlocked order_limit k self.new.lanes) }
         ensures room { IfNone result (HaveRoom order_limit self.new.lanes) }
     {
@@ -132,8 +137,10 @@ impl<C: Channels + Lanes> RunningTree<C> {
     // Makes the step of the input that is held.
     fn make_step(&mut self) -> Result<(), NoMemory>
         requires held { IsSome self.old.held }
+        requires few { length self.old.steps < run_limit }
         requires room { HaveRoom order_limit self.old.lanes }
         ensures opening { self.new.opening ≡ self.old.opening }
+        ensures drains { self.new.drains ≡ self.old.drains }
         ensures made { OnOk result ((self.new.held ≡ None)
             × ((s : RunStep) × (self.old.held ≡ Some s.input)
             × (self.new.steps ≡ self.old.steps ++ s ∷ []))) }
@@ -173,7 +180,10 @@ impl<C: Channels + Lanes> RunningTree<C> {
             × (self.new.tree ≡ self.old.tree) }
         ensures blocked { (k : ℕ) → result ≡ Blocked k → IsBlocked order_limit k self.new.lanes }
         ensures full { result ≡ RunFull → run_limit ≤ length self.new.steps }
-        ensures idle { result ≡ Idle → (self.new.held ≡ None) × NoneSeen self.new.drains }
+        ensures limit { run_limit ≤ length self.old.steps → result ≡ RunFull }
+        ensures idle { result ≡ Idle → (self.new.held ≡ None) × NoneSeen self.new.drains
+            × HaveRoom order_limit self.new.lanes }
+        ensures rings { TakesBy result self.old self.new }
     {
         if self.run.len() >= RUN_LIMIT {
             return Stop::RunFull;
@@ -200,7 +210,8 @@ impl<C: Channels + Lanes> RunningTree<C> {
 
     /// The present state, to be published.
     pub fn shot(&self) -> Shot
-        ensures { (m : Machine) → StandsFor self.now.opening m →
+        ensures begins { (m : Machine) × StandsFor self.now.opening m }
+        ensures shot { (m : Machine) → StandsFor self.now.opening m →
             result ≡ shot_of (end_of m self.now.steps) }
     {
         let tree = &*self.tree;

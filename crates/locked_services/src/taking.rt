@@ -1,6 +1,6 @@
 //! Which input comes next.
-ghost use Rattle.std.specs.Prelude.{◌≡◌, ◌++◌, ℕ, IfSome, IfNone, length};
-ghost use Rattle.locked_services.specs.Submissions.{AreNumbered, NoneSeen, taken_from, submission_by};
+ghost use Rattle.std.specs.Prelude.{IfNone, option_to_list};
+ghost use Rattle.locked_services.specs.Submissions.{AreNumbered, Give, NoneSeen};
 
 use channel_names::Channels;
 use inbox::Drain;
@@ -11,11 +11,7 @@ use tree_core::Input;
 pub fn take_next<C: Channels>(drains: &mut Vec<Drain<C>>) -> Option<Input<Global>>
     requires { AreNumbered drains.old.items }
     ensures numbered { AreNumbered drains.new.items }
-    ensures len { length drains.new.items ≡ length drains.old.items }
-    ensures some { IfSome result (λ input. (actor : ℕ) → taken_from actor drains.new.items
-        ≡ taken_from actor drains.old.items ++ submission_by actor input) }
-    ensures none { IfNone result ((actor : ℕ) → taken_from actor drains.new.items
-        ≡ taken_from actor drains.old.items) }
+    ensures gives { Give (option_to_list result) drains.old.items drains.new.items }
     ensures seen { IfNone result (NoneSeen drains.new.items) }
 {
     for k in 0..drains.len() {

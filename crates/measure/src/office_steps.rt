@@ -75,6 +75,7 @@ fn drive_named<B: Backend, C: Channels + Lanes, R: Wait>(
 ) -> Result<(), Fault>
     requires seats { (k : ℕ) → C.seat_ring k ≡ ring_of (slice_get office.rings k) }
     requires board { C.board ≡ office.board }
+    requires tree { C.opening ≡ office.tree }
     requires lanes { (k : ℕ) → C.lane_ring k ≡ lane_ring_of (slice_get office.lane_rings k) }
     requires before { (k : ℕ) → C.asked_before k ≡ asked_of B.asked (slice_get office.backends k) }
 {

@@ -7,9 +7,10 @@ ghost use Rattle.tree_core.specs.NextDue.{next_due};
 ghost use Rattle.tree_core.specs.StandsFor.{StandsFor};
 ghost use Rattle.run_records.specs.Runs.{end_of, actor_at, moment_at, outcome_at, IsFilled, reply_at};
 ghost use Rattle.run_records.specs.RunText.{IsWritten, StopsWriting};
-ghost use Rattle.locked_services.specs.Closing.{IsClosed, IsFault};
+ghost use Rattle.locked_services.specs.Closing.{IsClosed, IsFault, IsRunFrom};
 ghost use Rattle.locked_services.specs.Shots.{RoomView, IsSoundHistory};
 ghost use Rattle.order_lanes.specs.Desk.{DeskView};
+ghost use Rattle.status_board.specs.Board.{NeverFalls};
 ghost use Rattle.locked_services.specs.declared.stop.DriveStop.TheVariants as ended;
 
 use crate::carrying::{carry_in_turns, carry_many};
@@ -41,7 +42,8 @@ pub struct NotStarted {
 /// A tree that several threads run: a room, which one thread at a time enters, and beside it a desk for each lane behind a lock of
 /// its own, so that no backend keeps anybody out of the room. What is promised of a room and of a desk holds whenever their lock is
 /// free. Contracts see how many lanes there are. What a call finds under a lock no clause of its caller can name: an answer is that of
-/// some room `v` of which all is true that is true of a room, and what an order or a report is, the desk's own calls say.
+/// some room `v` whose run began with the tree of this office, and of which all is true that is true of a room. What an order or a report
+/// is, the desk's own calls say.
 #[derive(Drop)]
 pub struct Office<C: Channels + Lanes, D: Board<C>, B: Backend> {
     room: Mutex<Room<C, D>>,
@@ -93,7 +95,8 @@ impl<C: Channels + Lanes, D: Board<C>, B: Backend> Office<C, D, B> {
 
     /// Names all that was published so far.
     pub fn tell<W: Wait>(&self, rt: &W) -> Told<C>
-        ensures { (v : RoomView) × IsSoundHistory v × (result ≡ v.shots) }
+        ensures shots { (v : RoomView) × IsSoundHistory C.opening v × (result ≡ v.shots) }
+        ensures rising { NeverFalls result }
     {
         let room = self.room.lock(rt);
         let _steps = room.steps();
@@ -102,7 +105,7 @@ impl<C: Channels + Lanes, D: Board<C>, B: Backend> Office<C, D, B> {
 
     /// The reply to the input of a ticket; None where its step isn't made yet. `NoMemory` where a growth was refused.
     pub fn reply<W: Wait>(&self, rt: &W, ticket: Ticket) -> Result<Option<Reply<Global>>, NoMemory>
-        ensures { (v : RoomView) × IsSoundHistory v × IfOk result
+        ensures { (v : RoomView) × IsSoundHistory C.opening v × IfOk result
             (λ reply. reply ≡ reply_at ticket.actor ticket.number v.running.steps) }
     {
         let room = self.room.lock(rt);
@@ -112,7 +115,7 @@ impl<C: Channels + Lanes, D: Board<C>, B: Backend> Office<C, D, B> {
 
     /// All that the step of this number gave, from 1; None where there are fewer. `NoMemory` where a growth was refused.
     pub fn effect<W: Wait>(&self, rt: &W, number: u64) -> Result<Option<Effect<Global>>, NoMemory>
-        ensures { (v : RoomView) × IsSoundHistory v × IfOk result
+        ensures { (v : RoomView) × IsSoundHistory C.opening v × IfOk result
             (λ effect. option_map (λ e. outcome_of e) effect ≡ outcome_at number v.running.steps) }
     {
         let room = self.room.lock(rt);
@@ -128,7 +131,7 @@ impl<C: Channels + Lanes, D: Board<C>, B: Backend> Office<C, D, B> {
         number: u64,
         effect: &mut Effect<Global>,
     ) -> Result<bool, NoMemory>
-        ensures { (v : RoomView) × IsSoundHistory v × IfOk result
+        ensures { (v : RoomView) × IsSoundHistory C.opening v × IfOk result
             (λ is_there. IsFilled is_there (outcome_of effect.new) number v.running.steps) }
     {
         let room = self.room.lock(rt);
@@ -138,7 +141,7 @@ impl<C: Channels + Lanes, D: Board<C>, B: Backend> Office<C, D, B> {
 
     /// Whose input the step of this number took, from 1; None where there are fewer.
     pub fn actor<W: Wait>(&self, rt: &W, number: u64) -> Option<Actor>
-        ensures { (v : RoomView) × IsSoundHistory v × (result ≡ actor_at number v.running.steps) }
+        ensures { (v : RoomView) × IsSoundHistory C.opening v × (result ≡ actor_at number v.running.steps) }
     {
         let room = self.room.lock(rt);
         let _steps = room.steps();
@@ -147,7 +150,7 @@ impl<C: Channels + Lanes, D: Board<C>, B: Backend> Office<C, D, B> {
 
     /// The moment at which the input of the step of this number was handed in, from 1; None where there are fewer.
     pub fn moment<W: Wait>(&self, rt: &W, number: u64) -> Option<At>
-        ensures { (v : RoomView) × IsSoundHistory v × (result ≡ moment_at number v.running.steps) }
+        ensures { (v : RoomView) × IsSoundHistory C.opening v × (result ≡ moment_at number v.running.steps) }
     {
         let room = self.room.lock(rt);
         let _steps = room.steps();
@@ -156,7 +159,7 @@ impl<C: Channels + Lanes, D: Board<C>, B: Backend> Office<C, D, B> {
 
     /// How many steps the run has.
     pub fn steps<W: Wait>(&self, rt: &W) -> usize
-        ensures { (v : RoomView) × IsSoundHistory v × (result ≡ length v.running.steps) }
+        ensures { (v : RoomView) × IsSoundHistory C.opening v × (result ≡ length v.running.steps) }
     {
         let room = self.room.lock(rt);
         room.steps()
@@ -169,7 +172,7 @@ impl<C: Channels + Lanes, D: Board<C>, B: Backend> Office<C, D, B> {
         head: bool,
         writer: &mut W,
     ) -> Result<u64, RunFault>
-        ensures { (v : RoomView) × IsSoundHistory v
+        ensures { (v : RoomView) × IsSoundHistory C.opening v
             × IfOk result (λ count. IsWritten count head v.running.steps
             (W.contents writer.old) (W.contents writer.new))
             × IfErr result (λ fault. StopsWriting fault head v.running.steps
@@ -182,7 +185,7 @@ impl<C: Channels + Lanes, D: Board<C>, B: Backend> Office<C, D, B> {
 
     /// Whether the tree has ended: it is closing, and the supervisor of each service that stands has ended.
     pub fn ended<W: Wait>(&self, rt: &W) -> bool
-        ensures { (v : RoomView) × IsSoundHistory v × ((m : Machine)
+        ensures { (v : RoomView) × IsSoundHistory C.opening v × ((m : Machine)
             → StandsFor v.running.opening m → result ≡ has_ended (end_of m v.running.steps)) }
     {
         let room = self.room.lock(rt);
@@ -192,7 +195,7 @@ impl<C: Channels + Lanes, D: Board<C>, B: Backend> Office<C, D, B> {
 
     /// The next moment, in milliseconds, to which a timer or a deadline is set; None where there is none.
     pub fn next_due<W: Wait>(&self, rt: &W) -> Option<u64>
-        ensures { (v : RoomView) × IsSoundHistory v × ((m : Machine)
+        ensures { (v : RoomView) × IsSoundHistory C.opening v × ((m : Machine)
             → StandsFor v.running.opening m → result ≡ next_due (end_of m v.running.steps)) }
     {
         let room = self.room.lock(rt);
@@ -219,17 +222,19 @@ impl<C: Channels + Lanes, D: Board<C>, B: Backend> Office<C, D, B> {
 
 impl<C: Channels + Lanes, D: Board<C>, B: Backend> Office<C, D, B> {
     /// Closes the run, once each seat has finished and all threads that used the office have returned: the tree, how many steps it made,
-    /// and the backends, in the order of their lanes. What is closed is the room and the desks of this office; what holds of them then,
+    /// and the backends, in the order of their lanes. Offices of which each was opened on the tree that the one before gave back are one run
+    /// (`locked_services::laws::chain`). What is closed is the room and the desks of this office; what holds of them then,
     /// and why they were not closed, `Room::close` says. At a fault the office and the finishes come back as they were. It takes no lock
     /// and no memory.
     pub fn close(
         self,
         finishes: Vec<Finished<C>>,
     ) -> Result<Closed<B>, (Office<C, D, B>, Vec<Finished<C>>, CloseFault)>
-        ensures closed { IfOk result (λ closed. (v : RoomView) × IsSoundHistory v
+        ensures closed { IfOk result (λ closed. (v : RoomView) × IsSoundHistory C.opening v
             × IsClosed B.asked C.asked_before v.running finishes.items closed) }
+        ensures run { IfOk result (λ closed. IsRunFrom C.opening closed) }
         ensures fault { IfErr result (λ e. (v : RoomView) × (desks : List DeskView)
-            × IsSoundHistory v × IsFault C.asked_before v.running desks finishes.items e.2) }
+            × IsSoundHistory C.opening v × IsFault C.asked_before v.running desks finishes.items e.2) }
         ensures lanes { IfErr result (λ e. e.0 ≡ self) }
         ensures finishes { IfErr result (λ e. e.1.items ≡ finishes.items) }
     {

@@ -104,6 +104,7 @@ fn new_room<C: Channels + Lanes, D: Board<C>>(
     lanes: Vec<Lane<C>>,
     board: D,
 ) -> Room<C, D>
+    requires tree { tree.value ≡ C.opening }
     requires opening { beginning.opening ≡ tree.value }
     requires steps { beginning.run.steps ≡ [] }
     requires numbered { AreNumbered drains.items }
@@ -130,6 +131,7 @@ impl<C: Channels + Lanes, D: Board<C>, B: Backend> Parts<C, D, B> {
         rings: Vec<LaneRing>,
         backends: Vec<B>,
     ) -> Opened<C, D, B>
+        requires tree { tree.value ≡ C.opening }
         requires opening { self.beginning.opening ≡ tree.value }
         requires steps { self.beginning.run.steps ≡ [] }
         requires numbered { AreNumbered self.ends.drains.items }
@@ -168,7 +170,7 @@ impl<C: Channels + Lanes, D: Board<C>, B: Backend> Parts<C, D, B> {
 }
 
 impl<B: Backend> NewOffice<B> {
-    /// Opens it, in a run whose rings and board these are: with a seat for each actor and as many readers, and with no step made.
+    /// Opens it, in a run whose tree, rings and board these are: with a seat for each actor and as many readers, and with no step made.
     /// `NoMemory` where a growth was refused, and `Board` where the board gave no reader: the tree and the backends then come back.
     pub fn open<C: Channels + Lanes, R: Wait + Drop>(
         self,
@@ -177,6 +179,7 @@ impl<B: Backend> NewOffice<B> {
     ) -> Result<Opened<C, BoardWriter<C, R>, B>, (OpenFault, Box<Tree<Global>>, Vec<B>)>
         requires seats { (k : ℕ) → C.seat_ring k ≡ ring_of (slice_get self.rings k) }
         requires board { C.board ≡ self.board }
+        requires tree { C.opening ≡ self.tree }
         requires lanes { (k : ℕ) → C.lane_ring k ≡ lane_ring_of (slice_get self.lane_rings k) }
         requires before { (k : ℕ) → C.asked_before k
             ≡ asked_of B.asked (slice_get self.backends k) }

@@ -4,3 +4,4 @@ pub mod LaneOrders
 pub mod Lane
 pub mod Desk
 pub mod Probe
+pub mod Opening

@@ -1,12 +1,17 @@
-//! Which rings and backends the lanes of a run have.
+//! Which tree a run begins with, and which rings and backends its lanes have.
 use std::marker::Brand;
 
-/// Which ring each lane of a run has, and which orders its backend had taken before. A lane's end in the tree and its desk bear
-/// such a type, so that a contract knows that they belong together. A run picks it once its rings are made.
+/// Which tree a run begins with, which ring each of its lanes has, and which orders the lane's backend had taken before. A lane's end in
+/// the tree and its desk bear such a type, so that a contract knows that they belong together, and to which run. A run picks it once its
+/// rings are made.
 pub trait Lanes {
     ghost use Rattle.std.specs.Prelude.{ℕ, List};
     ghost use Rattle.channel_names.specs.RingName.{RingName};
     ghost use Rattle.s6_events.specs.declared.order.Order.{Order};
+    ghost use Rattle.tree_core.specs.StandsFor.{StoredTree};
+
+    /// What the tree stored when the run began.
+    ghost opening: { StoredTree };
 
     /// The ring that goes from the tree to each lane's desk.
     ghost lane_ring: { ℕ → RingName };
@@ -19,6 +24,9 @@ pub trait Lanes {
 impl Lanes for Brand {
     ghost use Rattle.std.specs.Prelude.{[]};
     ghost use Rattle.channel_names.specs.Unnamed.{no_ring};
+    ghost use Rattle.order_lanes.specs.Opening.{no_tree};
+
+    ghost opening = { no_tree };
 
     ghost lane_ring = { λ lane. no_ring };
 

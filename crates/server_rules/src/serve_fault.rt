@@ -1,7 +1,10 @@
 //! Why a tree did not run to its end, and what is told of it.
-ghost use Rattle.std.specs.Prelude.{◌≡◌};
+ghost use Rattle.std.specs.Prelude.{◌≡◌, ◌⊎◌};
+ghost use Rattle.std.specs.Io.KnownBytes.{Appends};
+ghost use Rattle.s6_replay.specs.Lines.{AppendsFront};
 ghost use Rattle.server_rules.specs.Faults.{fault_text};
 
+use s6_replay::write_whole;
 use std::io::Write;
 
 /// The status of a program to which the system refused something.
@@ -50,10 +53,13 @@ fn text_of(fault: ServeFault) -> &'static [u8]
     }
 }
 
-/// Writes the line of a fault, and answers the exit status, 111. Where the line can't be written the status is the same.
+/// Writes the line of a fault, and answers the exit status, 111. Where the line can't be written whole its front is, and the status is the
+/// same.
 pub fn tell_serve_fault<E: Write>(fault: ServeFault, errors: &mut E) -> u8
-    ensures { result ≡ 111 }
+    ensures status { result ≡ 111 }
+    ensures line { Appends (E.contents errors.old) (E.contents errors.new) (fault_text fault)
+        ⊎ AppendsFront (E.contents errors.old) (E.contents errors.new) (fault_text fault) }
 {
-    let _ = errors.write_all(text_of(fault));
+    let _ = write_whole(errors, text_of(fault));
     SYSTEM_STATUS
 }

@@ -5,4 +5,4 @@ use Rattle.locked_services.proofs.room.Room.close_fault.Goals as goal
 pub invariant_of-self : goal.invariant_of-self
 invariant_of-self g c =
     let same = c.close_fault.ensures.same in
-    shows_same _ _ c.self.invariant same.opening refl same.steps refl
+    shows_same g.C.Lanes.opening _ _ c.self.invariant same.opening refl same.steps refl

@@ -1,4 +1,4 @@
-use Rattle.std.proofs.Common.{◌≡◌, ◌≤◌, [], ◌∷◌, ◌++◌, List, length, slice_get, Some, refl, sym, ap, subst, ◌∙◌, arith}
+use Rattle.std.proofs.Common.{◌≡◌, ◌≤◌, ◌<◌, [], ◌∷◌, ◌++◌, List, length, slice_get, Some, refl, sym, ap, subst, ◌∙◌, arith}
 use Rattle.std.specs.declared.alloc.Global.{Global}
 use Rattle.order_lanes.specs.Lane.{sent_in}
 use Rattle.order_lanes.specs.LaneOrders.{orders_of_lane}
@@ -8,7 +8,7 @@ use Rattle.tree_core.specs.Limits.{order_limit}
 use Rattle.tree_core.specs.StandsFor.{StandsFor, StoredTree}
 use Rattle.tree_core.specs.declared.input.Input.{Input}
 use Rattle.run_records.specs.Runs.{RunStep}
-use Rattle.locked_services.specs.Running.{RunningView}
+use Rattle.locked_services.specs.Running.{RunningView, run_limit}
 use Rattle.locked_services.proofs.Lasting.{GoesTo, sound_step}
 use Rattle.locked_services.proofs.running.RunningTree.make_step.Goals as goal
 
@@ -31,6 +31,7 @@ invariant_of-self-in-Ok g c =
     sound_step v w s c.self.invariant held goes refl steps refl c.take.ensures.after c.send_all.ensures.len
     (λ k below. c.send_all.ensures.sent k below
     ∙ ap (λ (os : List Order). sent_in k old.lanes.items ++ orders_of_lane (length old.lanes.items) k os) c.as_slice.ensures.value)
+    (subst (λ (v : RunningView). length v.steps < run_limit) (sym c.self.view_is) c.requires.few)
 
 pub returns-in-Ok-clause-made : goal.returns-in-Ok-clause-made
 returns-in-Ok-clause-made g c =

@@ -5,4 +5,4 @@ use Rattle.office.proofs.office.Office.ended.Goals as goal
 pub returns : goal.returns
 returns g c =
     let same : c.deref.result.now ≡ c.deref-2.result.now = search rules in
-    (_, subst (λ (v : RoomView). IsSoundHistory v) same c.steps-steps.ensures.sound, c.ended.ensures)
+    (_, subst (λ (v : RoomView). IsSoundHistory g.C.Lanes.opening v) same c.steps-steps.ensures.sound, c.ended.ensures)

@@ -6,7 +6,7 @@ pub returns : goal.returns
 returns g c =
     let same : c.deref.result.now ≡ c.deref-2.result.now = search rules in (
       _,
-      subst (λ (v : RoomView). IsSoundHistory v) same c.steps-steps.ensures.sound,
+      subst (λ (v : RoomView). IsSoundHistory g.C.Lanes.opening v) same c.steps-steps.ensures.sound,
       c.write_run.ensures.ok,
       c.write_run.ensures.fault,
     )

@@ -1,0 +1,17 @@
+-- The tree of a run of which nothing is said.
+use Rattle.std.specs.Prelude.{[], false}
+use Rattle.tree_core.specs.StandsFor.{StoredTree}
+
+-- a tree in which nothing is stored
+abbrev pub no_tree : StoredTree
+no_tree = record {
+  clock = 0;
+  steps = 0;
+  closing = false;
+  services = [];
+  next_sid = 0;
+  forgotten = 0;
+  kept = [];
+  waits = record { count = 0; states = []; waiters = []; next = 0 };
+  directories = record { names = []; subscribers = []; followed = []; next = 0 };
+}
