@@ -1,15 +1,12 @@
 pub mod Answers
 pub mod Connection
 pub mod Faults
-pub mod Files
-pub mod Found
 pub mod Letters
 pub mod Places
 pub mod Plans
 pub mod Recipients
 pub mod Requests
 pub mod Roster
-pub mod Scanning
 pub mod Sockets
 pub mod Standing
 pub mod States

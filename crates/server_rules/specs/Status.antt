@@ -6,10 +6,10 @@ use Rattle.s6_replay.specs.Transcript.{row_text}
 use Rattle.supervise_core.specs.declared.row.Row.{Row}
 use Rattle.server_rules.specs.declared.status.Subject.{Subject}
 use Rattle.server_rules.specs.declared.status.Subject.TheVariants.{One, All, States}
-use Rattle.server_rules.specs.declared.found.Remark.{Remark}
+use Rattle.scan_directory.specs.declared.found.Remark.{Remark}
 use Rattle.server_rules.specs.declared.roster.Ending.{Ending}
 use Rattle.server_rules.specs.declared.roster.Member.{Member}
-use Rattle.server_rules.specs.Found.{unread_line}
+use Rattle.scan_directory.specs.Found.{unread_line}
 use Rattle.server_rules.specs.Roster.{ending_in, since_in, start_failed_in}
 use Rattle.server_rules.specs.States.{state_of, state_word}
 

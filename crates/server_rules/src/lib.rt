@@ -1,14 +1,12 @@
 //! What the server of a tree decides, with no thread of its own: what a line asks for, whose an actor is, when a tick or a scan is wanted,
-//! what is done for a connection at each event, who is posted what of a step, which rows may be told and in which state a service is, what a scan
-//! directory says, which socket is whose, and what is told of a tree that did not run to its end.
+//! what is done for a connection at each event, who is posted what of a step, which rows may be told and in which state a service is, which
+//! socket is whose, and what is told of a tree that did not run to its end.
 #![tactic(auto)]
 
 mod connection;
 mod following;
-mod found;
 mod full_services;
 mod letters;
-mod listing;
 mod own_answer;
 mod phase;
 mod places;
@@ -18,7 +16,6 @@ mod requests;
 mod roster;
 mod row_cache;
 mod serve_fault;
-mod service_files;
 mod service_state;
 mod socket_rules;
 mod standing;
@@ -28,10 +25,8 @@ mod todo;
 
 pub use connection::Connection;
 pub use following::Following;
-pub use found::{Found, Remark, fault_word};
 pub use full_services::FullServices;
 pub use letters::ToldLetter;
-pub use listing::read_listing;
 pub use own_answer::OwnAnswer;
 pub use phase::{Errand, Phase};
 pub use places::{

@@ -3,11 +3,11 @@ ghost use Rattle.std.specs.Prelude.{◌≡◌, ◌&&◌, IfOk, IfSome, None, OnO
 ghost use Rattle.status_board.specs.Board.{last_shot};
 ghost use Rattle.server_rules.specs.Status.{told_text, is_fresh, is_had, is_recent};
 
-use crate::found::Remark;
 use crate::roster::Roster;
 use crate::status::{Subject, push_told};
 use channel_names::Channels;
 use s6_events::NoMemory;
+use scan_directory::Remark;
 use status_board::{BoardReader, Shot};
 use std::alloc::{AllocError, Global};
 use std::sync::{Mutex, Wait};

@@ -4,12 +4,12 @@ ghost use Rattle.std.specs.List.{find, flat_map};
 ghost use Rattle.std.specs.Str.{bytes_eq};
 ghost use Rattle.server_rules.specs.Status.{moment_text, row_line, state_head, state_line, state_tail, status_line, status_text, told_text};
 
-use crate::found::{Remark, push_all_unread};
 use crate::roster::{Ending, Roster};
 use crate::service_state::state_of;
 use s6_events::{At, Name};
 use s6_replay::push_row;
 use s6_script::push_number;
+use scan_directory::{Remark, push_all_unread};
 use std::alloc::AllocError;
 use supervise_core::Row;
 

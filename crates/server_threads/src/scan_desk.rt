@@ -1,5 +1,6 @@
 //! Where the thread that drives asks for a listing of the scan directory, and the thread that reads it leaves one.
-use server_rules::{Found, OwnAnswer};
+use scan_directory::Found;
+use server_rules::OwnAnswer;
 use std::sync::{Condvar, Mutex, Wait};
 
 /// What was read of the scan directory, or why there is no scan.

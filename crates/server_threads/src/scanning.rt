@@ -1,7 +1,8 @@
 //! The thread that reads the scan directory.
 use crate::scan_desk::ReadScan;
 use crate::shared::Shared;
-use server_rules::{OwnAnswer, read_listing};
+use scan_directory::read_listing;
+use server_rules::OwnAnswer;
 use std::io::{ErrorKind, Write};
 use std::rt::Files;
 use std::sync::Wait;

@@ -7,8 +7,8 @@ use Rattle.servicedir.specs.declared.config.Config.{Config}
 use Rattle.servicedir.specs.declared.dir_fault.DirFault.{DirFault}
 use Rattle.servicedir.specs.declared.dir_fault.DirFault.TheVariants as fault
 use Rattle.svscan_core.specs.declared.entry.Entry.{Entry}
-use Rattle.server_rules.specs.declared.found.Remark.{Remark}
-use Rattle.server_rules.specs.Found.{fault_word}
+use Rattle.scan_directory.specs.declared.found.Remark.{Remark}
+use Rattle.scan_directory.specs.Found.{fault_word}
 use Rattle.svcheck.specs.Sentences.{fault_sentence, finish_words, start_words}
 
 -- what is said of the service of this name

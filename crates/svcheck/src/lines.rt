@@ -6,7 +6,7 @@ ghost use Rattle.svcheck.specs.Lines.{fault_of, readiness_words, kind_words, sup
 use crate::sentences::{fault_sentence, finish_words, start_words};
 use s6_events::Name;
 use s6_script::push_number;
-use server_rules::{Remark, fault_word};
+use scan_directory::{Remark, fault_word};
 use servicedir::{Config, DirFault};
 use std::alloc::{AllocError, Global};
 use svscan_core::Entry;

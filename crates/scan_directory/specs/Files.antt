@@ -2,12 +2,12 @@
 use Rattle.std.specs.Prelude.{ℕ, List, [], Option, Some, None}
 use Rattle.servicedir.specs.declared.files.ServiceFile.{ServiceFile}
 use Rattle.servicedir.specs.declared.files.ServiceFile.TheVariants as file
-use Rattle.server_rules.specs.declared.service_files.Found.{Found}
-use Rattle.server_rules.specs.declared.service_files.Found.TheVariants as found
-use Rattle.server_rules.specs.declared.service_files.ServiceFiles.{ServiceFiles}
+use Rattle.scan_directory.specs.declared.service_files.Reading.{Reading}
+use Rattle.scan_directory.specs.declared.service_files.Reading.TheVariants as reading
+use Rattle.scan_directory.specs.declared.service_files.ServiceFiles.{ServiceFiles}
 
 -- what was found of this file
-abbrev pub found_of : ServiceFiles → ServiceFile → Found
+abbrev pub found_of : ServiceFiles → ServiceFile → Reading
 found_of files file.Run = files.run
 found_of files file.Kind = files.kind
 found_of files file.Finish = files.finish
@@ -19,9 +19,9 @@ found_of files file.MaxDeathTally = files.max_death_tally
 found_of files file.DownSignal = files.down_signal
 
 -- what is read of a file; of one that is there and can't be read no more is known
-abbrev pub content_of : Found → Option (List ℕ)
-content_of found.Absent = None
-content_of (found.Text text) = Some text.items
-content_of found.Unread = Some []
-content_of found.Unknown = None
-content_of found.NoMemory = None
+abbrev pub content_of : Reading → Option (List ℕ)
+content_of reading.Absent = None
+content_of (reading.Text text) = Some text.items
+content_of reading.Unread = Some []
+content_of reading.Unknown = None
+content_of reading.NoMemory = None

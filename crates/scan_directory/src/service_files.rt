@@ -1,7 +1,7 @@
 //! The files of a service directory, as they were found at one moment.
 ghost use Rattle.std.specs.Prelude.{◌≡◌, ◌≤◌, Err, IfOk, IfSome, option_map, length};
 ghost use Rattle.servicedir.specs.Files.{Counts, CountsRefusal, reading_limit};
-ghost use Rattle.server_rules.specs.Files.{found_of, content_of};
+ghost use Rattle.scan_directory.specs.Files.{found_of, content_of};
 
 use s6_events::Name;
 use servicedir::{ReadFault, ServiceFile};
@@ -13,9 +13,9 @@ use std::{fs, io};
 /// How much of a file is read: one byte more than a valid text may have.
 const READING_LIMIT: usize = 4097;
 
-/// What was found of a file.
+/// What came of reading a file.
 #[derive(Drop)]
-pub enum Found {
+pub enum Reading {
     /// It is absent.
     Absent,
     /// Its bytes, of a longer one the first 4097.
@@ -31,15 +31,15 @@ pub enum Found {
 /// The files of one service directory.
 #[derive(Drop)]
 pub struct ServiceFiles {
-    run: Found,
-    kind: Found,
-    finish: Found,
-    down: Found,
-    notification_fd: Found,
-    timeout_kill: Found,
-    timeout_finish: Found,
-    max_death_tally: Found,
-    down_signal: Found,
+    run: Reading,
+    kind: Reading,
+    finish: Reading,
+    down: Reading,
+    notification_fd: Reading,
+    timeout_kill: Reading,
+    timeout_finish: Reading,
+    max_death_tally: Reading,
+    down_signal: Reading,
     failures: u64,
     refused: u64,
     failed: Option<ServiceFile>,
@@ -64,7 +64,7 @@ impl ServiceFiles {
         }
     }
 
-    fn found(&self, file: ServiceFile) -> &Found
+    fn found(&self, file: ServiceFile) -> &Reading
         ensures { result.now ≡ found_of self.now file }
     {
         match file {
@@ -99,19 +99,19 @@ impl ServiceFiles {
 }
 
 // What is found of a file of the directory of this path.
-fn look<R: Files>(rt: &R, alloc: Global, directory: &str, file: ServiceFile) -> Found {
+fn look<R: Files>(rt: &R, alloc: Global, directory: &str, file: ServiceFile) -> Reading {
     let name = file.name();
     let Ok(path) = format!(in alloc; "{directory}/{name}") else {
-        return Found::NoMemory;
+        return Reading::NoMemory;
     };
     match read_file(rt, alloc, path.as_str()) {
-        Ok(text) => Found::Text(text),
+        Ok(text) => Reading::Text(text),
         Err(error) => match error.kind() {
-            ErrorKind::NotFound => Found::Absent,
-            ErrorKind::OutOfMemory => Found::NoMemory,
+            ErrorKind::NotFound => Reading::Absent,
+            ErrorKind::OutOfMemory => Reading::NoMemory,
             _ => match fs::metadata(rt, path.as_str()) {
-                Ok(_) => Found::Unread,
-                Err(_) => Found::Unknown,
+                Ok(_) => Reading::Unread,
+                Err(_) => Reading::Unknown,
             },
         },
     }
@@ -130,7 +130,7 @@ fn read_file<R: Files>(rt: &R, alloc: Global, path: &str) -> io::Result<Vec<u8>>
 }
 
 impl servicedir::Files for ServiceFiles {
-    ghost use Rattle.server_rules.specs.Files.{content_of, found_of};
+    ghost use Rattle.scan_directory.specs.Files.{content_of, found_of};
 
     ghost gives = { λ f name file. content_of (found_of f file) };
 
@@ -142,10 +142,10 @@ impl servicedir::Files for ServiceFiles {
 
     fn has(&mut self, _name: Name, file: ServiceFile) -> Result<bool, ReadFault> {
         match self.found(file) {
-            Found::Absent => Ok(false),
-            Found::Text(_) | Found::Unread => Ok(true),
-            Found::Unknown => Err(self.fail(file, ReadFault::Io)),
-            Found::NoMemory => Err(self.fail(file, ReadFault::NoMemory)),
+            Reading::Absent => Ok(false),
+            Reading::Text(_) | Reading::Unread => Ok(true),
+            Reading::Unknown => Err(self.fail(file, ReadFault::Io)),
+            Reading::NoMemory => Err(self.fail(file, ReadFault::NoMemory)),
         }
     }
 
@@ -163,19 +163,19 @@ impl servicedir::Files for ServiceFiles {
 }
 
 // A copy of what was read of a file.
-fn copy_of<A: Allocator + Copy>(alloc: A, found: &Found) -> Result<Option<Vec<u8, A>>, ReadFault>
+fn copy_of<A: Allocator + Copy>(alloc: A, found: &Reading) -> Result<Option<Vec<u8, A>>, ReadFault>
     ensures text { IfOk result (λ text. option_map (λ t. t.items) text ≡ content_of found.now) }
     ensures bound { IfOk result (λ text. IfSome text (λ t. length t.items ≤ reading_limit)) }
 {
     match found {
-        Found::Absent => Ok(None),
-        Found::Text(text) if text.len() <= READING_LIMIT => {
+        Reading::Absent => Ok(None),
+        Reading::Text(text) if text.len() <= READING_LIMIT => {
             match Vec::from_slice(alloc, text.as_slice()) {
                 Ok(copy) => Ok(Some(copy)),
                 Err(_) => Err(ReadFault::NoMemory),
             }
         }
-        Found::NoMemory => Err(ReadFault::NoMemory),
+        Reading::NoMemory => Err(ReadFault::NoMemory),
         _ => Err(ReadFault::Io),
     }
 }

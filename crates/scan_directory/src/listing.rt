@@ -1,13 +1,18 @@
 //! Reading a scan directory.
-ghost use Rattle.std.specs.Prelude.{IfOk};
+ghost use Rattle.std.specs.Prelude.{◌≡◌, ◌++◌, IfOk, OnOk, option_to_list};
+ghost use Rattle.std.specs.Char.Escape.{escape_ascii};
+ghost use Rattle.std.specs.List.{flat_map};
 ghost use Rattle.s6_replay.specs.Recording.{FitsLine};
-ghost use Rattle.server_rules.specs.Scanning.{scan_at, last_moment};
+ghost use Rattle.servicedir.specs.ServiceName.{seen_of};
+ghost use Rattle.servicedir.specs.declared.service_name.Seen.TheVariants.{Bad};
+ghost use Rattle.scan_directory.specs.Names.{listed_names, service_in, AreListed, bad_name_lines, IsTold};
+ghost use Rattle.scan_directory.specs.Scanning.{scan_at, last_moment};
 
 use crate::found::{Found, Remark, fault_word};
 use crate::service_files::ServiceFiles;
 use s6_events::{Actor, At, Name};
-use s6_replay::{SpellFault, write_input};
-use servicedir::{Config, DirFault, Seen, name_of, read};
+use s6_replay::{SpellFault, write_input, write_whole};
+use servicedir::{Config, DirFault, Seen, read};
 use std::alloc::{AllocError, Global};
 use std::io::{BufRead, BufReader, ErrorKind, Write};
 use std::rt::Files;
@@ -24,8 +29,9 @@ struct ReadEntries {
 /// The last moment that an input can have, in milliseconds: no other takes more bytes in a script.
 const LAST_MOMENT: u64 = 1_000_000_000_000_000;
 
-/// Reads each entry of the directory whose name is that of a service. A fault of one is told on `errors`, each line by one write. A
-/// listing that a line of a script can't say, at whatever moment, is told there too, and refused: `InvalidData`. Page `s6-svscan`.
+/// Reads each entry of the directory whose name is that of a service: it is listed, also where its directory can't be used. Such a fault is
+/// told on `errors`, and so is a name that is none of a service and has no dot before it; each by one write. A listing that a line of a
+/// script can't say, at whatever moment, is told there too, and refused: `InvalidData`. Page `s6-svscan`.
 pub fn read_listing<R: Files + Copy + Drop, E: Write>(
     rt: &R,
     alloc: Global,
@@ -77,7 +83,7 @@ fn listing_of(alloc: Global, entries: Vec<Entry>) -> io::Result<Listing<Global>>
     }
 }
 
-// The entries of the directory that are services. Its names are read as bytes: one that isn't UTF-8 is no error.
+// The entries of the directory that are services.
 fn read_entries<R: Files + Copy + Drop, E: Write>(
     rt: &R,
     alloc: Global,
@@ -86,29 +92,33 @@ fn read_entries<R: Files + Copy + Drop, E: Write>(
 ) -> io::Result<ReadEntries> {
     // Behind a slash a link to a directory is followed.
     let path = format!(in alloc; "{directory}/")?;
-    let mut names = BufReader::new(alloc, rt.open_dir(path.as_str())?)?;
+    let names = BufReader::new(alloc, rt.open_dir(path.as_str())?)?;
+    read_names(rt, alloc, directory, names, errors)
+}
+
+// The entries of these names, each with a 0 behind it, that are services. A name is bytes: one that isn't UTF-8 is no error.
+fn read_names<R: Files, N: BufRead + Drop, E: Write>(
+    rt: &R,
+    alloc: Global,
+    directory: &str,
+    names: N,
+    errors: &mut E,
+) -> io::Result<ReadEntries>
+    ensures listed { IfOk result
+        (λ read. AreListed (N.remaining names) (listed_names read.entries.items)) }
+{
     let mut read = ReadEntries {
         entries: Vec::new(alloc),
         remarks: Vec::new(alloc),
     };
-    let mut name = Vec::new(alloc);
-    for _ in 0..u64::MAX {
-        if !read_name(&mut names, &mut name)? {
-            break;
-        }
+    for name in names.split(alloc, 0) {
+        let name = name?;
         read_entry(rt, alloc, directory, name.as_slice(), &mut read, errors)?;
     }
     Ok(read)
 }
 
-// Reads the next name. Whether there was one more.
-fn read_name<N: BufRead>(names: &mut N, name: &mut Vec<u8>) -> io::Result<bool> {
-    name.clear();
-    names.read_until(0, name)?;
-    Ok(name.pop().is_some())
-}
-
-// Reads the entry of this name, if it is that of a service.
+// Reads the entry of this name, and adds it where it is that of a service.
 fn read_entry<R: Files, E: Write>(
     rt: &R,
     alloc: Global,
@@ -116,10 +126,15 @@ fn read_entry<R: Files, E: Write>(
     name: &[u8],
     read: &mut ReadEntries,
     errors: &mut E,
-) -> Result<(), AllocError> {
+) -> Result<(), AllocError>
+    ensures listed { OnOk result (listed_names read.new.entries.items
+        ≡ listed_names read.old.entries.items ++ option_to_list (service_in (seen_of name.now))) }
+    ensures told { OnOk result (seen_of name.now ≡ Bad
+        → IsTold (E.contents errors.old) (E.contents errors.new) (bad_name_lines name.now)) }
+{
     match service_of(name) {
         Seen::Service(service) => {
-            let config = read_service(rt, alloc, directory, service, read, errors)?;
+            let config = read_service(rt, alloc, directory, service, &mut read.remarks, errors)?;
             read.entries.push(Entry {
                 name: service,
                 config,
@@ -131,26 +146,63 @@ fn read_entry<R: Files, E: Write>(
     }
 }
 
-// What a name says. One that begins with a dot is hidden, whatever its other bytes are.
-fn service_of(name: &[u8]) -> Seen {
-    match str::from_utf8(name) {
-        Ok(text) => name_of(text),
-        Err(_) if name.starts_with(b".") => Seen::Hidden,
-        Err(_) => Seen::Bad,
+// What an entry of this name is, as `servicedir::name_of` says of a text.
+fn service_of(name: &[u8]) -> Seen
+    ensures { result ≡ seen_of name.now }
+{
+    if name.first() == Some(&b'.') {
+        return Seen::Hidden;
+    }
+    match Name::new(name) {
+        Some(service) => Seen::Service(service),
+        None => Seen::Bad,
     }
 }
 
 // Two lines in one write, so that nothing comes between them.
-fn tell_bad_name<E: Write>(alloc: Global, name: &[u8], errors: &mut E) -> Result<(), AllocError> {
-    let mut line = Vec::new(alloc);
-    line.extend_from_slice(b"svscan: BadName\nsvscan: '")?;
-    for byte in name {
-        for escaped in ascii::escape_default(*byte) {
-            line.push(escaped)?;
-        }
+fn tell_bad_name<E: Write>(alloc: Global, name: &[u8], errors: &mut E) -> Result<(), AllocError>
+    ensures { OnOk result
+        (IsTold (E.contents errors.old) (E.contents errors.new) (bad_name_lines name.now)) }
+{
+    let lines = bad_name_text(alloc, name)?;
+    tell_whole(lines.as_slice(), errors);
+    Ok(())
+}
+
+// Writes the lines, as far as they can be written.
+fn tell_whole<E: Write>(lines: &[u8], errors: &mut E)
+    ensures { IsTold (E.contents errors.old) (E.contents errors.new) lines.now }
+{
+    let _ = write_whole(errors, lines);
+}
+
+// Both lines.
+fn bad_name_text(alloc: Global, name: &[u8]) -> Result<Vec<u8>, AllocError>
+    ensures { IfOk result (λ lines. lines.items ≡ bad_name_lines name.now) }
+{
+    let mut lines = Vec::new(alloc);
+    lines.extend_from_slice(b"svscan: BadName\nsvscan: '")?;
+    push_escaped(&mut lines, name)?;
+    lines.extend_from_slice(b"' is no name of a service\n")?;
+    Ok(lines)
+}
+
+// Adds bytes; one that isn't printable is escaped.
+fn push_escaped(line: &mut Vec<u8>, bytes: &[u8]) -> Result<(), AllocError>
+    ensures { OnOk result (line.new.items ≡ line.old.items ++ flat_map escape_ascii bytes.now) }
+{
+    for byte in bytes {
+        push_escaped_byte(line, *byte)?;
     }
-    line.extend_from_slice(b"' is no name of a service\n")?;
-    let _ = errors.write_all(line.as_slice());
+    Ok(())
+}
+
+fn push_escaped_byte(line: &mut Vec<u8>, byte: u8) -> Result<(), AllocError>
+    ensures { OnOk result (line.new.items ≡ line.old.items ++ escape_ascii byte) }
+{
+    for escaped in ascii::escape_default(byte) {
+        line.push(escaped)?;
+    }
     Ok(())
 }
 
@@ -160,7 +212,7 @@ fn read_service<R: Files, E: Write>(
     alloc: Global,
     directory: &str,
     name: Name,
-    read_entries: &mut ReadEntries,
+    remarks: &mut Vec<Remark>,
     errors: &mut E,
 ) -> Result<Option<Config>, AllocError> {
     let text = str::from_utf8(name.as_bytes()).unwrap_or("-");
@@ -172,7 +224,7 @@ fn read_service<R: Files, E: Write>(
     };
     if let Some(fault) = fault {
         let is_unread = config.is_none();
-        read_entries.remarks.push(Remark {
+        remarks.push(Remark {
             name,
             fault,
             is_unread,

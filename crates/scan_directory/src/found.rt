@@ -1,7 +1,7 @@
 //! What was found in a scan directory.
 ghost use Rattle.std.specs.Prelude.{◌≡◌, ◌++◌, OnOk};
 ghost use Rattle.std.specs.List.{flat_map};
-ghost use Rattle.server_rules.specs.Found.{fault_word, unread_line};
+ghost use Rattle.scan_directory.specs.Found.{fault_word, unread_line};
 
 use s6_events::Name;
 use servicedir::DirFault;

@@ -2,7 +2,7 @@
 use Rattle.std.specs.Prelude.{ℕ, List, [], ◌∷◌, ◌++◌, codes}
 use Rattle.servicedir.specs.declared.dir_fault.DirFault.{DirFault}
 use Rattle.servicedir.specs.declared.dir_fault.DirFault.TheVariants as fault
-use Rattle.server_rules.specs.declared.found.Remark.{Remark}
+use Rattle.scan_directory.specs.declared.found.Remark.{Remark}
 
 -- the word of a fault
 abbrev pub fault_word : DirFault → List ℕ

@@ -1,0 +1,4 @@
+pub mod Files
+pub mod Found
+pub mod Names
+pub mod Scanning
