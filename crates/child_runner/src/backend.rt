@@ -1,5 +1,6 @@
 //! The backend of real processes.
 ghost use Rattle.std.specs.Prelude.{◌≡◌, ◌++◌, ◌∷◌, [], OnOk, OnErr, IfOk};
+ghost use Rattle.child_runner.specs.Roll.{with_asked};
 
 use crate::bell::Bell;
 use crate::commands::{
@@ -71,7 +72,7 @@ impl<R: Drop> ProcessBackend<R> {
         root: &str,
         notes: &Arc<Notes, Global>,
     ) -> Result<ProcessBackend<R>, NoMemory>
-        ensures { IfOk result (λ b. b ≡ record { asked = []; given = [] }) }
+        ensures { IfOk result (λ b. b ≡ record { asked = []; given = []; living = [] }) }
     {
         let bell = Arc::new(alloc, Bell::new())?;
         let roster = Arc::try_clone(&keeper.roster)?;
@@ -98,8 +99,10 @@ impl<R: Drop> ProcessBackend<R> {
 impl<R: Processes<Started = SystemProcess> + Files + Wait + Drop> ProcessBackend<R> {
     // Starts what the launch says, or reports that it can't be started.
     fn start(&mut self, order: &Order, start: &Start, launch: Launch) -> Result<(), AskFault>
-        ensures added { OnOk result
-            (self.new ≡ record self.old { asked = self.old.asked ++ order.now ∷ [] }) }
+        ensures added { OnOk result (self.new ≡ record self.old {
+          asked = self.old.asked ++ order.now ∷ [];
+          living = self.old.living ++ order.now ∷ [];
+        }) }
         ensures same { OnErr result (self.new ≡ self.old) }
     {
         match self.enter_and_run(order, start, launch) {
@@ -115,8 +118,10 @@ impl<R: Processes<Started = SystemProcess> + Files + Wait + Drop> ProcessBackend
         start: &Start,
         launch: Launch,
     ) -> Result<(), NoMemory>
-        ensures added { OnOk result
-            (self.new ≡ record self.old { asked = self.old.asked ++ order.now ∷ [] }) }
+        ensures added { OnOk result (self.new ≡ record self.old {
+          asked = self.old.asked ++ order.now ∷ [];
+          living = self.old.living ++ order.now ∷ [];
+        }) }
         ensures same { OnErr result (self.new ≡ self.old) }
     {
         let bell = Arc::try_clone(&self.bell)?;
@@ -251,8 +256,7 @@ impl<R: Processes<Started = SystemProcess> + Files + Wait + Drop> ProcessBackend
     }
 
     fn carry_out(&mut self, order: &Order) -> Result<(), AskFault>
-        ensures added { OnOk result
-            (self.new ≡ record self.old { asked = self.old.asked ++ order.now ∷ [] }) }
+        ensures added { OnOk result (self.new ≡ with_asked order.now self.old) }
         ensures same { OnErr result (self.new ≡ self.old) }
     {
         match order {

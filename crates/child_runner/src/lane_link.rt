@@ -1,5 +1,6 @@
 //! What ties the backend of a run to the thread of its lane.
 ghost use Rattle.std.specs.Prelude.{◌≡◌, ◌++◌, ◌∷◌, [], OnOk, OnErr};
+ghost use Rattle.child_runner.specs.Roll.{with_asked};
 
 use crate::bell::Bell;
 use crate::link_queue::LinkQueue;
@@ -30,7 +31,7 @@ pub struct LaneLink {
 fn add_order(orders: &mut LinkQueue<Order>, roll: &mut Roll, order: &Order) -> Result<(), AskFault>
     ensures queued { OnOk result (orders.new.items.items ≡ orders.old.items.items ++ order.now ∷ []) }
     ensures asked { OnOk result
-        (roll.new ≡ record roll.old { asked = roll.old.asked ++ order.now ∷ [] }) }
+        (roll.new ≡ with_asked order.now roll.old) }
     ensures none { OnErr result (orders.new.items.items ≡ orders.old.items.items) }
     ensures same { OnErr result (roll.new ≡ roll.old) }
 {
@@ -72,7 +73,7 @@ impl LaneLink {
         order: &Order,
     ) -> Result<(), AskFault>
         ensures added { OnOk result
-            (roll.new ≡ record roll.old { asked = roll.old.asked ++ order.now ∷ [] }) }
+            (roll.new ≡ with_asked order.now roll.old) }
         ensures same { OnErr result (roll.new ≡ roll.old) }
     {
         let sent = add_order(&mut self.orders.lock(rt), roll, order);

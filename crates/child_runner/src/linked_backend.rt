@@ -33,7 +33,7 @@ impl<R: Wait + Drop> LinkedBackend<R> {
         alloc: Global,
         link: &Arc<LaneLink, Global>,
     ) -> Result<LinkedBackend<R>, NoMemory>
-        ensures { IfOk result (λ b. b ≡ record { asked = []; given = [] }) }
+        ensures { IfOk result (λ b. b ≡ record { asked = []; given = []; living = [] }) }
     {
         Ok(LinkedBackend {
             rt,

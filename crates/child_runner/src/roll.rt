@@ -1,8 +1,8 @@
 //! What a backend was asked and gave, and which starts still live.
 ghost use Rattle.std.specs.Prelude.{◌≡◌, ◌<◌, ◌++◌, ◌∷◌, [], List, length, IsTrue, Some, slice_get};
-ghost use Rattle.std.specs.Prelude.{OnOk, OnErr, IfSome, IfNone};
+ghost use Rattle.std.specs.Prelude.{OnOk, OnErr, IfSome, IfNone, remove, if◌then◌else◌};
 ghost use Rattle.std.specs.List.{All};
-ghost use Rattle.child_runner.specs.Roll.{WasAsked, orders_in};
+ghost use Rattle.child_runner.specs.Roll.{WasAsked, is_last, orders_in, reports_in, with_asked, Passes};
 ghost use Rattle.s6_events.specs.declared.order.Order.{Order as Asked};
 ghost use Rattle.order_lanes.specs.Backend.{answers, IsOfAsked};
 
@@ -23,13 +23,12 @@ pub(crate) struct Roll {
 }
 
 impl Model for Roll {
-    ghost use Rattle.std.specs.Prelude.{map};
     ghost use Rattle.std.specs.List.{All};
-    ghost use Rattle.child_runner.specs.Roll.{RollView, WasAsked, orders_in};
+    ghost use Rattle.child_runner.specs.Roll.{RollView, WasAsked, orders_in, reports_in};
 
     ghost Value = { RollView };
 
-    ghost view = { λ r. record { asked = orders_in r.asked.items; given = map (λ s. s.value) r.given.items } };
+    ghost view = { λ r. record { asked = orders_in r.asked.items; given = reports_in r.given.items; living = r.living.items } };
 
     ghost invariant = { λ r. All (WasAsked (orders_in r.asked.items)) r.living.items };
 }
@@ -52,6 +51,8 @@ fn place_of(orders: &[Order], report: &Report) -> Option<usize>
 #[tactic(auto, using(crate::proofs::Kept::answered))]
 fn place_of_start(living: &[Order], report: &Report) -> Option<usize>
     ensures place { IfSome result (λ k. k < length living.now) }
+    ensures answered { IfSome result (λ k. (order : Asked)
+        × (slice_get living.now k ≡ Some order) × IsTrue (answers order report.now)) }
     ensures asked { IfSome result (λ k. (asked : List Asked)
         → All (WasAsked asked) living.now → IsOfAsked asked report.now) }
 {
@@ -68,10 +69,33 @@ fn add(asked: &mut Vec<Snapshot<Order>>, order: &Order) -> Result<(), NoMemory>
     Ok(())
 }
 
+// Adds a report to the list.
+fn add_given(given: &mut Vec<Snapshot<Report>>, report: &Report) -> Result<(), NoMemory>
+    ensures added { OnOk result
+        (reports_in given.new.items ≡ reports_in given.old.items ++ report.now ∷ []) }
+    ensures same { OnErr result (given.new.items ≡ given.old.items) }
+{
+    given.push(Snapshot::of(report))?;
+    Ok(())
+}
+
+// Behind its last report a start lives no more.
+fn end_last(living: &mut Vec<Order>, place: usize, report: &Report)
+    requires { place < length living.old.items }
+    ensures left { living.new.items
+        ≡ (if is_last report.now then remove living.old.items place else living.old.items) }
+    ensures asked { (asked : List Asked) → All (WasAsked asked) living.old.items
+        → All (WasAsked asked) living.new.items }
+{
+    if is_last(report) {
+        let _ = living.remove(place);
+    }
+}
+
 impl Roll {
     /// Nothing was asked or given yet.
     pub fn new(alloc: Global) -> Roll
-        ensures { result ≡ record { asked = []; given = [] } }
+        ensures { result ≡ record { asked = []; given = []; living = [] } }
     {
         Roll {
             living: Vec::new(alloc),
@@ -94,8 +118,10 @@ impl Roll {
     /// An order was asked that starts a program.
     #[tactic(auto, using(crate::proofs::Kept::one_more_lives))]
     pub fn start(&mut self, order: &Order) -> Result<(), NoMemory>
-        ensures added { OnOk result
-            (self.new ≡ record self.old { asked = self.old.asked ++ order.now ∷ [] }) }
+        ensures added { OnOk result (self.new ≡ record self.old {
+          asked = self.old.asked ++ order.now ∷ [];
+          living = self.old.living ++ order.now ∷ [];
+        }) }
         ensures same { OnErr result (self.new ≡ self.old) }
     {
         self.living.reserve(1)?;
@@ -106,8 +132,7 @@ impl Roll {
 
     /// An order was asked.
     pub fn enter(&mut self, order: &Order) -> Result<(), NoMemory>
-        ensures added { OnOk result
-            (self.new ≡ record self.old { asked = self.old.asked ++ order.now ∷ [] }) }
+        ensures added { OnOk result (self.new ≡ with_asked order.now self.old) }
         ensures same { OnErr result (self.new ≡ self.old) }
     {
         match order {
@@ -118,15 +143,16 @@ impl Roll {
 
     /// Lets a report through if its start lives.
     pub fn pass(&mut self, report: Report) -> Option<Report>
-        ensures given { IfSome result (λ r. IsOfAsked self.old.asked r
-            × (self.new ≡ record self.old { given = self.old.given ++ r ∷ [] })) }
+        ensures same { IfSome result (λ r. r ≡ report) }
+        ensures asked { IfSome result (λ r. IsOfAsked self.old.asked r) }
+        ensures given { IfSome result (λ r. Passes r self.old self.new) }
         ensures none { IfNone result (self.new ≡ self.old) }
     {
         let place = place_of_start(self.living.as_slice(), &report)?;
-        self.given.push(Snapshot::of(&report)).ok()?;
-        if is_last(&report) {
-            let _ = self.living.remove(place);
-        }
+        let Ok(()) = add_given(&mut self.given, &report) else {
+            return None;
+        };
+        end_last(&mut self.living, place, &report);
         Some(report)
     }
 }

@@ -1,4 +1,7 @@
 //! Which program was started.
+ghost use Rattle.std.specs.Prelude.{◌≡◌};
+ghost use Rattle.child_runner.specs.Roll.{is_last};
+
 use order_lanes::Report;
 use s6_events::{Exit, Sid};
 
@@ -52,7 +55,9 @@ impl Start {
 }
 
 /// Whether nothing comes after the report.
-pub(crate) fn is_last(report: &Report) -> bool {
+pub(crate) fn is_last(report: &Report) -> bool
+    ensures { result ≡ is_last report.now }
+{
     matches!(
         report,
         Report::StartFailed(..) | Report::Death(..) | Report::FinishEnded(..)
