@@ -16,7 +16,7 @@ use Rattle.tree_core.specs.StandsFor.{StoredTree, StandsFor}
 use Rattle.tree_core.proofs.OneMoreInput.{after_all_more, outcomes_more}
 use Rattle.run_records.specs.Runs.{RunStep, IsLegal, end_of, inputs_of}
 use Rattle.locked_services.specs.Running.{RunningView, IsSoundRunning, orders_of, run_limit}
-use Rattle.locked_services.specs.Submissions.{AreNumbered, Give, held_by, submissions_by, submissions_of, taken_from}
+use Rattle.locked_services.specs.Submissions.{AreNumbered, Give, held_by, submissions_in, submissions_of, taken_from}
 use Rattle.locked_services.proofs.Submitted.{submissions_snoc}
 
 lane_snoc : (n k : ℕ) (steps : List RunStep) (s : RunStep)
@@ -91,7 +91,7 @@ sound_step v w s sound held goes opening steps drains none lanes sent few = reco
       ∙ ap (λ (ss : List RunStep). orders_of_lane (length v.lanes) k (orders_of ss)) (sym steps))));
 }
 
-submitted_in : (a : ℕ) (o : Option (Input Global)) → submissions_by a (option_to_list o) ≡ held_by a o
+submitted_in : (a : ℕ) (o : Option (Input Global)) → submissions_in a (option_to_list o) ≡ held_by a o
 submitted_in a None = refl
 submitted_in a (Some input) = append-nil (held_by a (Some input))
 

@@ -10,7 +10,7 @@ use Rattle.run_records.specs.Runs.{RunStep}
 use Rattle.locked_services.specs.Running.{RunningView}
 use Rattle.locked_services.specs.Shots.{Grows}
 use Rattle.locked_services.specs.Rings.{GiveOne, TakeMost, TakesBy}
-use Rattle.locked_services.specs.Submissions.{Give, submission_by, submissions_by, taken_from}
+use Rattle.locked_services.specs.Submissions.{Give, submission_by, submissions_in, taken_from}
 use Rattle.locked_services.specs.declared.stop.Stop.{Stop}
 
 -- nothing was given
@@ -26,8 +26,8 @@ give_more one other u v w first then = record {
   each = then.each ∙ first.each;
   taken = λ a.
       then.taken a
-      ∙ (ap (λ (xs : List Submission). xs ++ submissions_by a other) (first.taken a)
-      ∙ (append_assoc (taken_from a u) (submissions_by a one) (submissions_by a other)
+      ∙ (ap (λ (xs : List Submission). xs ++ submissions_in a other) (first.taken a)
+      ∙ (append_assoc (taken_from a u) (submissions_in a one) (submissions_in a other)
       ∙ ap (λ (xs : List Submission). taken_from a u ++ xs) (sym (flat_map-append (submission_by a) one other))));
 }
 

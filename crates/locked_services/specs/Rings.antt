@@ -15,7 +15,7 @@ pub record GiveOne (old new : RunningView) : Type 0 where
   pub gives : Give (option_to_list given) old.drains new.drains
   pub held : IsSome old.held → given ≡ None
 
--- nothing was taken from the rings: none is another, and what was held is held
+-- the rings, and the input that was held, are as they were
 abbrev pub TakesNothing : RunningView → RunningView → Type 0
 TakesNothing old new = (new.drains ≡ old.drains) × (new.held ≡ old.held)
 

@@ -30,13 +30,13 @@ abbrev pub taken_from : ℕ → List DrainView → List Submission
 taken_from actor drains = taken_by (slice_get drains actor)
 
 -- what this actor submitted of these inputs, in order
-abbrev pub submissions_by : ℕ → List (Input Global) → List Submission
-submissions_by actor inputs = flat_map (submission_by actor) inputs
+abbrev pub submissions_in : ℕ → List (Input Global) → List Submission
+submissions_in actor inputs = flat_map (submission_by actor) inputs
 
 -- there are as many rings as before, and each gave its actor's of these inputs, and no more
 pub record Give (given : List (Input Global)) (old new : List DrainView) : Type 0 where
   pub each : length new ≡ length old
-  pub taken : (actor : ℕ) → taken_from actor new ≡ taken_from actor old ++ submissions_by actor given
+  pub taken : (actor : ℕ) → taken_from actor new ≡ taken_from actor old ++ submissions_in actor given
 
 -- each drain stands at the place of its actor
 abbrev pub AreNumbered : List DrainView → Type 0

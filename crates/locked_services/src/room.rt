@@ -6,7 +6,8 @@ ghost use Rattle.tree_core.specs.Limits.{order_limit};
 ghost use Rattle.tree_core.specs.Machine.{Machine};
 ghost use Rattle.tree_core.specs.NextDue.{next_due};
 ghost use Rattle.tree_core.specs.StandsFor.{StandsFor};
-ghost use Rattle.run_records.specs.Runs.{RunStep, end_of, actor_at, moment_at, outcome_at, IsFilled, reply_at};
+ghost use mathlib.Core.List.{IsPrefix};
+ghost use Rattle.run_records.specs.Runs.{RunStep, end_of, inputs_of, actor_at, moment_at, outcome_at, IsFilled, reply_at};
 ghost use Rattle.run_records.specs.RunText.{IsWritten, StopsWriting};
 ghost use Rattle.locked_services.specs.Closing.{AreComplete, AreDone, AreSameDesks, AreServed, IsClosed, IsFault, IsSameRoom};
 ghost use Rattle.locked_services.specs.Rings.{TakeMost, TakesBy, most_taken};
@@ -25,20 +26,38 @@ use crate::stop::{DriveStop, Driven, Stop};
 use channel_names::Channels;
 use inbox::{Finished, Ticket};
 use order_lanes::{Backend, Desk, Lanes};
+use run_history::{History, Keeper, Whole};
 use run_records::RunFault;
 use s6_events::{Actor, At, NoMemory};
 use status_board::{Board, Told};
 use std::alloc::Global;
 use std::io::Write;
-use std::marker::Model;
+use std::marker::{Brand, Model};
+use std::sync::Wait;
 use tree_core::{Effect, Reply, Tree};
 
-/// What one lock guards: the running tree, the board on which it is published, and whether its present state was published.
+/// What one lock guards: the running tree, the board on which it is published, whether its present state was published, and, in proofs
+/// alone, the history of the inputs that it has done.
 #[derive(Drop)]
 pub struct Room<C: Channels + Lanes, D: Board<C>> {
     running: RunningTree<C>,
     board: D,
     is_shown: bool,
+    keeper: Keeper<C>,
+}
+
+// All inputs that were done become known to the keeper, by a type that names them.
+fn keep<N: Whole, C: Channels + Lanes, R: Wait>(
+    rt: &R,
+    keeper: &mut Keeper<C>,
+    running: &RunningTree<C>,
+)
+    requires named { N.whole ≡ inputs_of running.now.steps }
+    requires longer { IsPrefix keeper.old (inputs_of running.now.steps) }
+    ensures { keeper.new ≡ inputs_of running.now.steps }
+{
+    let _steps = running.steps();
+    keeper.extend::<N, R>(rt);
 }
 
 /// A room that was not closed, and why, with all that it was to be closed with.
@@ -52,18 +71,21 @@ pub struct NotClosed<C: Channels + Lanes, D: Board<C>, B: Backend> {
 }
 
 impl<C: Channels + Lanes, D: Board<C>> Model for Room<C, D> {
+    ghost use Rattle.std.specs.Prelude.{◌≡◌};
+    ghost use Rattle.run_records.specs.Runs.{inputs_of};
     ghost use Rattle.locked_services.specs.Shots.{RoomView, IsSoundRoom};
 
     ghost Value = { RoomView };
 
     ghost view = { λ r. record { running = r.running; shots = D.shots r.board; is_shown = r.is_shown } };
 
-    ghost invariant = { λ r. IsSoundRoom C.opening (record { running = r.running; shots = D.shots r.board; is_shown = r.is_shown }) };
+    ghost invariant = { λ r. IsSoundRoom C.opening (record { running = r.running; shots = D.shots r.board; is_shown = r.is_shown }) × (r.keeper ≡ inputs_of r.running.steps) };
 }
 
 impl<C: Channels + Lanes, D: Board<C>> Room<C, D> {
     /// A room of this running tree, in which no step was made, and whose state alone was published on the board.
-    pub fn begin(running: RunningTree<C>, board: D) -> Room<C, D>
+    pub fn begin(running: RunningTree<C>, board: D, keeper: Keeper<C>) -> Room<C, D>
+        requires keeper { keeper ≡ [] }
         requires opening { running.opening ≡ C.opening }
         requires steps { running.steps ≡ [] }
         requires first { (m : Machine) → StandsFor running.opening m →
@@ -76,11 +98,29 @@ impl<C: Channels + Lanes, D: Board<C>> Room<C, D> {
             running,
             board,
             is_shown: true,
+            keeper,
         }
     }
 
+    /// All inputs that were done become known. What was known is a beginning of them.
+    pub fn show<R: Wait>(&mut self, rt: &R, known: &mut History<C>)
+        ensures same { self.new ≡ self.old }
+        ensures all { known.new ≡ inputs_of self.old.running.steps }
+        ensures longer { IsPrefix known.old known.new }
+    {
+        self.keeper.show(rt, known);
+    }
+
+    /// All inputs that were done.
+    pub fn history(&mut self) -> History<C>
+        ensures same { self.new ≡ self.old }
+        ensures all { result ≡ inputs_of self.old.running.steps }
+    {
+        self.keeper.tell()
+    }
+
     /// Makes one step, of the input that is held or, where none is held, of one newly taken.
-    pub fn step_one(&mut self) -> Stop
+    pub fn step_one<R: Wait>(&mut self, rt: &R) -> Stop
         ensures opening { self.new.running.opening ≡ self.old.running.opening }
         ensures shots { self.new.shots ≡ self.old.shots }
         ensures done { result ≡ Done → (s : RunStep)
@@ -99,6 +139,7 @@ impl<C: Channels + Lanes, D: Board<C>> Room<C, D> {
         let stop = self.running.step_one();
         if stop == Stop::Done {
             self.is_shown = false;
+            keep::<Brand, C, R>(rt, &mut self.keeper, &self.running);
         }
         stop
     }
@@ -188,7 +229,7 @@ impl<C: Channels + Lanes, D: Board<C>> Room<C, D> {
     }
 
     // Makes at most so many steps.
-    fn step_many(&mut self, most: u64) -> Driven
+    fn step_many<R: Wait>(&mut self, rt: &R, most: u64) -> Driven
         ensures opening { self.new.running.opening ≡ self.old.running.opening }
         ensures shots { self.new.shots ≡ self.old.shots }
         ensures steps { Grows result.steps self.old.running.steps self.new.running.steps }
@@ -205,7 +246,7 @@ impl<C: Channels + Lanes, D: Board<C>> Room<C, D> {
             self.new.running }
     {
         for steps in 0..most {
-            let stop = match self.step_one() {
+            let stop = match self.step_one(rt) {
                 Stop::Done => continue,
                 Stop::Idle => DriveStop::Idle,
                 Stop::Blocked(lane) => DriveStop::Blocked(lane),
@@ -221,7 +262,7 @@ impl<C: Channels + Lanes, D: Board<C>> Room<C, D> {
     }
 
     /// Makes at most so many steps, and then publishes, if it made any. What an earlier drive could not publish is published first.
-    pub fn drive(&mut self, most: u64) -> Driven
+    pub fn drive<R: Wait>(&mut self, rt: &R, most: u64) -> Driven
         ensures opening { self.new.running.opening ≡ self.old.running.opening }
         ensures steps { Grows result.steps self.old.running.steps self.new.running.steps }
         ensures most { result.steps ≤ most }
@@ -243,7 +284,7 @@ impl<C: Channels + Lanes, D: Board<C>> Room<C, D> {
                 stop: DriveStop::NoMemory,
             };
         }
-        let driven = self.step_many(most);
+        let driven = self.step_many(rt, most);
         if !self.is_shown && self.publish().is_err() {
             return Driven {
                 steps: driven.steps,

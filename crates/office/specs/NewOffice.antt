@@ -1,5 +1,6 @@
 -- What a contract sees of an office before it is opened.
 use Rattle.std.specs.Prelude.{◌≡◌, ◌≤◌, ◌&&◌, ℕ, Bool, List, slice_get, length, nat_le, Option, Some, None, if◌then◌else◌}
+use Rattle.atomic_table.specs.Seated.{TableId}
 use Rattle.logbook.specs.Pages.{Book}
 use Rattle.inbox.specs.Ends.{RingView}
 use Rattle.order_lanes.specs.Lane.{LaneRingView, AreNumbered}
@@ -7,12 +8,13 @@ use Rattle.tree_core.specs.StandsFor.{StoredTree}
 use Rattle.office.specs.declared.new_office.OpenFault.{OpenFault}
 use Rattle.office.specs.declared.new_office.OpenFault.TheVariants.{Actors, Lanes}
 
--- its tree, its new rings, those of its lanes, its board's history, and the backends of its lanes
+-- its tree, its new rings, those of its lanes, its board's history, that of its inputs, and the backends of its lanes
 pub record NewOfficeView (B : Type 0) : Type 0 where
   pub tree : StoredTree
   pub rings : List RingView
   pub lane_rings : List LaneRingView
   pub board : Book
+  pub history : TableId
   pub backends : List B
 
 -- each ring stands at the place of its actor's number

@@ -1,8 +1,29 @@
 //! How desks leave their locks, and go back.
 ghost use Rattle.std.specs.Prelude.{◌≡◌, ◌≤◌, [], length, vec_capacity};
+ghost use Rattle.office.specs.Changed.{ComeOf};
 
 use order_lanes::{Backend, Desk, Lanes};
 use std::sync::Mutex;
+
+/// What comes of each item, in their order, in a list that has room for it; and the list that had the items, which is empty.
+fn change_each<T, U, F: Fn(T) -> U>(items: Vec<T>, room: Vec<U>, change: F) -> (Vec<T>, Vec<U>)
+    requires callable { F.IsAlwaysCallable change }
+    requires empty { room.items ≡ [] }
+    requires fits { length items.items ≤ vec_capacity room }
+    ensures left { result.0.items ≡ [] }
+    ensures left_room { vec_capacity result.0 ≡ vec_capacity items }
+    ensures order { ComeOf (F.post change) items.items result.1.items }
+    ensures each { length result.1.items ≡ length items.items }
+    ensures room { vec_capacity result.1 ≡ vec_capacity room }
+{
+    let mut items = items;
+    let mut changed = room;
+    for _ in 0..items.len() {
+        let item = items.remove(0);
+        changed.push_reserved(change(item));
+    }
+    (items, changed)
+}
 
 /// These desks without their locks, in their order, in a list that has room for them; and the list that had them, which is empty. No
 /// lock is taken, since nobody else has them.
@@ -17,13 +38,7 @@ pub fn unlock_all<B: Backend, L: Lanes>(
     ensures each { length result.1.items ≡ length locked.items }
     ensures room { vec_capacity result.1 ≡ vec_capacity room }
 {
-    let mut locked = locked;
-    let mut desks = room;
-    for _ in 0..locked.len() {
-        let desk = locked.remove(0);
-        desks.push_reserved(desk.into_inner());
-    }
-    (locked, desks)
+    change_each(locked, room, |desk| desk.into_inner())
 }
 
 /// These desks behind locks of their own, in their order, in a list that has room for them; and the list that had them, which is empty.
@@ -37,11 +52,6 @@ pub fn lock_all<B: Backend, L: Lanes>(
     ensures left_room { vec_capacity result.1 ≡ vec_capacity desks }
     ensures each { length result.0.items ≡ length desks.items }
 {
-    let mut locked = room;
-    let mut desks = desks;
-    for _ in 0..desks.len() {
-        let desk = desks.remove(0);
-        locked.push_reserved(Mutex::new(desk));
-    }
+    let (desks, locked) = change_each(desks, room, |desk| Mutex::new(desk));
     (locked, desks)
 }

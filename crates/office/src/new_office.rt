@@ -5,6 +5,7 @@ ghost use Rattle.office.specs.declared.new_office.OpenFault.TheVariants as fault
 
 use inbox::{Ring, open_rings};
 use order_lanes::{LaneRing, open_lane_rings};
+use run_history::NewHistory;
 use s6_events::NoMemory;
 use status_board::NewBoard;
 use std::alloc::Global;
@@ -35,7 +36,7 @@ pub enum OpenFault {
     Board = 4,
 }
 
-/// A tree, with new rings for its actors, a new ring for each backend, and a new history for its board. A run gives names to these,
+/// A tree, with new rings for its actors, a new ring for each backend, and new histories for its board and its inputs. A run gives names to these,
 /// and opens the office then.
 #[derive(Drop)]
 pub struct NewOffice<B: Drop> {
@@ -43,6 +44,7 @@ pub struct NewOffice<B: Drop> {
     pub(crate) rings: Vec<Ring>,
     pub(crate) lane_rings: Vec<LaneRing>,
     pub(crate) board: NewBoard,
+    pub(crate) history: NewHistory,
     pub(crate) backends: Vec<B>,
 }
 
@@ -52,7 +54,7 @@ impl<B: Drop> Model for NewOffice<B> {
 
     ghost Value = { NewOfficeView B };
 
-    ghost view = { λ o. record { tree = o.tree.value; rings = o.rings.items; lane_rings = o.lane_rings.items; board = o.board; backends = o.backends.items } };
+    ghost view = { λ o. record { tree = o.tree.value; rings = o.rings.items; lane_rings = o.lane_rings.items; board = o.board; history = o.history; backends = o.backends.items } };
 
     ghost invariant = { λ o. IsSoundNew o.rings.items o.lane_rings.items (length o.backends.items) };
 }
@@ -118,11 +120,15 @@ impl<B: Drop> NewOffice<B> {
         let Ok(lane_rings) = open_lane_rings(alloc, backends.len()) else {
             return Err((OpenFault::NoMemory, tree, backends));
         };
+        let Ok(history) = NewHistory::new(alloc) else {
+            return Err((OpenFault::NoMemory, tree, backends));
+        };
         Ok(NewOffice {
             tree,
             rings,
             lane_rings,
             board: NewBoard::new(),
+            history,
             backends,
         })
     }

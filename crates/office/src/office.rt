@@ -1,25 +1,29 @@
 //! The office: a room behind its lock, and desks behind theirs.
-ghost use Rattle.std.specs.Prelude.{◌≡◌, ◌≤◌, ◌<◌, IfOk, IfErr, List, length, option_map};
+ghost use Rattle.std.specs.Prelude.{◌≡◌, ◌⊎◌, ◌≤◌, ◌<◌, IfOk, IfErr, List, length, not, option_map, position};
 ghost use Rattle.tree_core.specs.Effect.{outcome_of};
 ghost use Rattle.tree_core.specs.Ended.{has_ended};
 ghost use Rattle.tree_core.specs.Machine.{Machine};
 ghost use Rattle.tree_core.specs.NextDue.{next_due};
 ghost use Rattle.tree_core.specs.StandsFor.{StandsFor};
-ghost use Rattle.run_records.specs.Runs.{end_of, actor_at, moment_at, outcome_at, IsFilled, reply_at};
+ghost use mathlib.Core.List.{IsPrefix};
+ghost use Rattle.run_records.specs.Runs.{end_of, inputs_of, actor_at, moment_at, outcome_at, IsFilled, reply_at};
 ghost use Rattle.run_records.specs.RunText.{IsWritten, StopsWriting};
 ghost use Rattle.locked_services.specs.Closing.{IsClosed, IsFault, IsRunFrom};
 ghost use Rattle.locked_services.specs.Shots.{RoomView, IsSoundHistory};
+ghost use Rattle.office.specs.Told.{IsTold};
 ghost use Rattle.order_lanes.specs.Desk.{DeskView};
 ghost use Rattle.status_board.specs.Board.{NeverFalls};
 ghost use Rattle.locked_services.specs.declared.stop.DriveStop.TheVariants as ended;
 
 use crate::carrying::{carry_in_turns, carry_many};
 use crate::closing::{lock_all, unlock_all};
+use crate::new_office::LANE_LIMIT;
 use crate::spare::Spare;
 use channel_names::Channels;
 use inbox::{Finished, Ticket};
 use locked_services::{CloseFault, Closed, Driven, NotClosed, Room};
 use order_lanes::{Backend, Carried, Desk, Lanes, Report};
+use run_history::History;
 use run_records::RunFault;
 use s6_events::{Actor, At, NoMemory};
 use status_board::{Board, Told};
@@ -41,9 +45,11 @@ pub struct NotStarted {
 
 /// A tree that several threads run: a room, which one thread at a time enters, and beside it a desk for each lane behind a lock of
 /// its own, so that no backend keeps anybody out of the room. What is promised of a room and of a desk holds whenever their lock is
-/// free. Contracts see how many lanes there are. What a call finds under a lock no clause of its caller can name: an answer is that of
-/// some room `v` whose run began with the tree of this office, and of which all is true that is true of a room. What an order or a report
-/// is, the desk's own calls say.
+/// free. Contracts see how many lanes there are.
+///
+/// A call that tells of the run takes what its caller knows of it, a `History`, and makes known all inputs that were done: what was known
+/// begins what is known then, and the answer is that of the run that did just these. So all answers of a caller are of one run. Two
+/// callers, as two threads, see that theirs is the same run (`compare`). What an order or a report is, the desk's own calls say.
 #[derive(Drop)]
 pub struct Office<C: Channels + Lanes, D: Board<C>, B: Backend> {
     room: Mutex<Room<C, D>>,
@@ -86,39 +92,80 @@ impl<C: Channels + Lanes, D: Board<C>, B: Backend> Office<C, D, B> {
     }
 
     /// Makes at most so many steps in the room, and publishes where it made any.
-    pub fn drive<W: Wait>(&self, rt: &W, most: u64) -> Driven
+    pub fn drive<W: Wait>(&self, rt: &W, known: &mut History<C>, most: u64) -> Driven
+        ensures longer { IsPrefix known.old known.new }
         ensures most { result.steps ≤ most }
         ensures count { result.stop ≡ ended.Count → result.steps ≡ most }
     {
-        self.room.lock(rt).drive(most)
+        let mut room = self.room.lock(rt);
+        let driven = room.drive(rt, most);
+        room.show(rt, known);
+        driven
+    }
+
+    /// What is known of the run: all inputs that were done so far.
+    pub fn history<W: Wait>(&self, rt: &W) -> History<C>
+        ensures { (v : RoomView) × IsSoundHistory C.opening v
+            × (result ≡ inputs_of v.running.steps) }
+    {
+        let mut room = self.room.lock(rt);
+        let _steps = room.steps();
+        room.history()
+    }
+
+    /// Makes all inputs that were done so far known to both. What one of them knew begins what the other one knew.
+    pub fn compare<W: Wait>(&self, rt: &W, one: &mut History<C>, other: &mut History<C>)
+        ensures longer { IsPrefix one.old one.new × IsPrefix other.old other.new }
+        ensures same { one.new ≡ other.new }
+        ensures agree { IsPrefix one.old other.old ⊎ IsPrefix other.old one.old }
+    {
+        let mut room = self.room.lock(rt);
+        room.show(rt, one);
+        room.show(rt, other);
     }
 
     /// Names all that was published so far.
-    pub fn tell<W: Wait>(&self, rt: &W) -> Told<C>
-        ensures shots { (v : RoomView) × IsSoundHistory C.opening v × (result ≡ v.shots) }
+    pub fn tell<W: Wait>(&self, rt: &W, known: &mut History<C>) -> Told<C>
+        ensures longer { IsPrefix known.old known.new }
+        ensures shots { IsTold C.opening known.new (λ v. result ≡ v.shots) }
         ensures rising { NeverFalls result }
     {
-        let room = self.room.lock(rt);
+        let mut room = self.room.lock(rt);
+        room.show(rt, known);
         let _steps = room.steps();
         room.tell()
     }
 
     /// The reply to the input of a ticket; None where its step isn't made yet. `NoMemory` where a growth was refused.
-    pub fn reply<W: Wait>(&self, rt: &W, ticket: Ticket) -> Result<Option<Reply<Global>>, NoMemory>
-        ensures { (v : RoomView) × IsSoundHistory C.opening v × IfOk result
-            (λ reply. reply ≡ reply_at ticket.actor ticket.number v.running.steps) }
+    pub fn reply<W: Wait>(
+        &self,
+        rt: &W,
+        known: &mut History<C>,
+        ticket: Ticket,
+    ) -> Result<Option<Reply<Global>>, NoMemory>
+        ensures longer { IsPrefix known.old known.new }
+        ensures told { IsTold C.opening known.new (λ v. IfOk result
+            (λ reply. reply ≡ reply_at ticket.actor ticket.number v.running.steps)) }
     {
-        let room = self.room.lock(rt);
+        let mut room = self.room.lock(rt);
+        room.show(rt, known);
         let _steps = room.steps();
         room.reply(ticket)
     }
 
     /// All that the step of this number gave, from 1; None where there are fewer. `NoMemory` where a growth was refused.
-    pub fn effect<W: Wait>(&self, rt: &W, number: u64) -> Result<Option<Effect<Global>>, NoMemory>
-        ensures { (v : RoomView) × IsSoundHistory C.opening v × IfOk result
-            (λ effect. option_map (λ e. outcome_of e) effect ≡ outcome_at number v.running.steps) }
+    pub fn effect<W: Wait>(
+        &self,
+        rt: &W,
+        known: &mut History<C>,
+        number: u64,
+    ) -> Result<Option<Effect<Global>>, NoMemory>
+        ensures longer { IsPrefix known.old known.new }
+        ensures told { IsTold C.opening known.new (λ v. IfOk result
+            (λ effect. option_map (λ e. outcome_of e) effect ≡ outcome_at number v.running.steps)) }
     {
-        let room = self.room.lock(rt);
+        let mut room = self.room.lock(rt);
+        room.show(rt, known);
         let _steps = room.steps();
         room.effect(number)
     }
@@ -128,40 +175,49 @@ impl<C: Channels + Lanes, D: Board<C>, B: Backend> Office<C, D, B> {
     pub fn fill<W: Wait>(
         &self,
         rt: &W,
+        known: &mut History<C>,
         number: u64,
         effect: &mut Effect<Global>,
     ) -> Result<bool, NoMemory>
-        ensures { (v : RoomView) × IsSoundHistory C.opening v × IfOk result
-            (λ is_there. IsFilled is_there (outcome_of effect.new) number v.running.steps) }
+        ensures longer { IsPrefix known.old known.new }
+        ensures told { IsTold C.opening known.new (λ v. IfOk result
+            (λ is_there. IsFilled is_there (outcome_of effect.new) number v.running.steps)) }
     {
-        let room = self.room.lock(rt);
+        let mut room = self.room.lock(rt);
+        room.show(rt, known);
         let _steps = room.steps();
         room.fill(number, effect)
     }
 
     /// Whose input the step of this number took, from 1; None where there are fewer.
-    pub fn actor<W: Wait>(&self, rt: &W, number: u64) -> Option<Actor>
-        ensures { (v : RoomView) × IsSoundHistory C.opening v × (result ≡ actor_at number v.running.steps) }
+    pub fn actor<W: Wait>(&self, rt: &W, known: &mut History<C>, number: u64) -> Option<Actor>
+        ensures longer { IsPrefix known.old known.new }
+        ensures told { IsTold C.opening known.new (λ v. result ≡ actor_at number v.running.steps) }
     {
-        let room = self.room.lock(rt);
+        let mut room = self.room.lock(rt);
+        room.show(rt, known);
         let _steps = room.steps();
         room.actor(number)
     }
 
     /// The moment at which the input of the step of this number was handed in, from 1; None where there are fewer.
-    pub fn moment<W: Wait>(&self, rt: &W, number: u64) -> Option<At>
-        ensures { (v : RoomView) × IsSoundHistory C.opening v × (result ≡ moment_at number v.running.steps) }
+    pub fn moment<W: Wait>(&self, rt: &W, known: &mut History<C>, number: u64) -> Option<At>
+        ensures longer { IsPrefix known.old known.new }
+        ensures told { IsTold C.opening known.new (λ v. result ≡ moment_at number v.running.steps) }
     {
-        let room = self.room.lock(rt);
+        let mut room = self.room.lock(rt);
+        room.show(rt, known);
         let _steps = room.steps();
         room.moment(number)
     }
 
     /// How many steps the run has.
-    pub fn steps<W: Wait>(&self, rt: &W) -> usize
-        ensures { (v : RoomView) × IsSoundHistory C.opening v × (result ≡ length v.running.steps) }
+    pub fn steps<W: Wait>(&self, rt: &W, known: &mut History<C>) -> usize
+        ensures longer { IsPrefix known.old known.new }
+        ensures told { IsTold C.opening known.new (λ v. result ≡ length v.running.steps) }
     {
-        let room = self.room.lock(rt);
+        let mut room = self.room.lock(rt);
+        room.show(rt, known);
         room.steps()
     }
 
@@ -169,36 +225,43 @@ impl<C: Channels + Lanes, D: Board<C>, B: Backend> Office<C, D, B> {
     pub fn write_run<R: Wait, W: Write>(
         &self,
         rt: &R,
+        known: &mut History<C>,
         head: bool,
         writer: &mut W,
     ) -> Result<u64, RunFault>
-        ensures { (v : RoomView) × IsSoundHistory C.opening v
-            × IfOk result (λ count. IsWritten count head v.running.steps
+        ensures longer { IsPrefix known.old known.new }
+        ensures told { IsTold C.opening known.new (λ v.
+            IfOk result (λ count. IsWritten count head v.running.steps
             (W.contents writer.old) (W.contents writer.new))
             × IfErr result (λ fault. StopsWriting fault head v.running.steps
-            (W.contents writer.old) (W.contents writer.new)) }
+            (W.contents writer.old) (W.contents writer.new))) }
     {
-        let room = self.room.lock(rt);
+        let mut room = self.room.lock(rt);
+        room.show(rt, known);
         let _steps = room.steps();
         room.write_run(head, writer)
     }
 
     /// Whether the tree has ended: it is closing, and the supervisor of each service that stands has ended.
-    pub fn ended<W: Wait>(&self, rt: &W) -> bool
-        ensures { (v : RoomView) × IsSoundHistory C.opening v × ((m : Machine)
+    pub fn ended<W: Wait>(&self, rt: &W, known: &mut History<C>) -> bool
+        ensures longer { IsPrefix known.old known.new }
+        ensures told { IsTold C.opening known.new (λ v. (m : Machine)
             → StandsFor v.running.opening m → result ≡ has_ended (end_of m v.running.steps)) }
     {
-        let room = self.room.lock(rt);
+        let mut room = self.room.lock(rt);
+        room.show(rt, known);
         let _steps = room.steps();
         room.ended()
     }
 
     /// The next moment, in milliseconds, to which a timer or a deadline is set; None where there is none.
-    pub fn next_due<W: Wait>(&self, rt: &W) -> Option<u64>
-        ensures { (v : RoomView) × IsSoundHistory C.opening v × ((m : Machine)
+    pub fn next_due<W: Wait>(&self, rt: &W, known: &mut History<C>) -> Option<u64>
+        ensures longer { IsPrefix known.old known.new }
+        ensures told { IsTold C.opening known.new (λ v. (m : Machine)
             → StandsFor v.running.opening m → result ≡ next_due (end_of m v.running.steps)) }
     {
-        let room = self.room.lock(rt);
+        let mut room = self.room.lock(rt);
+        room.show(rt, known);
         let _steps = room.steps();
         room.next_due()
     }
@@ -223,18 +286,20 @@ impl<C: Channels + Lanes, D: Board<C>, B: Backend> Office<C, D, B> {
 impl<C: Channels + Lanes, D: Board<C>, B: Backend> Office<C, D, B> {
     /// Closes the run, once each seat has finished and all threads that used the office have returned: the tree, how many steps it made,
     /// and the backends, in the order of their lanes. Offices of which each was opened on the tree that the one before gave back are one run
-    /// (`locked_services::laws::chain`). What is closed is the room and the desks of this office; what holds of them then,
-    /// and why they were not closed, `Room::close` says. At a fault the office and the finishes come back as they were. It takes no lock
-    /// and no memory.
-    pub fn close(
+    /// (`locked_services::laws::chain`). `Room::close` says what a close needs, and what it leaves. At a fault the office and the finishes come
+    /// back as they were. It takes no lock and no memory.
+    pub fn close<R: Wait>(
         self,
+        rt: &R,
+        known: &mut History<C>,
         finishes: Vec<Finished<C>>,
     ) -> Result<Closed<B>, (Office<C, D, B>, Vec<Finished<C>>, CloseFault)>
-        ensures closed { IfOk result (λ closed. (v : RoomView) × IsSoundHistory C.opening v
-            × IsClosed B.asked C.asked_before v.running finishes.items closed) }
+        ensures longer { IsPrefix known.old known.new }
+        ensures closed { IfOk result (λ closed. IsTold C.opening known.new (λ v.
+            IsClosed B.asked C.asked_before v.running finishes.items closed)) }
         ensures run { IfOk result (λ closed. IsRunFrom C.opening closed) }
-        ensures fault { IfErr result (λ e. (v : RoomView) × (desks : List DeskView)
-            × IsSoundHistory C.opening v × IsFault C.asked_before v.running desks finishes.items e.2) }
+        ensures fault { IfErr result (λ e. IsTold C.opening known.new (λ v. (desks : List DeskView)
+            × IsFault C.asked_before v.running desks finishes.items e.2)) }
         ensures lanes { IfErr result (λ e. e.0 ≡ self) }
         ensures finishes { IfErr result (λ e. e.1.items ≡ finishes.items) }
     {
@@ -244,7 +309,8 @@ impl<C: Channels + Lanes, D: Board<C>, B: Backend> Office<C, D, B> {
             backends,
         } = spare.into_inner();
         let (locks, desks) = unlock_all(desks, room_of_desks);
-        let room = room.into_inner();
+        let mut room = room.into_inner();
+        room.show(rt, known);
         let _steps = room.steps();
         match room.close(desks, backends, finishes) {
             Ok(closed) => Ok(closed),
@@ -276,27 +342,35 @@ impl<C: Channels + Lanes + Send + Sync, D: Board<C>, B: Backend + Send> Office<C
         rt: &R,
         turns: u64,
     ) -> Result<(), NotStarted> {
-        match serve_each(rt, self.desks.as_slice(), turns) {
+        let are_served = serve_each(rt, self.desks.as_slice(), turns);
+        match first_unserved(are_served.as_slice()) {
             Some(lane) => Err(NotStarted { lane }),
             None => Ok(()),
         }
     }
 }
 
-// Serves each desk in a thread of its own: the least place of one whose thread could not be made.
+// Serves each desk in a thread of its own: whether that of each lane could be made.
 fn serve_each<B: Backend + Send, L: Lanes + Send + Sync, R: Threads + Wait + Sync>(
     rt: &R,
     desks: &[Mutex<Desk<B, L>>],
     turns: u64,
-) -> Option<usize> {
+) -> [bool; LANE_LIMIT] {
     thread::scope(thread::scope_env(), rt, |scope| {
-        let mut first = None;
+        let mut are_served = [true; LANE_LIMIT];
         for (lane, desk) in desks.iter().enumerate() {
             let is_started = scope.spawn(move || carry_in_turns(rt, desk, turns)).is_ok();
-            if !is_started && first.is_none() {
-                first = Some(lane);
+            if let Some(is_served) = are_served.get_mut(lane) {
+                *is_served = is_started;
             }
         }
-        first
+        are_served
     })
+}
+
+// The least lane that was not served; None where all were.
+fn first_unserved(are_served: &[bool]) -> Option<usize>
+    ensures { result ≡ position not are_served.now }
+{
+    are_served.iter().position(|is_served| !*is_served)
 }

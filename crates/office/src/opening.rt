@@ -19,17 +19,19 @@ use channel_names::Channels;
 use inbox::{Drain, Ring, Seat};
 use locked_services::{Beginning, Room, RunningTree, SeatEnds, seat_ends};
 use order_lanes::{Backend, Lane, LaneRing, Lanes};
+use run_history::{History, Keeper, NewHistory};
 use status_board::{Board, BoardReader, BoardWriter, NewBoard};
 use std::alloc::Global;
 use std::sync::Wait;
 use tree_core::Tree;
 
-/// An open office, a seat for each actor, and as many readers of the board.
+/// An open office, a seat for each actor, as many readers of the board, and what is known of the run: that no input was done.
 #[derive(Drop)]
 pub struct Opened<C: Channels + Lanes, D: Board<C>, B: Backend> {
     pub office: Office<C, D, B>,
     pub seats: Vec<Seat<C>>,
     pub readers: Vec<BoardReader<C>>,
+    pub known: History<C>,
 }
 
 // All that an office has but its tree and its lanes' ends.
@@ -103,7 +105,9 @@ fn new_room<C: Channels + Lanes, D: Board<C>>(
     drains: Vec<Drain<C>>,
     lanes: Vec<Lane<C>>,
     board: D,
+    history: NewHistory,
 ) -> Room<C, D>
+    requires history { history ≡ C.history }
     requires tree { tree.value ≡ C.opening }
     requires opening { beginning.opening ≡ tree.value }
     requires steps { beginning.run.steps ≡ [] }
@@ -119,7 +123,7 @@ fn new_room<C: Channels + Lanes, D: Board<C>>(
     ensures shown { result.is_shown ≡ true }
 {
     let running = RunningTree::begin(alloc, beginning, tree, drains, lanes);
-    Room::begin(running, board)
+    Room::begin(running, board, Keeper::over(history))
 }
 
 impl<C: Channels + Lanes, D: Board<C>, B: Backend> Parts<C, D, B> {
@@ -129,8 +133,10 @@ impl<C: Channels + Lanes, D: Board<C>, B: Backend> Parts<C, D, B> {
         alloc: Global,
         tree: Box<Tree<Global>>,
         rings: Vec<LaneRing>,
+        history: NewHistory,
         backends: Vec<B>,
     ) -> Opened<C, D, B>
+        requires history { history ≡ C.history }
         requires tree { tree.value ≡ C.opening }
         requires opening { self.beginning.opening ≡ tree.value }
         requires steps { self.beginning.run.steps ≡ [] }
@@ -149,6 +155,7 @@ impl<C: Channels + Lanes, D: Board<C>, B: Backend> Parts<C, D, B> {
         ensures office { result.office ≡ length rings.items }
         ensures seats { result.seats ≡ self.ends.seats }
         ensures readers { result.readers ≡ self.readers }
+        ensures known { result.known ≡ [] }
     {
         let Parts {
             beginning,
@@ -160,11 +167,13 @@ impl<C: Channels + Lanes, D: Board<C>, B: Backend> Parts<C, D, B> {
         } = self;
         let SeatEnds { seats, drains } = ends;
         let LaneEnds { lanes, desks } = lanes.fill(rings, backends);
-        let room = new_room(alloc, beginning, tree, drains, lanes, board);
+        let mut room = new_room(alloc, beginning, tree, drains, lanes, board, history);
+        let known = room.history();
         Opened {
             office: Office::over(room, desks, spare),
             seats,
             readers,
+            known,
         }
     }
 }
@@ -180,6 +189,7 @@ impl<B: Backend> NewOffice<B> {
         requires seats { (k : ℕ) → C.seat_ring k ≡ ring_of (slice_get self.rings k) }
         requires board { C.board ≡ self.board }
         requires tree { C.opening ≡ self.tree }
+        requires history { C.history ≡ self.history }
         requires lanes { (k : ℕ) → C.lane_ring k ≡ lane_ring_of (slice_get self.lane_rings k) }
         requires before { (k : ℕ) → C.asked_before k
             ≡ asked_of B.asked (slice_get self.backends k) }
@@ -187,6 +197,7 @@ impl<B: Backend> NewOffice<B> {
         ensures seats { IfOk result (λ o. length o.seats.items ≡ length self.rings) }
         ensures unused { IfOk result (λ o. AreUnused o.seats.items) }
         ensures readers { IfOk result (λ o. length o.readers.items ≡ length self.rings) }
+        ensures known { IfOk result (λ o. o.known ≡ []) }
         ensures first { IfOk result (λ o. (m : Machine) → StandsFor self.tree m
             → AreReaders (shot_of m ∷ []) o.readers.items) }
         ensures fault { IfErr result (λ e. (e.0 ≡ fault.NoMemory) ⊎ (e.0 ≡ fault.Board)) }
@@ -198,11 +209,12 @@ impl<B: Backend> NewOffice<B> {
             rings,
             lane_rings,
             board,
+            history,
             backends,
         } = self;
         let count = lane_rings.len();
         match make_parts::<C, R, B>(alloc, rt, &tree, rings, board, count) {
-            Ok(parts) => Ok(parts.into_open(alloc, tree, lane_rings, backends)),
+            Ok(parts) => Ok(parts.into_open(alloc, tree, lane_rings, history, backends)),
             Err(fault) => Err((fault, tree, backends)),
         }
     }

@@ -1,5 +1,6 @@
 -- The tree of a run of which nothing is said.
 use Rattle.std.specs.Prelude.{[], false}
+use Rattle.atomic_table.specs.Seated.{TableId}
 use Rattle.tree_core.specs.StandsFor.{StoredTree}
 
 -- a tree in which nothing is stored
@@ -15,3 +16,7 @@ no_tree = record {
   waits = record { count = 0; states = []; waiters = []; next = 0 };
   directories = record { names = []; subscribers = []; followed = []; next = 0 };
 }
+
+-- the name of no history
+abbrev pub no_inputs : TableId
+no_inputs = record { words = 0; slots = 0; views_name = 0; atom = 0; block = 0; offset = 0; slot_names = [] }

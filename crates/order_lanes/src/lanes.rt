@@ -8,10 +8,14 @@ pub trait Lanes {
     ghost use Rattle.std.specs.Prelude.{ℕ, List};
     ghost use Rattle.channel_names.specs.RingName.{RingName};
     ghost use Rattle.s6_events.specs.declared.order.Order.{Order};
+    ghost use Rattle.atomic_table.specs.Seated.{TableId};
     ghost use Rattle.tree_core.specs.StandsFor.{StoredTree};
 
     /// What the tree stored when the run began.
     ghost opening: { StoredTree };
+
+    /// The history of the inputs that the run has done.
+    ghost history: { TableId };
 
     /// The ring that goes from the tree to each lane's desk.
     ghost lane_ring: { ℕ → RingName };
@@ -24,9 +28,11 @@ pub trait Lanes {
 impl Lanes for Brand {
     ghost use Rattle.std.specs.Prelude.{[]};
     ghost use Rattle.channel_names.specs.Unnamed.{no_ring};
-    ghost use Rattle.order_lanes.specs.Opening.{no_tree};
+    ghost use Rattle.order_lanes.specs.Opening.{no_inputs, no_tree};
 
     ghost opening = { no_tree };
+
+    ghost history = { no_inputs };
 
     ghost lane_ring = { λ lane. no_ring };
 

@@ -1,19 +1,14 @@
-use Rattle.std.proofs.Common.{rules, ◌≡◌, length, vec_capacity, subst, ◌∙◌, arith}
-use Rattle.locked_services.specs.Chain.{IsLegalRun}
-use Rattle.tree_core.specs.StandsFor.{StoredTree}
+use Rattle.std.proofs.Common.{rules, ◌≡◌, length, vec_capacity, ◌∙◌, arith}
+use Rattle.office.proofs.Runs.{run_of}
 use Rattle.locked_services.specs.Closing.{desk_unseen}
 use Rattle.locked_services.proofs.EndOfRun.{same_length}
 use Rattle.office.proofs.office.Office.close.Goals as goal
 
 pub returns-in-Ok-clause-run : goal.returns-in-Ok-clause-run
 returns-in-Ok-clause-run g c =
-    let closed = c.in-Ok.ensures.closed in
-    let tree = c.in-Ok.closed.tree.value in
-    let steps = c.into_inner-room.result.running.steps in (
-      steps,
-      closed.steps,
-      subst (λ (o : StoredTree). IsLegalRun (record { opening = o; steps = steps; tree = tree })) c.steps-steps.ensures.sound.room.begins closed.legal,
-    )
+    let sound = c.steps-steps.ensures.sound in
+    let is = c.in-Ok.ensures.closed in
+    search (run_of, sound, is, rules)
 
 pub lock_all-desks-requires-clause-fits : goal.lock_all-desks-requires-clause-fits
 lock_all-desks-requires-clause-fits g c =

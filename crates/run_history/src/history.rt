@@ -1,0 +1,237 @@
+//! The one history of a run: all inputs that were done. It stands in proofs alone.
+ghost use Rattle.std.specs.Prelude.{◌≡◌, []};
+ghost use mathlib.Core.List.{IsPrefix};
+ghost use Rattle.crossbeam_utils.specs.Seq.{cell_view};
+ghost use Rattle.run_history.specs.Views.{knower};
+
+use atomic_table::{Join, Split};
+use crossbeam_utils::atomic::seq_cell::{Pass, RuledSeqCell};
+use crossbeam_utils::rule::{Outcome, Protocol};
+use order_lanes::Lanes;
+use std::alloc::{AllocError, Global};
+use std::collections::LinkedList;
+use std::marker::{Brand, Model, PhantomData};
+use std::mem;
+use std::sync::Wait;
+use tree_core::Input;
+
+/// All inputs of a run, once some more were done.
+pub trait Whole {
+    ghost use Rattle.std.specs.Prelude.{List};
+    ghost use Rattle.std.specs.declared.alloc.Global.{Global};
+    ghost use Rattle.tree_core.specs.declared.input.Input.{Input};
+
+    ghost whole: { List (Input Global) };
+}
+
+impl Whole for Brand {
+    ghost use Rattle.std.specs.Prelude.{[]};
+
+    ghost whole = { [] };
+}
+
+/// What a pass knows: the keeper's all inputs, and a token's a beginning of them. No value of it is made.
+pub struct View {
+    pub keeps: bool,
+    pub all: LinkedList<Input<Global>>,
+    pub claim: LinkedList<Input<Global>>,
+}
+
+/// The rule: one pass knows all, and each claim begins it.
+pub struct Growing;
+
+impl Protocol<[u64; 1], View> for Growing {
+    ghost use Rattle.std.specs.Prelude.{[]};
+    ghost use Rattle.run_history.specs.Views.{knower, Kept};
+
+    ghost holds = { Kept };
+
+    ghost first = { knower [] };
+}
+
+/// The step that adds some inputs, so that these are all.
+pub struct Extends<N: Whole> {
+    of: PhantomData<N>,
+}
+
+impl<N: Whole> Outcome<[u64; 1], View> for Extends<N> {
+    ghost use Rattle.run_history.specs.Views.{Extended};
+
+    ghost then = { Extended N.whole };
+}
+
+/// The step that compares a claim with all.
+pub struct Checks;
+
+impl Outcome<[u64; 1], View> for Checks {
+    ghost use Rattle.run_history.specs.Views.{Checked};
+
+    ghost then = { Checked };
+}
+
+/// How a token comes from the keeper's pass, and goes back.
+pub struct AllSoFar;
+
+impl Split<View> for AllSoFar {
+    ghost use Rattle.run_history.specs.Views.{claim_of};
+
+    ghost left = { λ v. v };
+
+    ghost right = { claim_of };
+}
+
+impl Join<View> for AllSoFar {
+    ghost use Rattle.run_history.specs.Views.{shown, nobody};
+
+    ghost both = { shown };
+
+    ghost spent = { nobody };
+}
+
+/// The cell of a history.
+pub type Cell = RuledSeqCell<[u64; 1], View, Growing, 1>;
+
+/// A pass of it.
+pub type Receipt = Pass<[u64; 1], View>;
+
+/// A history with no input, which no run has named yet. Contracts see it as the name that it is to get.
+#[derive(Drop)]
+pub struct NewHistory {
+    cell: Cell,
+    pass: Receipt,
+}
+
+impl Model for NewHistory {
+    ghost use Rattle.std.specs.Prelude.{◌≡◌, []};
+    ghost use Rattle.atomic_table.specs.Seated.{TableId};
+    ghost use Rattle.crossbeam_utils.specs.Seq.{cell_view};
+    ghost use Rattle.run_history.specs.Views.{knower};
+
+    ghost Value = { TableId };
+
+    ghost view = { λ h. h.cell.table.shared.table_id };
+
+    ghost invariant = { λ h. (h.pass.table_id ≡ h.cell.table.shared.table_id) × (cell_view h.pass ≡ knower []) };
+}
+
+impl NewHistory {
+    /// A new history. `AllocError` where memory was refused.
+    pub fn new(alloc: Global) -> Result<NewHistory, AllocError> {
+        let (cell, pass) = Cell::ruled(alloc, [0])?;
+        Ok(NewHistory { cell, pass })
+    }
+}
+
+/// All inputs that were done up to some moment: a beginning of the run's one history. It has no bytes.
+#[derive(Drop)]
+pub struct History<C: Lanes> {
+    pass: Receipt,
+    of: PhantomData<C>,
+}
+
+impl<C: Lanes> Model for History<C> {
+    ghost use Rattle.std.specs.Prelude.{◌≡◌, [], List};
+    ghost use Rattle.crossbeam_utils.specs.Seq.{cell_view};
+    ghost use Rattle.std.specs.declared.alloc.Global.{Global};
+    ghost use Rattle.tree_core.specs.declared.input.Input.{Input};
+
+    ghost Value = { List (Input Global) };
+
+    ghost view = { λ h. (cell_view h.pass).claim };
+
+    ghost invariant = { λ h. (h.pass.table_id ≡ C.history) × (h.pass.me.1 ≡ []) };
+}
+
+impl<C: Lanes> History<C> {
+    // The token of this pass.
+    fn over(pass: Receipt) -> History<C>
+        requires cell { pass.table_id ≡ C.history }
+        requires free { pass.me.1 ≡ [] }
+        ensures { result ≡ (cell_view pass).claim }
+    {
+        History {
+            pass,
+            of: PhantomData,
+        }
+    }
+
+    // Its pass.
+    fn into_pass(self) -> Receipt
+        ensures cell { result.table_id ≡ C.history }
+        ensures free { result.me.1 ≡ [] }
+        ensures claim { (cell_view result).claim ≡ self }
+    {
+        let History { pass, of: _ } = self;
+        pass
+    }
+}
+
+/// What knows all of the history, and alone adds to it. It lies under the lock.
+#[derive(Drop)]
+pub struct Keeper<C: Lanes> {
+    cell: Cell,
+    pass: Receipt,
+    of: PhantomData<C>,
+}
+
+impl<C: Lanes> Model for Keeper<C> {
+    ghost use Rattle.std.specs.Prelude.{◌≡◌, List};
+    ghost use Rattle.crossbeam_utils.specs.Seq.{cell_view};
+    ghost use Rattle.std.specs.declared.alloc.Global.{Global};
+    ghost use Rattle.tree_core.specs.declared.input.Input.{Input};
+    ghost use Rattle.run_history.specs.Views.{knower};
+
+    ghost Value = { List (Input Global) };
+
+    ghost view = { λ k. (cell_view k.pass).all };
+
+    ghost invariant = { λ k. (k.cell.table.shared.table_id ≡ C.history) × (k.pass.table_id ≡ C.history) × (cell_view k.pass ≡ knower (cell_view k.pass).all) };
+}
+
+impl<C: Lanes> Keeper<C> {
+    /// The keeper of this history, in a run that names it.
+    pub fn over(new: NewHistory) -> Keeper<C>
+        requires { new ≡ C.history }
+        ensures { result ≡ [] }
+    {
+        let NewHistory { cell, pass } = new;
+        Keeper {
+            cell,
+            pass,
+            of: PhantomData,
+        }
+    }
+
+    /// All inputs are then those that a type names, of which the ones so far are a beginning. It can't be refused.
+    pub fn extend<N: Whole, R: Wait>(&mut self, rt: &R)
+        requires longer { IsPrefix self.old N.whole }
+        ensures { self.new ≡ N.whole }
+    {
+        self.cell.swap_as::<Extends<N>, R>(rt, &mut self.pass, [0]);
+    }
+
+    /// All inputs so far.
+    pub fn tell(&mut self) -> History<C>
+        ensures same { self.new ≡ self.old }
+        ensures all { result ≡ self.old }
+    {
+        let pass = self.cell.split_pass::<AllSoFar>(&mut self.pass);
+        History {
+            pass,
+            of: PhantomData,
+        }
+    }
+
+    /// Makes all inputs so far known. What was known begins them.
+    pub fn show<R: Wait>(&mut self, rt: &R, known: &mut History<C>)
+        ensures same { self.new ≡ self.old }
+        ensures all { known.new ≡ self.old }
+        ensures longer { IsPrefix known.old known.new }
+    {
+        let fresh = self.cell.split_pass::<AllSoFar>(&mut self.pass);
+        let all = History::over(fresh);
+        let pass = mem::replace(known, all).into_pass();
+        self.cell.join_pass::<AllSoFar>(&mut self.pass, pass);
+        self.cell.load_as::<Checks, R>(rt, &mut self.pass);
+    }
+}
