@@ -12,6 +12,7 @@ use locked_services::DriveStop;
 use office::{NewOffice, Office, Opened};
 use order_lanes::probe::Probe;
 use order_lanes::{Backend, Lanes};
+use run_history::History;
 use s6_events::NoMemory;
 use status_board::Board;
 use std::alloc::Global;
@@ -76,6 +77,7 @@ fn drive_named<B: Backend, C: Channels + Lanes, R: Wait>(
     requires seats { (k : ℕ) → C.seat_ring k ≡ ring_of (slice_get office.rings k) }
     requires board { C.board ≡ office.board }
     requires tree { C.opening ≡ office.tree }
+    requires history { C.history ≡ office.history }
     requires lanes { (k : ℕ) → C.lane_ring k ≡ lane_ring_of (slice_get office.lane_rings k) }
     requires before { (k : ℕ) → C.asked_before k ≡ asked_of B.asked (slice_get office.backends k) }
 {
@@ -92,8 +94,13 @@ fn drive_opened<B: Backend, C: Channels + Lanes, D: Board<C>, R: Wait>(
     opened: Opened<C, D, B>,
     load: Load,
 ) -> Result<(), Fault> {
-    let mut opened = opened;
-    drive_rounds(rt, alloc, &opened.office, opened.seats.as_mut_slice(), load)
+    let Opened {
+        office,
+        mut seats,
+        mut known,
+        ..
+    } = opened;
+    drive_rounds(rt, alloc, &office, &mut known, seats.as_mut_slice(), load)
 }
 
 // The scan, and then round by round.
@@ -101,15 +108,21 @@ fn drive_rounds<B: Backend, C: Channels + Lanes, D: Board<C>, R: Wait>(
     rt: &R,
     alloc: Global,
     office: &Office<C, D, B>,
+    known: &mut History<C>,
     seats: &mut [Seat<C>],
     load: Load,
 ) -> Result<(), Fault> {
     submit_scan(alloc, seats, load)?;
-    drive(rt, office, 1)?;
+    drive(rt, office, known, 1)?;
     for first in (0..load.count).step_by(ROUND as usize) {
         submit_round(seats, load, first)?;
         let wanted = u64::from(end_of(load, first).saturating_sub(first));
-        drive(rt, office, wanted.saturating_mul(u64::from(load.seats)))?;
+        drive(
+            rt,
+            office,
+            known,
+            wanted.saturating_mul(u64::from(load.seats)),
+        )?;
     }
     Ok(())
 }
@@ -152,11 +165,12 @@ fn submit<C: Channels>(seat: &mut Seat<C>, input: Input<Global>) -> Result<(), F
 fn drive<C: Channels + Lanes, D: Board<C>, B: Backend, R: Wait>(
     rt: &R,
     office: &Office<C, D, B>,
+    known: &mut History<C>,
     wanted: u64,
 ) -> Result<(), Fault> {
     let mut left = wanted;
     for _ in 0..2 {
-        let driven = office.drive(rt, left);
+        let driven = office.drive(rt, known, left);
         left = left.saturating_sub(driven.steps);
         match driven.stop {
             DriveStop::Count => return Ok(()),

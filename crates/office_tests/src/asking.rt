@@ -4,8 +4,9 @@ use channel_names::Channels;
 use inbox::Ticket;
 use office::Office;
 use order_lanes::{Backend, Lanes};
+use run_history::History;
 use s6_events::Actor;
-use s6_replay::{push_reply, write_effect};
+use s6_replay::{check, push_reply, write_effect};
 use status_board::Board;
 use std::alloc::Global;
 use std::io::Write;
@@ -34,18 +35,20 @@ pub fn ask<C: Channels + Lanes, D: Board<C>, B: Backend, R: Wait>(
     verb: &str,
     rest: &str,
     office: &Office<C, D, B>,
+    known: &mut History<C>,
     text: &mut Vec<u8>,
 ) -> bool {
     let (first, second) = numbers_of(rest);
     match verb {
-        "drive" => drive(rt, office, first, text),
+        "drive" => drive(rt, office, known, first, text),
         "carry" => carry(rt, office, first as usize, second, text),
-        "reply" => tell_reply(rt, office, first, second, text),
-        "effect" => tell_effect(rt, alloc, office, first, text),
-        "record" => record(rt, office, first == 1, text),
-        "done" => tell_answered(rt, office, first, true, text),
-        "answered" => tell_answered(rt, office, first, false, text),
-        "replayed" => tell_replayed(rt, alloc, office, first, text),
+        "reply" => tell_reply(rt, office, known, first, second, text),
+        "effect" => tell_effect(rt, alloc, office, known, first, text),
+        "record" => record(rt, office, known, first == 1, text),
+        "check" => tell_checked(rt, alloc, office, known, text),
+        "done" => tell_answered(rt, office, known, first, true, text),
+        "answered" => tell_answered(rt, office, known, first, false, text),
+        "replayed" => tell_replayed(rt, alloc, office, known, first, text),
         _ => false,
     }
 }
@@ -54,10 +57,11 @@ pub fn ask<C: Channels + Lanes, D: Board<C>, B: Backend, R: Wait>(
 fn drive<C: Channels + Lanes, D: Board<C>, B: Backend, R: Wait>(
     rt: &R,
     office: &Office<C, D, B>,
+    known: &mut History<C>,
     most: u64,
     text: &mut Vec<u8>,
 ) -> bool {
-    let driven = office.drive(rt, most);
+    let driven = office.drive(rt, known, most);
     writeln!(text, "{driven:?}").is_ok()
 }
 
@@ -80,6 +84,7 @@ fn carry<C: Channels + Lanes, D: Board<C>, B: Backend, R: Wait>(
 fn tell_reply<C: Channels + Lanes, D: Board<C>, B: Backend, R: Wait>(
     rt: &R,
     office: &Office<C, D, B>,
+    known: &mut History<C>,
     actor: u64,
     number: u64,
     text: &mut Vec<u8>,
@@ -87,7 +92,7 @@ fn tell_reply<C: Channels + Lanes, D: Board<C>, B: Backend, R: Wait>(
     let Some(actor) = actor_of(actor) else {
         return false;
     };
-    match office.reply(rt, Ticket { actor, number }) {
+    match office.reply(rt, known, Ticket { actor, number }) {
         Ok(Some(reply)) => push_reply(text, &reply).is_ok() && text.push(b'\n').is_ok(),
         Ok(None) => text.extend_from_slice(b"none\n").is_ok(),
         Err(_) => false,
@@ -103,10 +108,11 @@ fn does_count(reply: &Reply<Global>, by_done: bool) -> bool {
 fn is_answered<C: Channels + Lanes, D: Board<C>, B: Backend, R: Wait>(
     rt: &R,
     office: &Office<C, D, B>,
+    known: &mut History<C>,
     ticket: Ticket,
     by_done: bool,
 ) -> bool {
-    match office.reply(rt, ticket) {
+    match office.reply(rt, known, ticket) {
         Ok(Some(reply)) => does_count(&reply, by_done),
         _ => false,
     }
@@ -116,6 +122,7 @@ fn is_answered<C: Channels + Lanes, D: Board<C>, B: Backend, R: Wait>(
 fn count_answered<C: Channels + Lanes, D: Board<C>, B: Backend, R: Wait>(
     rt: &R,
     office: &Office<C, D, B>,
+    known: &mut History<C>,
     actor: Actor,
     most: u64,
     by_done: bool,
@@ -123,7 +130,7 @@ fn count_answered<C: Channels + Lanes, D: Board<C>, B: Backend, R: Wait>(
     let mut count = 0u64;
     for number in 0..most {
         let number = number + 1;
-        let is_one = is_answered(rt, office, Ticket { actor, number }, by_done);
+        let is_one = is_answered(rt, office, known, Ticket { actor, number }, by_done);
         count = count.saturating_add(u64::from(is_one));
     }
     count
@@ -133,6 +140,7 @@ fn count_answered<C: Channels + Lanes, D: Board<C>, B: Backend, R: Wait>(
 fn tell_answered<C: Channels + Lanes, D: Board<C>, B: Backend, R: Wait>(
     rt: &R,
     office: &Office<C, D, B>,
+    known: &mut History<C>,
     most: u64,
     by_done: bool,
     text: &mut Vec<u8>,
@@ -140,7 +148,7 @@ fn tell_answered<C: Channels + Lanes, D: Board<C>, B: Backend, R: Wait>(
     let mut count = 0u64;
     for number in 0..16u8 {
         let actor = Actor::new(number).unwrap_or_default();
-        count = count.saturating_add(count_answered(rt, office, actor, most, by_done));
+        count = count.saturating_add(count_answered(rt, office, known, actor, most, by_done));
     }
     writeln!(text, "{count}").is_ok()
 }
@@ -150,10 +158,11 @@ fn tell_effect<C: Channels + Lanes, D: Board<C>, B: Backend, R: Wait>(
     rt: &R,
     alloc: Global,
     office: &Office<C, D, B>,
+    known: &mut History<C>,
     number: u64,
     text: &mut Vec<u8>,
 ) -> bool {
-    match office.effect(rt, number) {
+    match office.effect(rt, known, number) {
         Ok(Some(effect)) => write_effect(alloc, number, &effect, text).is_ok(),
         Ok(None) => text.extend_from_slice(b"none\n").is_ok(),
         Err(_) => false,
@@ -164,12 +173,31 @@ fn tell_effect<C: Channels + Lanes, D: Board<C>, B: Backend, R: Wait>(
 fn record<C: Channels + Lanes, D: Board<C>, B: Backend, R: Wait>(
     rt: &R,
     office: &Office<C, D, B>,
+    known: &mut History<C>,
     head: bool,
     text: &mut Vec<u8>,
 ) -> bool {
-    match office.write_run(rt, head, text) {
+    match office.write_run(rt, known, head, text) {
         Ok(count) => writeln!(text, "{count} steps").is_ok(),
         Err(_) => false,
+    }
+}
+
+// Tells what a check finds of the run, written as a script.
+fn tell_checked<C: Channels + Lanes, D: Board<C>, B: Backend, R: Wait>(
+    rt: &R,
+    alloc: Global,
+    office: &Office<C, D, B>,
+    known: &mut History<C>,
+    text: &mut Vec<u8>,
+) -> bool {
+    let mut script = Vec::new(alloc);
+    if office.write_run(rt, known, true, &mut script).is_err() {
+        return false;
+    }
+    match check(alloc, alloc, &mut script.as_slice()) {
+        Ok(checked) => writeln!(text, "{checked:?}").is_ok(),
+        Err(fault) => writeln!(text, "{fault:?}").is_ok(),
     }
 }
 
@@ -178,10 +206,11 @@ fn tell_replayed<C: Channels + Lanes, D: Board<C>, B: Backend, R: Wait>(
     rt: &R,
     alloc: Global,
     office: &Office<C, D, B>,
+    known: &mut History<C>,
     steps: u64,
     text: &mut Vec<u8>,
 ) -> bool {
-    match is_replayed(rt, alloc, office, steps) {
+    match is_replayed(rt, alloc, office, known, steps) {
         Some(is_same) => writeln!(text, "{is_same}").is_ok(),
         None => false,
     }

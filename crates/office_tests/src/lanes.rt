@@ -60,7 +60,7 @@ fn add_meeting<R: Copy + Drop>(
     all: &mut Vec<Meeting<R>>,
 ) -> Result<(), NoMemory> {
     let count = Arc::try_clone(count)?;
-    let probe = new_probe(rt, alloc, log)?;
+    let probe = new_probe(rt, alloc, Vec::new(alloc), log)?;
     all.push(Meeting { rt, probe, count })?;
     Ok(())
 }

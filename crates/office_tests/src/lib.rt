@@ -14,8 +14,6 @@ mod opened;
 #[cfg(test)]
 mod parts;
 #[cfg(test)]
-mod refused;
-#[cfg(test)]
 mod replaying;
 #[cfg(test)]
 mod scenes;

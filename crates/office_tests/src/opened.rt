@@ -1,12 +1,13 @@
 //! What is asked of an office that is open.
 use crate::asking::ask;
-use crate::refused::fill_and_drive;
 use crate::seats::{finish, submit_beside, submit_many, take_board};
 use crate::storm::storm;
 use channel_names::Channels;
-use inbox::Finished;
+use inbox::{Finished, Seat};
 use office::{Closed, Office, Opened};
-use order_lanes::{Backend, Lanes};
+use order_lanes::{Backend, Lanes, act_of};
+use run_history::History;
+use s6_events::At;
 use status_board::Board;
 use std::alloc::Global;
 use std::io::Write;
@@ -22,7 +23,8 @@ pub struct Open<C: Channels + Lanes, D: Board<C>, B: Backend> {
 }
 
 /// Closes the office: what is left, or why it goes on. Then all is as it was.
-pub fn close<C: Channels + Lanes, D: Board<C>, B: Backend>(
+pub fn close<C: Channels + Lanes, D: Board<C>, B: Backend, R: Wait>(
+    rt: &R,
     open: &mut Option<Open<C, D, B>>,
     left: &mut Option<Closed<B>>,
     text: &mut Vec<u8>,
@@ -34,14 +36,16 @@ pub fn close<C: Channels + Lanes, D: Board<C>, B: Backend>(
         office,
         seats,
         readers,
+        mut known,
     } = opened;
-    match office.close(finishes) {
+    match office.close(rt, &mut known, finishes) {
         Ok(closed) => leave(closed, left, text),
         Err((office, finishes, fault)) => {
             let opened = Opened {
                 office,
                 seats,
                 readers,
+                known,
             };
             *open = Some(Open { opened, finishes });
             writeln!(text, "{fault:?}").is_ok()
@@ -68,17 +72,39 @@ pub fn do_open<
         office,
         seats,
         readers,
+        known,
     } = &mut open.opened;
     match verb {
         "submit" => submit_many(alloc, rest, seats),
         "finish" => finish(seats, &mut open.finishes).is_some(),
         "beside" => submit_beside(rt, rest, seats, text).is_some(),
-        "read" => take_board(rt, office, readers, text).is_some(),
+        "read" => take_board(rt, office, known, readers, text).is_some(),
         "serve" => serve(rt, rest, office, text),
+        "report" => hand_in_report(rt, office, seats, text),
         "storm" => storm(rt, alloc, office, seats, readers),
-        "fill" => fill_and_drive(rt, alloc, office, seats, text).is_some(),
-        "sizes" => sizes(rt, office, open.finishes.len(), text),
-        _ => ask(rt, alloc, verb, rest, office, text),
+        "sizes" => sizes(rt, office, known, open.finishes.len(), text),
+        _ => ask(rt, alloc, verb, rest, office, known, text),
+    }
+}
+
+// The first seat hands in the next report of the first lane. What is handed in is told.
+fn hand_in_report<C: Channels + Lanes, D: Board<C>, B: Backend, R: Wait>(
+    rt: &R,
+    office: &Office<C, D, B>,
+    seats: &mut [Seat<C>],
+    text: &mut Vec<u8>,
+) -> bool {
+    let Some(seat) = seats.first_mut() else {
+        return false;
+    };
+    if office.lanes() == 0 || seat.sent() > 1_000 {
+        return false;
+    }
+    match office.report(rt, 0) {
+        Some(report) => {
+            seat.submit(At::zero(), act_of(&report)).is_ok() && writeln!(text, "{report:?}").is_ok()
+        }
+        None => text.extend_from_slice(b"none\n").is_ok(),
     }
 }
 
@@ -98,9 +124,10 @@ fn serve<
 fn sizes<C: Channels + Lanes, D: Board<C>, B: Backend, R: Wait>(
     rt: &R,
     office: &Office<C, D, B>,
+    known: &mut History<C>,
     finishes: usize,
     text: &mut Vec<u8>,
 ) -> bool {
-    let (lanes, steps) = (office.lanes(), office.steps(rt));
+    let (lanes, steps) = (office.lanes(), office.steps(rt, known));
     writeln!(text, "{lanes} lanes, {steps} steps, {finishes} finishes").is_ok()
 }

@@ -1,7 +1,7 @@
 //! What an office is made of: a tree, and probes that write down what they are asked.
 use office::Closed;
 use order_lanes::probe::Probe;
-use s6_events::{Actor, At, NoMemory, Order};
+use s6_events::{Actor, At, NoMemory, Order, Report};
 use s6_script::{push_number, push_spaced};
 use std::alloc::{AllocError, Global};
 use std::sync::{Arc, Mutex, Wait};
@@ -25,10 +25,15 @@ pub fn new_effect(alloc: Global) -> Result<Box<Effect<Global>>, NoMemory> {
     Ok(Box::new(alloc, Effect::new(alloc))?)
 }
 
-/// A probe, without reports, that writes into this log.
-pub fn new_probe<R: Drop>(rt: R, alloc: Global, log: &Log) -> Result<Probe<R>, NoMemory> {
+/// A probe with these reports that writes into this log.
+pub fn new_probe<R: Drop>(
+    rt: R,
+    alloc: Global,
+    reports: Vec<Report>,
+    log: &Log,
+) -> Result<Probe<R>, NoMemory> {
     let log = Arc::try_clone(log)?;
-    Ok(Probe::new(rt, alloc, Vec::new(alloc), 0, log))
+    Ok(Probe::new(rt, alloc, reports, 0, log))
 }
 
 // So many such probes.
@@ -40,7 +45,7 @@ fn new_probes<R: Copy + Drop>(
 ) -> Result<Vec<Probe<R>>, NoMemory> {
     let mut probes = Vec::new(alloc);
     for _ in 0..count {
-        probes.push(new_probe(rt, alloc, log)?)?;
+        probes.push(new_probe(rt, alloc, Vec::new(alloc), log)?)?;
     }
     Ok(probes)
 }

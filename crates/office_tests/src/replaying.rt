@@ -5,6 +5,7 @@ use channel_names::Channels;
 use inbox::Ticket;
 use office::Office;
 use order_lanes::{Backend, Lanes};
+use run_history::History;
 use s6_events::Actor;
 use s6_replay::push_reply;
 use status_board::Board;
@@ -47,10 +48,11 @@ fn has_reply<C: Channels + Lanes, D: Board<C>, B: Backend, R: Wait>(
     rt: &R,
     alloc: Global,
     office: &Office<C, D, B>,
+    known: &mut History<C>,
     ticket: Ticket,
     reply: &Reply<Global>,
 ) -> Option<bool> {
-    match office.reply(rt, ticket) {
+    match office.reply(rt, known, ticket) {
         Ok(Some(recorded)) => is_same_reply(alloc, &recorded, reply),
         _ => None,
     }
@@ -61,18 +63,26 @@ fn gives_same<C: Channels + Lanes, D: Board<C>, B: Backend, R: Wait>(
     rt: &R,
     alloc: Global,
     office: &Office<C, D, B>,
+    known: &mut History<C>,
     tree: &mut Tree<Global>,
     effect: &mut Effect<Global>,
     numbers: &mut [u32],
     step: u64,
 ) -> Option<bool> {
-    let actor = office.actor(rt, step)?;
+    let actor = office.actor(rt, known, step)?;
     let number = count_one(numbers, actor)?;
     if !make_step(alloc, tree, effect, actor, number) {
         return None;
     }
     let number = u64::from(number) + 1;
-    has_reply(rt, alloc, office, Ticket { actor, number }, &effect.reply)
+    has_reply(
+        rt,
+        alloc,
+        office,
+        known,
+        Ticket { actor, number },
+        &effect.reply,
+    )
 }
 
 // Whether each of so many steps gives the reply of the records.
@@ -80,6 +90,7 @@ fn gives_each<C: Channels + Lanes, D: Board<C>, B: Backend, R: Wait>(
     rt: &R,
     alloc: Global,
     office: &Office<C, D, B>,
+    known: &mut History<C>,
     tree: &mut Tree<Global>,
     effect: &mut Effect<Global>,
     steps: u64,
@@ -88,7 +99,16 @@ fn gives_each<C: Channels + Lanes, D: Board<C>, B: Backend, R: Wait>(
     let mut is_same = Some(true);
     for step in 0..steps {
         if is_same == Some(true) {
-            is_same = gives_same(rt, alloc, office, tree, effect, &mut numbers, step + 1);
+            is_same = gives_same(
+                rt,
+                alloc,
+                office,
+                known,
+                tree,
+                effect,
+                &mut numbers,
+                step + 1,
+            );
         }
     }
     is_same
@@ -100,9 +120,10 @@ pub fn is_replayed<C: Channels + Lanes, D: Board<C>, B: Backend, R: Wait>(
     rt: &R,
     alloc: Global,
     office: &Office<C, D, B>,
+    known: &mut History<C>,
     steps: u64,
 ) -> Option<bool> {
     let mut tree = new_tree(alloc).ok()?;
     let mut effect = new_effect(alloc).ok()?;
-    gives_each(rt, alloc, office, &mut tree, &mut effect, steps)
+    gives_each(rt, alloc, office, known, &mut tree, &mut effect, steps)
 }

@@ -1,8 +1,9 @@
 //! Scenes of one thread, each written as one text: what is asked of offices, and what is to come of it.
-use crate::parts::{Log, new_log, new_parts, push_log, step_once};
+use crate::parts::{Log, new_log, new_parts, new_probe, new_tree, push_log, step_once};
 use crate::stage::play_scene;
 use office::Closed;
-use order_lanes::Backend;
+use order_lanes::{Backend, Report};
+use s6_events::{Exit, NoMemory, Sid};
 use std::alloc::Global;
 use std::process::Abort;
 use std::sync::Wait;
@@ -151,7 +152,7 @@ fn two_seats_make_one_run(rt: HostRuntime) {
     plays_anew(rt, rt.alloc(), 1, TWO_SEATS, "0");
 }
 
-/// Two seats submit 32 ticks each, in threads of their own. Then all is done in one drive.
+/// Two seats submit 32 ticks each, in threads of their own. Then all is done in one drive, and the run is closed.
 const TWO_SEATS: &str = "> open 2
 > beside 32
 32 32
@@ -165,6 +166,77 @@ Driven { steps: 0, stop: Idle }
 64
 > answered 33
 64
+> effect 1
+1 done
+> effect 65
+none
+> check
+Legal(64)
+> finish
+> close
+Missing
+> finish
+> close
+64 steps, tree of 64, 1 backends
+";
+
+#[test]
+fn boxed_backend_gives_a_death_twice(rt: HostRuntime) {
+    let alloc = rt.alloc();
+    let log = new_log(alloc).ok().expect(&rt, "no log");
+    let reports = reports_of(alloc).ok().expect(&rt, "no reports");
+    let probe = new_probe(rt, alloc, reports, &log)
+        .ok()
+        .expect(&rt, "no probe");
+    let boxed: Box<dyn Backend + Send> = Box::new(alloc, probe).ok().expect(&rt, "no box");
+    let mut backends = Vec::new(alloc);
+    backends.push(boxed).ok().expect(&rt, "no room");
+    let tree = new_tree(alloc).ok().expect(&rt, "no tree");
+    let mut left = Some(Closed {
+        tree,
+        steps: 0,
+        backends,
+    });
+    plays(&rt, alloc, &mut left, &log, REPORTS, "1, run 1 1 of web");
+}
+
+// A start, and its death twice.
+fn reports_of(alloc: Global) -> Result<Vec<Report>, NoMemory> {
+    let mut reports = Vec::new(alloc);
+    reports.push(Report::Started(Sid(1), 1, 500))?;
+    for _ in 0..2 {
+        reports.push(Report::Death(Sid(1), 1, Exit::Code(0)))?;
+    }
+    Ok(reports)
+}
+
+/// What the backend reports is handed in. The second death is that of a run that has ended.
+const REPORTS: &str = "> open 1
+> submit 1 0 0 scan web
+> drive 1
+Driven { steps: 1, stop: Count }
+> carry 0 10
+Idle
+> report
+Started(Sid(1), 1, 500)
+> drive 1
+Driven { steps: 1, stop: Count }
+> report
+Death(Sid(1), 1, Code(0))
+> drive 1
+Driven { steps: 1, stop: Count }
+> report
+Death(Sid(1), 1, Code(0))
+> drive 1
+Driven { steps: 1, stop: Count }
+> report
+none
+> reply 0 3
+done
+> reply 0 4
+refused Stale
+> check
+Legal(4)
 ";
 
 #[test]
@@ -334,6 +406,37 @@ Idle
 > finish
 > close
 1 steps, tree of 4, 1 backends
+";
+
+#[test]
+fn desks_keep_their_order(rt: HostRuntime) {
+    plays_anew(
+        rt,
+        rt.alloc(),
+        2,
+        DESKS,
+        "2, run 2 1 of second, run 1 1 of first",
+    );
+}
+
+/// The close of an office of two lanes is refused three times. Each puts the desks back behind their locks.
+const DESKS: &str = "> open 1
+> submit 1 0 0 scan first second
+> drive 1
+Driven { steps: 1, stop: Count }
+> close
+Missing
+> carry 0 64
+Idle
+> close
+Missing
+> carry 1 64
+Idle
+> close
+Missing
+> finish
+> close
+1 steps, tree of 1, 2 backends
 ";
 
 #[test]

@@ -89,6 +89,7 @@ fn play_named<
     requires seats { (k : ℕ) → C.seat_ring k ≡ ring_of (slice_get office.rings k) }
     requires board { C.board ≡ office.board }
     requires tree { C.opening ≡ office.tree }
+    requires history { C.history ≡ office.history }
     requires lanes { (k : ℕ) → C.lane_ring k ≡ lane_ring_of (slice_get office.lane_rings k) }
     requires before { (k : ℕ) → C.asked_before k ≡ asked_of B.asked (slice_get office.backends k) }
 {
@@ -176,7 +177,7 @@ fn play_line<
 ) -> bool {
     let is_written = writeln!(text, "> {asked}").is_ok();
     if asked == "close" {
-        return close(open, left, text) && is_written;
+        return close(rt, open, left, text) && is_written;
     }
     match open {
         Some(open) => do_open(rt, alloc, asked, open, text) && is_written,

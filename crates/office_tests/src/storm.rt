@@ -5,6 +5,7 @@ use inbox::{Seat, Ticket};
 use locked_services::{DriveStop, Driven};
 use office::Office;
 use order_lanes::{Backend, Lanes};
+use run_history::History;
 use s6_events::{Actor, At};
 use status_board::{Board, BoardReader, Shot};
 use std::alloc::Global;
@@ -230,12 +231,13 @@ fn drive_all<C: Channels + Lanes, D: Board<C>, B: Backend, R: Wait + Clock>(
     marks: &AtomicU64,
 ) {
     let wanted = u64::from(SEATS) * ACTS;
+    let mut known = office.history(rt);
     let mut made = 0u64;
     for _ in rt.forever() {
         if made >= wanted || has_fault(marks) {
             break;
         }
-        let driven = drive_on(rt, office);
+        let driven = drive_on(rt, office, &mut known);
         made = made.saturating_add(driven);
     }
     marks.fetch_add(DONE, Ordering::SeqCst);
@@ -245,8 +247,9 @@ fn drive_all<C: Channels + Lanes, D: Board<C>, B: Backend, R: Wait + Clock>(
 fn drive_on<C: Channels + Lanes, D: Board<C>, B: Backend, R: Wait + Clock>(
     rt: &R,
     office: &Office<C, D, B>,
+    known: &mut History<C>,
 ) -> u64 {
-    let Driven { steps, stop } = office.drive(rt, 512);
+    let Driven { steps, stop } = office.drive(rt, known, 512);
     match stop {
         DriveStop::Blocked(lane) if lane < office.lanes() => {
             office.carry(rt, lane, 4_096);

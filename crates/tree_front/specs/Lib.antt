@@ -1,2 +1,3 @@
+pub mod NoMemory
 pub mod ServeLines
 pub mod Usage

@@ -1,7 +1,8 @@
 //! `svcheck`: what svscan would do with each entry of a scan directory. It starts nothing.
+use crate::no_memory::tell_no_memory;
 use s6_events::Name;
 use s6_tools::{Told, add_escaped};
-use server_rules::{Found, read_listing};
+use scan_directory::{Found, read_listing};
 use std::alloc::{AllocError, Global};
 use std::fs;
 use std::io::{self, Write};
@@ -31,10 +32,7 @@ pub fn check_directory<R: Files + Copy + Drop, W: Write, E: Write>(
     match report_of(rt, alloc, directory) {
         Ok((text, is_refused)) => print_report(text.as_slice(), is_refused, output, errors),
         Err(error) => match error.kind() {
-            io::ErrorKind::OutOfMemory => tell(
-                b"svcheck: no memory\nsvcheck: the system refused memory; try again later\n",
-                errors,
-            ),
+            io::ErrorKind::OutOfMemory => tell_no_memory("svcheck", errors),
             io::ErrorKind::InvalidData => tell_directory(
                 b" has too much in it for a line of a script: svscan would not start\n",
                 directory,

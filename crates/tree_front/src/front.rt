@@ -5,9 +5,9 @@ use crate::asked::{Program, asks_help, program_named};
 use crate::check_dir::check_directory;
 use crate::help::{print_help, print_help_of, refuse_tool};
 use crate::help_text::{CONNECT_HELP, SVCHECK_HELP, SVSCAN_HELP};
+use crate::no_memory::tell_no_memory;
 use crate::place::TreePlace;
 use crate::usage::refuse_words;
-use arrayvec::ArrayVec;
 use s6_tools::{Misuse, run_client};
 use std::alloc::Global;
 use std::env::Env;
@@ -17,9 +17,6 @@ use std::process::Processes;
 use std::rt::Files;
 use std::time::Clock;
 use std::{env, io};
-
-/// The status of a program to which the system refused something.
-const SYSTEM_STATUS: u8 = 111;
 
 /// The status of a program that was not used as it says.
 const USAGE_STATUS: u8 = 100;
@@ -161,17 +158,6 @@ fn borrowed(alloc: Global, words: &[String]) -> io::Result<Vec<&str>> {
         all.push(word.as_str())?;
     }
     Ok(all)
-}
-
-// Two lines in one write.
-fn tell_no_memory<E: Write>(program: &str, errors: &mut E) -> u8 {
-    let mut lines = ArrayVec::<u8, 128>::new();
-    let _ = lines.try_extend_from_slice(program.as_bytes());
-    let _ = lines.try_extend_from_slice(b": no memory\n");
-    let _ = lines.try_extend_from_slice(program.as_bytes());
-    let _ = lines.try_extend_from_slice(b": the system refused memory; try again later\n");
-    let _ = errors.write_all(lines.as_slice());
-    SYSTEM_STATUS
 }
 
 // Runs `svcheck` with the words behind it.

@@ -8,6 +8,7 @@ mod descriptors;
 mod front;
 mod help;
 mod help_text;
+mod no_memory;
 mod place;
 mod program;
 mod serve_lines;

@@ -10,7 +10,8 @@ use day_times::day_second;
 use error_notes::{NoteWriter, Notes};
 use line_server::{Seats, Server};
 use order_lanes::Backend;
-use server_rules::{Found, RowCache, ServeFault, read_listing, serving_line};
+use scan_directory::{Found, read_listing};
+use server_rules::{RowCache, ServeFault, serving_line};
 use server_threads::{
     ScanDesk, ServerClock, Shared, SocketFile, attend, end_connections, listen, new_callers,
     start_listener,

@@ -5,7 +5,7 @@ use child_runner::{LaneLink, serve_lane};
 use error_notes::{NoteWriter, Notes};
 use line_server::Server;
 use order_lanes::Backend;
-use server_rules::Found;
+use scan_directory::Found;
 use server_threads::{Context, Shared};
 use std::io::Write;
 use std::sync::Wait;

@@ -4,6 +4,7 @@ use crate::run::driver_state::{DriverState, Lasting};
 use channel_names::Channels;
 use office::Office;
 use order_lanes::{Backend, Lanes};
+use run_history::History;
 use s6_events::NoMemory;
 use server_rules::{Answer, Line, Place, Post, Subject, hand_out, place_of};
 use server_threads::{Context, moment_of};
@@ -54,7 +55,7 @@ fn deliver_next<C: Channels + Lanes, D: Board<C>, B: Backend, R: Wait, E: Write>
 ) -> Result<bool, NoMemory> {
     let number = state.steps.saturating_add(1);
     let mut effect = state.lasting.take_effect(context.alloc())?;
-    let filled = office.fill(context.rt, number, &mut effect);
+    let filled = office.fill(context.rt, &mut state.known, number, &mut effect);
     let delivered = match filled {
         Ok(true) => deliver(context, office, state, number, &effect, errors),
         _ => Ok(()),
@@ -73,10 +74,10 @@ fn deliver<C: Channels + Lanes, D: Board<C>, B: Backend, R: Wait, E: Write>(
     effect: &Effect<Global>,
     errors: &mut E,
 ) -> Result<(), NoMemory> {
-    let Some(actor) = office.actor(context.rt, number) else {
+    let Some(actor) = office.actor(context.rt, &mut state.known, number) else {
         return Ok(());
     };
-    let moment = moment_of_step(context, office, number);
+    let moment = moment_of_step(context, office, &mut state.known, number);
     state.lasting.clock = state.lasting.clock.max(moment);
     note_step(state, number, moment, effect)?;
     let mut posts = mem::replace(&mut state.posts, Vec::new(context.alloc()));
@@ -102,16 +103,17 @@ fn deliver<C: Channels + Lanes, D: Board<C>, B: Backend, R: Wait, E: Write>(
 fn moment_of_step<C: Channels + Lanes, D: Board<C>, B: Backend, R: Wait>(
     context: &Context<'_, R>,
     office: &Office<C, D, B>,
+    known: &mut History<C>,
     number: u64,
 ) -> u64 {
-    match office.moment(context.rt, number) {
+    match office.moment(context.rt, known, number) {
         Some(moment) => moment.millis(),
         None => 0,
     }
 }
 
 // The roster notes what the step of this number gave, unless it has already. Its input was handed in at this moment, in milliseconds.
-fn note_step<C: Channels>(
+fn note_step<C: Channels + Lanes>(
     state: &mut DriverState<C>,
     number: u64,
     moment: u64,
@@ -144,20 +146,16 @@ fn catch_up<C: Channels + Lanes, D: Board<C>, B: Backend, R: Wait>(
     state: &mut DriverState<C>,
 ) -> Result<(), NoMemory> {
     for number in state.noted.saturating_add(1)..=state.made {
-        if let Some(effect) = office.effect(context.rt, number)? {
-            note_step(
-                state,
-                number,
-                moment_of_step(context, office, number),
-                &effect,
-            )?;
+        if let Some(effect) = office.effect(context.rt, &mut state.known, number)? {
+            let moment = moment_of_step(context, office, &mut state.known, number);
+            note_step(state, number, moment, &effect)?;
         }
     }
     Ok(())
 }
 
 // What is posted of a step, and to whom.
-fn hand_out_of<C: Channels>(
+fn hand_out_of<C: Channels + Lanes>(
     state: &mut DriverState<C>,
     place: Place,
     effect: &Effect<Global>,
@@ -188,7 +186,7 @@ fn hand_out_of<C: Channels>(
 }
 
 // A step of actor 0. What a scan found no room for is told.
-fn note_scanner<C: Channels, R: Wait, E: Write>(
+fn note_scanner<C: Channels + Lanes, R: Wait, E: Write>(
     context: &Context<'_, R>,
     state: &mut DriverState<C>,
     reply: &Reply<Global>,

@@ -1,6 +1,7 @@
 //! Posting what steps give to connections.
 use crate::run::driver_state::{DriverState, Lasting};
 use channel_names::Channels;
+use order_lanes::Lanes;
 use server_rules::{
     Answer, Line, News, OwnAnswer, Post, Subject, clock_line, following_line, news_lines,
     recorded_line, reply_lines,
@@ -11,7 +12,7 @@ use std::sync::Wait;
 use tree_core::Reply;
 
 /// Posts what a step with this reply gave, in order.
-pub fn post_all<C: Channels, R: Wait>(
+pub fn post_all<C: Channels + Lanes, R: Wait>(
     context: &Context<'_, R>,
     state: &mut DriverState<C>,
     reply: &Reply<Global>,
@@ -27,7 +28,7 @@ pub fn post_all<C: Channels, R: Wait>(
 }
 
 /// Posts an answer that is no reply to a step.
-pub fn give<C: Channels, R: Wait>(
+pub fn give<C: Channels + Lanes, R: Wait>(
     context: &Context<'_, R>,
     state: &mut DriverState<C>,
     seat: usize,
@@ -46,7 +47,7 @@ pub fn give<C: Channels, R: Wait>(
     }
 }
 
-fn post_reply<C: Channels, R: Wait>(
+fn post_reply<C: Channels + Lanes, R: Wait>(
     context: &Context<'_, R>,
     state: &mut DriverState<C>,
     seat: usize,
@@ -57,7 +58,7 @@ fn post_reply<C: Channels, R: Wait>(
 }
 
 // Posts the status of these services, from the board.
-fn post_status<C: Channels, R: Wait>(
+fn post_status<C: Channels + Lanes, R: Wait>(
     context: &Context<'_, R>,
     state: &mut DriverState<C>,
     seat: usize,
@@ -82,7 +83,7 @@ fn post_status<C: Channels, R: Wait>(
     }
 }
 
-fn post_clock<C: Channels, R: Wait>(
+fn post_clock<C: Channels + Lanes, R: Wait>(
     context: &Context<'_, R>,
     state: &mut DriverState<C>,
     seat: usize,
@@ -96,7 +97,7 @@ fn post_clock<C: Channels, R: Wait>(
     note_answer(context, state, seat);
 }
 
-fn post_answer<C: Channels, R: Wait>(
+fn post_answer<C: Channels + Lanes, R: Wait>(
     context: &Context<'_, R>,
     state: &mut DriverState<C>,
     seat: usize,
@@ -106,7 +107,7 @@ fn post_answer<C: Channels, R: Wait>(
     note_answer(context, state, seat);
 }
 
-fn post_news<C: Channels, R: Wait>(
+fn post_news<C: Channels + Lanes, R: Wait>(
     context: &Context<'_, R>,
     state: &mut DriverState<C>,
     seat: usize,
@@ -120,7 +121,7 @@ fn post_news<C: Channels, R: Wait>(
 }
 
 // A request of the connection is answered.
-fn note_answer<C: Channels, R: Wait>(
+fn note_answer<C: Channels + Lanes, R: Wait>(
     context: &Context<'_, R>,
     state: &mut DriverState<C>,
     seat: usize,

@@ -3,13 +3,14 @@ use crate::client::posting::{give, wake_all};
 use crate::run::driver_state::DriverState;
 use arrayvec::ArrayVec;
 use channel_names::Channels;
+use order_lanes::Lanes;
 use server_rules::{OwnAnswer, Todo};
 use server_threads::Context;
 use std::mem;
 use std::sync::Wait;
 
 /// The connection on this seat asks for a record: the run ends as soon as nothing is left to be done in it. Without a record it is refused.
-pub fn begin_record<C: Channels, R: Wait>(
+pub fn begin_record<C: Channels + Lanes, R: Wait>(
     context: &Context<'_, R>,
     state: &mut DriverState<C>,
     seat: usize,
@@ -27,7 +28,7 @@ pub fn begin_record<C: Channels, R: Wait>(
 }
 
 /// The run stands in the record, which has so many steps now: those that wait for it are told.
-pub fn tell_recorded<C: Channels, R: Wait>(
+pub fn tell_recorded<C: Channels + Lanes, R: Wait>(
     context: &Context<'_, R>,
     state: &mut DriverState<C>,
     steps: u64,

@@ -4,6 +4,7 @@ use crate::client::recording::begin_record;
 use crate::run::driver_state::{DriverState, Lasting};
 use channel_names::Channels;
 use line_server::SEAT_COUNT;
+use order_lanes::Lanes;
 use server_rules::{Answer, Connection, FIRST_CLIENT, OwnAnswer, Todo};
 use server_threads::Context;
 use std::alloc::Global;
@@ -14,7 +15,7 @@ use tree_core::Act;
 const TURN: usize = 64;
 
 /// Begins what connections ask for, and goes on with the end of those that have left. The moment is in milliseconds.
-pub fn begin_all<C: Channels, R: Wait>(
+pub fn begin_all<C: Channels + Lanes, R: Wait>(
     context: &Context<'_, R>,
     state: &mut DriverState<C>,
     now: u64,
@@ -38,7 +39,7 @@ fn hand_over<R: Wait>(context: &Context<'_, R>, lasting: &mut Lasting, seat: usi
 }
 
 // Begins what the connection on this seat asks, as far as that is possible now.
-fn begin_some<C: Channels, R: Wait>(
+fn begin_some<C: Channels + Lanes, R: Wait>(
     context: &Context<'_, R>,
     state: &mut DriverState<C>,
     seat: usize,
@@ -71,7 +72,7 @@ fn begin_some<C: Channels, R: Wait>(
 }
 
 // Hands in an act for the connection on this seat. False where its ring doesn't take it: it is kept.
-fn is_submitted<C: Channels>(
+fn is_submitted<C: Channels + Lanes>(
     state: &mut DriverState<C>,
     seat: usize,
     now: u64,
@@ -87,7 +88,11 @@ fn is_submitted<C: Channels>(
 }
 
 // Hands in the act that was kept. False where it is kept still.
-fn is_held_submitted<C: Channels>(state: &mut DriverState<C>, seat: usize, now: u64) -> bool {
+fn is_held_submitted<C: Channels + Lanes>(
+    state: &mut DriverState<C>,
+    seat: usize,
+    now: u64,
+) -> bool {
     let Some(held) = state.lasting.held.get_mut(seat) else {
         return false;
     };
@@ -98,7 +103,11 @@ fn is_held_submitted<C: Channels>(state: &mut DriverState<C>, seat: usize, now: 
 }
 
 // The seat is free for the next connection.
-fn free<C: Channels, R: Wait>(context: &Context<'_, R>, state: &mut DriverState<C>, seat: usize) {
+fn free<C: Channels + Lanes, R: Wait>(
+    context: &Context<'_, R>,
+    state: &mut DriverState<C>,
+    seat: usize,
+) {
     if let Some(connection) = state.lasting.connections.get_mut(seat) {
         *connection = Connection::new(context.alloc());
     }

@@ -89,7 +89,7 @@ pub fn hand_in_reports<C: Channels + Lanes, D: Board<C>, B: Backend, R: Wait>(
 }
 
 // A failed start, which no letter tells, is shown by the state of its service.
-fn note_report<C: Channels>(state: &mut DriverState<C>, report: &Report) {
+fn note_report<C: Channels + Lanes>(state: &mut DriverState<C>, report: &Report) {
     if let Report::StartFailed(sid, _) = report {
         state.lasting.roster.note_failed_start(*sid);
     }
@@ -113,7 +113,7 @@ fn take_report<C: Channels + Lanes, D: Board<C>, B: Backend, R: Wait>(
     office.report(context.rt, lane)
 }
 
-fn keep<C: Channels>(state: &mut DriverState<C>, lane: usize, report: Report) {
+fn keep<C: Channels + Lanes>(state: &mut DriverState<C>, lane: usize, report: Report) {
     if let Some(kept) = state.lasting.kept.get_mut(lane) {
         *kept = Some(report);
     }

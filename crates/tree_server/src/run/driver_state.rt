@@ -3,11 +3,11 @@ use arrayvec::ArrayVec;
 use channel_names::Channels;
 use inbox::Seat;
 use line_server::SEAT_COUNT;
-use order_lanes::Report;
+use order_lanes::{Lanes, Report};
+use run_history::History;
 use s6_events::NoMemory;
-use server_rules::{
-    Askers, Connection, Found, FullServices, LANE_COUNT, Plans, Post, Remark, Roster, SCANNER,
-};
+use scan_directory::{Found, Remark};
+use server_rules::{Askers, Connection, FullServices, LANE_COUNT, Plans, Post, Roster, SCANNER};
 use server_threads::moment_of;
 use status_board::BoardReader;
 use std::alloc::Global;
@@ -118,10 +118,12 @@ impl Lasting {
 
 /// What the thread that drives has of a run.
 #[derive(Drop)]
-pub struct DriverState<C: Channels> {
+pub struct DriverState<C: Channels + Lanes> {
     /// Where inputs are handed in, by their actors.
     pub seats: Vec<Seat<C>>,
     pub reader: BoardReader<C>,
+    /// What is known of the run.
+    pub known: History<C>,
     pub lasting: Lasting,
     /// How many steps of the run were handed out.
     pub steps: u64,
@@ -143,17 +145,19 @@ pub struct DriverState<C: Channels> {
     pub posts: Vec<Post>,
 }
 
-impl<C: Channels> DriverState<C> {
+impl<C: Channels + Lanes> DriverState<C> {
     /// Of a run in which no step was made.
     pub fn new(
         alloc: Global,
         seats: Vec<Seat<C>>,
         reader: BoardReader<C>,
+        known: History<C>,
         lasting: Lasting,
     ) -> DriverState<C> {
         DriverState {
             seats,
             reader,
+            known,
             lasting,
             steps: 0,
             made: 0,

@@ -98,12 +98,12 @@ fn drive_once<C: Channels + Lanes, D: Board<C>, B: Backend, R: Wait + Clock, E: 
     let carrying = carry_all(context, office);
     state.is_lane_busy = carrying.has_busy();
     if halt == Halt::Idle {
-        state.lasting.plans.due = office.next_due(context.rt);
+        state.lasting.plans.due = office.next_due(context.rt, &mut state.known);
     }
     let has_more = is_open && (is_full || state.lasting.has_more_to_begin());
     match halt {
         Halt::Full => After::Stop(RunEnd::Full),
-        Halt::Idle if office.ended(context.rt) => After::Stop(RunEnd::Ended),
+        Halt::Idle if office.ended(context.rt, &mut state.known) => After::Stop(RunEnd::Ended),
         Halt::Idle if carrying.is_done() && state.steps >= last_step(state, handover) => {
             After::Stop(RunEnd::Handover)
         }
@@ -115,18 +115,18 @@ fn drive_once<C: Channels + Lanes, D: Board<C>, B: Backend, R: Wait + Clock, E: 
 }
 
 // After how many steps the run ends: early, where somebody waits for it to be recorded.
-fn last_step<C: Channels>(state: &DriverState<C>, handover: u64) -> u64 {
+fn last_step<C: Channels + Lanes>(state: &DriverState<C>, handover: u64) -> u64 {
     state.record_from.unwrap_or(handover).min(handover)
 }
 
 // Once a run has so many steps nothing more is handed in, unless a lane has to be waited for, and then as far as the run has room.
-fn takes_inputs<C: Channels>(state: &DriverState<C>, handover: u64) -> bool {
+fn takes_inputs<C: Channels + Lanes>(state: &DriverState<C>, handover: u64) -> bool {
     state.steps < last_step(state, handover)
         || (state.is_lane_busy && state.steps < handover.saturating_add(SPARE_STEPS))
 }
 
 // Hands in scans, ticks, and what connections ask. The first scan goes before all else.
-fn hand_in_all<C: Channels, R: Wait>(
+fn hand_in_all<C: Channels + Lanes, R: Wait>(
     context: &Context<'_, R>,
     state: &mut DriverState<C>,
     now: u64,
@@ -148,7 +148,7 @@ fn hand_in_all<C: Channels, R: Wait>(
 }
 
 /// Hands in a tick, if one is wanted at this moment, in milliseconds.
-pub fn hand_in_due<C: Channels>(state: &mut DriverState<C>, now: u64) {
+pub fn hand_in_due<C: Channels + Lanes>(state: &mut DriverState<C>, now: u64) {
     if state.lasting.plans.wanted(now) == Wanted::Tick {
         // Where the ring is full, the steps to come say what is due after them.
         state.lasting.plans.due = None;
@@ -157,7 +157,7 @@ pub fn hand_in_due<C: Channels>(state: &mut DriverState<C>, now: u64) {
 }
 
 // Hands in a listing that was read, or tells those that asked for a scan why there is none.
-fn hand_in_found<C: Channels, R: Wait>(
+fn hand_in_found<C: Channels + Lanes, R: Wait>(
     context: &Context<'_, R>,
     state: &mut DriverState<C>,
     now: u64,
@@ -174,7 +174,7 @@ fn hand_in_found<C: Channels, R: Wait>(
 }
 
 // The connection on this seat is told why there is no scan.
-fn refuse_scan<C: Channels, R: Wait>(
+fn refuse_scan<C: Channels + Lanes, R: Wait>(
     context: &Context<'_, R>,
     state: &mut DriverState<C>,
     seat: usize,
@@ -189,7 +189,7 @@ fn refuse_scan<C: Channels, R: Wait>(
 }
 
 // Why there is no scan; None where the listing was handed in.
-fn refusal_of<C: Channels>(
+fn refusal_of<C: Channels + Lanes>(
     state: &mut DriverState<C>,
     now: u64,
     found: ReadScan,
@@ -214,7 +214,7 @@ pub fn drive_some<C: Channels + Lanes, D: Board<C>, B: Backend, R: Wait, E: Writ
     errors: &mut E,
 ) -> Halt {
     for _ in context.rt.forever() {
-        let driven = office.drive(context.rt, STEPS);
+        let driven = office.drive(context.rt, &mut state.known, STEPS);
         note_steps(context, office, state, driven);
         if driven.stop == DriveStop::Idle {
             state.lasting.now = state.lasting.handed_in;
@@ -247,12 +247,14 @@ fn note_steps<C: Channels + Lanes, D: Board<C>, B: Backend, R: Wait>(
     }
     context.shared().rows.invalidate(context.rt);
     if driven.steps > 0 {
-        state.reader.learn(office.tell(context.rt));
+        state
+            .reader
+            .learn(office.tell(context.rt, &mut state.known));
     }
 }
 
 // How many milliseconds it waits at most: until a timer or a deadline is due, where a tick may be handed in then.
-fn until_due<C: Channels>(state: &DriverState<C>, is_open: bool, now: u64) -> Option<u64> {
+fn until_due<C: Channels + Lanes>(state: &DriverState<C>, is_open: bool, now: u64) -> Option<u64> {
     if !is_open {
         return None;
     }
@@ -260,7 +262,7 @@ fn until_due<C: Channels>(state: &DriverState<C>, is_open: bool, now: u64) -> Op
 }
 
 // How many milliseconds it waits at most where something was refused.
-fn retry_time<C: Channels>(state: &DriverState<C>, is_open: bool, now: u64) -> u64 {
+fn retry_time<C: Channels + Lanes>(state: &DriverState<C>, is_open: bool, now: u64) -> u64 {
     until_due(state, is_open, now)
         .unwrap_or(RETRY_WAIT)
         .min(RETRY_WAIT)

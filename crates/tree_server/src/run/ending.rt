@@ -52,11 +52,13 @@ fn end_some<C: Channels + Lanes, D: Board<C>, B: Backend, R: Wait, E: Write>(
         let halt = drive_some(context, office, state, errors);
         wake_all(context, &mut state.lasting);
         let carrying = carry_all(context, office);
-        if halt == Halt::Full || (halt == Halt::Idle && office.ended(context.rt)) {
+        if halt == Halt::Full
+            || (halt == Halt::Idle && office.ended(context.rt, &mut state.known))
+        {
             return false;
         }
         if halt == Halt::Idle {
-            state.lasting.plans.due = office.next_due(context.rt);
+            state.lasting.plans.due = office.next_due(context.rt, &mut state.known);
         }
         // Where a step has to wait, so does what a full seat is to take.
         if halt != Halt::Idle || (!is_full && !carrying.has_more) {

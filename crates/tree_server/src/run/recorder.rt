@@ -2,6 +2,7 @@
 use channel_names::Channels;
 use office::Office;
 use order_lanes::{Backend, Lanes};
+use run_history::History;
 use run_records::RunFault;
 use s6_events::NoMemory;
 use server_rules::FileIdentity;
@@ -78,6 +79,7 @@ impl<W: Write + Drop> Recorder<W> {
         &mut self,
         rt: &R,
         office: &Office<C, D, B>,
+        known: &mut History<C>,
     ) -> Result<(), RecordFault> {
         let Some(writer) = self.writer.as_mut() else {
             return Ok(());
@@ -88,7 +90,7 @@ impl<W: Write + Drop> Recorder<W> {
             to_pass: self.written,
             written: 0,
         };
-        let recorded = office.write_run(rt, !self.is_begun, &mut rest);
+        let recorded = office.write_run(rt, known, !self.is_begun, &mut rest);
         let written = rest.written;
         match recorded {
             Ok(count) if writer.flush().is_ok() => {

@@ -14,7 +14,8 @@ use locked_services::Closed;
 use log::{Log, info};
 use office::{NewOffice, Office, OpenFault, Opened};
 use order_lanes::{Backend, Lanes};
-use server_rules::{ACTOR_COUNT, Found, ServeFault};
+use scan_directory::Found;
+use server_rules::{ACTOR_COUNT, ServeFault};
 use server_threads::Context;
 use status_board::Board;
 use std::alloc::Global;
@@ -127,6 +128,7 @@ fn run_named<
     requires seats { (k : ℕ) → C.seat_ring k ≡ ring_of (slice_get office.rings k) }
     requires board { C.board ≡ office.board }
     requires tree { C.opening ≡ office.tree }
+    requires history { C.history ≡ office.history }
     requires lanes { (k : ℕ) → C.lane_ring k ≡ lane_ring_of (slice_get office.lane_rings k) }
     requires before { (k : ℕ) → C.asked_before k ≡ asked_of B.asked (slice_get office.backends k) }
 {
@@ -157,17 +159,18 @@ fn run_opened<
         office,
         seats,
         readers,
+        known,
     } = opened;
     // One reader of the board is enough.
     let Some(reader) = readers.into_iter().next() else {
         return AfterRun::Over(Err(ServeFault::NoMemory));
     };
-    let mut state = DriverState::new(context.alloc(), seats, reader, lasting);
+    let mut state = DriverState::new(context.alloc(), seats, reader, known, lasting);
     let finishes = take_memory(context, &mut state.lasting, &mut settings.recorder);
     let end = drive_run(context, &office, &mut state, settings.handover, errors);
     let recorded = record(context, &office, &mut state, &mut settings.recorder);
     match (end, recorded) {
-        (RunEnd::Handover, Ok(())) => close(office, state, finishes, log),
+        (RunEnd::Handover, Ok(())) => close(context.rt, office, state, finishes, log),
         (RunEnd::Handover, Err(fault)) => {
             end_services(context, &office, &mut state, errors);
             AfterRun::Over(Err(fault))
@@ -204,7 +207,7 @@ fn record<C: Channels + Lanes, D: Board<C>, B: Backend, R: Wait + Clock, W: Writ
     recorder: &mut Recorder<W>,
 ) -> Result<(), ServeFault> {
     for _ in context.rt.forever() {
-        match recorder.append(context.rt, office) {
+        match recorder.append(context.rt, office, &mut state.known) {
             Ok(()) => {
                 tell_recorded(context, state, recorder.steps());
                 return Ok(());
@@ -220,7 +223,8 @@ fn record<C: Channels + Lanes, D: Board<C>, B: Backend, R: Wait + Clock, W: Writ
 }
 
 // Finishes every seat, and closes the office, in which nothing is left to be done.
-fn close<C: Channels + Lanes, D: Board<C>, B: Backend, L: Log>(
+fn close<C: Channels + Lanes, D: Board<C>, B: Backend, R: Wait, L: Log>(
+    rt: &R,
     office: Office<C, D, B>,
     state: DriverState<C>,
     finishes: Vec<Finished<C>>,
@@ -231,7 +235,8 @@ fn close<C: Channels + Lanes, D: Board<C>, B: Backend, L: Log>(
         // There is room for each.
         let _ = finishes.push(seat.finish());
     }
-    match office.close(finishes) {
+    let mut known = state.known;
+    match office.close(rt, &mut known, finishes) {
         Ok(Closed { tree, backends, .. }) => {
             info!(log; "svscan: handover");
             AfterRun::Next(tree, backends, state.lasting)

@@ -6,10 +6,11 @@ use Rattle.office_tests.proofs.stage.play_run.Given as goal
 abbrev pub ghosts-play_named-C-Channels : goal.ghosts-play_named-C-Channels
 ghosts-play_named-C-Channels g a = record { seat_ring = λ k. ring_of (slice_get a.office.rings k); board = a.office.board }
 
--- its tree, the names of its lanes' rings, and what their backends were asked
+-- its tree and its history, the names of its lanes' rings, and what their backends were asked
 abbrev pub ghosts-play_named-C-Lanes : goal.ghosts-play_named-C-Lanes
 ghosts-play_named-C-Lanes g a = record {
   opening = a.office.tree;
+  history = a.office.history;
   lane_ring = λ k. lane_ring_of (slice_get a.office.lane_rings k);
   asked_before = λ k. asked_of g.B.Backend.asked (slice_get a.office.backends k);
 }

@@ -6,10 +6,11 @@ use Rattle.tree_server.proofs.run.runs.run_once.Given as goal
 abbrev pub ghosts-run_named-C-Channels : goal.ghosts-run_named-C-Channels
 ghosts-run_named-C-Channels g a = record { seat_ring = λ k. ring_of (slice_get a.office.rings k); board = a.office.board }
 
--- its tree, the names of its lanes' rings, and what their backends were asked
+-- its tree and its history, the names of its lanes' rings, and what their backends were asked
 abbrev pub ghosts-run_named-C-Lanes : goal.ghosts-run_named-C-Lanes
 ghosts-run_named-C-Lanes g a = record {
   opening = a.office.tree;
+  history = a.office.history;
   lane_ring = λ k. lane_ring_of (slice_get a.office.lane_rings k);
   asked_before = λ k. asked_of g.B.Backend.asked (slice_get a.office.backends k);
 }

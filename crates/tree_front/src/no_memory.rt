@@ -1,0 +1,49 @@
+//! What is told where the system refused memory.
+ghost use Rattle.std.specs.Prelude.{◌≡◌, ◌++◌, ◌⊎◌, IfOk, OnOk};
+ghost use Rattle.std.specs.Io.KnownBytes.{Appends};
+ghost use Rattle.s6_replay.specs.Lines.{AppendsFront};
+ghost use Rattle.tree_front.specs.NoMemory.{no_memory_text};
+
+use arrayvec::CapacityError;
+use s6_replay::write_whole;
+use s6_tools::Told;
+use std::io::Write;
+
+/// The status of a program to which the system refused something.
+const SYSTEM_STATUS: u8 = 111;
+
+/// Tells that the system refused a program memory, by one write, and answers the exit status, 111. Where the lines can't be written whole
+/// their front is.
+pub fn tell_no_memory<E: Write>(program: &str, errors: &mut E) -> u8
+    ensures status { result ≡ 111 }
+    ensures lines { Appends (E.contents errors.old) (E.contents errors.new) (no_memory_text program.now)
+        ⊎ AppendsFront (E.contents errors.old) (E.contents errors.new)
+        (no_memory_text program.now) }
+{
+    if let Ok(told) = no_memory_lines(program) {
+        let _ = write_whole(errors, told.as_slice());
+    }
+    SYSTEM_STATUS
+}
+
+// Both lines.
+fn no_memory_lines(program: &str) -> Result<Told, CapacityError>
+    ensures { IfOk result (λ told. told.items ≡ no_memory_text program.now) }
+{
+    let mut told = Told::new();
+    add_line(&mut told, program, ": no memory\n")?;
+    add_line(
+        &mut told,
+        program,
+        ": the system refused memory; try again later\n",
+    )?;
+    Ok(told)
+}
+
+// Adds the line of a program.
+fn add_line(told: &mut Told, program: &str, line: &str) -> Result<(), CapacityError>
+    ensures { OnOk result (told.new.items ≡ told.old.items ++ (program.now ++ line.now)) }
+{
+    told.try_extend_from_slice(program.as_bytes())?;
+    told.try_extend_from_slice(line.as_bytes())
+}
