@@ -13,6 +13,8 @@ GRACE=8
 folder=$(mktemp -d /tmp/recipes.XXXXXX) || exit 111
 export S6_TREE GRACE
 entry=
+# What ends it where a trial stops half way.
+end_signal=TERM
 status=0
 trap 'stop_tree; rm -rf "$folder"' EXIT
 trap 'exit 130' INT TERM
@@ -34,10 +36,11 @@ start_tree() {
 # Ends the tree, if what was started is still a child of this script.
 stop_tree() {
     [ -z "$entry" ] || {
-        ! grep -qs "^PPid:[[:space:]]*$$\$" "/proc/$entry/status" || kill -TERM "$entry"
+        ! grep -qs "^PPid:[[:space:]]*$$\$" "/proc/$entry/status" || kill -"$end_signal" "$entry"
         wait "$entry"
     }
     entry=
+    end_signal=TERM
 }
 
 # soon COMMAND..: whether it holds within twenty seconds.
@@ -192,6 +195,8 @@ try_container() {
     SOCKET=$place/socket
     unshare --pid --fork --mount-proc --kill-child sh "$here/../container/entry.sh" "$place/services" "$SOCKET" "$place/record" >"$place/out" 2>&1 &
     entry=$!
+    # unshare passes no TERM on. Its own end ends all that is in its namespace.
+    end_signal=KILL
     soon grep -q '^svscan: serving' "$place/out" || { cat "$place/out"; return 1; }
     "$t" svwait "$SOCKET" -U -t 20000 app || { echo "app isn't ready"; return 1; }
     mkdir "$place/services/late" && cp "$place/services/app/run" "$place/services/late/run"
@@ -204,7 +209,10 @@ try_container() {
     is "$ended" 0 || { echo "TERM: status $ended"; return 1; }
     "$t" replay --check <"$place/record" || { echo "the record is not legal"; return 1; }
 }
-if unshare --pid --fork --mount-proc true 2>/dev/null; then
+# A shell can't trap a signal that was ignored when it began, as HUP is under nohup: the last bit of these.
+if grep -q '^SigIgn:.*[13579bdf]$' /proc/$$/status; then
+    skip container "HUP is ignored here"
+elif unshare --pid --fork --mount-proc true 2>/dev/null; then
     recipe container try_container
 else skip container "no namespaces for this user"; fi
 

@@ -6,9 +6,11 @@
 cd "$(dirname "$0")/../.." || exit 111
 program=${1:-$PWD/crates/refusal_trial/out/refusal_trial}
 case $program in /*) ;; *) program=$PWD/$program ;; esac
+compiler=${CC:-cc}
+command -v "${compiler%% *}" >/dev/null || { echo "refusals: skipped: no C compiler"; exit 0; }
 folder=$(mktemp -d) || exit 111
 trap 'rm -rf "$folder"' EXIT
-${CC:-cc} -O1 -shared -fPIC -o "$folder/refuse.so" examples/refusals/refuse.c -ldl || exit 111
+$compiler -O1 -shared -fPIC -o "$folder/refuse.so" examples/refusals/refuse.c -ldl || exit 111
 
 # Runs it with one growth refused; with 0, none.
 run() {
