@@ -19,7 +19,7 @@ SECONDS = {
     "deadlines": 63, "text_matcher": 112, "svscan_core": 403, "event_directory": 601, "wait_conditions": 383, "tree_core": 460, "s6_script": 282,
     "s6_replay": 521, "run_stories": 394, "day_times": 24, "replay_tool": 81, "channel_names": 12, "inbox": 98, "order_lanes": 118,
     "error_notes": 101, "child_runner": 518, "line_server": 255, "status_board": 107, "s6_tools": 648, "run_records": 247, "locked_services": 464,
-    "office": 564, "scan_directory": 111, "server_rules": 444, "svcheck": 55, "server_threads": 219, "tree_server": 964, "tree_front": 202, "s6_tree": 238,
+    "office": 564, "scan_directory": 111, "server_rules": 444, "svcheck": 55, "server_threads": 219, "client_desk": 200, "run_recorder": 150, "tree_server": 950, "tree_front": 202, "s6_tree": 238,
 }
 USUAL_SECONDS = 60
 # The memory that a check may want, in kilobytes.

@@ -28,7 +28,7 @@ use Rattle.server_rules.specs.declared.todo.Todo.{Todo}
 use Rattle.server_rules.specs.declared.todo.Todo.TheVariants as todo
 use Rattle.server_rules.specs.Connection.{View, Moved, answers_by, begin_admitted, begin_next, begin_put_off, fewer, hands_in, is_for, is_here, joins, replaces, stays, step_limit, steps_in}
 use Rattle.server_rules.specs.Standing.{Made, admission_of, change_of}
-use Rattle.server_rules.specs.Status.{is_recent}
+use Rattle.server_rules.specs.StatusAge.{is_recent}
 use Rattle.connection_laws.specs.History.{Done, Event, Ask, Begin, Answered, Recorded, RefuseErrand, RefuseNext, Told, Leave, History, happens, moved_by, opened, run, taken_by}
 use Rattle.connection_laws.specs.Laws.{AnsweredInOrder, Answers, AreAnswered, IsBegun, IsBegunOn, IsStep, Pending, answered_by, answers, posted_of}
 use Rattle.connection_laws.proofs.Away.{away, takes_nothing}

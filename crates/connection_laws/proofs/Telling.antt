@@ -23,7 +23,7 @@ use Rattle.server_rules.specs.declared.todo.Todo.{Todo}
 use Rattle.server_rules.specs.declared.todo.Todo.TheVariants as todo
 use Rattle.server_rules.specs.Connection.{View, Moved, after_news, begin_admitted, begin_next, begin_put_off, ends_by, has_made, is_for, is_here, joins, replaces, stays, step_limit, steps_in, takes_requests}
 use Rattle.server_rules.specs.Standing.{Made, admission_of, after_reply, change_of, is_among, next_ended, without}
-use Rattle.server_rules.specs.Status.{is_recent}
+use Rattle.server_rules.specs.StatusAge.{is_recent}
 use Rattle.connection_laws.specs.History.{Done, Event, Ask, Begin, Answered, Recorded, RefuseErrand, RefuseNext, Told, Leave, History, happens, made_by_reply, made_in, moved_by, opened, run}
 use Rattle.connection_laws.specs.Laws.{ToldItsOwn, asks_for, was_made}
 use Rattle.connection_laws.proofs.Following.{IsAskedFor, any_before, asked_for_none, asked_for_one}

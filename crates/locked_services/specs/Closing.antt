@@ -80,12 +80,13 @@ pub record IsClosed {B : Type 0} (asked : B → List Order) (before : ℕ → Li
   pub carried_out : AreCarriedOut asked before (length v.lanes) v.steps closed.backends.items
   pub tree : closed.tree.value ≡ v.tree
   pub steps : closed.steps ≡ length v.steps
+  pub run : closed.run.steps ≡ v.steps
   pub legal : IsLegalRun (record { opening = v.opening; steps = v.steps; tree = closed.tree.value })
 
 -- what was closed is a run from this tree: its steps are a legal history, and the tree that is left stands for its end
 abbrev pub IsRunFrom : {B : Type 0} → StoredTree → Closed B → Type 0
-IsRunFrom tree closed = (steps : List RunStep) × (closed.steps ≡ length steps)
-    × IsLegalRun (record { opening = tree; steps = steps; tree = closed.tree.value })
+IsRunFrom tree closed = (closed.steps ≡ length closed.run.steps)
+    × IsLegalRun (record { opening = tree; steps = closed.run.steps; tree = closed.tree.value })
 
 -- why a run isn't closed: the finishes aren't complete, or they are, and something is left
 pub record IsFault (before : ℕ → List Order) (v : RunningView) (desks : List DeskView) (finishes : List FinishedView)

@@ -6,6 +6,7 @@ ghost use Rattle.locked_services.specs.declared.closing.CloseFault.TheVariants.{
 
 use channel_names::Channels;
 use inbox::{Drain, Finished};
+use run_records::Run;
 use std::alloc::Global;
 use tree_core::Tree;
 
@@ -18,11 +19,13 @@ pub enum CloseFault {
     Left = 2,
 }
 
-/// What a run leaves: its tree, how many steps it made, and the backends of its lanes, in the order of their numbers.
+/// What a run leaves: its tree, how many steps it made, these steps, and the backends of its lanes, in the order of their numbers. A long run
+/// takes milliseconds to be dropped, so that may be left to another thread.
 #[derive(Drop)]
 pub struct Closed<B: Drop> {
     pub tree: Box<Tree<Global>>,
     pub steps: u64,
+    pub run: Run,
     pub backends: Vec<B>,
 }
 

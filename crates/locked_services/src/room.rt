@@ -27,7 +27,7 @@ use channel_names::Channels;
 use inbox::{Finished, Ticket};
 use order_lanes::{Backend, Desk, Lanes};
 use run_history::{History, Keeper, Whole};
-use run_records::RunFault;
+use run_records::{Run, RunFault};
 use s6_events::{Actor, At, NoMemory};
 use status_board::{Board, Told};
 use std::alloc::Global;
@@ -341,12 +341,13 @@ impl<C: Channels + Lanes, D: Board<C>> Room<C, D> {
         self.running.close_fault(desks, finishes)
     }
 
-    // The tree alone.
-    fn into_tree(self) -> Box<Tree<Global>>
-        ensures { result.value ≡ self.running.tree }
+    // The tree, and the steps.
+    fn into_parts(self) -> (Box<Tree<Global>>, Run)
+        ensures tree { result.0.value ≡ self.running.tree }
+        ensures run { result.1.steps ≡ self.running.steps }
     {
         let Room { running, .. } = self;
-        running.into_tree()
+        running.into_parts()
     }
 
     /// Closes the run, where there is just one finish for each seat, and all that was submitted was done, and all orders were asked.
@@ -382,11 +383,15 @@ impl<C: Channels + Lanes, D: Board<C>> Room<C, D> {
                 finishes,
                 fault,
             }),
-            None => Ok(Closed {
-                tree: room.into_tree(),
-                steps,
-                backends: backends_of(desks, backends),
-            }),
+            None => {
+                let (tree, run) = room.into_parts();
+                Ok(Closed {
+                    tree,
+                    steps,
+                    run,
+                    backends: backends_of(desks, backends),
+                })
+            }
         }
     }
 }

@@ -327,12 +327,13 @@ impl<C: Channels + Lanes> RunningTree<C> {
         None
     }
 
-    /// The tree alone.
-    pub fn into_tree(self) -> Box<Tree<Global>>
-        ensures { result.value ≡ self.tree }
+    /// The tree, and the steps.
+    pub fn into_parts(self) -> (Box<Tree<Global>>, Run)
+        ensures tree { result.0.value ≡ self.tree }
+        ensures run { result.1.steps ≡ self.steps }
     {
-        let RunningTree { tree, .. } = self;
-        tree
+        let RunningTree { tree, run, .. } = self;
+        (tree, run)
     }
 
     /// Whether the tree has ended: it is closing, and the supervisor of each service that stands has ended.

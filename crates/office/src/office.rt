@@ -1,5 +1,7 @@
 //! The office: a room behind its lock, and desks behind theirs.
 ghost use Rattle.std.specs.Prelude.{◌≡◌, ◌⊎◌, ◌≤◌, ◌<◌, IfOk, IfErr, List, length, not, option_map, position};
+ghost use Rattle.std.specs.declared.alloc.Global.{Global};
+ghost use Rattle.tree_core.specs.declared.input.Input.{Input};
 ghost use Rattle.tree_core.specs.Effect.{outcome_of};
 ghost use Rattle.tree_core.specs.Ended.{has_ended};
 ghost use Rattle.tree_core.specs.Machine.{Machine};
@@ -10,7 +12,7 @@ ghost use Rattle.run_records.specs.Runs.{end_of, inputs_of, actor_at, moment_at,
 ghost use Rattle.run_records.specs.RunText.{IsWritten, StopsWriting};
 ghost use Rattle.locked_services.specs.Closing.{IsClosed, IsFault, IsRunFrom};
 ghost use Rattle.locked_services.specs.Shots.{RoomView, IsSoundHistory};
-ghost use Rattle.office.specs.Told.{IsTold};
+ghost use Rattle.office.specs.Told.{AddsInputs, IsTold, Stops};
 ghost use Rattle.order_lanes.specs.Desk.{DeskView};
 ghost use Rattle.status_board.specs.Board.{NeverFalls};
 ghost use Rattle.locked_services.specs.declared.stop.DriveStop.TheVariants as ended;
@@ -91,15 +93,21 @@ impl<C: Channels + Lanes, D: Board<C>, B: Backend> Office<C, D, B> {
         self.desks.len()
     }
 
-    /// Makes at most so many steps in the room, and publishes where it made any.
+    /// Makes at most so many steps in the room, and publishes where it made any. All inputs that were done before, and those of these steps,
+    /// become known.
     pub fn drive<W: Wait>(&self, rt: &W, known: &mut History<C>, most: u64) -> Driven
         ensures longer { IsPrefix known.old known.new }
         ensures most { result.steps ≤ most }
         ensures count { result.stop ≡ ended.Count → result.steps ≡ most }
+        ensures made { (before : List (Input Global)) × IsPrefix known.old before
+            × AddsInputs result.steps before known.new }
+        ensures told { IsTold C.opening known.new (λ v. Stops result.stop v.running) }
     {
         let mut room = self.room.lock(rt);
+        room.show(rt, known);
         let driven = room.drive(rt, most);
         room.show(rt, known);
+        let _steps = room.steps();
         driven
     }
 

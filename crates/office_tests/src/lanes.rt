@@ -1,8 +1,7 @@
 //! Two lanes are served at once.
-use crate::parts::{Log, new_log, new_probe, new_tree};
+use crate::parts::{Log, Parts, new_log, new_probe, new_tree};
 use crate::scenes::same;
 use crate::stage::play_scene;
-use office::Closed;
 use order_lanes::probe::Probe;
 use order_lanes::{AskFault, Backend, Report};
 use s6_events::{NoMemory, Order};
@@ -71,16 +70,12 @@ fn meetings<R: Copy + Drop>(
     alloc: Global,
     log: &Log,
     count: &Count,
-) -> Result<Closed<Meeting<R>>, NoMemory> {
+) -> Result<Parts<Meeting<R>>, NoMemory> {
     let mut backends = Vec::new(alloc);
     add_meeting(rt, alloc, log, count, &mut backends)?;
     add_meeting(rt, alloc, log, count, &mut backends)?;
     let tree = new_tree(alloc)?;
-    Ok(Closed {
-        tree,
-        steps: 0,
-        backends,
-    })
+    Ok(Parts { tree, backends })
 }
 
 /// Two services are started, one of each lane.

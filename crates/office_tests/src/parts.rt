@@ -1,5 +1,4 @@
 //! What an office is made of: a tree, and probes that write down what they are asked.
-use office::Closed;
 use order_lanes::probe::Probe;
 use s6_events::{Actor, At, NoMemory, Order, Report};
 use s6_script::{push_number, push_spaced};
@@ -50,20 +49,23 @@ fn new_probes<R: Copy + Drop>(
     Ok(probes)
 }
 
+/// What a run begins with.
+#[derive(Drop)]
+pub struct Parts<B: Drop> {
+    pub tree: Box<Tree<Global>>,
+    pub backends: Vec<B>,
+}
+
 /// What a first run begins with: a tree that has made no step, and so many probes.
 pub fn new_parts<R: Copy + Drop>(
     rt: R,
     alloc: Global,
     lanes: usize,
     log: &Log,
-) -> Result<Closed<Probe<R>>, NoMemory> {
+) -> Result<Parts<Probe<R>>, NoMemory> {
     let backends = new_probes(rt, alloc, lanes, log)?;
     let tree = new_tree(alloc)?;
-    Ok(Closed {
-        tree,
-        steps: 0,
-        backends,
-    })
+    Ok(Parts { tree, backends })
 }
 
 /// Makes one step: whether the tree took it.

@@ -1,7 +1,6 @@
 //! Scenes of one thread, each written as one text: what is asked of offices, and what is to come of it.
-use crate::parts::{Log, new_log, new_parts, new_probe, new_tree, push_log, step_once};
+use crate::parts::{Log, Parts, new_log, new_parts, new_probe, new_tree, push_log, step_once};
 use crate::stage::play_scene;
-use office::Closed;
 use order_lanes::{Backend, Report};
 use s6_events::{Exit, NoMemory, Sid};
 use std::alloc::Global;
@@ -20,7 +19,7 @@ pub fn same<R: Abort>(rt: &R, found: &[u8], wanted: &str) {
 fn plays<B: Backend + Send, R: Threads + Wait + Clock + Abort + Copy + Send + Sync + Drop>(
     rt: &R,
     alloc: Global,
-    left: &mut Option<Closed<B>>,
+    left: &mut Option<Parts<B>>,
     log: &Log,
     scene: &str,
     orders: &str,
@@ -192,11 +191,7 @@ fn boxed_backend_gives_a_death_twice(rt: HostRuntime) {
     let mut backends = Vec::new(alloc);
     backends.push(boxed).ok().expect(&rt, "no room");
     let tree = new_tree(alloc).ok().expect(&rt, "no tree");
-    let mut left = Some(Closed {
-        tree,
-        steps: 0,
-        backends,
-    });
+    let mut left = Some(Parts { tree, backends });
     plays(&rt, alloc, &mut left, &log, REPORTS, "1, run 1 1 of web");
 }
 

@@ -3,8 +3,9 @@ ghost use Rattle.std.specs.Prelude.{◌≡◌, ℕ, slice_get};
 ghost use Rattle.office.specs.Names.{ring_of, lane_ring_of, asked_of};
 
 use crate::opened::{Open, close, do_open};
+use crate::parts::Parts;
 use channel_names::Channels;
-use office::{Closed, NewOffice, OpenFault, Opened};
+use office::{NewOffice, OpenFault, Opened};
 use order_lanes::{Backend, Lanes};
 use status_board::Board;
 use std::alloc::Global;
@@ -21,7 +22,7 @@ use tree_core::Tree;
 pub fn play_scene<B: Backend + Send, R: Threads + Wait + Clock + Copy + Send + Sync + Drop>(
     rt: &R,
     alloc: Global,
-    left: &mut Option<Closed<B>>,
+    left: &mut Option<Parts<B>>,
     scene: &str,
     text: &mut Vec<u8>,
 ) {
@@ -36,7 +37,7 @@ pub fn play_scene<B: Backend + Send, R: Threads + Wait + Clock + Copy + Send + S
 fn play_next<B: Backend + Send, R: Threads + Wait + Clock + Copy + Send + Sync + Drop>(
     rt: &R,
     alloc: Global,
-    left: &mut Option<Closed<B>>,
+    left: &mut Option<Parts<B>>,
     run: &str,
     text: &mut Vec<u8>,
 ) -> bool {
@@ -54,16 +55,12 @@ fn play_run<B: Backend + Send, R: Threads + Wait + Clock + Copy + Send + Sync + 
     rt: &R,
     alloc: Global,
     actors: usize,
-    parts: Closed<B>,
+    parts: Parts<B>,
     lines: &str,
-    left: &mut Option<Closed<B>>,
+    left: &mut Option<Parts<B>>,
     text: &mut Vec<u8>,
 ) -> bool {
-    let Closed {
-        tree,
-        steps: _,
-        backends,
-    } = parts;
+    let Parts { tree, backends } = parts;
     let office = match NewOffice::new(alloc, tree, actors, backends) {
         Ok(office) => office,
         Err(refused) => return come_back(refused, left, text),
@@ -85,7 +82,7 @@ fn play_named<
     office: NewOffice<B>,
     lines: &[u8],
     text: &mut Vec<u8>,
-) -> (Option<Closed<B>>, bool)
+) -> (Option<Parts<B>>, bool)
     requires seats { (k : ℕ) → C.seat_ring k ≡ ring_of (slice_get office.rings k) }
     requires board { C.board ≡ office.board }
     requires tree { C.opening ≡ office.tree }
@@ -105,16 +102,12 @@ fn play_named<
 // The parts came back: why, how many steps the tree has made, and how many backends there are.
 fn come_back<B: Backend>(
     refused: (OpenFault, Box<Tree<Global>>, Vec<B>),
-    left: &mut Option<Closed<B>>,
+    left: &mut Option<Parts<B>>,
     text: &mut Vec<u8>,
 ) -> bool {
     let (fault, tree, backends) = refused;
     let (made, lanes) = (tree.steps(), backends.len());
-    *left = Some(Closed {
-        tree,
-        steps: 0,
-        backends,
-    });
+    *left = Some(Parts { tree, backends });
     writeln!(text, "{fault:?}, tree of {made}, {lanes} backends").is_ok()
 }
 
@@ -129,7 +122,7 @@ fn play_opened<
     alloc: Global,
     opened: Opened<C, D, B>,
     lines: &str,
-    left: &mut Option<Closed<B>>,
+    left: &mut Option<Parts<B>>,
     text: &mut Vec<u8>,
 ) -> bool {
     let finishes = Vec::new(alloc);
@@ -148,7 +141,7 @@ fn play_lines<
     alloc: Global,
     lines: &str,
     open: &mut Option<Open<C, D, B>>,
-    left: &mut Option<Closed<B>>,
+    left: &mut Option<Parts<B>>,
     text: &mut Vec<u8>,
 ) -> bool {
     for line in lines.split('\n') {
@@ -172,7 +165,7 @@ fn play_line<
     alloc: Global,
     asked: &str,
     open: &mut Option<Open<C, D, B>>,
-    left: &mut Option<Closed<B>>,
+    left: &mut Option<Parts<B>>,
     text: &mut Vec<u8>,
 ) -> bool {
     let is_written = writeln!(text, "> {asked}").is_ok();

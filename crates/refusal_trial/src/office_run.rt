@@ -14,11 +14,18 @@ use std::marker::Brand;
 use std::sync::{Arc, Mutex, Wait};
 use tree_core::Tree;
 
+/// What a run begins with.
+#[derive(Drop)]
+pub struct Parts<B: Drop> {
+    tree: Box<Tree<Global>>,
+    backends: Vec<B>,
+}
+
 /// What came of an office.
 #[derive(Drop)]
 pub enum Played<B: Drop> {
     /// Its opening was refused memory, and all came back.
-    Back(Closed<B>),
+    Back(Parts<B>),
     /// It was opened, and closed.
     Closed(Closed<B>),
     /// It was not closed, or not opened for another cause.
@@ -26,18 +33,14 @@ pub enum Played<B: Drop> {
 }
 
 // A tree that has made no step, and two backends that start nothing.
-fn new_parts<R: Copy + Drop>(rt: R, alloc: Global) -> Result<Closed<Probe<R>>, NoMemory> {
+fn new_parts<R: Copy + Drop>(rt: R, alloc: Global) -> Result<Parts<Probe<R>>, NoMemory> {
     let mut backends = Vec::new(alloc);
     for _ in 0..2 {
         let log = Arc::new(alloc, Mutex::new(Vec::new(alloc)))?;
         backends.push(Probe::new(rt, alloc, Vec::new(alloc), 0, log))?;
     }
     let tree = Box::new(alloc, Tree::new(alloc))?;
-    Ok(Closed {
-        tree,
-        steps: 0,
-        backends,
-    })
+    Ok(Parts { tree, backends })
 }
 
 /// Plays the run, and prints what came of it.
@@ -69,17 +72,13 @@ pub fn play<R: Wait + Copy + Drop>(rt: &R, alloc: Global, attempts: &mut Attempt
 fn open<B: Backend, R: Wait>(
     rt: &R,
     alloc: Global,
-    parts: Closed<B>,
+    parts: Parts<B>,
     attempts: &mut Attempts,
 ) -> Played<B> {
-    let Closed { tree, backends, .. } = parts;
+    let Parts { tree, backends } = parts;
     match NewOffice::new(alloc, tree, 2, backends) {
         Ok(office) => open_named::<B, Brand, R>(rt, alloc, office, attempts),
-        Err((_, tree, backends)) => Played::Back(Closed {
-            tree,
-            steps: 0,
-            backends,
-        }),
+        Err((_, tree, backends)) => Played::Back(Parts { tree, backends }),
     }
 }
 
@@ -99,10 +98,6 @@ fn open_named<B: Backend, C: Channels + Lanes, R: Wait>(
 {
     match office.open::<C, &R>(alloc, rt) {
         Ok(opened) => play_opened(rt, alloc, opened, attempts),
-        Err((_, tree, backends)) => Played::Back(Closed {
-            tree,
-            steps: 0,
-            backends,
-        }),
+        Err((_, tree, backends)) => Played::Back(Parts { tree, backends }),
     }
 }

@@ -23,7 +23,7 @@ use Rattle.server_rules.specs.declared.todo.News.TheVariants as news
 use Rattle.server_rules.specs.declared.todo.Todo.{Todo}
 use Rattle.server_rules.specs.declared.todo.Todo.TheVariants as todo
 use Rattle.server_rules.specs.Standing.{Made, Ended, nothing_made, admission_of, after_release, after_reply, change_of, has_place, has_room_for, is_among, is_followed, let_go, next_end}
-use Rattle.server_rules.specs.Status.{is_recent}
+use Rattle.server_rules.specs.StatusAge.{is_recent}
 
 -- where it stands, what it asked and what isn't begun, and what it made and stands
 pub record View : Type 0 where

@@ -1,6 +1,7 @@
 pub mod Answers
 pub mod Connection
 pub mod Faults
+pub mod Handover
 pub mod Letters
 pub mod Places
 pub mod Plans
@@ -11,3 +12,5 @@ pub mod Sockets
 pub mod Standing
 pub mod States
 pub mod Status
+pub mod StatusAge
+pub mod StepNotes

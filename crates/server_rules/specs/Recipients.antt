@@ -1,5 +1,5 @@
 -- Who is posted what of a step, and in which order.
-use Rattle.std.specs.Prelude.{ℕ, List, [], ◌∷◌, ◌++◌, slice_get, slice_set, Option, Some, None}
+use Rattle.std.specs.Prelude.{ℕ, Bool, true, false, List, [], ◌∷◌, ◌++◌, slice_get, slice_set, Option, Some, None}
 use Rattle.std.specs.List.{position}
 use Rattle.std.specs.declared.alloc.Global.{Global}
 use Rattle.s6_replay.specs.Transcript.{match_line, release_line, reply_text}
@@ -8,15 +8,26 @@ use Rattle.tree_core.specs.Machine.{Outcome}
 use Rattle.tree_core.specs.declared.effect.Match.{Match}
 use Rattle.tree_core.specs.declared.effect.Release.{Release}
 use Rattle.tree_core.specs.declared.reply.Reply.{Reply}
+use Rattle.server_rules.specs.declared.places.Place.{Place}
+use Rattle.server_rules.specs.declared.places.Place.TheVariants.{Scanner, Client}
+use Rattle.server_rules.specs.declared.recipients.Line.{Line}
 use Rattle.server_rules.specs.declared.recipients.Line.TheVariants as line
 use Rattle.server_rules.specs.declared.recipients.Post.{Post}
 use Rattle.server_rules.specs.declared.roster.Member.{Member}
+use Rattle.server_rules.specs.declared.status.Subject.TheVariants as subject
+use Rattle.server_rules.specs.declared.todo.Answer.TheVariants as answer
 use Rattle.server_rules.specs.declared.todo.News.{News}
 use Rattle.server_rules.specs.declared.todo.News.TheVariants as news
 use Rattle.server_rules.specs.declared.todo.Todo.{Todo}
 use Rattle.server_rules.specs.declared.todo.Todo.TheVariants as todo
 use Rattle.server_rules.specs.Letters.{letter_line, told_letter}
 use Rattle.server_rules.specs.Connection.{View, Moved, answered_move, is_for, told_move}
+
+-- the connections that a step answers: of a scan those that asked for it, of a request the one that made it
+abbrev pub askers_of : Place → Bool → List ℕ → List ℕ
+askers_of Scanner true served = served
+askers_of (Client seat) is_scan served = seat ∷ []
+askers_of place is_scan served = []
 
 -- the connections, by their seats, and what was posted, in order
 pub record Handed : Type 0 where
@@ -64,6 +75,11 @@ tell_match found cs = tell (news.Match found) cs
 
 abbrev pub tell_release : Release → List View → Handed
 tell_release release cs = tell (news.Release release) cs
+
+-- the states of services are told
+abbrev pub tells_states : Line → Bool
+tells_states (line.Answer (answer.Status subject.States)) = true
+tells_states l = false
 
 -- one after the other
 abbrev pub followed_by : Handed → Handed → Handed

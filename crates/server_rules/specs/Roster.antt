@@ -1,8 +1,10 @@
 -- Which services there are and have been, by what scans added and by their letters.
-use Rattle.std.specs.Prelude.{ℕ, ◌==◌, Bool, true, false, List, [], ◌∷◌, Option, Some, None, fold, if◌then◌else◌}
+use Rattle.std.specs.Prelude.{ℕ, ◌==◌, Bool, true, false, List, [], ◌∷◌, Option, Some, None, fold, length, map, nat_lt, if◌then◌else◌}
 use Rattle.std.specs.List.{find, flat_map, list_any}
 use Rattle.s6_events.specs.declared.mark.Mark.{Mark}
 use Rattle.s6_events.specs.declared.mark.Mark.TheVariants.{SupervisorStarted, Spawned, Died, PermanentFailure, SupervisorEnded}
+use Rattle.s6_events.specs.declared.report.Report.{Report}
+use Rattle.s6_events.specs.declared.report.Report.TheVariants as report
 use Rattle.supervise_core.specs.declared.row.Row.{Row}
 use Rattle.svscan_core.specs.declared.entry.Listed.{Listed}
 use Rattle.svscan_core.specs.declared.entry.Listed.TheVariants as listed
@@ -42,6 +44,15 @@ after_letters at events m = fold (after_letter at) m events
 -- a service after a report that a start of this one failed
 abbrev pub after_failed_start : ℕ → Member → Member
 after_failed_start sid m = if m.sid == sid then record m { start_failed = true } else m
+
+-- all services after a report of a lane
+abbrev pub after_report : Report → List Member → List Member
+after_report (report.StartFailed sid run) roster = map (after_failed_start sid) roster
+after_report r roster = roster
+
+-- those that are there no more are to be forgotten
+abbrev pub is_long : List Member → Bool
+is_long roster = nat_lt 512 (length roster)
 
 -- a service that a scan added
 abbrev pub member_of : Listed → List Member

@@ -1,5 +1,5 @@
 -- What a client is told of the status of a service.
-use Rattle.std.specs.Prelude.{ℕ, Bool, true, false, List, [], ◌∷◌, ◌++◌, ◌-◌, nat_lt, Option, Some, None, codes, decimal}
+use Rattle.std.specs.Prelude.{ℕ, Bool, true, List, [], ◌∷◌, ◌++◌, Option, Some, None, codes, decimal}
 use Rattle.std.specs.List.{find, flat_map}
 use Rattle.std.specs.Str.{bytes_eq}
 use Rattle.s6_replay.specs.Transcript.{row_text}
@@ -53,15 +53,6 @@ abbrev pub told_text : Subject → Shown → List ℕ
 told_text (One name) shown = status_text shown.rows name
 told_text All shown = flat_map row_line shown.rows ++ 10 ∷ []
 told_text States shown = flat_map (state_line shown.roster) shown.rows ++ (flat_map unread_line shown.unread ++ 10 ∷ [])
-
--- the last step is less than a second old
-abbrev pub is_recent : ℕ → ℕ → Bool
-is_recent step now = nat_lt (now - step) 1000
-
--- rows that were read after the last step are told from while that step is recent
-abbrev pub is_fresh : Option ℕ → ℕ → Bool
-is_fresh (Some step) now = is_recent step now
-is_fresh None now = false
 
 -- all is there that a status is told from: what the letters say is told in states alone
 abbrev pub is_had : Bool → Subject → Bool

@@ -10,9 +10,9 @@ ghost use Rattle.server_rules.specs.declared.requests.Request.TheVariants as req
 use crate::own_answer::OwnAnswer;
 use crate::phase::{Errand, Phase};
 use crate::requests::Request;
-use crate::row_cache::is_recent;
 use crate::standing::{Admission, Standing, StandingChange};
 use crate::status::Subject;
+use crate::status_age::is_recent;
 use crate::todo::{Answer, News, Todo};
 use std::alloc::Global;
 use std::collections::VecDeque;

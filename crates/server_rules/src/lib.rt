@@ -1,11 +1,12 @@
 //! What the server of a tree decides, with no thread of its own: what a line asks for, whose an actor is, when a tick or a scan is wanted,
-//! what is done for a connection at each event, who is posted what of a step, which rows may be told and in which state a service is, which
-//! socket is whose, and what is told of a tree that did not run to its end.
+//! what is done for a connection at each event, who is posted what of a step, which rows may be told and in which state a service is, when a
+//! run takes inputs and when it ends, which socket is whose, and what is told of a tree that did not run to its end.
 #![tactic(auto)]
 
 mod connection;
 mod following;
 mod full_services;
+mod handover;
 mod letters;
 mod own_answer;
 mod phase;
@@ -20,12 +21,15 @@ mod service_state;
 mod socket_rules;
 mod standing;
 mod status;
+mod status_age;
+mod step_notes;
 mod texts;
 mod todo;
 
 pub use connection::Connection;
 pub use following::Following;
 pub use full_services::FullServices;
+pub use handover::{After, Carrying, Halt, Pace, RETRY_WAIT, Round, RunEnd};
 pub use letters::ToldLetter;
 pub use own_answer::OwnAnswer;
 pub use phase::{Errand, Phase};
@@ -33,14 +37,16 @@ pub use places::{
     ACTOR_COUNT, FIRST_CLIENT, FIRST_LANE, LANE_COUNT, Place, SCANNER, client_actor, place_of,
 };
 pub use plans::{Askers, Plans, Wanted};
-pub use recipients::{Line, Post, hand_out};
+pub use recipients::{Line, Post, askers_of, hand_out};
 pub use requests::{Request, read_request};
 pub use roster::{Ending, Member, Roster};
-pub use row_cache::{RowCache, is_recent};
+pub use row_cache::RowCache;
 pub use serve_fault::{ServeFault, tell_serve_fault};
 pub use service_state::{ServiceState, state_of};
 pub use socket_rules::{FileIdentity, says_abandoned};
 pub use standing::{Admission, SUBSCRIPTION_LIMIT, Standing, StandingChange, WAITER_LIMIT};
 pub use status::Subject;
+pub use status_age::is_recent;
+pub use step_notes::StepNotes;
 pub use texts::{clock_line, following_line, news_lines, recorded_line, reply_lines, serving_line};
 pub use todo::{Answer, News, Todo};

@@ -3,11 +3,15 @@ ghost use Rattle.std.specs.Prelude.{◌≡◌, ◌++◌, ◌+◌, ◌*◌, ◌�
 ghost use Rattle.std.specs.List.{position};
 ghost use Rattle.tree_core.specs.Effect.{outcome_of};
 ghost use Rattle.server_rules.specs.Connection.{is_for};
-ghost use Rattle.server_rules.specs.Recipients.{answer_at, hand_all, handed_out, posts_of, tell, tell_letter, tell_match, tell_release, tell_seat};
+ghost use Rattle.server_rules.specs.Recipients.{answer_at, askers_of, hand_all, handed_out, posts_of, tells_states, tell, tell_letter, tell_match, tell_release, tell_seat};
 
 use crate::connection::Connection;
+use crate::places::Place;
+use crate::plans::Askers;
 use crate::roster::Roster;
+use crate::status::Subject;
 use crate::todo::{Answer, News, Todo};
+use arrayvec::ArrayVec;
 use line_server::SEAT_COUNT;
 use s6_events::{At, NoMemory};
 use std::alloc::Global;
@@ -29,6 +33,28 @@ pub enum Line {
 pub struct Post {
     pub seat: usize,
     pub line: Line,
+}
+
+impl Post {
+    /// Whether the states of services are told.
+    pub fn tells_states(&self) -> bool
+        ensures { result ≡ tells_states self.now.line }
+    {
+        matches!(self.line, Line::Answer(Answer::Status(Subject::States)))
+    }
+}
+
+/// The connections that a step of this place answers: of a scan those for which it was made, of a request the one that made it.
+pub fn askers_of(place: Place, is_scan: bool, served: &Askers) -> Askers
+    ensures { result.items ≡ askers_of place is_scan served.now.items }
+{
+    let mut askers = ArrayVec::new();
+    let _ = match place {
+        Place::Scanner if is_scan => askers.try_extend_from_slice(served.as_slice()),
+        Place::Client(seat) => askers.try_extend_from_slice(&[seat]),
+        Place::Scanner | Place::Lane(_) => Ok(()),
+    };
+    askers
 }
 
 /// Hands a step's result to the connections, by their seats, and adds what is posted, in order: the reply to the connections of these

@@ -1,15 +1,18 @@
 //! Which services there are and have been, and which of them are over.
 ghost use Rattle.std.specs.Prelude.{◌≡◌, ◌++◌, ◌∷◌, [], IfOk, OnOk, OnErr, filter, map, option_map};
 ghost use Rattle.server_rules.specs.Letters.{told_letter};
-ghost use Rattle.server_rules.specs.Roster.{added, after_failed_start, after_letter, after_letters, ending_by, ending_in, has_row, member_in, member_of, name_in, since_by, since_in, start_failed_in};
+ghost use Rattle.server_rules.specs.Roster.{added, after_failed_start, after_letter, after_letters, after_report, ending_by, ending_in, has_row, is_long, member_in, member_of, name_in, since_by, since_in, start_failed_in};
 
 use crate::letters::ToldLetter;
-use s6_events::{At, Mark, Name, NoMemory, Sid};
+use s6_events::{At, Mark, Name, NoMemory, Report, Sid};
 use std::alloc::Global;
 use std::marker::Model;
 use supervise_core::Row;
 use svscan_core::Event;
 use tree_core::Listed;
+
+/// How many services a roster has at most before those that are there no more are forgotten.
+const MEMBER_LIMIT: usize = 512;
 
 /// How a service is over.
 #[derive(Clone, Copy, Debug, PartialEq, Eq)]
@@ -112,9 +115,11 @@ impl Roster {
         }
     }
 
-    /// How many services it has.
-    pub fn len(&self) -> usize {
-        self.members.len()
+    /// Whether those that are there no more are to be forgotten.
+    pub fn is_long(&self) -> bool
+        ensures { result ≡ is_long self.now }
+    {
+        self.members.len() > MEMBER_LIMIT
     }
 
     /// A scan added these. At `NoMemory` it is as it was.
@@ -134,11 +139,13 @@ impl Roster {
         note_all(self.members.as_mut_slice(), at, events);
     }
 
-    /// A start of the service of this serial was reported to have failed.
-    pub fn note_failed_start(&mut self, sid: Sid)
-        ensures { self.new ≡ map (after_failed_start sid) self.old }
+    /// A lane reported this. That a start failed, which no letter tells, is shown by the state of its service.
+    pub fn note_report(&mut self, report: &Report)
+        ensures { self.new ≡ after_report report.now self.old }
     {
-        note_failed_start_in(self.members.as_mut_slice(), sid);
+        if let Report::StartFailed(sid, _) = report {
+            note_failed_start_in(self.members.as_mut_slice(), *sid);
+        }
     }
 
     // The service of this serial.

@@ -1,26 +1,18 @@
 //! The rows of the board as they were last read, for the threads of connections.
 ghost use Rattle.std.specs.Prelude.{◌≡◌, ◌&&◌, IfOk, IfSome, None, OnOk, Some};
 ghost use Rattle.status_board.specs.Board.{last_shot};
-ghost use Rattle.server_rules.specs.Status.{told_text, is_fresh, is_had, is_recent};
+ghost use Rattle.server_rules.specs.Status.{told_text, is_had};
+ghost use Rattle.server_rules.specs.StatusAge.{is_fresh};
 
 use crate::roster::Roster;
 use crate::status::{Subject, push_told};
+use crate::status_age::is_recent;
 use channel_names::Channels;
 use s6_events::NoMemory;
 use scan_directory::Remark;
 use status_board::{BoardReader, Shot};
 use std::alloc::{AllocError, Global};
 use std::sync::{Mutex, Wait};
-
-/// How old the last step may be for a status to be told from it, in milliseconds.
-const STATUS_AGE: u64 = 1000;
-
-/// Whether the last step, at this moment, is so recent that a status may be told from it now; both are in milliseconds.
-pub fn is_recent(step: u64, now: u64) -> bool
-    ensures { result ≡ is_recent step now }
-{
-    now.saturating_sub(step) < STATUS_AGE
-}
 
 /// Rows, what the letters said of their services, what the last scan could not read, and the moment of the last step before they were
 /// read, in milliseconds; None where they may not be those of the board.

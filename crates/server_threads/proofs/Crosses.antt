@@ -1,18 +1,18 @@
 -- What the threads of a running tree share may be shared.
 use denote.Struct.Declared.{shape}
 use denote.Struct.Field.{u64-field, bool-field}
-use denote.Param.Send.{IsSend, IsSync, recorded_send, struct_send, sendable}
+use denote.Param.Send.{IsSend, IsSync, recorded_send, recorded_sync, struct_send, struct_sync, sendable}
 use Rattle.std.proofs.Crossing.{crosses}
 use Rattle.std.proofs.option.Option.TheSendSync as option
 use Rattle.event_directory.proofs.Crosses.{pattern_send}
 use Rattle.child_runner.proofs.bell.Bell.TheSendSync as bell
-use Rattle.child_runner.specs.contracts.bell.Bell as Bell
 use Rattle.line_server.proofs.server.Server.TheSendSync as server
 use Rattle.line_server.specs.contracts.server.Server as Server
 use Rattle.server_rules.specs.contracts.requests.Request as Request
 use Rattle.server_threads.specs.contracts.caller.Caller as Caller
 use Rattle.server_threads.specs.contracts.caller.Turn as Turn
-use Rattle.server_threads.specs.contracts.scan_desk.ScanDesk as ScanDesk
+use Rattle.server_threads.specs.contracts.outcome.Outcome as Outcome
+use Rattle.server_threads.proofs.scan_desk.ScanDesk.TheSendSync as desk
 use Rattle.server_threads.specs.contracts.shared.Shared as Shared
 
 number_send : IsSend u64-field.row
@@ -20,9 +20,6 @@ number_send = search sendable
 
 flag_send : IsSend bool-field.row
 flag_send = search sendable
-
-bell_sync : IsSync Bell.the_row
-bell_sync = search (bell.the_sync, crosses, sendable) depth 60 fits 20000
 
 request_send : IsSend Request.the_row
 request_send = search (pattern_send, option.the_field_send, crosses, sendable) depth 60 fits 20000
@@ -38,11 +35,25 @@ turn_send =
 caller_sync : IsSync Caller.the_row
 caller_sync = search (turn_send, crosses, sendable) depth 60 fits 20000
 
-desk_sync : IsSync ScanDesk.the_row
-desk_sync = search (option.the_field_send, crosses, sendable) depth 60 fits 20000
-
 pub shared_sync : IsSync Shared.the_row
-shared_sync = search (caller_sync, crosses, sendable) depth 60 fits 20000
+shared_sync =
+    let T = Shared.the_type in
+    recorded_sync _ _ _ T.to_one (struct_sync (shape T) (
+      search (crosses, sendable) depth 60 fits 20000,
+      (
+        search (crosses, sendable) depth 60 fits 20000,
+        (
+          search (caller_sync, crosses, sendable) depth 60 fits 20000,
+          (
+            search (desk.the_field_sync, crosses, sendable) depth 60 fits 20000,
+            (search (crosses, sendable) depth 60 fits 20000, (search (bell.the_field_sync, crosses, sendable) depth 60 fits 20000, tt)),
+          ),
+        ),
+      ),
+    ))
 
 pub server_sync : IsSync (Server.the_row Shared.the_row)
 server_sync = search (shared_sync, server.the_sync, crosses, sendable) depth 60 fits 20000
+
+pub outcome_sync : IsSync Outcome.the_row
+outcome_sync = search (crosses, sendable) depth 60 fits 20000

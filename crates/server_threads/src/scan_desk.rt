@@ -1,4 +1,5 @@
-//! Where the thread that drives asks for a listing of the scan directory, and the thread that reads it leaves one.
+//! What the thread that drives leaves to the thread that reads the scan directory: to read it, and to drop the runs that were closed.
+use run_records::Run;
 use scan_directory::Found;
 use server_rules::OwnAnswer;
 use std::sync::{Condvar, Mutex, Wait};
@@ -6,10 +7,22 @@ use std::sync::{Condvar, Mutex, Wait};
 /// What was read of the scan directory, or why there is no scan.
 pub type ReadScan = Result<Found, OwnAnswer>;
 
+/// What the thread that reads the scan directory is to do.
+#[derive(Drop)]
+pub enum Task {
+    /// It reads the directory.
+    Read,
+    /// It drops a run that was closed, which takes too long for the thread that drives.
+    Drop(Run),
+    /// It ends.
+    End,
+}
+
 #[derive(Drop)]
 struct Desk {
     is_asked: bool,
     found: Option<ReadScan>,
+    closed: Option<Run>,
     is_over: bool,
 }
 
@@ -27,6 +40,7 @@ impl ScanDesk {
             desk: Mutex::new(Desk {
                 is_asked: false,
                 found: None,
+                closed: None,
                 is_over: false,
             }),
             changed: Condvar::new(),
@@ -39,14 +53,27 @@ impl ScanDesk {
         self.changed.notify_all();
     }
 
-    /// Waits until a listing is asked for: true. False once none will be any more.
-    pub fn await_ask<R: Wait>(&self, rt: &R) -> bool {
+    /// Leaves a run that was closed. One that was left before and isn't dropped yet comes back.
+    pub fn leave_run<R: Wait>(&self, rt: &R, run: Run) -> Option<Run> {
+        let before = self.desk.lock(rt).closed.replace(run);
+        self.changed.notify_all();
+        before
+    }
+
+    /// Waits until there is something to do.
+    pub fn await_task<R: Wait>(&self, rt: &R) -> Task {
         let desk = self.desk.lock(rt);
-        let mut desk = self
-            .changed
-            .wait_while(rt, desk, |desk| !desk.is_asked && !desk.is_over);
+        let mut desk = self.changed.wait_while(rt, desk, |desk| {
+            !desk.is_asked && !desk.is_over && desk.closed.is_none()
+        });
+        if let Some(run) = desk.closed.take() {
+            return Task::Drop(run);
+        }
+        if desk.is_over {
+            return Task::End;
+        }
         desk.is_asked = false;
-        !desk.is_over
+        Task::Read
     }
 
     /// Leaves what was read.

@@ -1,14 +1,15 @@
 //! The thread that reads the scan directory.
-use crate::scan_desk::ReadScan;
+use crate::scan_desk::{ReadScan, Task};
 use crate::shared::Shared;
 use scan_directory::read_listing;
 use server_rules::OwnAnswer;
 use std::io::{ErrorKind, Write};
+use std::mem;
 use std::rt::Files;
 use std::sync::Wait;
 
-/// Reads the directory whenever a listing is asked for, until none will be any more. What its services have for faults is told on
-/// `errors`.
+/// Reads the directory whenever a listing is asked for, and drops the runs that were closed, until the tree has ended. What the directory's
+/// services have for faults is told on `errors`.
 pub fn attend<R: Files + Wait + Copy + Drop, E: Write>(
     rt: &R,
     shared: &Shared,
@@ -16,12 +17,15 @@ pub fn attend<R: Files + Wait + Copy + Drop, E: Write>(
     errors: &mut E,
 ) {
     for _ in rt.forever() {
-        if !shared.scans.await_ask(rt) {
-            break;
+        match shared.scans.await_task(rt) {
+            Task::Read => {
+                let found = find(rt, shared, directory, errors);
+                shared.scans.leave(rt, found);
+                shared.driver.ring(rt);
+            }
+            Task::Drop(run) => mem::drop(run),
+            Task::End => break,
         }
-        let found = find(rt, shared, directory, errors);
-        shared.scans.leave(rt, found);
-        shared.driver.ring(rt);
     }
 }
 

@@ -1,19 +1,15 @@
--- What the threads of a running tree share may be shared, and what they take over may go to them.
+-- What the thread that drives takes over may go to it.
 use denote.RattleType.{RattleType}
 use denote.Struct.Declared.{shape}
 use denote.Struct.Field.{u64-field}
-use denote.Param.Send.{IsSend, IsSync, recorded_send, struct_send, sendable}
+use denote.Param.Send.{IsSend, recorded_send, struct_send, sendable}
 use Rattle.std.proofs.Crossing.{crosses}
-use Rattle.tree_server.proofs.run.recorder.Recorder.TheSendSync as recorder
+use Rattle.run_recorder.proofs.recorder.Recorder.TheSendSync as recorder
 use Rattle.tree_server.proofs.run.runs.RunSettings.TheSendSync as settings
-use Rattle.tree_server.specs.contracts.run.outcome.Outcome as Outcome
 use Rattle.tree_server.specs.contracts.threads.DriverParts as DriverParts
 
 number_send : IsSend u64-field.row
 number_send = search sendable
-
-pub outcome_sync : IsSync Outcome.the_row
-outcome_sync = search (crosses, sendable) depth 60 fits 20000
 
 pub parts_send : (B W : RattleType) → IsSend B → IsSend W → IsSend (DriverParts.the_row B W)
 parts_send B W b w =

@@ -1,5 +1,3 @@
-//! Connections: what they ask, and what they are posted.
+//! What connections ask of a run, and what its steps give to them.
 pub mod delivery;
-pub mod posting;
-pub mod recording;
 pub mod serving;

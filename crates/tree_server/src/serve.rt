@@ -1,8 +1,6 @@
 //! A tree that runs, from its first scan to its end.
 use crate::lane::service_lanes::TreeLanes;
 use crate::options::ServeOptions;
-use crate::run::outcome::Outcome;
-use crate::run::recorder::{Recorder, create_recorder};
 use crate::run::runs::RunSettings;
 use crate::threads::{DriverParts, start_driver, start_lane};
 use child_runner::{Bell, LaneLink, ShellProbe};
@@ -10,11 +8,12 @@ use day_times::day_second;
 use error_notes::{NoteWriter, Notes};
 use line_server::{Seats, Server};
 use order_lanes::Backend;
+use run_recorder::{Recorder, create_recorder};
 use scan_directory::{Found, read_listing};
 use server_rules::{RowCache, ServeFault, serving_line};
 use server_threads::{
-    ScanDesk, ServerClock, Shared, SocketFile, attend, end_connections, listen, new_callers,
-    start_listener,
+    Outcome, ScanDesk, ServerClock, Shared, SocketFile, attend, end_connections, listen,
+    new_callers, start_listener,
 };
 use std::alloc::Global;
 use std::fs::File;

@@ -1,12 +1,11 @@
 //! The threads of a tree, from its first run to its last.
-use crate::run::outcome::Outcome;
 use crate::run::runs::{RunSettings, run_all};
 use child_runner::{LaneLink, serve_lane};
 use error_notes::{NoteWriter, Notes};
 use line_server::Server;
 use order_lanes::Backend;
 use scan_directory::Found;
-use server_threads::{Context, Shared};
+use server_threads::{Context, Outcome, Shared};
 use std::io::Write;
 use std::sync::Wait;
 use std::thread::{Builder, Scope, Threads};

@@ -3,7 +3,7 @@ use crate::run::driver_state::DriverState;
 use channel_names::Channels;
 use office::Office;
 use order_lanes::{Backend, Carried, Lanes, Report, act_of};
-use server_rules::{FIRST_LANE, LANE_COUNT};
+use server_rules::{Carrying, FIRST_LANE, LANE_COUNT};
 use server_threads::Context;
 use status_board::Board;
 use std::sync::Wait;
@@ -11,49 +11,18 @@ use std::sync::Wait;
 /// The most orders that a lane carries before the next one gets its turn.
 const ORDERS: u64 = 256;
 
-/// What the lanes did when all of them were asked to carry.
-#[derive(Clone, Copy)]
-pub struct Carrying {
-    /// Whether some lane has more to carry.
-    pub has_more: bool,
-    /// Which lanes take no order now.
-    pub is_busy: [bool; LANE_COUNT],
-}
-
-impl Carrying {
-    /// Whether this lane takes no order now.
-    pub fn is_busy_at(&self, lane: usize) -> bool {
-        self.is_busy.get(lane).copied().unwrap_or(false)
-    }
-
-    /// Whether some lane takes no order now.
-    pub fn has_busy(&self) -> bool {
-        self.is_busy.iter().any(|is_busy| *is_busy)
-    }
-
-    /// Whether no lane has an order left.
-    pub fn is_done(&self) -> bool {
-        !self.has_more && !self.has_busy()
-    }
-}
-
 /// Lets each lane carry.
 pub fn carry_all<C: Channels + Lanes, D: Board<C>, B: Backend, R: Wait>(
     context: &Context<'_, R>,
     office: &Office<C, D, B>,
 ) -> Carrying {
-    let mut carrying = Carrying {
-        has_more: false,
-        is_busy: [false; LANE_COUNT],
-    };
+    let mut carrying = Carrying::new();
     for lane in 0..office.lanes() {
         match office.carry(context.rt, lane, ORDERS) {
             Carried::Asked => carrying.has_more = true,
             Carried::Idle => {}
             Carried::Refused(_) => {
-                if let Some(is_busy) = carrying.is_busy.get_mut(lane) {
-                    *is_busy = true;
-                }
+                let _ = carrying.busy.try_push(lane);
             }
         }
     }
@@ -65,7 +34,7 @@ pub fn carry_all<C: Channels + Lanes, D: Board<C>, B: Backend, R: Wait>(
 pub fn hand_in_reports<C: Channels + Lanes, D: Board<C>, B: Backend, R: Wait>(
     context: &Context<'_, R>,
     office: &Office<C, D, B>,
-    state: &mut DriverState<C>,
+    state: &mut DriverState<'_, C>,
     now: u64,
 ) -> bool {
     let mut is_full = false;
@@ -74,32 +43,38 @@ pub fn hand_in_reports<C: Channels + Lanes, D: Board<C>, B: Backend, R: Wait>(
             let Some(report) = take_report(context, office, state, lane) else {
                 break;
             };
-            if state
-                .hand_in(FIRST_LANE + lane, now, act_of(&report))
-                .is_err()
-            {
-                keep(state, lane, report);
+            if !is_handed_in(state, lane, now, report) {
                 is_full = true;
                 break;
             }
-            note_report(state, &report);
         }
     }
     is_full
 }
 
-// A failed start, which no letter tells, is shown by the state of its service.
-fn note_report<C: Channels + Lanes>(state: &mut DriverState<C>, report: &Report) {
-    if let Report::StartFailed(sid, _) = report {
-        state.lasting.roster.note_failed_start(*sid);
+// Hands in a report of this lane. False where its seat is full: it is kept.
+fn is_handed_in<C: Channels + Lanes>(
+    state: &mut DriverState<'_, C>,
+    lane: usize,
+    now: u64,
+    report: Report,
+) -> bool {
+    let is_taken = state
+        .hand_in(FIRST_LANE.saturating_add(lane), now, act_of(&report))
+        .is_ok();
+    if is_taken {
+        state.lasting.clients.notes.roster.note_report(&report);
+    } else if let Some(kept) = state.lasting.kept.get_mut(lane) {
+        *kept = Some(report);
     }
+    is_taken
 }
 
 // The report of a lane that was kept, or its next one.
 fn take_report<C: Channels + Lanes, D: Board<C>, B: Backend, R: Wait>(
     context: &Context<'_, R>,
     office: &Office<C, D, B>,
-    state: &mut DriverState<C>,
+    state: &mut DriverState<'_, C>,
     lane: usize,
 ) -> Option<Report> {
     if let Some(kept) = state.lasting.kept.get_mut(lane) {
@@ -111,10 +86,4 @@ fn take_report<C: Channels + Lanes, D: Board<C>, B: Backend, R: Wait>(
         return None;
     }
     office.report(context.rt, lane)
-}
-
-fn keep<C: Channels + Lanes>(state: &mut DriverState<C>, lane: usize, report: Report) {
-    if let Some(kept) = state.lasting.kept.get_mut(lane) {
-        *kept = Some(report);
-    }
 }

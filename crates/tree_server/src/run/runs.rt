@@ -2,20 +2,18 @@
 ghost use Rattle.std.specs.Prelude.{◌≡◌, ℕ, slice_get};
 ghost use Rattle.office.specs.Names.{ring_of, lane_ring_of, asked_of};
 
-use crate::client::recording::tell_recorded;
-use crate::client::serving::refuse_all;
 use crate::run::driver_state::{DriverState, Lasting};
-use crate::run::driving::{RETRY_WAIT, RunEnd, drive_run, wait_for_bell};
-use crate::run::ending::end_services;
-use crate::run::recorder::{RecordFault, Recorder};
+use crate::run::driving::{drive_run, tell_lines, wait_for_bell};
+use crate::run::ending_services::end_services;
 use channel_names::Channels;
 use inbox::Finished;
 use locked_services::Closed;
 use log::{Log, info};
 use office::{NewOffice, Office, OpenFault, Opened};
 use order_lanes::{Backend, Lanes};
+use run_recorder::{RecordFault, Recorder};
 use scan_directory::Found;
-use server_rules::{ACTOR_COUNT, ServeFault};
+use server_rules::{ACTOR_COUNT, Pace, RETRY_WAIT, RunEnd, ServeFault};
 use server_threads::Context;
 use status_board::Board;
 use std::alloc::Global;
@@ -38,8 +36,10 @@ pub struct RunSettings<W> {
 enum AfterRun<B: Drop> {
     /// The tree has ended, or can't go on.
     Over(Result<(), ServeFault>),
+    /// There was no memory for a run of this tree: it is tried again.
+    Again(Box<Tree<Global>>, Vec<B>),
     /// The next run.
-    Next(Box<Tree<Global>>, Vec<B>, Lasting),
+    Next(Box<Tree<Global>>, Vec<B>),
 }
 
 /// Runs a tree from its first scan to its end, one run after the other. Each new run is noted by `log`.
@@ -52,18 +52,22 @@ pub fn run_all<B: Backend, R: Wait + Clock + Copy + Drop, W: Write + Drop, E: Wr
     first: Found,
 ) -> Result<(), ServeFault> {
     let alloc = context.alloc();
-    let (Ok(lasting), Ok(tree)) = (
+    let (Ok(mut lasting), Ok(tree)) = (
         Lasting::new(alloc, first, settings.recorder.is_there()),
         Box::new(alloc, Tree::new(alloc)),
     ) else {
         return Err(ServeFault::NoMemory);
     };
-    let mut next = AfterRun::Next(tree, backends, lasting);
+    let mut next = run_once(context, settings, errors, tree, backends, &mut lasting);
     for _ in context.rt.forever() {
         match next {
             AfterRun::Over(done) => return done,
-            AfterRun::Next(tree, backends, lasting) => {
-                next = run_once(context, settings, errors, log, tree, backends, lasting);
+            AfterRun::Again(tree, backends) => {
+                next = run_once(context, settings, errors, tree, backends, &mut lasting);
+            }
+            AfterRun::Next(tree, backends) => {
+                info!(log; "svscan: handover");
+                next = run_once(context, settings, errors, tree, backends, &mut lasting);
             }
         }
     }
@@ -71,19 +75,16 @@ pub fn run_all<B: Backend, R: Wait + Clock + Copy + Drop, W: Write + Drop, E: Wr
 }
 
 // Makes a new office of the tree, once there is memory; for its first run it has to be there.
-fn run_once<B: Backend, R: Wait + Clock + Copy + Drop, W: Write + Drop, E: Write, L: Log>(
+fn run_once<B: Backend, R: Wait + Clock + Copy + Drop, W: Write + Drop, E: Write>(
     context: &Context<'_, R>,
     settings: &mut RunSettings<W>,
     errors: &mut E,
-    log: &L,
     tree: Box<Tree<Global>>,
     backends: Vec<B>,
-    lasting: Lasting,
+    lasting: &mut Lasting,
 ) -> AfterRun<B> {
     match NewOffice::new(context.alloc(), tree, ACTOR_COUNT, backends) {
-        Ok(office) => run_named::<B, Brand, R, W, E, L>(
-            context, settings, errors, log, office, lasting,
-        ),
+        Ok(office) => run_named::<B, Brand, R, W, E>(context, settings, errors, office, lasting),
         Err((fault, tree, backends)) => wait_or_end(context, fault, tree, backends, lasting),
     }
 }
@@ -94,7 +95,7 @@ fn wait_or_end<B: Drop, R: Wait + Clock>(
     fault: OpenFault,
     tree: Box<Tree<Global>>,
     backends: Vec<B>,
-    mut lasting: Lasting,
+    lasting: &mut Lasting,
 ) -> AfterRun<B> {
     match fault {
         OpenFault::Actors | OpenFault::Lanes => AfterRun::Over(Err(ServeFault::Lanes)),
@@ -102,11 +103,16 @@ fn wait_or_end<B: Drop, R: Wait + Clock>(
             AfterRun::Over(Err(ServeFault::NoMemory))
         }
         OpenFault::NoMemory | OpenFault::Board => {
-            refuse_all(context, &mut lasting);
-            wait_for_bell(context, Some(RETRY_WAIT));
-            AfterRun::Next(tree, backends, lasting)
+            refuse_and_wait(context, lasting);
+            AfterRun::Again(tree, backends)
         }
     }
+}
+
+// Memory lacks: connections are answered so, and it is tried again a little later.
+fn refuse_and_wait<R: Wait + Clock>(context: &Context<'_, R>, lasting: &mut Lasting) {
+    lasting.clients.refuse_all(context);
+    wait_for_bell(context, Some(RETRY_WAIT));
 }
 
 // The office is opened, in a run that names its rings and its board.
@@ -116,14 +122,12 @@ fn run_named<
     R: Wait + Clock + Copy + Drop,
     W: Write + Drop,
     E: Write,
-    L: Log,
 >(
     context: &Context<'_, R>,
     settings: &mut RunSettings<W>,
     errors: &mut E,
-    log: &L,
     office: NewOffice<B>,
-    lasting: Lasting,
+    lasting: &mut Lasting,
 ) -> AfterRun<B>
     requires seats { (k : ℕ) → C.seat_ring k ≡ ring_of (slice_get office.rings k) }
     requires board { C.board ≡ office.board }
@@ -133,7 +137,7 @@ fn run_named<
     requires before { (k : ℕ) → C.asked_before k ≡ asked_of B.asked (slice_get office.backends k) }
 {
     match office.open::<C, R>(context.alloc(), *context.rt) {
-        Ok(opened) => run_opened(context, settings, errors, log, opened, lasting),
+        Ok(opened) => run_opened(context, settings, errors, opened, lasting),
         Err((fault, tree, backends)) => wait_or_end(context, fault, tree, backends, lasting),
     }
 }
@@ -146,14 +150,12 @@ fn run_opened<
     R: Wait + Clock,
     W: Write + Drop,
     E: Write,
-    L: Log,
 >(
     context: &Context<'_, R>,
     settings: &mut RunSettings<W>,
     errors: &mut E,
-    log: &L,
     opened: Opened<C, D, B>,
-    lasting: Lasting,
+    lasting: &mut Lasting,
 ) -> AfterRun<B> {
     let Opened {
         office,
@@ -165,14 +167,17 @@ fn run_opened<
     let Some(reader) = readers.into_iter().next() else {
         return AfterRun::Over(Err(ServeFault::NoMemory));
     };
-    let mut state = DriverState::new(context.alloc(), seats, reader, known, lasting);
-    let finishes = take_memory(context, &mut state.lasting, &mut settings.recorder);
-    let end = drive_run(context, &office, &mut state, settings.handover, errors);
+    lasting.clients.notes.begin_run();
+    let finishes = take_memory(context, lasting, &mut settings.recorder);
+    let pace = Pace::new(settings.handover);
+    let mut state = DriverState::new(context.alloc(), seats, reader, known, lasting, pace);
+    let end = drive_run(context, &office, &mut state, errors);
     let recorded = record(context, &office, &mut state, &mut settings.recorder);
     match (end, recorded) {
-        (RunEnd::Handover, Ok(())) => close(context.rt, office, state, finishes, log),
+        (RunEnd::Handover, Ok(())) => close(context, office, state, finishes),
         (RunEnd::Handover, Err(fault)) => {
-            end_services(context, &office, &mut state, errors);
+            end_services(context, &office, &mut state);
+            tell_lines(state.lasting, errors);
             AfterRun::Over(Err(fault))
         }
         (RunEnd::Ended, recorded) => AfterRun::Over(recorded),
@@ -193,8 +198,7 @@ fn take_memory<C: Channels, R: Wait + Clock, W: Write + Drop>(
                 return finishes;
             }
         }
-        refuse_all(context, lasting);
-        wait_for_bell(context, Some(RETRY_WAIT));
+        refuse_and_wait(context, lasting);
     }
     Vec::new(alloc)
 }
@@ -203,32 +207,29 @@ fn take_memory<C: Channels, R: Wait + Clock, W: Write + Drop>(
 fn record<C: Channels + Lanes, D: Board<C>, B: Backend, R: Wait + Clock, W: Write + Drop>(
     context: &Context<'_, R>,
     office: &Office<C, D, B>,
-    state: &mut DriverState<C>,
+    state: &mut DriverState<'_, C>,
     recorder: &mut Recorder<W>,
 ) -> Result<(), ServeFault> {
     for _ in context.rt.forever() {
         match recorder.append(context.rt, office, &mut state.known) {
             Ok(()) => {
-                tell_recorded(context, state, recorder.steps());
+                let steps = recorder.steps();
+                state.lasting.clients.tell_recorded(context, steps);
                 return Ok(());
             }
-            Err(RecordFault::Write) => return Err(ServeFault::Record),
-            Err(RecordFault::NoMemory) => {
-                refuse_all(context, &mut state.lasting);
-                wait_for_bell(context, Some(RETRY_WAIT));
-            }
+            Err(RecordFault::Write) => break,
+            Err(RecordFault::NoMemory) => refuse_and_wait(context, state.lasting),
         }
     }
     Err(ServeFault::Record)
 }
 
 // Finishes every seat, and closes the office, in which nothing is left to be done.
-fn close<C: Channels + Lanes, D: Board<C>, B: Backend, R: Wait, L: Log>(
-    rt: &R,
+fn close<C: Channels + Lanes, D: Board<C>, B: Backend, R: Wait>(
+    context: &Context<'_, R>,
     office: Office<C, D, B>,
-    state: DriverState<C>,
+    state: DriverState<'_, C>,
     finishes: Vec<Finished<C>>,
-    log: &L,
 ) -> AfterRun<B> {
     let mut finishes = finishes;
     for seat in state.seats {
@@ -236,10 +237,18 @@ fn close<C: Channels + Lanes, D: Board<C>, B: Backend, R: Wait, L: Log>(
         let _ = finishes.push(seat.finish());
     }
     let mut known = state.known;
-    match office.close(rt, &mut known, finishes) {
-        Ok(Closed { tree, backends, .. }) => {
-            info!(log; "svscan: handover");
-            AfterRun::Next(tree, backends, state.lasting)
+    match office.close(context.rt, &mut known, finishes) {
+        Ok(
+            Closed {
+                tree,
+                run,
+                backends,
+                ..
+            },
+        ) => {
+            // Another thread drops it, unless that is busy with the one before.
+            let _before = context.shared().scans.leave_run(context.rt, run);
+            AfterRun::Next(tree, backends)
         }
         Err(_) => AfterRun::Over(Err(ServeFault::Close)),
     }

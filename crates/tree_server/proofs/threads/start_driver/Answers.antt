@@ -3,8 +3,8 @@ use denote.Exit.{no}
 use denote.Param.Send.{param_send, param_sync, arg_send, shr_send}
 use Rattle.tree_core.proofs.Crosses.{closure_send}
 use Rattle.error_notes.proofs.Crosses.{notes_sync}
-use Rattle.server_threads.proofs.Crosses.{server_sync}
-use Rattle.tree_server.proofs.Crosses.{outcome_sync, parts_send}
+use Rattle.server_threads.proofs.Crosses.{outcome_sync, server_sync}
+use Rattle.tree_server.proofs.Crosses.{parts_send}
 use Rattle.tree_server.proofs.threads.start_driver.Goals as goal
 
 -- what it works on goes with it, and all else is shared

@@ -15,7 +15,7 @@ returns-in-None-clause-closed g c =
     let sound = c.steps-steps.ensures.sound.running in
     let backends = c.backends_of.result.items in
     let same = c.backends_of.ensures ∙ same_asked desks c.close_fault.new.desks.items c.close_fault.ensures.desks in
-    let tree = c.into_tree.ensures ∙ c.close_fault.ensures.same.running.tree in
+    let tree = c.into_parts-tree.ensures.tree ∙ c.close_fault.ensures.same.running.tree in
     record {
       complete = fault.complete;
       done = fault.done;
@@ -23,6 +23,7 @@ returns-in-None-clause-closed g c =
       carried_out = carried_out asked g.C.Lanes.asked_before v.lanes desks v.steps backends same fault.each fault.served sound.sent;
       tree = tree;
       steps = c.steps-steps.ensures.count;
+      run = c.into_parts-tree.ensures.run ∙ c.close_fault.ensures.same.running.steps;
       legal = λ m stands. (
         sound.legal m stands,
         subst (λ (t : StoredTree). StandsFor t (end_of m v.steps)) (sym tree) (sound.stands m stands),

@@ -1,0 +1,172 @@
+//! What is told to connections is posted, and written once they are woken.
+use crate::client_desk::ClientDesk;
+use crate::run_board::RunBoard;
+use arrayvec::ArrayVec;
+use channel_names::Channels;
+use server_rules::{
+    Answer, Line, News, OwnAnswer, Post, Subject, Todo, clock_line, following_line, news_lines,
+    recorded_line, reply_lines,
+};
+use server_threads::Context;
+use std::alloc::{AllocError, Global};
+use std::mem;
+use std::sync::Wait;
+use tree_core::Reply;
+
+fn post_text<R: Wait>(context: &Context<'_, R>, seat: usize, text: &Result<Vec<u8>, AllocError>) {
+    match text {
+        Ok(text) => context.post(seat, Ok(text.as_slice())),
+        Err(_) => context.post(seat, Err(AllocError)),
+    }
+}
+
+impl ClientDesk {
+    /// Posts what a step with this reply gave, in order.
+    pub fn post_all<C: Channels, R: Wait>(
+        &mut self,
+        context: &Context<'_, R>,
+        board: &mut RunBoard<C>,
+        reply: &Reply<Global>,
+        posts: &[Post],
+    ) {
+        for post in posts {
+            match post.line {
+                Line::Answer(Answer::TheReply) => {
+                    self.post_line(context, post.seat, &reply_lines(context.alloc(), reply));
+                }
+                Line::Answer(answer) => self.give(context, board, post.seat, answer),
+                Line::News(news) => self.post_news(context, post.seat, &news),
+            }
+        }
+    }
+
+    /// Posts an answer that is no reply to a step.
+    pub fn give<C: Channels, R: Wait>(
+        &mut self,
+        context: &Context<'_, R>,
+        board: &mut RunBoard<C>,
+        seat: usize,
+        answer: Answer,
+    ) {
+        match answer {
+            Answer::Status(subject) => self.post_status(context, board, seat, &subject),
+            _ => self.post_own(context, seat, answer),
+        }
+    }
+
+    // Posts the status of these services, from the board.
+    fn post_status<C: Channels, R: Wait>(
+        &mut self,
+        context: &Context<'_, R>,
+        board: &mut RunBoard<C>,
+        seat: usize,
+        subject: &Subject,
+    ) {
+        if !self.notes.tells_of(subject, board.made, board.is_shown) {
+            return self.post_answer(context, seat, OwnAnswer::NoMemory.text());
+        }
+        let shared = context.shared();
+        let text = shared.rows.read(
+            context.rt,
+            shared.alloc,
+            &mut board.reader,
+            board.is_shown.then_some(self.now),
+            &self.notes.roster,
+            subject,
+        );
+        match text {
+            Ok(text) => self.post_answer(context, seat, text.as_slice()),
+            Err(_) => self.post_answer(context, seat, OwnAnswer::NoMemory.text()),
+        }
+    }
+
+    // Posts an answer that is told neither from the board nor from a reply.
+    pub(crate) fn post_own<R: Wait>(
+        &mut self,
+        context: &Context<'_, R>,
+        seat: usize,
+        answer: Answer,
+    ) {
+        match answer {
+            Answer::TheReply | Answer::Status(_) => {}
+            Answer::Following => self.post_answer(context, seat, following_line()),
+            Answer::Own(reason) => self.post_answer(context, seat, reason.text()),
+            Answer::Recorded(steps) => {
+                self.post_line(context, seat, &recorded_line(context.alloc(), steps));
+            }
+            Answer::Clock => {
+                let since = context.shared().clock.since;
+                self.post_line(context, seat, &clock_line(context.alloc(), since, self.now));
+            }
+        }
+    }
+
+    // Posts an answer for whose text there may have been no memory.
+    fn post_line<R: Wait>(
+        &mut self,
+        context: &Context<'_, R>,
+        seat: usize,
+        text: &Result<Vec<u8>, AllocError>,
+    ) {
+        post_text(context, seat, text);
+        self.note_answer(context, seat);
+    }
+
+    // Posts the text of an answer.
+    pub(crate) fn post_answer<R: Wait>(
+        &mut self,
+        context: &Context<'_, R>,
+        seat: usize,
+        text: &[u8],
+    ) {
+        context.post(seat, Ok(text));
+        self.note_answer(context, seat);
+    }
+
+    fn post_news<R: Wait>(&mut self, context: &Context<'_, R>, seat: usize, news: &News) {
+        post_text(context, seat, &news_lines(context.alloc(), news));
+        self.note_posted(seat);
+        if let Some(caller) = context.caller(seat) {
+            caller.keep(context.rt, self.is_told_more(seat));
+        }
+    }
+
+    // A request of the connection is answered.
+    fn note_answer<R: Wait>(&mut self, context: &Context<'_, R>, seat: usize) {
+        self.note_posted(seat);
+        if let Some(caller) = context.caller(seat) {
+            caller.note_answer(context.rt, self.is_told_more(seat));
+        }
+    }
+
+    // Something was posted to the connection that is to be written.
+    fn note_posted(&mut self, seat: usize) {
+        if let Some(posted) = self.posted.get_mut(seat) {
+            *posted = true;
+        }
+    }
+
+    /// The run stands in the record, which has so many steps now: those that wait for it are told, and that is written.
+    pub fn tell_recorded<R: Wait>(&mut self, context: &Context<'_, R>, steps: u64) {
+        let recorders = mem::replace(&mut self.recorders, ArrayVec::new());
+        for seat in &recorders {
+            let Some(connection) = self.connections.get_mut(*seat) else {
+                continue;
+            };
+            if let Todo::Give(answer) = connection.recorded(steps) {
+                self.post_own(context, *seat, answer);
+            }
+        }
+        self.wake_all(context);
+    }
+
+    /// Has all written that was posted.
+    pub fn wake_all<R: Wait>(&mut self, context: &Context<'_, R>) {
+        for (seat, posted) in self.posted.iter_mut().enumerate() {
+            if *posted {
+                *posted = false;
+                context.wake(seat);
+            }
+        }
+    }
+}

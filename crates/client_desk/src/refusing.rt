@@ -1,0 +1,52 @@
+//! What can't be done for a connection is refused.
+use crate::client_desk::ClientDesk;
+use line_server::SEAT_COUNT;
+use server_rules::{Answer, OwnAnswer, Todo};
+use server_threads::Context;
+use std::sync::Wait;
+
+/// How many requests of a connection are refused before the next connection gets its turn.
+const TURN: usize = 64;
+
+impl ClientDesk {
+    /// The scan, or the record, for which the connection on this seat waits is not made, for this reason.
+    pub fn refuse_errand<R: Wait>(
+        &mut self,
+        context: &Context<'_, R>,
+        seat: usize,
+        reason: OwnAnswer,
+    ) {
+        let Some(connection) = self.connections.get_mut(seat) else {
+            return;
+        };
+        if let Todo::Give(answer) = connection.refuse_errand(reason) {
+            self.post_own(context, seat, answer);
+        }
+    }
+
+    /// Answers all that connections ask by `refused NoMemory`: no step can be made now. What stands of one that has left is ended in the
+    /// next run.
+    pub fn refuse_all<R: Wait>(&mut self, context: &Context<'_, R>) {
+        for seat in 0..SEAT_COUNT {
+            self.hand_over(context, seat);
+            for _ in 0..TURN {
+                if !self.is_refused(context, seat) {
+                    break;
+                }
+            }
+        }
+        self.wake_all(context);
+    }
+
+    // Answers the next request of the connection on this seat. False where there is none.
+    fn is_refused<R: Wait>(&mut self, context: &Context<'_, R>, seat: usize) -> bool {
+        let Some(connection) = self.connections.get_mut(seat) else {
+            return false;
+        };
+        let Todo::Give(Answer::Own(reason)) = connection.refuse_next(OwnAnswer::NoMemory) else {
+            return false;
+        };
+        self.post_answer(context, seat, reason.text());
+        true
+    }
+}

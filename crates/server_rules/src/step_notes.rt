@@ -1,0 +1,81 @@
+//! What the steps of a run have told so far.
+ghost use Rattle.std.specs.Prelude.{◌≡◌, [], OnOk, OnErr};
+ghost use Rattle.tree_core.specs.Effect.{outcome_of};
+ghost use Rattle.server_rules.specs.StepNotes.{has_noted, with_next_run, with_step, tells_of};
+
+use crate::roster::Roster;
+use crate::status::Subject;
+use s6_events::{At, NoMemory};
+use std::alloc::Global;
+use tree_core::{Effect, Reply};
+
+/// The services that steps told of, and up to which step of the run. A step is noted once, even where what it gave is looked at again.
+#[derive(Drop)]
+pub struct StepNotes {
+    pub roster: Roster,
+    /// The clock of the tree after the last step that was noted.
+    pub clock: At,
+    /// How many steps of the run were noted.
+    pub noted: u64,
+}
+
+impl StepNotes {
+    /// Of a tree that made no step.
+    pub fn new(alloc: Global) -> StepNotes
+        ensures roster { result.roster ≡ [] }
+        ensures clock { result.clock ≡ 0 }
+        ensures noted { result.noted ≡ 0 }
+    {
+        StepNotes {
+            roster: Roster::new(alloc),
+            clock: At::zero(),
+            noted: 0,
+        }
+    }
+
+    /// The next run begins, with no step.
+    pub fn begin_run(&mut self)
+        ensures { self.new ≡ with_next_run self.old }
+    {
+        self.noted = 0;
+    }
+
+    /// Notes what the step of this number gave, from 1, unless it was noted before. Its input was handed in at this moment. At `NoMemory` nothing
+    /// was noted.
+    pub fn note(&mut self, number: u64, moment: At, effect: &Effect<Global>) -> Result<(), NoMemory>
+        ensures noted { OnOk result
+            (self.new ≡ with_step number moment (outcome_of effect.now) self.old) }
+        ensures refused { OnErr result (self.new ≡ self.old) }
+    {
+        if self.has_noted(number) {
+            return Ok(());
+        }
+        if let Reply::Scanned(report) = &effect.reply {
+            self.roster.add(report.listed())?;
+        }
+        if self.clock < moment {
+            self.clock = moment;
+        }
+        self.roster.note(self.clock, effect.events.as_slice());
+        self.noted = number;
+        Ok(())
+    }
+
+    /// Whether the step of this number, from 1, was noted.
+    pub fn has_noted(&self, number: u64) -> bool
+        ensures { result ≡ has_noted number self.now }
+    {
+        number <= self.noted
+    }
+
+    /// Whether the status of these services may be told now, where the run has so many steps and the board shows the last of them or not. The
+    /// states are told of a roster that has noted all steps of a board that shows them.
+    pub fn tells_of(&self, subject: &Subject, steps: u64, is_shown: bool) -> bool
+        ensures { result ≡ tells_of subject.now steps is_shown self.now }
+    {
+        match subject {
+            Subject::One(_) | Subject::All => true,
+            Subject::States => self.has_noted(steps) && is_shown,
+        }
+    }
+}

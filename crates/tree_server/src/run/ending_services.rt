@@ -1,0 +1,42 @@
+//! The end of a tree that can't go on: its services are ended in order.
+use crate::lane::lanes::hand_in_reports;
+use crate::run::driver_state::DriverState;
+use crate::run::driving::{hand_in_due, make_steps, wait_for_bell};
+use channel_names::Channels;
+use office::Office;
+use order_lanes::{Backend, Lanes};
+use server_rules::{After, RETRY_WAIT, SCANNER};
+use server_threads::Context;
+use status_board::Board;
+use std::sync::Wait;
+use std::time::Clock;
+use tree_core::{Act, ScanOrder};
+
+/// How long services may take to end before they get SIGKILL, in milliseconds.
+const END_WAIT: u64 = 10_000;
+
+/// Tells all services to end, as `svscanctl -t` does, and goes on with their reports, timers and orders until all have, but at most ten
+/// seconds. What connections ask meanwhile is not begun.
+pub fn end_services<C: Channels + Lanes, D: Board<C>, B: Backend, R: Wait + Clock>(
+    context: &Context<'_, R>,
+    office: &Office<C, D, B>,
+    state: &mut DriverState<'_, C>,
+) {
+    let clock = context.shared().clock;
+    let begun = clock.millis(context.rt);
+    let _ = state.hand_in(SCANNER, begun, Act::Scanctl(ScanOrder::Terminate));
+    for _ in context.rt.forever() {
+        let now = clock.millis(context.rt);
+        let left = END_WAIT.saturating_sub(now.saturating_sub(begun));
+        if left == 0 {
+            break;
+        }
+        hand_in_due(state, now);
+        let is_full = hand_in_reports(context, office, state, now);
+        match make_steps(context, office, state, now, is_full).after_ending() {
+            After::GoOn => {}
+            After::Wait(_) => wait_for_bell(context, Some(RETRY_WAIT.min(left))),
+            After::Stop(_) => break,
+        }
+    }
+}

@@ -1,0 +1,95 @@
+#!/usr/bin/env python3
+"""Asks a running tree, on one connection, one request after the other, across a handover.
+
+    requests.py PROGRAM [REQUEST [RECORD]]
+
+PROGRAM is s6_tree. REQUEST is asked 300,000 times (`tally other`), of a tree of the services `killed`, `waited` and `other`. Meanwhile another
+connection kills `killed` 189 times, and the first one has a subscription to its letters and four waiters for the end of `waited`. Printed are how
+many replies were wrong, how many matches and releases came, requests a second, and the median and the longest answers. With RECORD the runs
+are recorded there. All folders are temporary."""
+import os, shutil, socket, statistics, subprocess, sys, tempfile, threading, time
+
+REQUESTS, KILLS, WAITERS = 300_000, 189, 4
+RUN = "#!/bin/sh\necho >&3\nexec sleep 86400 3>&-\n"
+
+
+class Connection:
+    def __init__(self, path):
+        self.socket = socket.socket(socket.AF_UNIX)
+        self.socket.connect(path)
+        self.rest = b""
+        self.news = []
+
+    def message(self):
+        while b"\n\n" not in self.rest:
+            read = self.socket.recv(65536)
+            if not read:
+                raise ConnectionError("the tree ended, or closed the connection")
+            self.rest += read
+        message, _, self.rest = self.rest.partition(b"\n\n")
+        return message.decode()
+
+    def ask(self, request):
+        """The reply; the news that came before it are kept."""
+        self.socket.sendall(request.encode() + b"\n")
+        while (message := self.message())[:2] in ("r ", "m "):
+            self.news.append(message)
+        return message
+
+
+def make_services(folder):
+    for name in ("killed", "waited", "other"):
+        place = os.path.join(folder, name)
+        os.makedirs(place)
+        with open(os.path.join(place, "run"), "w") as run:
+            run.write(RUN)
+        os.chmod(os.path.join(place, "run"), 0o755)
+        with open(os.path.join(place, "notification-fd"), "w") as file:
+            file.write("3\n")
+
+
+def kill(path, kills):
+    connection = Connection(path)
+    while len(kills) < KILLS:
+        kills.append(connection.ask("svc killed k"))
+        time.sleep(0.02)
+
+
+def main(program, request="tally other", record=None):
+    folder = tempfile.mkdtemp()
+    services, path, errors = (os.path.join(folder, name) for name in ("services", "socket", "errors"))
+    make_services(services)
+    server = subprocess.Popen([program, "svscan", services, path] + [record] * bool(record), stderr=open(errors, "wb"))
+    while not os.path.exists(path):
+        time.sleep(0.01)
+    subprocess.run([program, "svwait", path, "-U", "killed", "waited", "other"], check=True)
+    connection, kills, times, wrong = Connection(path), [], [], 0
+    assert connection.ask("subscribe svc killed repeat d").startswith("sub ")
+    assert all(connection.ask("wait d o 0 waited").startswith("wait ") for _ in range(WAITERS))
+    wanted = connection.ask(request)
+    killer = threading.Thread(target=kill, args=(path, kills))
+    killer.start()
+    for _ in range(REQUESTS):
+        begun = time.perf_counter()
+        wrong += connection.ask(request) != wanted
+        times.append(time.perf_counter() - begun)
+    killer.join()
+    time.sleep(2)
+    assert connection.ask("svc waited d") == "done"
+    time.sleep(1)
+    connection.ask("clock")
+    handovers = open(errors).read().count("handover")
+    subprocess.run([program, "svscanctl", path, "-t"], check=True)
+    server.wait()
+    shutil.rmtree(folder)
+    matches = sum(news.count("m ") for news in connection.news)
+    releases = sum(news.startswith("r ") for news in connection.news)
+    times.sort(reverse=True)
+    print("%d replies, %d wrong; %d kills, %d refused; %d matches, %d releases; %d handovers" % (
+        REQUESTS, wrong, len(kills), sum(reply != "done" for reply in kills), matches, releases, handovers))
+    print("%.0f a second; the median %.3f ms; the longest %s ms" % (
+        REQUESTS / sum(times), statistics.median(times) * 1000, ", ".join("%.1f" % (t * 1000) for t in times[:5])))
+
+
+if __name__ == "__main__":
+    main(*sys.argv[1:])
