@@ -10,9 +10,10 @@ import os, shutil, signal, socket, statistics, subprocess, sys, tempfile, time
 RUN = "#!/bin/sh\necho >&3\nexec sleep 86400 3>&-\n"
 
 
-def services(folder, count):
-    for number in range(count):
-        name = os.path.join(folder, "s%03d" % number)
+def services(folder, names):
+    """Makes services of these names, which tell that they are ready."""
+    for name in names:
+        name = os.path.join(folder, name)
         os.mkdir(name)
         with open(os.path.join(name, "run"), "w") as run:
             run.write(RUN)
@@ -40,7 +41,7 @@ class Tree:
         self.folder = tempfile.mkdtemp()
         self.place = os.path.join(self.folder, "services")
         os.mkdir(self.place)
-        services(self.place, count)
+        services(self.place, ["s%03d" % number for number in range(count)])
         self.socket = os.path.join(self.folder, "socket")
         self.count = count
 
@@ -87,7 +88,7 @@ class S6:
 
     def __init__(self, program, count):
         self.place = tempfile.mkdtemp()
-        services(self.place, count)
+        services(self.place, ["s%03d" % number for number in range(count)])
         self.count = count
 
     def start(self):
@@ -237,4 +238,5 @@ def main():
         measure(S6, program, idle)
 
 
-main()
+if __name__ == "__main__":
+    main()

@@ -9,8 +9,10 @@ many replies were wrong, how many matches and releases came, requests a second, 
 are recorded there. All folders are temporary."""
 import os, shutil, socket, statistics, subprocess, sys, tempfile, threading, time
 
+sys.dont_write_bytecode = True
+from beside_s6 import services
+
 REQUESTS, KILLS, WAITERS = 300_000, 189, 4
-RUN = "#!/bin/sh\necho >&3\nexec sleep 86400 3>&-\n"
 
 
 class Connection:
@@ -37,17 +39,6 @@ class Connection:
         return message
 
 
-def make_services(folder):
-    for name in ("killed", "waited", "other"):
-        place = os.path.join(folder, name)
-        os.makedirs(place)
-        with open(os.path.join(place, "run"), "w") as run:
-            run.write(RUN)
-        os.chmod(os.path.join(place, "run"), 0o755)
-        with open(os.path.join(place, "notification-fd"), "w") as file:
-            file.write("3\n")
-
-
 def kill(path, kills):
     connection = Connection(path)
     while len(kills) < KILLS:
@@ -57,9 +48,10 @@ def kill(path, kills):
 
 def main(program, request="tally other", record=None):
     folder = tempfile.mkdtemp()
-    services, path, errors = (os.path.join(folder, name) for name in ("services", "socket", "errors"))
-    make_services(services)
-    server = subprocess.Popen([program, "svscan", services, path] + [record] * bool(record), stderr=open(errors, "wb"))
+    place, path, errors = (os.path.join(folder, name) for name in ("services", "socket", "errors"))
+    os.mkdir(place)
+    services(place, ["killed", "waited", "other"])
+    server = subprocess.Popen([program, "svscan", place, path] + [record] * bool(record), stderr=open(errors, "wb"))
     while not os.path.exists(path):
         time.sleep(0.01)
     subprocess.run([program, "svwait", path, "-U", "killed", "waited", "other"], check=True)
