@@ -1,15 +1,10 @@
 -- What the thread that drives takes over may go to it.
 use denote.RattleType.{RattleType}
 use denote.Struct.Declared.{shape}
-use denote.Struct.Field.{u64-field}
 use denote.Param.Send.{IsSend, recorded_send, struct_send, sendable}
 use Rattle.std.proofs.Crossing.{crosses}
-use Rattle.run_recorder.proofs.recorder.Recorder.TheSendSync as recorder
 use Rattle.tree_server.proofs.run.runs.RunSettings.TheSendSync as settings
 use Rattle.tree_server.specs.contracts.threads.DriverParts as DriverParts
-
-number_send : IsSend u64-field.row
-number_send = search sendable
 
 pub parts_send : (B W : RattleType) → IsSend B → IsSend W → IsSend (DriverParts.the_row B W)
 parts_send B W b w =
@@ -18,6 +13,6 @@ parts_send B W b w =
       search (b, crosses, sendable) depth 60 fits 20000,
       (
         search (crosses, sendable) depth 60 fits 20000,
-        (search (settings.the_field_send, recorder.the_field_send, w, number_send, crosses, sendable) depth 60 fits 20000, tt),
+        (search (settings.the_field_send, w, crosses, sendable) depth 60 fits 20000, tt),
       ),
     ))

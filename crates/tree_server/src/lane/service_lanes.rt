@@ -32,10 +32,21 @@ pub fn open_service_lanes<R: Wait + Copy + Drop>(
     };
     for _ in 0..LANE_COUNT {
         let worker = ProcessBackend::new(rt, alloc, keeper, root, notes)?;
-        let link = Arc::new(alloc, LaneLink::new(alloc, worker.bell()?))?;
-        lanes.backends.push(LinkedBackend::new(rt, alloc, &link)?)?;
-        lanes.links.push(link)?;
-        lanes.workers.push(worker)?;
+        add_lane(rt, alloc, &mut lanes, worker)?;
     }
     Ok(lanes)
+}
+
+// One lane more, with this worker.
+fn add_lane<R: Wait + Copy + Drop>(
+    rt: R,
+    alloc: Global,
+    lanes: &mut ServiceLanes<R>,
+    worker: ProcessBackend<R>,
+) -> Result<(), NoMemory> {
+    let link = Arc::new(alloc, LaneLink::new(alloc, worker.bell()?))?;
+    lanes.workers.push(worker)?;
+    lanes.backends.push(LinkedBackend::new(rt, alloc, &link)?)?;
+    lanes.links.push(link)?;
+    Ok(())
 }

@@ -27,7 +27,14 @@ pub fn drive_run<C: Channels + Lanes, D: Board<C>, B: Backend, R: Wait + Clock, 
     errors: &mut E,
 ) -> RunEnd {
     for _ in context.rt.forever() {
-        let round = drive_once(context, office, state);
+        let now = context.shared().clock.millis(context.rt);
+        let is_open = state.pace.takes_inputs();
+        let mut is_full = false;
+        if is_open {
+            hand_in_all(context, state, now);
+            is_full = hand_in_reports(context, office, state, now);
+        }
+        let round = make_steps(context, office, state, now, is_open, is_full);
         tell_lines(state.lasting, errors);
         match state.pace.after(&round) {
             After::GoOn => {}
@@ -46,30 +53,13 @@ pub fn tell_lines<E: Write>(lasting: &mut Lasting, errors: &mut E) {
     }
 }
 
-// One round over all that is to be done.
-fn drive_once<C: Channels + Lanes, D: Board<C>, B: Backend, R: Wait + Clock>(
-    context: &Context<'_, R>,
-    office: &Office<C, D, B>,
-    state: &mut DriverState<'_, C>,
-) -> Round {
-    let now = context.shared().clock.millis(context.rt);
-    let is_open = state.pace.takes_inputs();
-    let mut is_full = false;
-    if is_open {
-        hand_in_all(context, state, now);
-        is_full = hand_in_reports(context, office, state, now);
-    }
-    let mut round = make_steps(context, office, state, now, is_full);
-    round.is_open = is_open;
-    round
-}
-
 /// Makes all steps of what was handed in, hands out what they gave, and lets the lanes carry.
 pub fn make_steps<C: Channels + Lanes, D: Board<C>, B: Backend, R: Wait>(
     context: &Context<'_, R>,
     office: &Office<C, D, B>,
     state: &mut DriverState<'_, C>,
     now: u64,
+    is_open: bool,
     is_full: bool,
 ) -> Round {
     let halt = drive_some(context, office, state);
@@ -82,7 +72,7 @@ pub fn make_steps<C: Channels + Lanes, D: Board<C>, B: Backend, R: Wait>(
     }
     Round {
         moment: now,
-        is_open: true,
+        is_open,
         is_full,
         has_more: state.lasting.clients.has_more_to_begin(),
         halt,

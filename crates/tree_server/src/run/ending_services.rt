@@ -33,7 +33,7 @@ pub fn end_services<C: Channels + Lanes, D: Board<C>, B: Backend, R: Wait + Cloc
         }
         hand_in_due(state, now);
         let is_full = hand_in_reports(context, office, state, now);
-        match make_steps(context, office, state, now, is_full).after_ending() {
+        match make_steps(context, office, state, now, true, is_full).after_ending() {
             After::GoOn => {}
             After::Wait(_) => wait_for_bell(context, Some(RETRY_WAIT.min(left))),
             After::Stop(_) => break,

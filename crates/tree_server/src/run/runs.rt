@@ -31,15 +31,22 @@ pub struct RunSettings<W> {
     pub recorder: Recorder<W>,
 }
 
+/// What goes on from one run to the next: the tree, and the backends of its lanes.
+#[derive(Drop)]
+struct Between<B: Drop> {
+    tree: Box<Tree<Global>>,
+    backends: Vec<B>,
+}
+
 /// What comes after a run.
 #[derive(Drop)]
 enum AfterRun<B: Drop> {
     /// The tree has ended, or can't go on.
     Over(Result<(), ServeFault>),
     /// There was no memory for a run of this tree: it is tried again.
-    Again(Box<Tree<Global>>, Vec<B>),
+    Again(Between<B>),
     /// The next run.
-    Next(Box<Tree<Global>>, Vec<B>),
+    Next(Between<B>),
 }
 
 /// Runs a tree from its first scan to its end, one run after the other. Each new run is noted by `log`.
@@ -52,26 +59,48 @@ pub fn run_all<B: Backend, R: Wait + Clock + Copy + Drop, W: Write + Drop, E: Wr
     first: Found,
 ) -> Result<(), ServeFault> {
     let alloc = context.alloc();
-    let (Ok(mut lasting), Ok(tree)) = (
-        Lasting::new(alloc, first, settings.recorder.is_there()),
-        Box::new(alloc, Tree::new(alloc)),
-    ) else {
+    let Ok(mut lasting) = Lasting::new(alloc, first, settings.recorder.is_there()) else {
         return Err(ServeFault::NoMemory);
     };
-    let mut next = run_once(context, settings, errors, tree, backends, &mut lasting);
+    let mut between = first_tree(alloc, backends);
     for _ in context.rt.forever() {
-        match next {
-            AfterRun::Over(done) => return done,
-            AfterRun::Again(tree, backends) => {
-                next = run_once(context, settings, errors, tree, backends, &mut lasting);
-            }
-            AfterRun::Next(tree, backends) => {
-                info!(log; "svscan: handover");
-                next = run_once(context, settings, errors, tree, backends, &mut lasting);
-            }
+        if let Some(done) = run_next(context, settings, errors, log, &mut between, &mut lasting) {
+            return done;
         }
     }
     Ok(())
+}
+
+// A tree that has made no step. None where there is no memory for it.
+fn first_tree<B: Drop>(alloc: Global, backends: Vec<B>) -> Option<Between<B>> {
+    let tree = Box::new(alloc, Tree::new(alloc)).ok()?;
+    Some(Between { tree, backends })
+}
+
+// Makes one run. How the tree has ended, if it has.
+fn run_next<B: Backend, R: Wait + Clock + Copy + Drop, W: Write + Drop, E: Write, L: Log>(
+    context: &Context<'_, R>,
+    settings: &mut RunSettings<W>,
+    errors: &mut E,
+    log: &L,
+    between: &mut Option<Between<B>>,
+    lasting: &mut Lasting,
+) -> Option<Result<(), ServeFault>> {
+    let Some(before) = between.take() else {
+        return Some(Err(ServeFault::NoMemory));
+    };
+    match run_once(context, settings, errors, before, lasting) {
+        AfterRun::Over(done) => Some(done),
+        AfterRun::Again(next) => {
+            *between = Some(next);
+            None
+        }
+        AfterRun::Next(next) => {
+            info!(log; "svscan: handover");
+            *between = Some(next);
+            None
+        }
+    }
 }
 
 // Makes a new office of the tree, once there is memory; for its first run it has to be there.
@@ -79,13 +108,14 @@ fn run_once<B: Backend, R: Wait + Clock + Copy + Drop, W: Write + Drop, E: Write
     context: &Context<'_, R>,
     settings: &mut RunSettings<W>,
     errors: &mut E,
-    tree: Box<Tree<Global>>,
-    backends: Vec<B>,
+    before: Between<B>,
     lasting: &mut Lasting,
 ) -> AfterRun<B> {
-    match NewOffice::new(context.alloc(), tree, ACTOR_COUNT, backends) {
+    match NewOffice::new(context.alloc(), before.tree, ACTOR_COUNT, before.backends) {
         Ok(office) => run_named::<B, Brand, R, W, E>(context, settings, errors, office, lasting),
-        Err((fault, tree, backends)) => wait_or_end(context, fault, tree, backends, lasting),
+        Err((fault, tree, backends)) => {
+            wait_or_end(context, fault, Between { tree, backends }, lasting)
+        }
     }
 }
 
@@ -93,8 +123,7 @@ fn run_once<B: Backend, R: Wait + Clock + Copy + Drop, W: Write + Drop, E: Write
 fn wait_or_end<B: Drop, R: Wait + Clock>(
     context: &Context<'_, R>,
     fault: OpenFault,
-    tree: Box<Tree<Global>>,
-    backends: Vec<B>,
+    before: Between<B>,
     lasting: &mut Lasting,
 ) -> AfterRun<B> {
     match fault {
@@ -104,7 +133,7 @@ fn wait_or_end<B: Drop, R: Wait + Clock>(
         }
         OpenFault::NoMemory | OpenFault::Board => {
             refuse_and_wait(context, lasting);
-            AfterRun::Again(tree, backends)
+            AfterRun::Again(before)
         }
     }
 }
@@ -138,7 +167,9 @@ fn run_named<
 {
     match office.open::<C, R>(context.alloc(), *context.rt) {
         Ok(opened) => run_opened(context, settings, errors, opened, lasting),
-        Err((fault, tree, backends)) => wait_or_end(context, fault, tree, backends, lasting),
+        Err((fault, tree, backends)) => {
+            wait_or_end(context, fault, Between { tree, backends }, lasting)
+        }
     }
 }
 
@@ -171,17 +202,38 @@ fn run_opened<
     let finishes = take_memory(context, lasting, &mut settings.recorder);
     let pace = Pace::new(settings.handover);
     let mut state = DriverState::new(context.alloc(), seats, reader, known, lasting, pace);
-    let end = drive_run(context, &office, &mut state, errors);
-    let recorded = record(context, &office, &mut state, &mut settings.recorder);
+    match drive_to_end(context, settings, errors, &office, &mut state) {
+        None => close(context, office, state, finishes),
+        Some(done) => AfterRun::Over(done),
+    }
+}
+
+// Drives a run to its end, and records it. How the tree has ended, if it has; where it can't go on, its services are ended.
+fn drive_to_end<
+    C: Channels + Lanes,
+    D: Board<C>,
+    B: Backend,
+    R: Wait + Clock,
+    W: Write + Drop,
+    E: Write,
+>(
+    context: &Context<'_, R>,
+    settings: &mut RunSettings<W>,
+    errors: &mut E,
+    office: &Office<C, D, B>,
+    state: &mut DriverState<'_, C>,
+) -> Option<Result<(), ServeFault>> {
+    let end = drive_run(context, office, state, errors);
+    let recorded = record(context, office, state, &mut settings.recorder);
     match (end, recorded) {
-        (RunEnd::Handover, Ok(())) => close(context, office, state, finishes),
+        (RunEnd::Handover, Ok(())) => None,
         (RunEnd::Handover, Err(fault)) => {
-            end_services(context, &office, &mut state);
+            end_services(context, office, state);
             tell_lines(state.lasting, errors);
-            AfterRun::Over(Err(fault))
+            Some(Err(fault))
         }
-        (RunEnd::Ended, recorded) => AfterRun::Over(recorded),
-        (RunEnd::Full, _) => AfterRun::Over(Err(ServeFault::Full)),
+        (RunEnd::Ended, recorded) => Some(recorded),
+        (RunEnd::Full, _) => Some(Err(ServeFault::Full)),
     }
 }
 
@@ -248,7 +300,7 @@ fn close<C: Channels + Lanes, D: Board<C>, B: Backend, R: Wait>(
         ) => {
             // Another thread drops it, unless that is busy with the one before.
             let _before = context.shared().scans.leave_run(context.rt, run);
-            AfterRun::Next(tree, backends)
+            AfterRun::Next(Between { tree, backends })
         }
         Err(_) => AfterRun::Over(Err(ServeFault::Close)),
     }
