@@ -15,11 +15,12 @@ import fcntl, hashlib, os, shutil, signal, subprocess, sys, time
 
 # Seconds of processor that a check takes, by which the next crate is chosen and what is left is reckoned; docs/PROOFS.md has them.
 SECONDS = {
-    "s6_events": 145, "control_letters": 43, "servicedir": 102, "death_tally": 53, "svc_commands": 299, "finish_core": 21, "supervise_core": 195,
-    "deadlines": 63, "text_matcher": 112, "svscan_core": 403, "event_directory": 601, "wait_conditions": 383, "tree_core": 460, "s6_script": 282,
-    "s6_replay": 521, "run_stories": 394, "day_times": 24, "replay_tool": 81, "channel_names": 12, "inbox": 98, "order_lanes": 118,
-    "error_notes": 101, "child_runner": 518, "line_server": 255, "status_board": 107, "s6_tools": 648, "run_records": 247, "locked_services": 464,
-    "office": 564, "scan_directory": 111, "server_rules": 444, "svcheck": 55, "server_threads": 219, "client_desk": 200, "run_recorder": 150, "tree_server": 950, "tree_front": 202, "s6_tree": 238,
+    "s6_events": 60, "control_letters": 20, "servicedir": 50, "death_tally": 30, "svc_commands": 170, "finish_core": 10, "supervise_core": 105,
+    "deadlines": 35, "text_matcher": 45, "svscan_core": 210, "event_directory": 300, "wait_conditions": 185, "tree_core": 230,
+    "s6_script": 215, "s6_replay": 320, "run_stories": 260, "day_times": 15, "replay_tool": 60, "channel_names": 5, "inbox": 45,
+    "order_lanes": 70, "error_notes": 50, "child_runner": 345, "line_server": 115, "status_board": 60, "s6_tools": 405, "run_records": 50,
+    "run_history": 90, "locked_services": 235, "office": 290, "scan_directory": 80, "server_rules": 280, "svcheck": 40, "server_threads": 140,
+    "client_desk": 90, "run_recorder": 75, "tree_server": 450, "tree_front": 200, "s6_tree": 240,
 }
 USUAL_SECONDS = 60
 # The memory that a check may want, in kilobytes.
@@ -196,11 +197,12 @@ def busy(running):
 
 
 def jobs_for(plan, name, others, running):
-    """How many processors the crate gets: what the others leave. The one that all wait for gets two at least, also where none is free; 0: it waits."""
+    """How many processors the crate gets: all where it is alone, else one. Of more than two, the one that all wait for gets what the others leave, and two
+    at least, also where none is free: two jobs take a third more than one. 0: it waits."""
     free = plan.processors - busy(running)
-    if all(plan.ways[name] >= plan.way_left(check) for check in running.values()):
-        return max(min(2, plan.processors), free - others) if free > -2 else 0
-    return max(0, min(1, free))
+    if plan.processors > 2 and all(plan.ways[name] >= plan.way_left(check) for check in running.values()):
+        return max(2, free - others) if free > -2 else 0
+    return max(0, min(1, free) if others or running else free)
 
 
 def begin_checks(plan, running, lanes):
