@@ -3,8 +3,8 @@
 
     wrong_bodies.py [CRATE | CRATE/NAME]..
 
-A wrong body is crates/CRATE/must-fail/NAME.edit, or NAME.edit.md: lines 'file:', 'old:' and 'new:', as rt must-fail reads them, and a line
-'only:' with the function whose promise it breaks. The change is made in a copy of the crate, and that function is checked there with those
+Without names, those that rt ci passes by: crates/CRATE/must-fail/NAME.edit.md. One has lines 'file:', 'old:' and 'new:', as rt must-fail reads
+them in NAME.edit, and a line 'only:' with the function whose promise it breaks. The change is made in a copy of the crate, and that function is checked there with those
 that it calls (rattle check --only), over the libraries that rt ci, or rt lib in each crate, left in out/rlib.
 
 What is proved of a function rests on what others promise, and not on their bodies. So wrong bodies of different functions are tried
@@ -160,9 +160,9 @@ def usable_processors():
 
 
 def wanted(names):
-    """The wrong bodies of these crates, or of these names; all where there is none."""
-    bodies = [WrongBody(path) for path in sorted(glob.glob("crates/*/must-fail/*.edit*"))]
-    return [body for body in bodies if not names or body.crate in names or body.label in names]
+    """The wrong bodies of these crates, or of these names; those that rt ci passes by where there is none."""
+    bodies = [WrongBody(path) for path in sorted(glob.glob("crates/*/must-fail/*" + (".edit*" if names else ".edit.md")))]
+    return [body for body in bodies if body.only and (not names or body.crate in names or body.label in names)]
 
 
 def main():
