@@ -10,27 +10,28 @@ use std::alloc::Global;
 use std::sync::Wait;
 use tree_core::Act;
 
-/// The connections of a tree, from its first run to its last, for the thread that drives it.
+/// The connections of a tree, from its first run to its last, for the driver.
 #[derive(Drop)]
 pub struct ClientDesk {
     /// By their seats.
     pub connections: Vec<Connection>,
     /// What steps told of services.
     pub notes: StepNotes,
-    /// The clock of the tree, in milliseconds: the greatest moment of what was handed in, once all of that was done.
+    /// The tree's clock, in milliseconds: the greatest moment that was handed in. It is brought up to date whenever no input is left to be
+    /// done.
     pub now: u64,
-    /// The acts that the rings of connections did not take yet, by their seats.
+    /// By their seats: the act that the ring of a connection has not taken yet.
     pub(crate) held: Vec<Option<Act<Global>>>,
-    /// To which seats something was posted that is to be written.
+    /// By seats: whether something was posted since the connection was last woken.
     pub(crate) posted: [bool; SEAT_COUNT],
     /// Whether runs are recorded.
     pub(crate) has_record: bool,
-    /// Who waits for the run to be recorded.
+    /// The seats of the connections that wait for the run to be recorded.
     pub(crate) recorders: Askers,
 }
 
 impl ClientDesk {
-    /// Nobody is connected. `NoMemory` where a growth was refused.
+    /// Nobody is connected. `NoMemory` where memory is refused.
     pub fn new(alloc: Global, has_record: bool) -> Result<ClientDesk, NoMemory> {
         let mut connections = Vec::with_capacity(alloc, SEAT_COUNT)?;
         let mut held = Vec::with_capacity(alloc, SEAT_COUNT)?;
@@ -49,7 +50,7 @@ impl ClientDesk {
         })
     }
 
-    /// The connection on this seat takes what its client asks, or that the client has left.
+    /// Hands the connection on this seat what its client asks, or tells it that the client has left.
     pub fn hand_over<R: Wait>(&mut self, context: &Context<'_, R>, seat: usize) {
         if let (Some(caller), Some(connection)) = (
             context.caller(seat),
@@ -59,7 +60,7 @@ impl ClientDesk {
         }
     }
 
-    /// Begins what comes next for the connection on this seat, at this moment, in milliseconds: what is to be done.
+    /// Begins what comes next for the connection on this seat, and answers what is to be done. The present moment is in milliseconds.
     pub fn begin(&mut self, seat: usize, now: u64) -> Todo {
         match self.connections.get_mut(seat) {
             Some(connection) => connection.begin(self.now, now),
@@ -67,7 +68,8 @@ impl ClientDesk {
         }
     }
 
-    /// Whether something is to be begun for a connection: what it asked or what was put off, or, where it has left, the end of what stands.
+    /// Whether something is to be begun for some connection: a request, an act that was put off, or, once its client has left, the end of
+    /// what it made.
     pub fn has_more_to_begin(&self) -> bool {
         self.connections
             .iter()
@@ -81,7 +83,7 @@ impl ClientDesk {
         }
     }
 
-    /// The act that was kept of the connection on this seat, once.
+    /// Takes out the act that was kept of the connection on this seat; None where none was.
     pub fn take_held(&mut self, seat: usize) -> Option<Act<Global>> {
         match self.held.get_mut(seat) {
             Some(held) => held.take(),
@@ -89,7 +91,8 @@ impl ClientDesk {
         }
     }
 
-    /// The connection on this seat asks for a record. Whether it waits for one; without a record it is refused.
+    /// Has the connection on this seat wait until the run is recorded. Whether it waits; where runs are not recorded it doesn't, and its
+    /// request is refused by `OwnAnswer::Record`.
     pub fn await_record<R: Wait>(&mut self, context: &Context<'_, R>, seat: usize) -> bool {
         let waits = self.has_record && self.recorders.try_push(seat).is_ok();
         if !waits {
@@ -98,7 +101,7 @@ impl ClientDesk {
         waits
     }
 
-    /// The seat is free for the next connection.
+    /// Makes the seat free for the next connection, once all that this one made is ended.
     pub fn free<R: Wait>(&mut self, context: &Context<'_, R>, seat: usize) {
         if let Some(connection) = self.connections.get_mut(seat) {
             *connection = Connection::new(context.alloc());
@@ -108,7 +111,7 @@ impl ClientDesk {
         }
     }
 
-    /// Forgets services that have no row any more, where the roster has grown long.
+    /// Where the roster has grown long and the board shows the last step, the roster forgets the services that have no row any more.
     pub fn forget_gone<C: Channels, R: Wait>(
         &mut self,
         context: &Context<'_, R>,

@@ -1,5 +1,5 @@
-//! The connections of a tree, as the thread that drives it serves them: what they ask is handed over, what is told to them is posted, and
-//! each call of theirs is answered once. What is to be done for a connection `server_rules` decides.
+//! The connections of a tree, as the driver, the thread that drives all runs, serves them. It takes what they ask, posts what is told to
+//! them, and notes each answer. `server_rules` decides what is to be done for a connection.
 #![tactic(auto)]
 
 mod client_desk;

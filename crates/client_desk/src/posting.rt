@@ -1,4 +1,4 @@
-//! What is told to connections is posted, and written once they are woken.
+//! Posting to connections. What is posted is written once the connection is woken.
 use crate::client_desk::ClientDesk;
 use crate::run_board::RunBoard;
 use arrayvec::ArrayVec;
@@ -21,7 +21,7 @@ fn post_text<R: Wait>(context: &Context<'_, R>, seat: usize, text: &Result<Vec<u
 }
 
 impl ClientDesk {
-    /// Posts what a step with this reply gave, in order.
+    /// Posts all of these, in order. They are of a step with this reply, which answers those that asked for it.
     pub fn post_all<C: Channels, R: Wait>(
         &mut self,
         context: &Context<'_, R>,
@@ -54,7 +54,8 @@ impl ClientDesk {
         }
     }
 
-    // Posts the status of these services, from the board.
+    // Posts the status of these services, read from the board; or `refused NoMemory` where memory for it is refused, or where states are
+    // asked and a step is missing on the board or in the roster.
     fn post_status<C: Channels, R: Wait>(
         &mut self,
         context: &Context<'_, R>,
@@ -101,7 +102,7 @@ impl ClientDesk {
         }
     }
 
-    // Posts an answer for whose text there may have been no memory.
+    // Posts the text of an answer. Where memory for it was refused, the connection is ended.
     fn post_line<R: Wait>(
         &mut self,
         context: &Context<'_, R>,
@@ -131,7 +132,7 @@ impl ClientDesk {
         }
     }
 
-    // A request of the connection is answered.
+    // Notes that a request of the connection is answered.
     fn note_answer<R: Wait>(&mut self, context: &Context<'_, R>, seat: usize) {
         self.note_posted(seat);
         if let Some(caller) = context.caller(seat) {
@@ -139,14 +140,15 @@ impl ClientDesk {
         }
     }
 
-    // Something was posted to the connection that is to be written.
+    // Notes that something was posted to the connection, so that it is woken.
     fn note_posted(&mut self, seat: usize) {
         if let Some(posted) = self.posted.get_mut(seat) {
             *posted = true;
         }
     }
 
-    /// The run stands in the record, which has so many steps now: those that wait for it are told, and that is written.
+    /// Tells the connections that wait for it that the run is recorded, and how many steps the record has now. Wakes all to which something
+    /// was posted.
     pub fn tell_recorded<R: Wait>(&mut self, context: &Context<'_, R>, steps: u64) {
         let recorders = mem::replace(&mut self.recorders, ArrayVec::new());
         for seat in &recorders {
@@ -160,7 +162,7 @@ impl ClientDesk {
         self.wake_all(context);
     }
 
-    /// Has all written that was posted.
+    /// Wakes each connection to which something was posted since it was last woken, so that it is written.
     pub fn wake_all<R: Wait>(&mut self, context: &Context<'_, R>) {
         for (seat, posted) in self.posted.iter_mut().enumerate() {
             if *posted {

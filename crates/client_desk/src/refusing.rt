@@ -9,7 +9,8 @@ use std::sync::Wait;
 const TURN: usize = 64;
 
 impl ClientDesk {
-    /// The scan, or the record, for which the connection on this seat waits is not made, for this reason.
+    /// Refuses, for this reason, the scan or the record for which the connection on this seat waits. Nothing is posted once its client has
+    /// left.
     pub fn refuse_errand<R: Wait>(
         &mut self,
         context: &Context<'_, R>,
@@ -24,8 +25,8 @@ impl ClientDesk {
         }
     }
 
-    /// Answers all that connections ask by `refused NoMemory`: no step can be made now. What stands of one that has left is ended in the
-    /// next run.
+    /// Answers what connections ask by `refused NoMemory`, since no step can be made now: at most 64 requests of each, and none of a
+    /// connection for which something is under way. What a connection that has left made is ended once steps are made again.
     pub fn refuse_all<R: Wait>(&mut self, context: &Context<'_, R>) {
         for seat in 0..SEAT_COUNT {
             self.hand_over(context, seat);
@@ -38,7 +39,7 @@ impl ClientDesk {
         self.wake_all(context);
     }
 
-    // Answers the next request of the connection on this seat. False where there is none.
+    // Refuses the next request of the connection on this seat. False where there is none, or something is under way.
     fn is_refused<R: Wait>(&mut self, context: &Context<'_, R>, seat: usize) -> bool {
         let Some(connection) = self.connections.get_mut(seat) else {
             return false;

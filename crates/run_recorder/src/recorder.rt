@@ -17,34 +17,34 @@ use std::sync::Wait;
 /// The rights of a record: its owner's alone.
 const RECORD_MODE: u32 = 0o600;
 
-/// How much memory is kept for writing a run, in bytes: the text of its longest step, as it grows.
+/// How much memory is set aside for writing a run, in bytes. It is meant for the text of its longest step, while that grows.
 const RESERVE: usize = 1_048_576;
 
 /// Why a run was not recorded.
 #[derive(Clone, Copy, PartialEq, Eq, Debug)]
 pub enum RecordFault {
-    /// The file took not all. The record is lost.
+    /// The file did not take all of the run, or an input has no spelling. No run may be appended after that.
     Write,
-    /// A growth was refused. The run may be recorded again: what was written of it is passed over.
+    /// Memory was refused. The run may be appended again: what was written of it already is skipped then.
     NoMemory,
 }
 
-/// Where the runs of a tree are recorded, if anywhere: all of them are one script, with the reply to each input.
+/// Where the runs of a tree are recorded, if anywhere. All of them are one script, with the reply to each input.
 #[derive(Drop)]
 pub struct Recorder<W> {
     alloc: Global,
     writer: Option<W>,
     is_begun: bool,
-    // How many steps stand in the file.
+    // How many steps the recorded runs have.
     steps: u64,
-    // How many bytes of the present run were written.
+    // How many bytes of the present run were written by calls that were refused memory.
     written: u64,
-    // Memory that is given back just before a run is written, so that its text finds some.
+    // Memory that is set aside, and given back just before a run is written, so that there is some for its text.
     reserve: Vec<u8>,
 }
 
 impl<W: Write + Drop> Recorder<W> {
-    /// Over a writer that got nothing yet, if there is one.
+    /// A recorder with this writer, to which nothing was written yet; without a writer it records nothing.
     pub fn new(alloc: Global, writer: Option<W>) -> Recorder<W> {
         Recorder {
             alloc,
@@ -66,7 +66,7 @@ impl<W: Write + Drop> Recorder<W> {
         self.steps
     }
 
-    /// Takes the memory that writing a run needs, when the run begins.
+    /// Sets memory aside for writing a run, if runs are recorded. Call it when the run begins. After `NoMemory` it may be called again.
     pub fn prepare(&mut self) -> Result<(), NoMemory> {
         if self.writer.is_some() {
             self.reserve.reserve(RESERVE)?;
@@ -74,7 +74,7 @@ impl<W: Write + Drop> Recorder<W> {
         Ok(())
     }
 
-    /// Appends the run of an office, which nobody else uses.
+    /// Appends the run of an office to the record, if there is one. Nobody else may use the office meanwhile.
     pub fn append<C: Channels + Lanes, D: Board<C>, B: Backend, R: Wait>(
         &mut self,
         rt: &R,
@@ -108,7 +108,7 @@ impl<W: Write + Drop> Recorder<W> {
     }
 }
 
-/// Passes over the first bytes, which were written before, and writes the others.
+/// Skips the first bytes, which were written before, and writes the others.
 #[derive(Drop)]
 struct RestWriter<'a, W: Write> {
     writer: &'a mut W,
@@ -133,8 +133,9 @@ impl<'a, W: Write> Write for RestWriter<'a, W> {
     }
 }
 
-/// A recorder of this file, which is made, or made empty, with rights for its owner alone; of none where no path is given. No link is
-/// followed, and a file that is no regular one, or that another server records in, is an error; it is left as it is.
+/// A recorder of the file at this path; without a path it records nothing. The file is made, or made empty, with rights for its owner
+/// alone. It is an error where a link is at the path, or another file that isn't regular, or where another server records in the file; what
+/// is there is left as it is.
 pub fn create_recorder<R: Files<File = File>>(
     rt: &R,
     alloc: Global,
@@ -153,7 +154,7 @@ pub fn create_recorder<R: Files<File = File>>(
     Ok(Recorder::new(alloc, Some(writer)))
 }
 
-// The file, made where there is none. Only a regular one is opened: a pipe would wait there for its reader.
+// Opens the file, or makes it where there is none. Only a regular one is opened: to open a pipe would wait for its reader.
 fn open_record<R: Files<File = File>>(rt: &R, path: &str) -> io::Result<File> {
     let mut options = OpenOptions::new();
     options.append(true).create_new(true).mode(RECORD_MODE);
@@ -163,7 +164,7 @@ fn open_record<R: Files<File = File>>(rt: &R, path: &str) -> io::Result<File> {
     }
 }
 
-// The regular file that stands there.
+// Opens the regular file that is at this path. `InvalidInput` where the file is not regular, or is replaced meanwhile.
 fn open_standing<R: Files<File = File>>(rt: &R, path: &str) -> io::Result<File> {
     let found = fs::symlink_metadata(rt, path)?;
     if !found.is_file() {

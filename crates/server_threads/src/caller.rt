@@ -1,4 +1,4 @@
-//! What a connection asks of the thread that drives.
+//! What a connection asks of the driver, the thread that drives all runs of the tree.
 use line_server::SEAT_COUNT;
 use s6_events::NoMemory;
 use server_rules::{Connection, Request};
@@ -6,16 +6,16 @@ use std::alloc::Global;
 use std::sync::{Condvar, Mutex, Wait};
 use std::time::{Clock, Duration};
 
-/// The most requests of a connection that the thread that drives has not taken yet.
+/// How many requests of a connection may wait at most until the driver takes them.
 const ASKED_LIMIT: usize = 64;
 
 #[derive(Drop)]
 struct Turn {
-    /// What is asked and not taken yet, in the order asked.
+    /// The requests that the driver has not taken yet, in the order asked.
     asked: Vec<Request>,
     /// How many requests are not answered yet.
     unanswered: u64,
-    /// Whether a connection is there, and has asked for something.
+    /// Whether a connection is there that has asked something, or was answered without asking the driver.
     is_here: bool,
     /// Whether something is still to be told to it, though it asks nothing.
     is_kept: bool,
@@ -24,7 +24,8 @@ struct Turn {
     is_over: bool,
 }
 
-/// A connection that asks: its thread asks and waits, and the thread that drives answers.
+/// The requests of the connection on one seat. The connection's thread asks and waits; the driver takes the requests, and notes when they
+/// are answered.
 #[derive(Drop)]
 pub struct Caller {
     turn: Mutex<Turn>,
@@ -32,7 +33,7 @@ pub struct Caller {
 }
 
 impl Caller {
-    /// Nobody asks.
+    /// The caller of a seat on which no connection is.
     pub fn new(alloc: Global) -> Caller {
         Caller {
             turn: Mutex::new(Turn {
@@ -47,8 +48,8 @@ impl Caller {
         }
     }
 
-    /// Asks, and waits for nothing. Whether more may be asked before all is answered. Once the tree has ended nothing is asked any more.
-    /// At `NoMemory` nothing was asked.
+    /// Adds a request, and doesn't wait for its answer. Whether fewer than 64 requests wait for the driver then; else all are to be
+    /// answered before the next call. Once the tree has ended it adds nothing, and answers true. At `NoMemory` the request was not added.
     pub fn ask<R: Wait>(&self, rt: &R, request: Request) -> Result<bool, NoMemory> {
         let mut turn = self.turn.lock(rt);
         if turn.is_over {
@@ -73,7 +74,7 @@ impl Caller {
             .wait_while(rt, turn, |turn| turn.unanswered > 0 && !turn.is_over);
     }
 
-    /// Notes that a connection is there which was answered without asking.
+    /// Notes that a connection is there, which was answered without asking the driver.
     pub fn note_here<R: Wait>(&self, rt: &R) {
         self.turn.lock(rt).is_here = true;
     }
@@ -83,12 +84,13 @@ impl Caller {
         self.turn.lock(rt).is_kept
     }
 
-    /// The connection has ended: what it made is to be ended too.
+    /// Notes that the connection has ended: what it made is to be ended too.
     pub fn leave<R: Wait>(&self, rt: &R) {
         self.turn.lock(rt).is_leaving = true;
     }
 
-    /// Waits until what the connection made is ended, or the tree has ended. All that was posted to it is written.
+    /// Waits until what the connection made is ended, or the tree has ended; then notes that no connection is there. Call it once nothing
+    /// more will be written to the connection.
     pub fn await_end<R: Wait>(&self, rt: &R) {
         let turn = self.turn.lock(rt);
         let mut turn = self
@@ -99,7 +101,8 @@ impl Caller {
         self.changed.notify_all();
     }
 
-    /// Hands over what the connection asks, or that it has left.
+    /// Hands the waiting requests to `connection`, which takes them if it has begun all that it took before. Once the client has left,
+    /// tells it that instead.
     pub fn hand_over<R: Wait>(&self, rt: &R, connection: &mut Connection) {
         let mut turn = self.turn.lock(rt);
         if turn.is_leaving {
@@ -109,7 +112,7 @@ impl Caller {
         }
     }
 
-    /// A request was answered. Whether something is still to be told to the connection then.
+    /// Notes that a request was answered, and whether something is still to be told to the connection after that (`is_kept`).
     pub fn note_answer<R: Wait>(&self, rt: &R, is_kept: bool) {
         let mut turn = self.turn.lock(rt);
         turn.is_kept = is_kept;
@@ -119,24 +122,24 @@ impl Caller {
         }
     }
 
-    /// Something was told to the connection. Whether something is still to be told to it then.
+    /// Notes whether something is still to be told to the connection, after it was told news.
     pub fn keep<R: Wait>(&self, rt: &R, is_kept: bool) {
         self.turn.lock(rt).is_kept = is_kept;
     }
 
-    /// What the connection made is ended.
+    /// Notes that all that the connection made is ended: `await_end` comes back.
     pub fn free<R: Wait>(&self, rt: &R) {
         self.turn.lock(rt).is_leaving = false;
         self.changed.notify_all();
     }
 
-    /// The tree has ended: nothing more is answered.
+    /// Notes that the tree has ended: nothing more is answered, and `await_answers` and `await_end` come back.
     pub fn end<R: Wait>(&self, rt: &R) {
         self.turn.lock(rt).is_over = true;
         self.changed.notify_all();
     }
 
-    /// Waits until nobody is connected, but at most so long.
+    /// Waits until no connection is there, but at most for this time.
     pub fn await_nobody<R: Wait + Clock>(&self, rt: &R, time: Duration) {
         let turn = self.turn.lock(rt);
         let _turn = self
@@ -145,7 +148,7 @@ impl Caller {
     }
 }
 
-/// A caller for each connection. `NoMemory` where a growth was refused.
+/// A caller for each seat of connections. `NoMemory` where memory is refused.
 pub fn new_callers(alloc: Global) -> Result<Vec<Caller>, NoMemory> {
     let mut callers = Vec::with_capacity(alloc, SEAT_COUNT)?;
     for _ in 0..SEAT_COUNT {

@@ -37,7 +37,8 @@ fn time_of_day<R: Clock>(rt: &R) -> io::Result<u64> {
     }
 }
 
-/// The moment of so many milliseconds. The clock of a tree never goes back, so one that is no moment does no harm as 0.
+/// The moment of so many milliseconds; 0 where they are more than a moment can have. That does no harm, since the clock of a tree never
+/// goes back.
 pub fn moment_of(millis: u64) -> At {
     At::new(millis).unwrap_or(At::zero())
 }

@@ -1,4 +1,4 @@
-//! The thread that accepts connections, and their end.
+//! The thread that accepts connections, and how all connections are ended.
 use crate::shared::Shared;
 use line_server::{SEAT_COUNT, Server, serve as serve_lines};
 use std::net::Shutdown;
@@ -9,7 +9,7 @@ use std::time::{Clock, Duration};
 /// The stack of the thread that accepts connections, in bytes.
 const LISTENER_STACK: usize = 1024 * 1024;
 
-/// How long a connection may take to read what was posted to it before the end, in milliseconds.
+/// How long the end waits at most for each connection to read what was posted to it, in milliseconds.
 const END_WAIT: u64 = 1000;
 
 /// Starts the thread that accepts connections. Whether it runs.
@@ -29,8 +29,8 @@ fn serve_all<R: Threads + Wait + Clock + Sync>(rt: &R, server: &Server<Shared>) 
     serve_lines(rt, server);
 }
 
-/// Answers nothing more, and ends the server. No connection is read any more; what was posted is still written, to those that read it
-/// in time.
+/// Ends the connections, and then the server. No connection is read or answered any more. What was posted before is still written, but no
+/// connection is waited for longer than 1,000 ms.
 pub fn end_connections<R: Wait + Clock>(rt: &R, server: &Server<Shared>) {
     let callers = &server.answers().callers;
     for caller in callers {

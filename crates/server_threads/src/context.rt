@@ -22,13 +22,14 @@ impl<'a, R: Wait> Context<'a, R> {
         self.server.answers().alloc
     }
 
-    /// What the connection on this seat asks.
+    /// The requests of the connection on this seat; None where there is no such seat.
     pub fn caller(&self, seat: usize) -> Option<&'a Caller> {
         self.server.answers().callers.get(seat)
     }
 
-    /// Posts a text to the connection on this seat; it is written once that is woken. Where there is no memory for it the connection is
-    /// ended, since its texts could not be whole any more.
+    /// Posts a text to the connection on this seat, if there is one; call `wake` afterwards, so that it is written. `Err` says that memory
+    /// for the text was refused. Then the connection is ended, since what it reads would not be whole; so it is where too much waits for
+    /// it, or memory is refused here.
     pub fn post(&self, seat: usize, text: Result<&[u8], AllocError>) {
         let Some(mailbox) = self.server.mailbox(self.rt, seat) else {
             return;
@@ -41,7 +42,7 @@ impl<'a, R: Wait> Context<'a, R> {
         }
     }
 
-    /// Has all written that was posted to the connection on this seat.
+    /// Wakes the thread that writes to the connection on this seat, if there is one.
     pub fn wake(&self, seat: usize) {
         if let Some(mailbox) = self.server.mailbox(self.rt, seat) {
             mailbox.wake();

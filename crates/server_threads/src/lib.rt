@@ -1,5 +1,5 @@
-//! The threads of a running tree that wait for the world: those of its connections, and the one that reads the scan directory. What they
-//! share with the thread that drives the tree, and the socket.
+//! The threads that serve the connections of a running tree, and the thread that reads its scan directory; what they share with the driver,
+//! the thread that drives all runs; and the socket.
 #![tactic(auto)]
 
 mod caller;

@@ -2,14 +2,14 @@
 use server_rules::ServeFault;
 use std::sync::{Mutex, Wait};
 
-/// How a tree came to its end, as the thread that drives it notes it.
+/// How a tree came to its end, as the driver notes it.
 #[derive(Drop)]
 pub struct Outcome {
     end: Mutex<Result<(), ServeFault>>,
 }
 
 impl Outcome {
-    /// Nothing was noted: a thread could not be started.
+    /// Nothing is noted yet. Where that stays so, a thread could not be started: `ServeFault::Thread`.
     pub fn new() -> Outcome {
         Outcome {
             end: Mutex::new(Err(ServeFault::Thread)),

@@ -1,4 +1,4 @@
-//! What the thread that drives leaves to the thread that reads the scan directory: to read it, and to drop the runs that were closed.
+//! The work that the driver leaves to the thread that reads the scan directory: to read it, and to drop closed runs.
 use run_records::Run;
 use scan_directory::Found;
 use server_rules::OwnAnswer;
@@ -12,7 +12,7 @@ pub type ReadScan = Result<Found, OwnAnswer>;
 pub enum Task {
     /// It reads the directory.
     Read,
-    /// It drops a run that was closed, which takes too long for the thread that drives.
+    /// It drops a closed run, which would take the driver too long.
     Drop(Run),
     /// It ends.
     End,
@@ -26,7 +26,7 @@ struct Desk {
     is_over: bool,
 }
 
-/// One thread asks for a listing, and another one reads the directory and leaves it here, while the tree goes on.
+/// Where the driver asks for a listing, and another thread leaves what it read of the directory, while the tree goes on.
 #[derive(Drop)]
 pub struct ScanDesk {
     desk: Mutex<Desk>,
@@ -53,14 +53,14 @@ impl ScanDesk {
         self.changed.notify_all();
     }
 
-    /// Leaves a run that was closed. One that was left before and isn't dropped yet comes back.
+    /// Leaves a closed run to be dropped. The run that was left before comes back, if it was not taken yet.
     pub fn leave_run<R: Wait>(&self, rt: &R, run: Run) -> Option<Run> {
         let before = self.desk.lock(rt).closed.replace(run);
         self.changed.notify_all();
         before
     }
 
-    /// Waits until there is something to do.
+    /// Waits until there is something to do: first a run that was left, then the end, then a listing.
     pub fn await_task<R: Wait>(&self, rt: &R) -> Task {
         let desk = self.desk.lock(rt);
         let mut desk = self.changed.wait_while(rt, desk, |desk| {
@@ -81,12 +81,12 @@ impl ScanDesk {
         self.desk.lock(rt).found = Some(found);
     }
 
-    /// What was read, once.
+    /// Takes out what was read; None where nothing was left since it was last taken out.
     pub fn take_found<R: Wait>(&self, rt: &R) -> Option<ReadScan> {
         self.desk.lock(rt).found.take()
     }
 
-    /// No listing is asked for any more.
+    /// Notes that the tree has ended: once a run that was left is taken, the next task is the end.
     pub fn end<R: Wait>(&self, rt: &R) {
         self.desk.lock(rt).is_over = true;
         self.changed.notify_all();

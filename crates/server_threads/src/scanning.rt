@@ -8,8 +8,8 @@ use std::mem;
 use std::rt::Files;
 use std::sync::Wait;
 
-/// Reads the directory whenever a listing is asked for, and drops the runs that were closed, until the tree has ended. What the directory's
-/// services have for faults is told on `errors`.
+/// Reads the directory whenever a listing is asked for, and drops the runs that were closed, until the tree has ended. Faults of the
+/// directory's services are told on `errors`.
 pub fn attend<R: Files + Wait + Copy + Drop, E: Write>(
     rt: &R,
     shared: &Shared,

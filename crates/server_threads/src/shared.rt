@@ -18,7 +18,8 @@ pub struct Shared {
     pub callers: Vec<Caller>,
     pub scans: ScanDesk,
     pub rows: RowCache,
-    /// Rings where something was asked or read, and where a lane has a report, or room for orders again.
+    /// The driver's bell. It is rung when a connection waits for answers or leaves, when a listing was read, and when a lane has a report,
+    /// or room for orders again.
     pub driver: Bell,
 }
 
@@ -62,8 +63,8 @@ impl Answers for Shared {
 }
 
 impl Shared {
-    // Answers a request for which the thread that drives isn't needed: a status of rows that are fresh, or one that is refused. Not while
-    // an earlier one is not answered.
+    // Answers a request that doesn't need the driver: a status, if the rows are fresh, or a line that is refused. False for any other
+    // request, and while an earlier one is not answered.
     fn is_answered_at_once<R: Wait + Clock>(
         &self,
         rt: &R,
@@ -109,7 +110,8 @@ impl Shared {
         true
     }
 
-    // Asks the thread that drives. Where it has been asked as much as may wait, all of that is answered first.
+    // Asks the driver. Once as many requests wait as may, waits until all are answered. Where memory for the request is refused, it is
+    // answered by `refused NoMemory`, after all earlier ones.
     fn ask<R: Wait>(&self, rt: &R, caller: &Caller, request: Request, mailbox: &Mailbox) {
         match caller.ask(rt, request) {
             Ok(true) => {}
@@ -121,7 +123,7 @@ impl Shared {
         }
     }
 
-    // Wakes the thread that drives, and waits until all that was asked is answered.
+    // Waits until all that was asked is answered, or the tree has ended. Wakes the driver first, unless all is answered already.
     fn await_answers<R: Wait>(&self, rt: &R, caller: &Caller) {
         if !caller.is_answered(rt) {
             self.driver.ring(rt);

@@ -1,4 +1,4 @@
-//! The socket of a tree: one server alone listens on it, and none but its owner can connect, at any moment.
+//! The socket of a tree. At any moment at most one server listens on it, and none but its owner can connect.
 use server_rules::{FileIdentity, says_abandoned};
 use std::alloc::Global;
 use std::fs::{self, DirBuilder, File, Permissions};
@@ -14,7 +14,7 @@ const SOCKET_MODE: u32 = 0o600;
 /// The rights of the folder in which it is made.
 const FOLDER_MODE: u32 = 0o700;
 
-/// How often the folder is made anew where the server that had it before has just removed it.
+/// The most tries to make and lock the folder. A try fails where the server that had the folder before has just removed it.
 const TRIES: u32 = 100;
 
 /// The file of a socket that a server has made.
@@ -24,8 +24,8 @@ pub struct SocketFile {
 }
 
 impl SocketFile {
-    /// Removes the file at this path if it is still this one. Call it while the listener is open: until then the system gives its number
-    /// to no other file.
+    /// Removes the file at this path, if it is still this one. Call it while the listener is open: as long as it is, the system gives the
+    /// number of its file to no other.
     pub fn remove<R: Files>(&self, rt: &R, path: &str) {
         if let Ok(found) = fs::symlink_metadata(rt, path) {
             if self.identity.is_that_of(&FileIdentity::of(&found)) {
@@ -35,9 +35,9 @@ impl SocketFile {
     }
 }
 
-/// A listener on this path, and its file. It is made in a folder beside it, PATH.new, and renamed into place once it listens; the folder
-/// is locked meanwhile, and gone afterwards. An abandoned socket is replaced. Where a server lives, or starts at the same time, or
-/// another file is, that is an error, and the file is left as it is.
+/// A listener on this path, and the file of its socket. The socket is made in the folder PATH.new, and renamed into place once it listens.
+/// The folder is locked meanwhile, and removed afterwards. An abandoned socket at the path is replaced. It is an error where a server lives
+/// there or starts at the same time, or where another file is; what is there is left as it is.
 pub fn listen<R: Net + Files<File = File>>(
     rt: &R,
     alloc: Global,
@@ -55,7 +55,8 @@ pub fn listen<R: Net + Files<File = File>>(
     placed
 }
 
-// The folder, made if it isn't there, and locked. Its lock ends with the process at the latest, so one that was left behind is taken over.
+// Makes the folder, if it isn't there, and locks it. A lock ends with its process at the latest, so a folder that was left behind is taken
+// over.
 fn lock_folder<R: Files<File = File>>(rt: &R, folder: &str) -> io::Result<File> {
     for _ in 0..TRIES {
         match DirBuilder::new().mode(FOLDER_MODE).create(rt, folder) {
@@ -69,7 +70,8 @@ fn lock_folder<R: Files<File = File>>(rt: &R, folder: &str) -> io::Result<File> 
     Err(ErrorKind::AddrInUse.into())
 }
 
-// Locks the folder; None where it is not there any more. An error where another server has it, or it is no folder of one's own.
+// Locks the folder; None where it was removed or replaced meanwhile. An error where another server has locked it, or where it is no folder
+// with the rights 0700.
 fn try_lock<R: Files<File = File>>(rt: &R, folder: &str) -> io::Result<Option<File>> {
     let found = match fs::symlink_metadata(rt, folder) {
         Ok(found) => found,
@@ -94,7 +96,7 @@ fn try_lock<R: Files<File = File>>(rt: &R, folder: &str) -> io::Result<Option<Fi
     }
 }
 
-// Makes the socket in the folder, and renames it into place.
+// Makes the socket in the folder, and renames it into place. `PermissionDenied` where the folder belongs to another user.
 fn place<R: Net + Files>(
     rt: &R,
     folder: &str,
@@ -113,7 +115,7 @@ fn place<R: Net + Files>(
     Ok((listener, SocketFile { identity }))
 }
 
-// A listener in the folder, in place of one that was left there.
+// A listener at this path in the folder. A file that was left there is replaced.
 fn bind<R: Net + Files>(rt: &R, made: &str) -> io::Result<UnixListener> {
     match UnixListener::bind(rt, made) {
         Err(error) if error.kind() == ErrorKind::AddrInUse => {

@@ -13,7 +13,7 @@ trouble_before trouble.File = codes "another file is at "
 trouble_before trouble.Beside = codes "another file has the name, with .new behind it, of "
 trouble_before trouble.Folder = codes "no socket can be made in the folder of "
 
--- what stands before the path
+-- the words before the path
 abbrev pub before_of : ServeFault → Trouble → List ℕ
 before_of fault.Shell t = codes "/bin/sh can't be run, by which signals are sent"
 before_of fault.Socket t = trouble_before t

@@ -1,4 +1,4 @@
--- What is told of words that are not those of a program.
+-- What is told of wrong words behind the name of a program.
 use Rattle.std.specs.Prelude.{ℕ, List, [], ◌∷◌, ◌++◌, Option, codes}
 use Rattle.s6_tools.specs.declared.misuse.Misuse.{Misuse}
 use Rattle.s6_tools.specs.declared.misuse.Misuse.TheVariants as misuse
@@ -22,7 +22,7 @@ advice_text program form = codes ": " ++ (form ++ (see_words ++ (program ++ (hel
 abbrev pub usage_text : List ℕ → Misuse → Option (List ℕ) → List ℕ → List ℕ
 usage_text program m word form = program_text program ++ (complaint_text m word ++ advice_text program form)
 
--- what is told of a word that is no program: in front of it, and behind it
+-- what is told of a word that names no program: the words before it, and those behind it
 unfoldable pub strange_words : List ℕ
 strange_words = codes "s6_tree: unknown tool\ns6_tree: "
 

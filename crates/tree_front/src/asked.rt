@@ -22,7 +22,7 @@ pub enum Program {
     Version,
     /// `help`, `--help` or `-h`.
     Help,
-    /// A strange word.
+    /// Any other word.
     Strange,
 }
 
@@ -40,7 +40,7 @@ pub fn program_named(word: &str) -> Program
     }
 }
 
-// Which program this word names, which is neither the server nor a client.
+// Which program this word names, if it is neither the server nor a client.
 fn other_named(word: &str) -> Program
     ensures { result ≡ program.Svscan → bytes_eq word.now (codes "svscan") ≡ true }
 {

@@ -11,7 +11,7 @@ use std::rt::Files;
 use svcheck::{checked_entries, push_bad_names, push_unexecutable};
 use svscan_core::Entry;
 
-/// The status of a check that found something that is refused.
+/// The status where something is refused, or a program can't be started.
 const REFUSED_STATUS: u8 = 1;
 
 /// The status of a program to which the system refused something.
@@ -21,7 +21,7 @@ const SYSTEM_STATUS: u8 = 111;
 const PATH_BYTES: usize = 107;
 
 /// Reads a scan directory, and says of each entry what svscan would do. The exit status: 0 where nothing is refused and all can be started,
-/// else 1; 111 where the directory can't be read.
+/// else 1; 111 where the directory can't be read, memory is refused, or the report can't be written.
 pub fn check_directory<R: Files + Copy + Drop, W: Write, E: Write>(
     rt: &R,
     alloc: Global,
@@ -43,7 +43,7 @@ pub fn check_directory<R: Files + Copy + Drop, W: Write, E: Write>(
     }
 }
 
-// What is said of the entries, and whether one is refused.
+// The report on all entries, and whether something is refused or can't be started.
 fn report_of<R: Files + Copy + Drop>(
     rt: &R,
     alloc: Global,
@@ -73,7 +73,7 @@ fn add_unexecutable<R: Files>(
     Ok(is_there)
 }
 
-// The same of one service.
+// The same for one service.
 fn add_programs<R: Files>(
     rt: &R,
     alloc: Global,
@@ -89,7 +89,7 @@ fn add_programs<R: Files>(
     Ok(is_run || is_finish)
 }
 
-// The same of one of its programs.
+// The same for one program of a service.
 fn add_program<R: Files>(
     rt: &R,
     alloc: Global,
@@ -107,7 +107,7 @@ fn add_program<R: Files>(
     Ok(true)
 }
 
-// Whether somebody may execute the file at this path, as far as can be seen.
+// Whether somebody may execute the file at this path; true also where that can't be seen.
 fn is_executable<R: Files>(rt: &R, path: &str) -> bool {
     match fs::metadata(rt, path) {
         Ok(found) => found.permissions().mode() & 0o111 != 0,
@@ -115,7 +115,7 @@ fn is_executable<R: Files>(rt: &R, path: &str) -> bool {
     }
 }
 
-// The entries by name, as svscan takes them.
+// The entries sorted by name, as svscan takes them.
 fn sorted_entries(alloc: Global, entries: &[Entry]) -> Result<Vec<Entry>, AllocError> {
     let mut sorted = Vec::from_slice(alloc, entries)?;
     sorted.sort_unstable_by_key(|entry| entry.name);
@@ -142,7 +142,7 @@ fn tell<E: Write>(lines: &[u8], errors: &mut E) -> u8 {
     SYSTEM_STATUS
 }
 
-// Two lines in one write.
+// Tells two lines about the directory, by one write. The exit status, 111.
 fn tell_directory<E: Write>(sentence: &[u8], directory: &str, errors: &mut E) -> u8 {
     let mut told = Told::new();
     let _ = told.try_extend_from_slice(b"svcheck: directory\nsvcheck: ");

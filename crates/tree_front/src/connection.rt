@@ -1,4 +1,4 @@
-//! `connect`: lines from standard input to a server, and from it to standard output.
+//! `connect`: sends standard input to a server, and writes what the server sends to standard output.
 use arrayvec::CapacityError;
 use s6_tools::{Told, add_escaped};
 use std::io::{self, ErrorKind, Read, Write};
@@ -12,7 +12,7 @@ const PATH_BYTES: usize = 107;
 /// The status of a program to which the system refused something.
 const SYSTEM_STATUS: u8 = 111;
 
-// Sends all that is to be read, and then ends this half of the connection.
+// Sends all of the input, and then ends the sending half of the connection.
 fn send_all<I: Read + Drop>(stream: UnixStream, mut input: I) -> io::Result<()> {
     let mut writer = &stream;
     io::copy(&mut input, &mut writer)?;
@@ -24,13 +24,13 @@ fn send_all<I: Read + Drop>(stream: UnixStream, mut input: I) -> io::Result<()> 
 enum ConnectFault {
     // No server is there, or the connection broke.
     Socket,
-    // The thread that sends could not be started.
+    // The system refused the thread that sends, or a descriptor for it.
     Thread,
     // Standard output took no more.
     Write,
 }
 
-// Why nothing more was copied from the connection to standard output.
+// The fault where copying from the connection to standard output failed by an error of this kind.
 fn fault_of(kind: ErrorKind) -> ConnectFault {
     match kind {
         ErrorKind::ConnectionReset | ErrorKind::ConnectionAborted | ErrorKind::TimedOut => {
@@ -40,8 +40,8 @@ fn fault_of(kind: ErrorKind) -> ConnectFault {
     }
 }
 
-// Sends `input` to the socket at this path, and writes what comes to `output`, until the server ends the connection. Nobody joins the
-// thread that sends, since it may sit in a read for ever.
+// Sends `input` to the socket at this path, and writes what the server sends to `output`, until the server ends the connection. Nobody
+// joins the thread that sends, since it may wait for input for ever.
 fn converse<R: Net + Threads, I: Read + Send + Drop + 'static, W: Write>(
     rt: &R,
     path: &str,
@@ -81,7 +81,8 @@ fn add_lines(told: &mut Told, path: &str, fault: ConnectFault) -> Result<(), Cap
     }
 }
 
-/// Does that, and tells a failure by two lines, in one write. The exit status.
+/// Sends `input` to the socket at this path, and writes what the server sends to `output`, until the server ends the connection. The exit
+/// status: 0, or 111 after a failure, which is told on `errors` by two lines in one write.
 pub fn run_connection<R: Net + Threads, I: Read + Send + Drop + 'static, W: Write, E: Write>(
     rt: &R,
     path: &str,

@@ -1,4 +1,4 @@
-//! What the words ask for: a client or a check that is run here, or a tree or a replay that the program runs.
+//! What the words ask for. A client, a check or a help text is done here; a tree, a connection or a replay is left to the caller.
 ghost use Rattle.std.specs.Prelude.{◌≡◌};
 
 use crate::asked::{Program, asks_help, program_named};
@@ -18,7 +18,7 @@ use std::rt::Files;
 use std::time::Clock;
 use std::{env, io};
 
-/// The status of a program that was not used as it says.
+/// The exit status for wrong usage.
 const USAGE_STATUS: u8 = 100;
 
 /// The words that `svscan` takes.
@@ -35,17 +35,17 @@ const CONNECT_FORM: &str = "connect SOCKET";
 pub enum Asked {
     /// It was done, and ends with this status.
     Done(u8),
-    /// A tree is to run here.
+    /// A tree is to run at this place.
     Tree(TreePlace),
-    /// Lines are to go to the socket at this path, and from it.
+    /// `connect` is to run with the socket at this path.
     Connect(String),
-    /// What `replay_tool` does: a replay, or a text of the program itself.
+    /// `replay_tool` is to run: it makes a replay, or prints a text of the program itself.
     Replay,
 }
 
-/// Does what the command line asks for, with these outputs, but for a tree and a replay, which its caller runs. Where it was not done a
-/// line on `errors` says why, and a second one what would be right. Without memory for its words a replay is done all the same, since it
-/// needs none for them.
+/// Does what the command line asks for, with these outputs; a tree, a connection or a replay is left to the caller. Where something was not
+/// done, one line on `errors` says why, and a second one what would be right. Where memory for the words is refused a replay is done all
+/// the same, since it needs none for them.
 pub fn run_words<R: Env + Net + Files + Processes + Clock + Copy + Drop, W: Write, E: Write>(
     rt: &R,
     alloc: Global,
@@ -121,7 +121,7 @@ fn name_of(program: Program) -> &'static str {
     }
 }
 
-// What comes of words for which there is no memory, by the first of them alone, if there is memory for that.
+// What is done where memory for the words was refused. The first word alone decides, if there is memory for that one.
 fn refuse_program<R: Env, E: Write>(rt: &R, alloc: Global, errors: &mut E) -> Asked {
     let Ok(word) = first_word(rt, alloc) else {
         return Asked::Done(tell_no_memory("s6_tree", errors));
@@ -138,7 +138,7 @@ fn refuse_program<R: Env, E: Write>(rt: &R, alloc: Global, errors: &mut E) -> As
     }
 }
 
-// What comes of words of which one is no text, so that no word is read.
+// Tells that a word is no text in UTF-8, so that no word could be read. The exit status, 100.
 fn refuse_bytes<E: Write>(errors: &mut E) -> u8
     ensures { result ≡ 100 }
 {
@@ -146,7 +146,7 @@ fn refuse_bytes<E: Write>(errors: &mut E) -> u8
     USAGE_STATUS
 }
 
-// The word behind the name of the program.
+// The word behind the name of the program; None where there is none.
 fn first_word<R: Env>(rt: &R, alloc: Global) -> io::Result<Option<String>> {
     Ok(env::args(&(rt, alloc))?.nth(1))
 }
@@ -182,7 +182,7 @@ fn run_check<R: Files + Copy + Drop, W: Write, E: Write>(
     }
 }
 
-// The words behind `svscan`.
+// Reads the words behind `svscan`: a place, or `--help`. Others are refused.
 fn read_place<W: Write, E: Write>(words: Vec<String>, output: &mut W, errors: &mut E) -> Asked {
     match words.as_slice() {
         [_, _, word] if asks_help(word.as_str()) => {
@@ -200,7 +200,7 @@ fn read_place<W: Write, E: Write>(words: Vec<String>, output: &mut W, errors: &m
     }
 }
 
-// The words behind `connect`.
+// Reads the words behind `connect`: a socket, or `--help`. Others are refused.
 fn read_socket<W: Write, E: Write>(words: Vec<String>, output: &mut W, errors: &mut E) -> Asked {
     match words.as_slice() {
         [_, _, word] if asks_help(word.as_str()) => {

@@ -1,4 +1,4 @@
-//! Printing help texts, and what is told of a word that is no program.
+//! Printing help texts, and what is told of a word that names no program.
 ghost use Rattle.std.specs.Prelude.{◌≡◌, ◌++◌, IfOk, option_map};
 ghost use Rattle.tree_front.specs.Usage.{strange_text, strange_words, tools_words};
 
@@ -10,7 +10,7 @@ use replay_tool::{HELP, REPLAY_HELP};
 use s6_tools::{Misuse, Told, add_named, help_of};
 use std::io::Write;
 
-/// The status of a program that was not used as it says.
+/// The exit status for wrong usage.
 const USAGE_STATUS: u8 = 100;
 
 /// The words that `help` takes.
@@ -19,7 +19,7 @@ const HELP_FORM: &str = "help [TOOL]";
 /// The status of a program to which the system refused something.
 const SYSTEM_STATUS: u8 = 111;
 
-/// Prints a help text of this program.
+/// Prints a help text of this program. The exit status: 0, or 111 where it can't be written, which is told on `errors` by two lines.
 pub fn print_help<W: Write, E: Write>(
     program: &str,
     text: &[u8],
@@ -40,7 +40,8 @@ pub fn print_help<W: Write, E: Write>(
     SYSTEM_STATUS
 }
 
-/// Prints the help text that these words behind `help` name: that of a program, or the overview where there is none.
+/// Prints the help text that the words behind `help` name: that of a program, or the overview without a word. The exit status: as of
+/// `print_help`, or 100 where a word names no program, or there is more than one.
 pub fn print_help_of<W: Write, E: Write>(words: &[&str], output: &mut W, errors: &mut E) -> u8 {
     match words {
         [] => print_help("s6_tree", HELP, output, errors),
@@ -62,7 +63,7 @@ pub fn print_help_of<W: Write, E: Write>(words: &[&str], output: &mut W, errors:
     }
 }
 
-/// Tells that a word is no program, or that there is none, by one write. The exit status, 100.
+/// Tells that this word names no program, or that there is no word, by one write. The exit status, 100.
 pub fn refuse_tool<E: Write>(word: Option<&str>, errors: &mut E) -> u8
     ensures { result ≡ 100 }
 {

@@ -12,8 +12,8 @@ use std::io::Write;
 /// The status of a program to which the system refused something.
 const SYSTEM_STATUS: u8 = 111;
 
-/// Tells that the system refused a program memory, by one write, and answers the exit status, 111. Where the lines can't be written whole
-/// their front is.
+/// Tells by two lines that the system refused this program memory. Where not all of them can be written, a front of them is. The exit
+/// status, 111.
 pub fn tell_no_memory<E: Write>(program: &str, errors: &mut E) -> u8
     ensures status { result ≡ 111 }
     ensures lines { Appends (E.contents errors.old) (E.contents errors.new) (no_memory_text program.now)

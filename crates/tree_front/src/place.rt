@@ -13,7 +13,7 @@ pub struct TreePlace {
 }
 
 impl TreePlace {
-    /// How a tree here is served, whose next run goes on after so many steps.
+    /// The options of a tree at this place. The next run goes on after so many steps.
     pub fn options(&self, handover: u64) -> ServeOptions<'_> {
         ServeOptions {
             directory: self.directory.as_str(),

@@ -1,4 +1,4 @@
-//! The program: what its words ask for is done, but for a tree, which is begun and ended here, and run by its caller.
+//! The program. What its words ask for is done here, except that the caller runs a tree: it is begun and ended here.
 use crate::connection::run_connection;
 use crate::descriptors::open_standard;
 use crate::front::{Asked, run_words};
@@ -19,7 +19,7 @@ use std::thread::Threads;
 use std::time::{Clock, Duration};
 use tree_server::{ServeFault, ServiceLanes, open_service_lanes};
 
-/// How long a program that ends waits for whoever reads its standard error, in milliseconds.
+/// How long the end waits at most until all notes are written to standard error, in milliseconds.
 const LAST_NOTES_WAIT: u64 = 1000;
 
 /// What a program reads and writes.
@@ -32,8 +32,8 @@ pub struct Standard<I: Read + Drop, W: Write + Drop, E: Write + Drop> {
     pub notes_output: E,
 }
 
-/// A tree that is to run: where, by which lanes, who keeps its children, where lines for standard error are noted, and the shell that
-/// tries whether signals can be sent.
+/// A tree that is to run: its place, its lanes, the keeper of its children, the notes for standard error, and the probe of the shell by
+/// which signals are sent.
 #[derive(Drop)]
 pub struct BegunTree<R: Drop> {
     pub place: TreePlace,
@@ -43,7 +43,7 @@ pub struct BegunTree<R: Drop> {
     pub probe: ShellProbe,
 }
 
-// The same, but for its place.
+// A tree that is to run, without its place.
 #[derive(Drop)]
 struct TreeParts<R: Drop> {
     lanes: ServiceLanes<R>,
@@ -79,8 +79,8 @@ pub enum Begun<R: Drop> {
     Tree(BegunTree<R>),
 }
 
-/// Does what the words of the command line ask for; a tree is only begun. Descriptors 0, 1 and 2 that are closed are `/dev/null` before
-/// anything else is opened.
+/// Does what the words of the command line ask for; a tree is only begun. Before anything else is opened, each of the descriptors 0, 1 and
+/// 2 that is closed is opened as `/dev/null`.
 pub fn begin_program<
     R: Env
         + Net
@@ -121,7 +121,7 @@ pub fn begin_program<
     }
 }
 
-// All that a tree needs before it runs.
+// All that a tree needs before it runs. `Thread` where a thread can't be started, `NoMemory` where memory for the lanes is refused.
 fn begin_tree<
     R: Processes<Started = SystemProcess>
         + Threads
@@ -155,8 +155,8 @@ fn begin_tree<
     }
 }
 
-/// Ends the tree at this place that was run: kills what still lives of its services, and tells why it did not run to its end. The exit
-/// status.
+/// Ends a tree that was run at this place: kills the services that still live, tells why the tree did not run to its end, and waits at most
+/// 1,000 ms until all notes are written. The exit status: 0, or 111 where it did not run to its end.
 pub fn end_program<R: Processes + Files + Threads + Wait + Clock + Drop>(
     rt: &R,
     place: &TreePlace,

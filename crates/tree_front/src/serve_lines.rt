@@ -27,20 +27,20 @@ enum Trouble {
     Server,
     /// Another file is there.
     File,
-    /// Another file stands in the place of the folder in which the socket is made.
+    /// A file that is no folder has the name of the folder in which the socket is made.
     Beside,
-    /// Nothing is there.
+    /// Nothing is seen at the path: no socket can be made in its folder.
     Folder,
 }
 
-// The path of the folder in which the socket is made.
+// The path of the folder in which the socket is made; None where it is too long.
 fn folder_beside(path: &str) -> Option<ArrayString<PATH_BYTES>> {
     let mut folder = ArrayString::<PATH_BYTES>::from(path).ok()?;
     folder.try_push_str(".new").ok()?;
     Some(folder)
 }
 
-// Whether another file stands in the place of that folder.
+// Whether a file that is no folder has the name of that folder.
 fn is_taken<R: Files>(rt: &R, path: &str) -> bool {
     let Some(folder) = folder_beside(path) else {
         return false;
@@ -51,7 +51,7 @@ fn is_taken<R: Files>(rt: &R, path: &str) -> bool {
     }
 }
 
-// What is at the path of a socket that could not be made.
+// Why the socket at this path could not be made, as far as can be seen afterwards.
 fn trouble_at<R: Files>(rt: &R, path: &str) -> Trouble {
     if path.len() > LONGEST_SOCKET {
         return Trouble::Length;
@@ -64,7 +64,7 @@ fn trouble_at<R: Files>(rt: &R, path: &str) -> Trouble {
     }
 }
 
-// What stands before the path of a socket.
+// The words before the path of a socket.
 fn trouble_before(trouble: Trouble) -> &'static str
     ensures { result.now ≡ trouble_before trouble }
 {
@@ -77,7 +77,7 @@ fn trouble_before(trouble: Trouble) -> &'static str
     }
 }
 
-// What stands before the path.
+// The words before the path.
 fn before_of(fault: ServeFault, trouble: Trouble) -> &'static str
     ensures { result.now ≡ before_of fault trouble }
 {
@@ -96,7 +96,7 @@ fn before_of(fault: ServeFault, trouble: Trouble) -> &'static str
     }
 }
 
-// The path that is told.
+// The path that is told of this fault; empty where none is.
 fn path_of<'a>(fault: ServeFault, place: &'a TreePlace) -> &'a str {
     match fault {
         ServeFault::Socket => place.socket.as_str(),
@@ -120,7 +120,7 @@ fn add_second_line(
     told.try_extend_from_slice(b"\n")
 }
 
-/// Tells of a fault of the tree at this place, by one write, and answers the exit status, 111.
+/// Tells a fault of the tree at this place by two lines, in one write. The exit status, 111.
 pub fn tell_fault<R: Files, E: Write>(
     rt: &R,
     fault: ServeFault,

@@ -1,4 +1,4 @@
-//! What is told of words that are not those of a program that isn't a client.
+//! What is told of wrong words behind `svscan`, `svcheck`, `connect` or `help`.
 ghost use Rattle.std.specs.Prelude.{◌≡◌, ◌++◌, IfOk, OnOk, option_map};
 ghost use Rattle.tree_front.specs.Usage.{advice_text, complaint_of, complaint_text, program_text, usage_text};
 
@@ -6,11 +6,11 @@ use arrayvec::CapacityError;
 use s6_tools::{Misuse, Told, add_named, help_words, see_words};
 use std::io::Write;
 
-/// The status of a program that was not used as it says.
+/// The exit status for wrong usage.
 const USAGE_STATUS: u8 = 100;
 
-/// Tells that the words are not those of the program, with the word that is wrong, if any, and what would be right, by one write. The
-/// exit status, 100.
+/// Tells by one write that the words behind a program's name are wrong, which word is, if one is, and what would be right. The exit status,
+/// 100.
 pub fn refuse_words<E: Write>(
     program: &str,
     misuse: Misuse,

@@ -1,5 +1,5 @@
-//! A tree that runs. Its threads live from its first run to its last: one drives all runs, each lane has one, one reads the scan directory,
-//! one accepts connections, and each connection has two.
+//! A tree that runs. Its threads live from its first run to its last: one, the driver, drives all runs, each lane has one, one reads the
+//! scan directory, one accepts connections, and each connection has two.
 #![tactic(auto)]
 
 mod client;

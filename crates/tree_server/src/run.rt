@@ -1,4 +1,4 @@
-//! Runs of a tree, one after the other: what drives them.
+//! The runs of a tree, one after the other, and what drives them.
 pub mod driver_state;
 pub mod driving;
 pub mod ending_services;

@@ -26,7 +26,7 @@ use std::thread;
 use std::thread::{Scope, Threads};
 use std::time::Clock;
 
-/// What is there before a tree is served.
+/// What is made before a tree is served.
 #[derive(Drop)]
 struct Parts {
     shared: Shared,
@@ -35,8 +35,8 @@ struct Parts {
     recorder: Recorder<BufWriter<File>>,
 }
 
-/// Runs a tree of the services of a directory, and serves clients on a socket, until it has ended. Its threads live from its first run to
-/// its last. What the services' directories have for faults is noted, and each new run. Nothing is started, and no record is touched,
+/// Runs a tree of the services of a directory, and serves clients on a socket, until the tree has ended. Its threads live from its first
+/// run to its last. Faults of service directories are noted, and so is each new run. No service is started, and no record is touched,
 /// before the probe has found a shell. Page `s6-svscan`.
 pub fn run_tree<
     B: Backend + Send,
@@ -78,7 +78,7 @@ fn prepare<R: Files<File = File> + Wait + Clock + Copy + Drop>(
         Ok(found) => found,
         Err(error) => return Err(fault_of(&error, ServeFault::Directory)),
     };
-    // The shell ran beside all that.
+    // The probe's shell ran beside all that.
     if !probe.has_shell() {
         return Err(ServeFault::Shell);
     }
@@ -168,14 +168,14 @@ fn serve<
             tell_serving(server.answers(), options.socket, &mut errors);
             attend(rt, server.answers(), options.directory, &mut errors);
         }
-        // While the listener is open its file is known.
+        // The listener is still open, as `remove` asks.
         file.remove(rt, options.socket);
         end_all(rt, &server, links.as_slice());
     });
     outcome.get(rt)
 }
 
-// Clients can come: that is told, by one write.
+// Tells by one write that clients can come.
 fn tell_serving<E: Write>(shared: &Shared, socket: &str, errors: &mut E) {
     let Some(day) = day_second(shared.clock.since) else {
         return;
@@ -210,7 +210,7 @@ where
     start_listener(scope, rt, server) && start_driver(scope, rt, server, driver, outcome, notes)
 }
 
-// Ends all threads of a tree but this one, once the one that drives has ended.
+// Ends all threads of a tree but this one. The driver has ended before, or was not started.
 fn end_all<R: Wait + Clock>(rt: &R, server: &Server<Shared>, links: &[Arc<LaneLink, Global>]) {
     for link in links {
         link.end(rt);

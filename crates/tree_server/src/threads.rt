@@ -11,13 +11,13 @@ use std::sync::Wait;
 use std::thread::{Builder, Scope, Threads};
 use std::time::Clock;
 
-/// The stack of the thread that drives, in bytes: a step may publish all rows of the board. Only what is touched takes memory.
+/// The stack of the driver, in bytes. A step may publish all rows of the board. Only what is touched takes memory.
 const DRIVER_STACK: usize = 8 * 1024 * 1024;
 
 /// The stack of the thread of a lane, in bytes.
 const LANE_STACK: usize = 1024 * 1024;
 
-/// What the thread that drives takes over.
+/// What the driver takes over.
 #[derive(Drop)]
 pub struct DriverParts<B, W> {
     pub backends: Vec<B>,
@@ -25,7 +25,7 @@ pub struct DriverParts<B, W> {
     pub settings: RunSettings<W>,
 }
 
-/// Starts the thread that drives the tree. Whether it runs.
+/// Starts the driver, the thread that drives the tree. Whether it runs.
 pub fn start_driver<'s, S, B, W, R>(
     scope: &Scope<'s, S>,
     rt: &'s R,

@@ -3,7 +3,7 @@ use crate::run::driver_state::{DriverState, Lasting};
 use channel_names::Channels;
 use office::Office;
 use order_lanes::{Backend, Lanes};
-use s6_events::{At, NoMemory};
+use s6_events::{Actor, At, NoMemory};
 use server_rules::{Place, askers_of, hand_out, place_of};
 use server_threads::Context;
 use status_board::Board;
@@ -12,86 +12,73 @@ use std::mem;
 use std::sync::Wait;
 use tree_core::{Effect, Reply};
 
-/// Hands out what all steps gave. False where a growth was refused: the next call begins with the step for which it was.
+/// Hands out what all steps gave. False where memory is refused: the next call begins with the step for which it was.
 pub fn deliver_all<C: Channels + Lanes, D: Board<C>, B: Backend, R: Wait>(
     context: &Context<'_, R>,
     office: &Office<C, D, B>,
     state: &mut DriverState<'_, C>,
 ) -> bool {
-    for _ in 0..u64::MAX {
-        match deliver_next(context, office, state) {
-            Ok(true) => {}
-            Ok(false) => break,
-            Err(_) => return false,
-        }
+    let Ok(mut effect) = state.lasting.take_effect(context.alloc()) else {
+        return false;
+    };
+    let delivered = deliver_each(context, office, state, &mut effect);
+    state.lasting.effect = Some(effect);
+    if delivered.is_err() {
+        return false;
     }
     let DriverState { board, lasting, .. } = state;
     lasting.clients.forget_gone(context, board);
     true
 }
 
-// Hands out the next step's result. False where there is no such step. At `NoMemory` nothing was handed out.
-fn deliver_next<C: Channels + Lanes, D: Board<C>, B: Backend, R: Wait>(
+// Hands out what each step gave, one after the other; the effect is where each is read. At `NoMemory` nothing of that step was handed out.
+fn deliver_each<C: Channels + Lanes, D: Board<C>, B: Backend, R: Wait>(
     context: &Context<'_, R>,
     office: &Office<C, D, B>,
     state: &mut DriverState<'_, C>,
-) -> Result<bool, NoMemory> {
-    let number = state.pace.steps.saturating_add(1);
-    let mut effect = state.lasting.take_effect(context.alloc())?;
-    let filled = office.fill(context.rt, &mut state.known, number, &mut effect);
-    let delivered = match filled {
-        Ok(true) => deliver(context, office, state, number, &effect),
-        _ => Ok(()),
-    };
-    state.lasting.effect = Some(effect);
-    delivered?;
-    filled
-}
-
-// Hands out what the step of this number gave.
-fn deliver<C: Channels + Lanes, D: Board<C>, B: Backend, R: Wait>(
-    context: &Context<'_, R>,
-    office: &Office<C, D, B>,
-    state: &mut DriverState<'_, C>,
-    number: u64,
-    effect: &Effect<Global>,
+    effect: &mut Effect<Global>,
 ) -> Result<(), NoMemory> {
-    let (Some(actor), Some(moment)) = (
-        office.actor(context.rt, &mut state.known, number),
-        office.moment(context.rt, &mut state.known, number),
-    ) else {
-        return Ok(());
-    };
-    let place = place_of(actor);
-    hand_out_of(state, place, number, moment, effect)?;
-    if place == Place::Scanner {
-        note_scanner(context, state, &effect.reply);
+    for _ in 0..u64::MAX {
+        let number = state.pace.steps.saturating_add(1);
+        if !office.fill(context.rt, &mut state.known, number, effect)? {
+            break;
+        }
+        let (Some(actor), Some(moment)) = (
+            office.actor(context.rt, &mut state.known, number),
+            office.moment(context.rt, &mut state.known, number),
+        ) else {
+            break;
+        };
+        hand_out_of(context, state, actor, number, moment, effect)?;
+        if state.posts.iter().any(|post| post.tells_states()) {
+            // Where memory is refused, whoever tells the states sees that steps are missing.
+            let _ = catch_up(context, office, state);
+        }
+        let DriverState {
+            board,
+            lasting,
+            posts,
+            ..
+        } = &mut *state;
+        lasting
+            .clients
+            .post_all(context, board, &effect.reply, posts.as_slice());
+        posts.clear();
     }
-    if state.posts.iter().any(|post| post.tells_states()) {
-        // What is missing is seen where states are told.
-        let _ = catch_up(context, office, state);
-    }
-    let DriverState {
-        board,
-        lasting,
-        posts,
-        ..
-    } = state;
-    lasting
-        .clients
-        .post_all(context, board, &effect.reply, posts.as_slice());
-    posts.clear();
     Ok(())
 }
 
-// What is posted of a step, and to whom. The roster notes the step, unless it has already.
-fn hand_out_of<C: Channels + Lanes>(
+// Works out what is posted of a step, and to whom. The roster notes the step first, unless it has already. At `NoMemory` nothing is posted,
+// and the step is still to be handed out.
+fn hand_out_of<C: Channels + Lanes, R: Wait>(
+    context: &Context<'_, R>,
     state: &mut DriverState<'_, C>,
-    place: Place,
+    actor: Actor,
     number: u64,
     moment: At,
     effect: &Effect<Global>,
 ) -> Result<(), NoMemory> {
+    let place = place_of(actor);
     let is_scan = state.is_scan_next();
     let Lasting {
         clients,
@@ -112,10 +99,13 @@ fn hand_out_of<C: Channels + Lanes>(
         &mut state.posts,
     )?;
     state.pace.steps = number;
+    if place == Place::Scanner {
+        note_scanner(context, state, &effect.reply);
+    }
     Ok(())
 }
 
-// The roster notes what steps gave that are not handed out yet, since the board shows them already.
+// Has the roster note the steps that are not handed out yet, since the board shows them already. At `NoMemory` some are not noted.
 fn catch_up<C: Channels + Lanes, D: Board<C>, B: Backend, R: Wait>(
     context: &Context<'_, R>,
     office: &Office<C, D, B>,
@@ -132,7 +122,7 @@ fn catch_up<C: Channels + Lanes, D: Board<C>, B: Backend, R: Wait>(
     Ok(())
 }
 
-// A step of actor 0. What a scan found no room for is to be told.
+// Notes that a step of actor 0 was made. If it was the scan, that is over, and lines are kept for the services for which it had no room.
 fn note_scanner<C: Channels + Lanes, R: Wait>(
     context: &Context<'_, R>,
     state: &mut DriverState<'_, C>,

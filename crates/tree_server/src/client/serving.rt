@@ -12,7 +12,7 @@ use tree_core::Act;
 /// How many requests of a connection are begun before the next connection gets its turn.
 const TURN: usize = 64;
 
-/// Begins what connections ask for, and goes on with the end of those that have left. The moment is in milliseconds.
+/// Begins what connections ask for, and ends what those made that have left. The moment is in milliseconds.
 pub fn begin_all<C: Channels + Lanes, R: Wait>(
     context: &Context<'_, R>,
     state: &mut DriverState<'_, C>,
@@ -21,7 +21,7 @@ pub fn begin_all<C: Channels + Lanes, R: Wait>(
     for seat in 0..SEAT_COUNT {
         state.lasting.clients.hand_over(context, seat);
         begin_some(context, state, seat, now);
-        // What came meanwhile: its connection has rung for its first requests alone.
+        // Takes over what waits by now: the connection may not ring for it again.
         state.lasting.clients.hand_over(context, seat);
     }
 }
@@ -46,7 +46,7 @@ fn begin_some<C: Channels + Lanes, R: Wait>(
     }
 }
 
-// Does what is to be done for the connection on this seat. Whether the next may be begun.
+// Does what is to be done for the connection on this seat. Whether its next request may be begun.
 fn is_begun<C: Channels + Lanes, R: Wait>(
     context: &Context<'_, R>,
     state: &mut DriverState<'_, C>,
@@ -75,7 +75,7 @@ fn is_begun<C: Channels + Lanes, R: Wait>(
     false
 }
 
-// Hands in an act for the connection on this seat. False where its ring doesn't take it: it is kept.
+// Hands in an act for the connection on this seat. False where its ring doesn't take it: then it is kept.
 fn is_submitted<C: Channels + Lanes>(
     state: &mut DriverState<'_, C>,
     seat: usize,

@@ -1,4 +1,4 @@
-//! The lanes, as the thread that drives sees them: what they carry, and what comes back.
+//! The lanes, as the driver sees them: they carry orders, and give reports back.
 use crate::run::driver_state::DriverState;
 use channel_names::Channels;
 use office::Office;
@@ -11,7 +11,7 @@ use std::sync::Wait;
 /// The most orders that a lane carries before the next one gets its turn.
 const ORDERS: u64 = 256;
 
-/// Lets each lane carry.
+/// Has each lane carry at most 256 orders. Whether one has more to carry, and which take no order now.
 pub fn carry_all<C: Channels + Lanes, D: Board<C>, B: Backend, R: Wait>(
     context: &Context<'_, R>,
     office: &Office<C, D, B>,
@@ -29,8 +29,8 @@ pub fn carry_all<C: Channels + Lanes, D: Board<C>, B: Backend, R: Wait>(
     carrying
 }
 
-/// Hands in the reports of all lanes, while there are some and their seats take them. One that a seat doesn't take is kept. Whether some
-/// seat was full. The moment is in milliseconds.
+/// Hands in the reports of all lanes at their seats. A report that a seat doesn't take is kept for the next call. Whether there was such a
+/// report. The moment is in milliseconds.
 pub fn hand_in_reports<C: Channels + Lanes, D: Board<C>, B: Backend, R: Wait>(
     context: &Context<'_, R>,
     office: &Office<C, D, B>,
@@ -40,7 +40,13 @@ pub fn hand_in_reports<C: Channels + Lanes, D: Board<C>, B: Backend, R: Wait>(
     let mut is_full = false;
     for lane in 0..LANE_COUNT {
         for _ in 0..u64::MAX {
-            let Some(report) = take_report(context, office, state, lane) else {
+            let kept = state.lasting.take_kept(lane);
+            let next = if kept.is_some() || lane >= office.lanes() {
+                kept
+            } else {
+                office.report(context.rt, lane)
+            };
+            let Some(report) = next else {
                 break;
             };
             if !is_handed_in(state, lane, now, report) {
@@ -52,7 +58,7 @@ pub fn hand_in_reports<C: Channels + Lanes, D: Board<C>, B: Backend, R: Wait>(
     is_full
 }
 
-// Hands in a report of this lane. False where its seat is full: it is kept.
+// Hands in a report of this lane. False where its seat doesn't take it: then it is kept.
 fn is_handed_in<C: Channels + Lanes>(
     state: &mut DriverState<'_, C>,
     lane: usize,
@@ -68,22 +74,4 @@ fn is_handed_in<C: Channels + Lanes>(
         *kept = Some(report);
     }
     is_taken
-}
-
-// The report of a lane that was kept, or its next one.
-fn take_report<C: Channels + Lanes, D: Board<C>, B: Backend, R: Wait>(
-    context: &Context<'_, R>,
-    office: &Office<C, D, B>,
-    state: &mut DriverState<'_, C>,
-    lane: usize,
-) -> Option<Report> {
-    if let Some(kept) = state.lasting.kept.get_mut(lane) {
-        if let Some(report) = kept.take() {
-            return Some(report);
-        }
-    }
-    if lane >= office.lanes() {
-        return None;
-    }
-    office.report(context.rt, lane)
 }

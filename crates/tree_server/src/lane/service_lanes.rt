@@ -17,7 +17,8 @@ pub struct TreeLanes<B, K> {
 /// The lanes of services that are processes.
 pub type ServiceLanes<R> = TreeLanes<LinkedBackend<R>, ProcessBackend<R>>;
 
-/// Lanes whose services lie under `root`, and whose children's threads this keeper starts. What can't be started or signalled is noted.
+/// Makes the lanes of services that lie under `root`. This keeper starts the threads of their children. What can't be started or signalled
+/// is noted. `NoMemory` where memory is refused.
 pub fn open_service_lanes<R: Wait + Copy + Drop>(
     rt: R,
     alloc: Global,
@@ -37,7 +38,7 @@ pub fn open_service_lanes<R: Wait + Copy + Drop>(
     Ok(lanes)
 }
 
-// One lane more, with this worker.
+// Adds a lane with this worker.
 fn add_lane<R: Wait + Copy + Drop>(
     rt: R,
     alloc: Global,

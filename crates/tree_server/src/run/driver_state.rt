@@ -1,4 +1,4 @@
-//! What the thread that drives has, of a run and from the first run to the last.
+//! What the driver keeps for a run, and from the first run to the last.
 use channel_names::Channels;
 use client_desk::{ClientDesk, RunBoard};
 use inbox::Seat;
@@ -17,7 +17,7 @@ use tree_core::{Act, Effect};
 pub struct Lasting {
     pub clients: ClientDesk,
     pub plans: Plans,
-    /// What is scanned first, before anything else is handed in.
+    /// The listing of the first scan, which is handed in before anything else; None once it is.
     pub first: Option<Found>,
     /// Whether the first scan isn't answered yet: nothing is begun for connections before.
     pub awaits_first: bool,
@@ -28,16 +28,17 @@ pub struct Lasting {
     pub lines: Vec<u8>,
     /// The reports that no seat took yet, by lane.
     pub kept: Vec<Option<Report>>,
-    /// What a step gave, once one was read: a place that is filled anew by each.
+    /// Where the driver reads what a step gave, so that all steps use the same memory. None before the first step, and while it is taken
+    /// out.
     pub effect: Option<Box<Effect<Global>>>,
     /// The tree's clock after the last step that was handed out.
     pub clock: At,
-    /// The greatest moment of what was handed in.
+    /// The greatest moment of what was handed in, in milliseconds.
     pub handed_in: u64,
 }
 
 impl Lasting {
-    /// Of a tree to which nothing was handed in. `NoMemory` where a growth was refused.
+    /// Of a tree to which nothing was handed in. `NoMemory` where memory is refused.
     pub fn new(alloc: Global, first: Found, has_record: bool) -> Result<Lasting, NoMemory> {
         let mut kept = Vec::with_capacity(alloc, LANE_COUNT)?;
         for _ in 0..LANE_COUNT {
@@ -58,7 +59,12 @@ impl Lasting {
         })
     }
 
-    /// The place for what a step gave, which is to be put back.
+    /// The report of this lane that no seat took, if there is one.
+    pub fn take_kept(&mut self, lane: usize) -> Option<Report> {
+        self.kept.get_mut(lane)?.take()
+    }
+
+    /// Takes `effect` out, or makes one where there is none. Put it back afterwards. `NoMemory` where memory is refused.
     pub fn take_effect(&mut self, alloc: Global) -> Result<Box<Effect<Global>>, NoMemory> {
         match self.effect.take() {
             Some(effect) => Ok(effect),
@@ -67,21 +73,21 @@ impl Lasting {
     }
 }
 
-/// What the thread that drives has of a run.
+/// What the driver keeps for a run.
 #[derive(Drop)]
 pub struct DriverState<'a, C: Channels + Lanes> {
-    /// Where inputs are handed in, by their actors.
+    /// The seats at which inputs are handed in, by their actors.
     pub seats: Vec<Seat<C>>,
     pub board: RunBoard<C>,
     /// What is known of the run.
     pub known: History<C>,
     pub lasting: &'a mut Lasting,
     pub pace: Pace,
-    /// How many of its steps were inputs of actor 0.
+    /// How many steps with an input of actor 0 were handed out in this run.
     pub scans_and_ticks: u64,
-    /// The number of the input of actor 0 that is a scan, until it is answered.
+    /// The number of the scan among the inputs of actor 0, from 1, until it is answered.
     pub scan: Option<u64>,
-    /// What a step gives to connections. It is empty between two steps, and keeps its memory.
+    /// What is posted of a step. It is empty between two steps, and keeps its memory.
     pub posts: Vec<Post>,
 }
 

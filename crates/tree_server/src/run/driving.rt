@@ -1,4 +1,4 @@
-//! The thread that drives a run.
+//! The driver, the thread that drives all runs, at work on one.
 use crate::client::delivery::deliver_all;
 use crate::client::serving::begin_all;
 use crate::lane::lanes::{carry_all, hand_in_reports};
@@ -18,8 +18,8 @@ use tree_core::Act;
 /// How many steps are made before what they gave is handed out.
 const STEPS: u64 = 64;
 
-/// Hands in all that is asked, read, reported and due, makes the steps, hands out what they gave, and lets the lanes carry, until the run
-/// ends. What a scan found no room for is told on `errors`.
+/// Drives a run to its end, round after round. A round hands in all that is asked, read, reported and due, makes the steps, hands out what
+/// they gave, and has the lanes carry. The services for which a scan had no room are told on `errors`.
 pub fn drive_run<C: Channels + Lanes, D: Board<C>, B: Backend, R: Wait + Clock, E: Write>(
     context: &Context<'_, R>,
     office: &Office<C, D, B>,
@@ -107,7 +107,7 @@ fn hand_in_all<C: Channels + Lanes, R: Wait>(
 /// Hands in a tick, if one is wanted at this moment, in milliseconds.
 pub fn hand_in_due<C: Channels + Lanes>(state: &mut DriverState<'_, C>, now: u64) {
     if state.lasting.plans.wanted(now) == Wanted::Tick {
-        // Where the ring is full, the steps to come say what is due after them.
+        // If the ring is full, `make_steps` looks again for what is due, after the steps that fill it.
         state.lasting.plans.due = None;
         let _ = state.hand_in(SCANNER, now, Act::Tick);
     }
@@ -142,7 +142,7 @@ fn refusal_of<C: Channels + Lanes>(
     }
 }
 
-// Makes all steps that can be made, and hands out what they gave.
+// Makes all steps that can be made, and hands out what they gave. Why no step more was made.
 fn drive_some<C: Channels + Lanes, D: Board<C>, B: Backend, R: Wait>(
     context: &Context<'_, R>,
     office: &Office<C, D, B>,
@@ -150,7 +150,11 @@ fn drive_some<C: Channels + Lanes, D: Board<C>, B: Backend, R: Wait>(
 ) -> Halt {
     for _ in context.rt.forever() {
         let driven = office.drive(context.rt, &mut state.known, STEPS);
-        note_steps(context, office, state, driven);
+        if driven.steps > 0 {
+            let told = office.tell(context.rt, &mut state.known);
+            state.board.reader.learn(told);
+        }
+        note_steps(context, state, driven);
         if driven.stop == DriveStop::Idle {
             state.lasting.clients.now = state.lasting.handed_in;
         }
@@ -168,24 +172,17 @@ fn drive_some<C: Channels + Lanes, D: Board<C>, B: Backend, R: Wait>(
     Halt::Idle
 }
 
-// What a drive changes of what statuses are told from.
-fn note_steps<C: Channels + Lanes, D: Board<C>, B: Backend, R: Wait>(
+// Brings up to date what statuses are told from, after a drive: the board, and the rows that were read of it.
+fn note_steps<C: Channels + Lanes, R: Wait>(
     context: &Context<'_, R>,
-    office: &Office<C, D, B>,
     state: &mut DriverState<'_, C>,
     driven: Driven,
 ) {
     let board = &mut state.board;
     board.is_shown = driven.stop != DriveStop::NoMemory;
     board.made = board.made.saturating_add(driven.steps);
-    if driven.steps == 0 && board.is_shown {
-        return;
-    }
-    context.shared().rows.invalidate(context.rt);
-    if driven.steps > 0 {
-        board
-            .reader
-            .learn(office.tell(context.rt, &mut state.known));
+    if driven.steps > 0 || !board.is_shown {
+        context.shared().rows.invalidate(context.rt);
     }
 }
 

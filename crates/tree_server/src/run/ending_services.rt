@@ -15,8 +15,8 @@ use tree_core::{Act, ScanOrder};
 /// How long services may take to end before they get SIGKILL, in milliseconds.
 const END_WAIT: u64 = 10_000;
 
-/// Tells all services to end, as `svscanctl -t` does, and goes on with their reports, timers and orders until all have, but at most ten
-/// seconds. What connections ask meanwhile is not begun.
+/// Tells all services to end, as `svscanctl -t` does, and goes on with their reports, timers and orders until the tree has ended or the run
+/// takes no step more, but for at most 10,000 ms. What connections ask meanwhile is not begun.
 pub fn end_services<C: Channels + Lanes, D: Board<C>, B: Backend, R: Wait + Clock>(
     context: &Context<'_, R>,
     office: &Office<C, D, B>,

@@ -23,7 +23,7 @@ use std::sync::Wait;
 use std::time::Clock;
 use tree_core::Tree;
 
-/// How runs go on from one another, and where they are recorded.
+/// How long runs are, and where they are recorded.
 #[derive(Drop)]
 pub struct RunSettings<W> {
     /// After how many steps the next run goes on.
@@ -43,7 +43,7 @@ struct Between<B: Drop> {
 enum AfterRun<B: Drop> {
     /// The tree has ended, or can't go on.
     Over(Result<(), ServeFault>),
-    /// There was no memory for a run of this tree: it is tried again.
+    /// Memory for the next run was refused: it is tried again.
     Again(Between<B>),
     /// The next run.
     Next(Between<B>),
@@ -77,7 +77,7 @@ fn first_tree<B: Drop>(alloc: Global, backends: Vec<B>) -> Option<Between<B>> {
     Some(Between { tree, backends })
 }
 
-// Makes one run. How the tree has ended, if it has.
+// Makes one run. How the tree has ended; None where it goes on.
 fn run_next<B: Backend, R: Wait + Clock + Copy + Drop, W: Write + Drop, E: Write, L: Log>(
     context: &Context<'_, R>,
     settings: &mut RunSettings<W>,
@@ -103,7 +103,7 @@ fn run_next<B: Backend, R: Wait + Clock + Copy + Drop, W: Write + Drop, E: Write
     }
 }
 
-// Makes a new office of the tree, once there is memory; for its first run it has to be there.
+// Makes a new office of the tree, and runs it.
 fn run_once<B: Backend, R: Wait + Clock + Copy + Drop, W: Write + Drop, E: Write>(
     context: &Context<'_, R>,
     settings: &mut RunSettings<W>,
@@ -119,7 +119,8 @@ fn run_once<B: Backend, R: Wait + Clock + Copy + Drop, W: Write + Drop, E: Write
     }
 }
 
-// Where memory lacks between two runs, the next one is tried again a little later; connections are answered meanwhile.
+// What comes where an office was not made or opened. Before the first run that ends the tree. Between two runs, where memory or the board's
+// reader was refused, the next run is tried again a little later; what connections ask meanwhile is refused.
 fn wait_or_end<B: Drop, R: Wait + Clock>(
     context: &Context<'_, R>,
     fault: OpenFault,
@@ -138,13 +139,13 @@ fn wait_or_end<B: Drop, R: Wait + Clock>(
     }
 }
 
-// Memory lacks: connections are answered so, and it is tried again a little later.
+// Answers what connections ask by `refused NoMemory`, and waits until the driver's bell rings, but at most 100 ms.
 fn refuse_and_wait<R: Wait + Clock>(context: &Context<'_, R>, lasting: &mut Lasting) {
     lasting.clients.refuse_all(context);
     wait_for_bell(context, Some(RETRY_WAIT));
 }
 
-// The office is opened, in a run that names its rings and its board.
+// Opens the office, and runs it. The run's channels name its rings and its board.
 fn run_named<
     B: Backend,
     C: Channels + Lanes,
@@ -173,7 +174,7 @@ fn run_named<
     }
 }
 
-// Runs an open office, for whose close and record memory is taken first.
+// Runs an open office. The memory for recording and closing the run is taken first.
 fn run_opened<
     C: Channels + Lanes,
     D: Board<C>,
@@ -208,7 +209,8 @@ fn run_opened<
     }
 }
 
-// Drives a run to its end, and records it. How the tree has ended, if it has; where it can't go on, its services are ended.
+// Drives a run to its end, and records it. How the tree has ended; None where the next run follows. Where the record fails at a handover,
+// the services are ended in order first.
 fn drive_to_end<
     C: Channels + Lanes,
     D: Board<C>,
@@ -237,7 +239,8 @@ fn drive_to_end<
     }
 }
 
-// Takes the memory that the record and the close of a run need, once there is some: room for the finish of each seat.
+// Takes the memory that recording and closing a run need, and tries again until there is some; what connections ask meanwhile is refused.
+// Room for the finish of each seat.
 fn take_memory<C: Channels, R: Wait + Clock, W: Write + Drop>(
     context: &Context<'_, R>,
     lasting: &mut Lasting,
@@ -255,7 +258,8 @@ fn take_memory<C: Channels, R: Wait + Clock, W: Write + Drop>(
     Vec::new(alloc)
 }
 
-// Records the run, once there is memory for it; connections are answered meanwhile. Those that wait for it are told.
+// Records the run, and tells those that wait for it. Where memory is refused it is tried again; what connections ask meanwhile is refused.
+// `Record` where the run can't be written.
 fn record<C: Channels + Lanes, D: Board<C>, B: Backend, R: Wait + Clock, W: Write + Drop>(
     context: &Context<'_, R>,
     office: &Office<C, D, B>,
@@ -298,7 +302,7 @@ fn close<C: Channels + Lanes, D: Board<C>, B: Backend, R: Wait>(
                 ..
             },
         ) => {
-            // Another thread drops it, unless that is busy with the one before.
+            // Another thread drops it. One from before that was not taken yet is dropped here.
             let _before = context.shared().scans.leave_run(context.rt, run);
             AfterRun::Next(Between { tree, backends })
         }
