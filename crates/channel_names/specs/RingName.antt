@@ -1,4 +1,4 @@
--- Which ring an end belongs to.
+-- Names that say which ring an end belongs to.
 use denote.RawPtr.{Ptr}
 use Rattle.rtrb.specs.Shared.{Names}
 use Rattle.rtrb.specs.declared.producer.Producer.{Producer}
@@ -20,6 +20,6 @@ module _ {T A P : Type 0} where
   abbrev pub consumer_ring : Consumer T A P → RingName
   consumer_ring c = record { words = c.end.words; slots = c.end.slots; names = c.end.names }
 
-  -- the ring of an end that pushed all that it will
+  -- the ring of an end that pushes no more
   abbrev pub finished_ring : Finished T A P → RingName
   finished_ring f = record { words = f.end.words; slots = f.end.slots; names = f.end.names }

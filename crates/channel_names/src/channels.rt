@@ -1,9 +1,9 @@
 //! The names that proofs give to the rings and the board of one office.
 use std::marker::Brand;
 
-/// Which rings and which history a run has. A value that comes out of a lock bears such a type, and so does what it is to meet
-/// outside of the lock: both then speak of the same ring or the same history. Each call of a program picks the names, once it has
-/// made what they name, so one run's values are never taken for another's.
+/// Which rings and which history a run has. A value that comes out of a lock has such a type as parameter, and so has what it is to meet
+/// outside of the lock: then both are about the same ring or the same history. A program picks the names anew in each call, once it has
+/// made what they name, so the values of one run are never taken for those of another.
 pub trait Channels {
     ghost use Rattle.std.specs.Prelude.{ℕ};
     ghost use Rattle.logbook.specs.Pages.{Book};

@@ -14,7 +14,7 @@ pub record CommandLine : Type 0 where
 abbrev pub line_of : {A : Type 0} → Command A → CommandLine
 line_of c = record { program = command_program c; arguments = command_args c; directory = command_dir c }
 
--- a shell leads the notification descriptor to where the child's output is read, and what the child prints to its standard error
+-- a shell redirects the notification descriptor to where the child's output is read, and the child's standard output to its standard error
 abbrev pub redirection : ℕ → List ℕ
 redirection fd = codes "exec \"$0\" \"$1\" " ++ decimal fd ++ codes ">&1 1>&2"
 
@@ -22,7 +22,7 @@ redirection fd = codes "exec \"$0\" \"$1\" " ++ decimal fd ++ codes ">&1 1>&2"
 abbrev pub plain_line : List ℕ → List ℕ → CommandLine
 plain_line directory name = record { program = codes "./run"; arguments = name ∷ []; directory = Some directory }
 
--- the same behind a shell, for a descriptor of 3 to 9
+-- the same, started by a shell, for a descriptor of 3 to 9
 abbrev pub shell_line : List ℕ → List ℕ → ℕ → CommandLine
 shell_line directory name fd = record {
   program = codes "/bin/sh";

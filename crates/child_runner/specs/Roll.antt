@@ -1,4 +1,4 @@
--- What a contract sees of what a backend was asked and gave.
+-- What a contract sees of a backend's roll: what it was asked and gave.
 use Rattle.std.specs.Prelude.{◌≡◌, ℕ, Bool, true, false, List, [], ◌∷◌, ◌++◌, map, remove, slice_get, Some, IsTrue, if◌then◌else◌}
 use Rattle.std.specs.declared.snapshot.Snapshot.{Snapshot}
 use Rattle.std.specs.List.{Contains}
@@ -21,7 +21,7 @@ living_after (order.Finish sid generation name code signal) living = living ++ o
 living_after (order.Signal sid generation signal) living = living
 living_after (order.KillFinish sid generation) living = living
 
--- one more order was asked
+-- the roll once one more order was asked
 abbrev pub with_asked : Order → RollView → RollView
 with_asked order roll = record roll { asked = roll.asked ++ order ∷ []; living = living_after order roll.living }
 
@@ -38,7 +38,7 @@ abbrev pub Passes : Report → RollView → RollView → Type 0
 Passes report old new = (k : ℕ) × (start : Order) × (slice_get old.living k ≡ Some start) × IsTrue (answers start report)
     × (new ≡ record old { given = old.given ++ report ∷ []; living = if is_last report then remove old.living k else old.living })
 
--- what the snapshots show
+-- the orders, or the reports, that these snapshots show
 abbrev pub orders_in : List (Snapshot Order) → List Order
 orders_in snapshots = map (λ s. s.value) snapshots
 

@@ -22,8 +22,7 @@ use std::process::{Child, Command, Processes, Stdio, SystemProcess};
 use std::rt::Files;
 use std::sync::{Arc, Wait};
 
-/// A backend whose services are processes. A service's directory is the root, a slash and its name; its programs run there. Page
-/// `s6-supervise`.
+/// A backend whose services are processes. The directory of a service is `root/NAME`, and its programs run there. Page `s6-supervise`.
 #[derive(Drop)]
 pub struct ProcessBackend<R> {
     rt: R,
@@ -33,7 +32,7 @@ pub struct ProcessBackend<R> {
     bell: Arc<Bell, Global>,
     notes: Arc<Notes, Global>,
     processes: Vec<Arc<ServiceProcess, Global>>,
-    // The services of which it was told that they can be sent no signals.
+    // The services for which a note said that no signal can be sent to them.
     deaf: Vec<Sid>,
     turn: usize,
     roll: Roll,
@@ -47,13 +46,13 @@ impl<R> Model for ProcessBackend<R> {
     ghost view = { λ b. b.roll };
 }
 
-// What is told of a service that can't be sent signals.
+// The note about a service that can't be sent signals.
 fn deaf_text(alloc: Global, root: &str, name: &Name) -> Result<String, AllocError> {
     let name = text_of(name);
     format!(in alloc; "svscan: {root}/{name} can't be signalled: no shell\n")
 }
 
-/// A command, and what has to be there that it can be started.
+/// A command, the path of the program that has to be there, and whether the child's output is read.
 #[derive(Drop)]
 struct Launch {
     name: Name,
@@ -63,8 +62,8 @@ struct Launch {
 }
 
 impl<R: Drop> ProcessBackend<R> {
-    /// A backend whose children's threads this keeper starts. The services lie under `root`. Starts that fail, and signals that can't be
-    /// sent for want of a shell, are told on `notes`.
+    /// A backend of the services under `root`. `keeper` starts the threads of its children. A start that fails, and a signal that can't be
+    /// sent for want of a shell, is told on `notes`. `NoMemory` where memory is refused.
     pub fn new(
         rt: R,
         alloc: Global,
@@ -90,14 +89,14 @@ impl<R: Drop> ProcessBackend<R> {
         })
     }
 
-    /// The bell that rings when there is something to report. Take it before the backend is boxed.
+    /// The bell that rings when there is something to report. Take it before the backend is boxed. `NoMemory` where memory is refused.
     pub fn bell(&self) -> Result<Arc<Bell, Global>, NoMemory> {
         Ok(Arc::try_clone(&self.bell)?)
     }
 }
 
 impl<R: Processes<Started = SystemProcess> + Files + Wait + Drop> ProcessBackend<R> {
-    // Starts what the launch says, or reports that it can't be started.
+    // Starts the program of the launch. One that can't be started is reported.
     fn start(&mut self, order: &Order, start: &Start, launch: Launch) -> Result<(), AskFault>
         ensures added { OnOk result (self.new ≡ record self.old {
           asked = self.old.asked ++ order.now ∷ [];
@@ -111,7 +110,7 @@ impl<R: Processes<Started = SystemProcess> + Files + Wait + Drop> ProcessBackend
         }
     }
 
-    // `start`. All memory is taken before anything is started.
+    // The same. It takes all memory before it starts anything.
     fn enter_and_run(
         &mut self,
         order: &Order,
@@ -141,7 +140,7 @@ impl<R: Processes<Started = SystemProcess> + Files + Wait + Drop> ProcessBackend
         Ok(())
     }
 
-    // One that can't be started is noted too, since nobody else is there to tell of it.
+    // Starts the child. One that can't be started is noted too, since it has no program that could say so.
     fn run(&self, process: &ServiceProcess, mut launch: Launch) {
         match self.spawn(&mut launch) {
             Some((child, pipe)) => {
@@ -156,7 +155,7 @@ impl<R: Processes<Started = SystemProcess> + Files + Wait + Drop> ProcessBackend
         }
     }
 
-    // A child, and the pipe by which it is read; None where it can't be started.
+    // Starts the child. Returns it, and the pipe by which its output is read; None where it can't be started.
     fn spawn(&self, launch: &mut Launch) -> Option<(Child<SystemProcess>, Option<Pipe>)> {
         if !is_executable(&self.rt, launch.path.as_str()) {
             return None;
@@ -180,7 +179,7 @@ impl<R: Processes<Started = SystemProcess> + Files + Wait + Drop> ProcessBackend
         }
     }
 
-    // Where the child of a start stands, if its end wasn't told yet.
+    // The index of this start's child, if its end wasn't told yet.
     fn place_of(&self, start: &Start) -> Option<usize> {
         self.processes
             .as_slice()
@@ -203,7 +202,8 @@ impl<R: Processes<Started = SystemProcess> + Files + Wait + Drop> ProcessBackend
         }
     }
 
-    // Has a shell send the child at this place a signal. `Busy` where the system has no room now for the shell.
+    // Has a shell send a signal to the child at this index. `Busy` where the system has no room for the shell now, `NoMemory` where memory
+    // is refused.
     fn send(&mut self, place: usize, signal: u8) -> Result<(), AskFault>
         ensures { self.new ≡ self.old }
     {
@@ -217,7 +217,7 @@ impl<R: Processes<Started = SystemProcess> + Files + Wait + Drop> ProcessBackend
         Ok(())
     }
 
-    // Tells once of each service that it can be sent no signals.
+    // Notes that the service of this child can't be sent signals, unless that was noted before.
     fn tell_deaf(&mut self, place: usize)
         ensures { self.new ≡ self.old }
     {
@@ -281,7 +281,7 @@ impl<R: Processes<Started = SystemProcess> + Files + Wait + Drop> ProcessBackend
         }
     }
 
-    // The next report of a child. Each child gets its turn, however much another writes.
+    // The next report of a child. The children take turns, so one that writes much holds up no other.
     fn next_report(&mut self) -> Option<Report>
         ensures { self.new ≡ self.old }
     {
@@ -295,7 +295,7 @@ impl<R: Processes<Started = SystemProcess> + Files + Wait + Drop> ProcessBackend
         None
     }
 
-    // The next report of the child at this place.
+    // The next report of the child at this index.
     fn report_of(&mut self, place: usize) -> Option<Report>
         ensures { self.new ≡ self.old }
     {
@@ -313,8 +313,8 @@ impl<R: Processes<Started = SystemProcess> + Files + Wait + Drop> Backend for Pr
 
     ghost given = { λ b. b.given };
 
-    /// Starts or signals a process. `Busy` once the keeper is ending, and where a signal can't be sent now, since the system has no room
-    /// for one more process or descriptor; `NoMemory` where a growth was refused. Then nothing was done, and the order is to be asked
+    /// Starts or signals a process. `Busy` once the keeper is ending, and where a signal can't be sent now because the system has no room
+    /// for one more process or descriptor. `NoMemory` where memory is refused. After either nothing was done, and the order is to be asked
     /// again. A start that fails is accepted, and reported.
     fn ask(&mut self, order: Order) -> Result<(), (Order, AskFault)> {
         if self.roster.is_ending(&self.rt) {
@@ -326,7 +326,7 @@ impl<R: Processes<Started = SystemProcess> + Files + Wait + Drop> Backend for Pr
         }
     }
 
-    /// The next report of a process that was asked here; a report of another never leaves.
+    /// The next report of a process that this backend was asked to start. Any other report is dropped.
     fn report(&mut self) -> Option<Report> {
         let report = self.next_report()?;
         self.roll.pass(report)

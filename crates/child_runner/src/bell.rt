@@ -1,9 +1,9 @@
-//! What wakes whoever waits for reports.
+//! A bell: it wakes a thread that waits for something to do.
 use std::sync::{Condvar, Mutex, Wait};
 use std::time::{Clock, Duration};
 
-/// It is rung where there is something to do, and rings until somebody waited for it, so that no ring is missed. A backend rings
-/// when it has something to report. Whoever sends it orders may ring it too.
+/// A bell is rung when there is something to do, and rings until somebody has waited for it, so no ring is missed. A backend rings its bell
+/// when it has something to report. Whoever sends orders to the backend's thread may ring it too.
 #[derive(Drop)]
 pub struct Bell {
     is_ringing: Mutex<bool>,
@@ -32,7 +32,7 @@ impl Bell {
         *ringing = false;
     }
 
-    /// Waits until it rings, but at most so long, and stops it. Whether it rang.
+    /// Waits until it rings, but at most for `time`, and stops it. Returns whether it rang.
     pub fn wait_at_most<R: Wait + Clock>(&self, rt: &R, time: Duration) -> bool {
         let ringing = self.is_ringing.lock(rt);
         let (mut ringing, _late) = self

@@ -1,4 +1,4 @@
-//! The commands that orders mean.
+//! The commands by which orders are carried out.
 ghost use Rattle.std.specs.Prelude.{◌≡◌, ◌++◌, IfOk, codes, string_bytes};
 ghost use Rattle.child_runner.specs.CommandLine.{line_of, run_line, plain_line, shell_line, finish_line, kill_line, redirection};
 
@@ -10,7 +10,7 @@ use std::process::{Command, Stdio};
 use std::rt::Files;
 use std::{fs, str};
 
-// A name has only ASCII letters.
+// A name is ASCII, so the dash is never returned.
 pub(crate) fn text_of(name: &Name) -> &str
     ensures { result.now ≡ name.now }
 {
@@ -20,7 +20,7 @@ pub(crate) fn text_of(name: &Name) -> &str
     }
 }
 
-/// Whether what the child writes is read: for a notification descriptor of 1 or 3 to 9. Page `notifywhenup`.
+/// Whether the child's output is read: it is for a notification descriptor of 1 or 3 to 9. Page `notifywhenup`.
 pub(crate) fn is_read(fd: Option<u8>) -> bool {
     matches!(fd, Some(1 | 3..=9))
 }
@@ -33,7 +33,8 @@ pub(crate) fn directory_of(alloc: Global, root: &str, name: &Name) -> Result<Str
     Ok(format!(in alloc; "{root}/{name}")?)
 }
 
-// The shell's words that lead a notification descriptor to where the child's output is read.
+// The words of a shell that starts `run` so that what it writes to descriptor `fd` goes where the child's output is read, and its own
+// standard output to standard error.
 fn redirection_of(alloc: Global, fd: u8) -> Result<String, NoMemory>
     ensures { IfOk result (λ text. string_bytes text ≡ redirection fd) }
 {
@@ -65,8 +66,9 @@ fn shell_command(alloc: Global, directory: &str, name: &Name, fd: u8) -> Result<
     Ok(command)
 }
 
-/// `run` in the service's directory, with its name as the only argument. What it writes to the notification descriptor comes out at
-/// its standard output; under 3 to 9 a shell leads it there, which becomes `run` and so keeps the process number.
+/// Starts `run` in the service's directory, with the service's name as the only argument. What it writes to the notification descriptor is
+/// read at its standard output. For a descriptor of 3 to 9 a shell redirects it there; the shell then becomes `run`, and so keeps the
+/// process number.
 pub(crate) fn run_command(
     alloc: Global,
     directory: &str,
@@ -81,7 +83,7 @@ pub(crate) fn run_command(
     }
 }
 
-/// `finish` in the service's directory, with the exit code, the signal and the service's name. Page `servicedir`.
+/// Starts `finish` in the service's directory, with three arguments: the exit code, the signal and the service's name. Page `servicedir`.
 pub(crate) fn finish_command(
     alloc: Global,
     directory: &str,
@@ -116,7 +118,7 @@ pub(crate) fn kill_command(alloc: Global, pid: u32, signal: u8) -> Result<Comman
     Ok(command)
 }
 
-/// A shell that asks whether it may send itself signals.
+/// A shell that tries whether it may send itself signals.
 pub(crate) fn probe_command(alloc: Global) -> Result<Command, NoMemory> {
     let mut command = Command::new(alloc, "/bin/sh")?;
     command
@@ -141,7 +143,7 @@ pub(crate) fn path_of(
     Ok(format!(in alloc; "{directory}/{file}")?)
 }
 
-/// Whether there is an executable file of this path. A shell that comes first would tell of its lack only by its exit code.
+/// Whether there is an executable file at this path. Where a shell starts the program, only its exit code would say that there is none.
 pub(crate) fn is_executable<R: Files>(rt: &R, path: &str) -> bool {
     match fs::metadata(rt, path) {
         Ok(metadata) => metadata.is_file() && metadata.permissions().mode() & 0o111 != 0,

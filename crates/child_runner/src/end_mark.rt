@@ -1,24 +1,24 @@
-//! The mark behind the last byte that a child wrote.
+//! The mark that is written behind the last byte of a child.
 ghost use Rattle.std.specs.Prelude.{◌≡◌, ◌≤◌, ◌↔◌, ℕ, IsTrue, length, drop, true, false};
 ghost use Rattle.memchr.specs.Find.{OccursAt};
 ghost use Rattle.child_runner.specs.EndMark.{end_mark, BeginsMark};
 
 use memchr::{memmem, memrchr};
 
-/// What is written to a child's pipe once it has ended, behind all that the child wrote, so that nobody reads on for another program that
-/// keeps the descriptor open. It is written at once, and no program writes it by chance. Its first byte occurs in it only there.
+/// The mark is written to a child's pipe once the child has ended, behind all that it wrote. So its reader stops there, even where another
+/// program keeps the descriptor open. It is written in one go, and no program writes it by chance. Its first byte occurs in it only once.
 pub(crate) const END_MARK: [u8; 16] = *b"\0child-has-ended";
 
-/// How much of what was read of a child may be told.
+/// How much of a child's output that was read may be told.
 #[derive(Clone, Copy, PartialEq, Eq, Debug)]
 pub(crate) struct Telling {
-    /// So many bytes are the child's.
+    /// How many bytes are the child's.
     pub count: usize,
     /// Whether the mark follows them.
     pub is_last: bool,
 }
 
-// Whether these bytes begin the mark, and are less than all of it.
+// Whether these bytes are a beginning of the mark, and not all of it.
 #[tactic(auto, using(crate::proofs::Marks::begins))]
 fn begins_mark(bytes: &[u8]) -> bool
     ensures { IsTrue result ↔ BeginsMark bytes.now }
@@ -26,7 +26,7 @@ fn begins_mark(bytes: &[u8]) -> bool
     bytes.len() < END_MARK.len() && END_MARK.starts_with(bytes)
 }
 
-// How many of these bytes can't belong to a mark that is still to be read to its end.
+// How many of these bytes come before the part of a mark that is at their end; all of them where no such part is there.
 fn before_mark(bytes: &[u8]) -> usize
     ensures within { result ≤ length bytes.now }
     ensures held { BeginsMark (drop result bytes.now) }
@@ -41,8 +41,9 @@ fn before_mark(bytes: &[u8]) -> usize
     bytes.len()
 }
 
-/// How much of what was read may be told: all before the mark, where it is due, which is once the child was waited for. A beginning of the mark at the end is held
-/// back, until more was read.
+/// How much of what was read may be told. `is_due` is whether the mark counts: the child was waited for, or nobody listens. Where it counts
+/// and was read, all before it may be told. Else all may be told but a beginning of the mark at the end, which is held back until more was
+/// read.
 pub(crate) fn telling_of(bytes: &[u8], is_due: bool) -> Telling
     ensures within { result.count ≤ length bytes.now }
     ensures last { result.is_last ≡ true → OccursAt bytes.now end_mark result.count }

@@ -1,4 +1,4 @@
-//! Who starts the threads of children, and joins them.
+//! The keeper: the thread that starts the threads of children, and joins them.
 ghost use Rattle.std.specs.Prelude.{◌≡◌};
 
 use crate::process::ServiceProcess;
@@ -17,7 +17,7 @@ use thiserror::Error;
 /// Why there is no keeper.
 #[derive(Clone, Copy, Debug, PartialEq, Eq, Error)]
 pub enum KeeperFault {
-    /// A growth was refused.
+    /// Memory was refused.
     #[error("out of memory")]
     NoMemory = 1,
     /// Its thread could not be started.
@@ -67,8 +67,8 @@ impl<R: Threads + Wait + Clock + Copy + Send + Sync + Drop + 'static> Keeper<R> 
 }
 
 impl<R: Processes + Threads + Wait + Drop> Keeper<R> {
-    /// Ends it, once its backends are given up: kills the children that still live, waits for them, and joins all threads. Until
-    /// then a backend answers Busy. Where a signal can't be sent, it waits until that child ends by itself.
+    /// Ends the keeper: kills the children that still live, waits for them, and joins all threads. Call it once its backends are needed no
+    /// more: from then on they answer `Busy`. Where a child can't be sent the signal, it waits until that child ends by itself.
     pub fn end(self) {
         let Keeper {
             rt,
@@ -100,7 +100,7 @@ fn keep<R: Threads + Wait + Clock + Copy + Send + Sync + Drop + 'static>(
     watch_all(&rt, &roster);
 }
 
-// Starts the thread of each child that comes. The scope's end waits for those that still run.
+// Starts the thread of each child that comes. The end of the scope waits for the threads that still run.
 fn watch_all<R: Threads + Wait + Clock + Copy + Send + Sync + Drop + 'static>(
     rt: &R,
     roster: &Roster,
@@ -117,7 +117,7 @@ fn watch_in<'s, E, R: Threads + Wait + Clock + Copy + Send + Sync + Drop + 'stat
         let Some(process) = roster.next_child(rt) else {
             break;
         };
-        // Where it can have no thread, the child is killed.
+        // A child for which no thread can be started is killed.
         if !spawn_watch(scope, rt, roster, &process) {
             give_back(rt, &process);
             roster.leave(rt, process.number);
@@ -125,7 +125,7 @@ fn watch_in<'s, E, R: Threads + Wait + Clock + Copy + Send + Sync + Drop + 'stat
     }
 }
 
-// Starts the thread of a child. Whether there can be one.
+// Starts the thread of a child. Returns whether it could be started.
 fn spawn_watch<'s, E, R: Threads + Wait + Clock + Copy + Send + Sync + Drop + 'static>(
     scope: &Scope<'s, E>,
     rt: &'s R,

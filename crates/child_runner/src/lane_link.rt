@@ -1,4 +1,4 @@
-//! What ties the backend of a run to the thread of its lane.
+//! The link between the backend of a run and the thread of its lane.
 ghost use Rattle.std.specs.Prelude.{◌≡◌, ◌++◌, ◌∷◌, [], OnOk, OnErr};
 ghost use Rattle.child_runner.specs.Roll.{with_asked};
 
@@ -11,14 +11,14 @@ use std::alloc::Global;
 use std::sync::{Arc, Mutex, Wait};
 use std::time::{Clock, Duration};
 
-/// The most orders that are on their way to a lane's thread.
+/// The most orders that may be on their way to a lane's thread.
 pub const ORDER_LIMIT: usize = 1_024;
 
-/// The most reports that are on their way back.
+/// The most reports that may be on their way back.
 pub const REPORT_LIMIT: usize = 64;
 
-/// The orders on their way to the thread of a lane, and the reports on their way back. Each goes in order. The thread outlives the runs
-/// of a tree, and so does the link; memory is taken as orders and reports come.
+/// The orders on their way to the thread of a lane, and the reports on their way back, each in order. The thread outlives the runs of a
+/// tree, and so does the link. Memory is taken as orders and reports come.
 #[derive(Drop)]
 pub struct LaneLink {
     orders: Mutex<LinkQueue<Order>>,
@@ -27,7 +27,7 @@ pub struct LaneLink {
     bell: Arc<Bell, Global>,
 }
 
-// Adds an order for the lane's thread, which from then on counts as asked.
+// Adds an order for the lane's thread. From then on the order counts as asked.
 fn add_order(orders: &mut LinkQueue<Order>, roll: &mut Roll, order: &Order) -> Result<(), AskFault>
     ensures queued { OnOk result (orders.new.items.items ≡ orders.old.items.items ++ order.now ∷ []) }
     ensures asked { OnOk result
@@ -44,7 +44,8 @@ fn add_order(orders: &mut LinkQueue<Order>, roll: &mut Roll, order: &Order) -> R
 }
 
 impl LaneLink {
-    /// With nothing on its way. The bell is that of the lane's own backend: it rings for the thread when there is something to do.
+    /// A link with nothing on its way. `bell` is that of the lane's own backend: it rings for the lane's thread when there is something to
+    /// do.
     pub fn new(alloc: Global, bell: Arc<Bell, Global>) -> LaneLink {
         LaneLink {
             orders: Mutex::new(LinkQueue::new(alloc, ORDER_LIMIT)),
@@ -65,7 +66,8 @@ impl LaneLink {
         *self.is_over.lock(rt)
     }
 
-    /// Sends an order to the lane's thread, and rings for it.
+    /// Sends an order to the lane's thread, and rings for it. `Busy` where 1,024 are on their way, `NoMemory` where memory is refused; then
+    /// it wasn't sent.
     pub(crate) fn send<R: Wait>(
         &self,
         rt: &R,
@@ -83,7 +85,7 @@ impl LaneLink {
         sent
     }
 
-    /// The next order, and whether the queue was full before.
+    /// Takes the next order, and says whether the queue was full before; None where there is none.
     pub(crate) fn take_order<R: Wait>(&self, rt: &R) -> Option<(Order, bool)> {
         let mut orders = self.orders.lock(rt);
         let was_full = orders.is_full();
@@ -91,7 +93,7 @@ impl LaneLink {
         Some((order, was_full))
     }
 
-    /// Sends a report back; it is given back where there is no place for it, or no memory.
+    /// Sends a report back. The error is the report, where 64 are on their way or memory is refused.
     pub(crate) fn give<R: Wait>(&self, rt: &R, report: Report) -> Result<(), Report> {
         let mut reports = self.reports.lock(rt);
         if reports.make_room().is_err() {
@@ -101,7 +103,8 @@ impl LaneLink {
         Ok(())
     }
 
-    /// The next report that came back. Where there was no place for one more, the lane's thread is told that there is now.
+    /// Takes the next report that came back; None where there is none. Where the queue was full, it rings for the lane's thread, since
+    /// there is a place now.
     pub(crate) fn take_report<R: Wait>(&self, rt: &R) -> Option<Report> {
         let mut reports = self.reports.lock(rt);
         let was_full = reports.is_full();
@@ -113,7 +116,7 @@ impl LaneLink {
         Some(report)
     }
 
-    /// Waits for something to do; where something was refused, for so long at most.
+    /// Waits for something to do, and at most for `at_most`, if that is given.
     pub(crate) fn wait_for_work<R: Wait + Clock>(&self, rt: &R, at_most: Option<Duration>) {
         match at_most {
             Some(time) => {

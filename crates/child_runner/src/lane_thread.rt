@@ -8,34 +8,34 @@ use s6_events::Order;
 use std::sync::Wait;
 use std::time::{Clock, Duration};
 
-/// How many orders are carried out before reports are looked for.
+/// The most orders that are asked before reports are looked for.
 const ORDERS: usize = 16;
 
-/// How long it waits where an order or a report was refused, in milliseconds.
+/// How long it waits at most after an order or a report was refused, in milliseconds.
 const RETRY: u64 = 20;
 
-/// What the thread of a lane holds: an order that the backend refused, and a report for which there was no place.
+/// What the thread of a lane holds back: an order that the backend refused, and a report for which there was no place.
 #[derive(Drop)]
 struct Held {
     order: Option<Order>,
     report: Option<Report>,
 }
 
-/// What came of some orders.
+/// How the asking of some orders went.
 #[derive(Clone, Copy, PartialEq, Eq, Debug)]
 enum Carrying {
     /// There may be more.
     More,
-    /// There was none left.
+    /// None is left.
     Idle,
     /// The backend refused one, which is held.
     Refused,
 }
 
-/// Serves a lane until the link's `end`: asks `backend` the orders that are sent by a `LinkedBackend`, in order, and sends its reports
-/// back. An order that is refused is held, and asked again after at most 20 ms, or when the bell rings; reports go on meanwhile. `driver`
-/// rings when a report has come back, and when there is room again where orders had none. It waits on the link's bell, and never on a
-/// reader.
+/// Serves a lane until the link is ended: asks `backend` the orders that a `LinkedBackend` sends, in order, and sends its reports back. An
+/// order that is refused is held, and asked again after at most 20 ms, or when the bell rings; reports go on meanwhile. It rings `driver`,
+/// the bell of the driver, which is the thread that drives the tree's runs, when it has sent a report back, and when there is a place for
+/// orders where there was none. It waits on the link's bell alone.
 pub fn serve_lane<B: Backend, R: Wait + Clock>(
     rt: &R,
     link: &LaneLink,
@@ -60,7 +60,7 @@ pub fn serve_lane<B: Backend, R: Wait + Clock>(
     }
 }
 
-// Asks the backend some orders, the one that is held first.
+// Asks the backend at most 16 orders, first the one that is held.
 fn carry_some<B: Backend, R: Wait>(
     rt: &R,
     link: &LaneLink,
@@ -97,7 +97,7 @@ fn next_order<R: Wait>(
     Some(order)
 }
 
-// Asks the backend an order, which comes back where it is refused.
+// Asks the backend an order. Returns the order where it is refused.
 fn ask_one<B: Backend>(backend: &mut B, order: Order) -> Option<Order>
     ensures asked { IfNone result (B.asked backend.new ≡ B.asked backend.old ++ order ∷ []) }
     ensures back { IfSome result (λ o. (o ≡ order) × (B.asked backend.new ≡ B.asked backend.old)) }
@@ -109,7 +109,7 @@ fn ask_one<B: Backend>(backend: &mut B, order: Order) -> Option<Order>
     }
 }
 
-// Sends the backend's reports back while there is a place for them. Whether one is kept, since there was none.
+// Sends the backend's reports back while there is a place for them. Returns whether one is kept because there was none.
 fn give_reports<B: Backend, R: Wait>(
     rt: &R,
     link: &LaneLink,

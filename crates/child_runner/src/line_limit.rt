@@ -1,7 +1,7 @@
-//! How much is told of a line that doesn't end.
+//! How much is told of a child's first line.
 ghost use Rattle.std.specs.Prelude.{◌≡◌, ◌+◌, ◌≤◌, ◌<◌, true, false};
 
-/// The most bytes that are told of a child before its first newline. Of those beyond only the newline is told.
+/// The most bytes of a child that are told before its first newline. Of what comes after them only the newline is told.
 pub(crate) const LINE_LIMIT: usize = 1_024;
 
 /// How many more bytes may be told before a newline.
@@ -18,7 +18,7 @@ impl LineLimit {
         LineLimit { left: LINE_LIMIT }
     }
 
-    /// Whether a part of so many bytes may be told. Once one doesn't fit, none that has a byte is told any more.
+    /// Whether a part of `count` bytes may be told. Once a part doesn't fit, no later part that has a byte may be told.
     pub fn admit(&mut self, count: usize) -> bool
         ensures told { result ≡ true → self.new.left + count ≡ self.old.left }
         ensures silent { result ≡ false → (self.old.left < count) × (self.new.left ≡ 0) }

@@ -1,4 +1,4 @@
-//! What is on its way between a run and the thread of a lane: a queue up to a limit.
+//! A queue with a limit, for what is on its way between a run and the thread of a lane.
 ghost use Rattle.std.specs.Prelude.{◌≡◌, ◌↔◌, IsTrue, ◌≤◌, ◌<◌, ◌++◌, ◌∷◌, [], Err, length, OnOk, OnErr, IfSome, IfNone};
 ghost use Rattle.std.specs.VecDeque.{deque_len, deque_capacity};
 ghost use Rattle.order_lanes.specs.declared.backend.AskFault.TheVariants.{Busy};
@@ -7,7 +7,7 @@ use order_lanes::AskFault;
 use std::alloc::Global;
 use std::collections::VecDeque;
 
-/// At most so many items, the oldest first. Memory is taken as they come.
+/// A queue of at most `limit` items, the oldest first. Memory is taken as they come.
 #[derive(Drop)]
 pub(crate) struct LinkQueue<T> {
     items: VecDeque<T, Global>,
@@ -15,7 +15,7 @@ pub(crate) struct LinkQueue<T> {
 }
 
 impl<T: Drop> LinkQueue<T> {
-    /// With nothing in it.
+    /// An empty queue.
     pub fn new(alloc: Global, limit: usize) -> LinkQueue<T>
         ensures empty { result.items.items ≡ [] }
         ensures limit { result.limit ≡ limit }
@@ -33,7 +33,7 @@ impl<T: Drop> LinkQueue<T> {
         self.items.len() >= self.limit
     }
 
-    /// Makes room for one more: `Busy` where it is full, `NoMemory` where a growth was refused.
+    /// Makes room for one more item. `Busy` where the queue is full, `NoMemory` where memory is refused; the items stay as they were.
     pub fn make_room(&mut self) -> Result<(), AskFault>
         ensures items { self.new.items.items ≡ self.old.items.items }
         ensures limit { self.new.limit ≡ self.old.limit }
@@ -50,7 +50,7 @@ impl<T: Drop> LinkQueue<T> {
         }
     }
 
-    /// Adds one at the end, for which room was made.
+    /// Adds an item at the end, after `make_room` made room for it.
     pub fn add(&mut self, item: T)
         requires { deque_len self.old.items < deque_capacity self.old.items }
         ensures items { self.new.items.items ≡ self.old.items.items ++ item ∷ [] }
@@ -59,7 +59,7 @@ impl<T: Drop> LinkQueue<T> {
         self.items.push_back_reserved(item);
     }
 
-    /// Takes the oldest.
+    /// Takes the oldest item; None where the queue is empty.
     pub fn take(&mut self) -> Option<T>
         ensures first { IfSome result (λ x. self.old.items.items ≡ x ∷ self.new.items.items) }
         ensures none { IfNone result (self.old.items.items ≡ []) }

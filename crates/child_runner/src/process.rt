@@ -11,17 +11,17 @@ use std::process::{Child, SystemProcess};
 use std::sync::{Arc, Condvar, Mutex, Wait};
 use std::time::{Clock, Duration};
 
-/// How many milliseconds an end waits at most until all was read that the child wrote.
+/// How long the report of an end waits at most for all that the child wrote to be read, in milliseconds.
 const LAST_WORDS: u64 = 1000;
 
-/// The pipe by which a child is read: the end that is read, and one more of those that are written to.
+/// The pipe by which a child's output is read: the end that is read, and a second writing end beside the child's.
 #[derive(Drop)]
 pub(crate) struct Pipe {
     pub reader: PipeReader,
     pub writer: PipeWriter,
 }
 
-/// A child: what is known of it, and what its thread is to take over.
+/// A child: what is known of it, and what its threads are to take over.
 #[derive(Drop)]
 pub(crate) struct ServiceProcess {
     pub number: u64,
@@ -30,11 +30,11 @@ pub(crate) struct ServiceProcess {
     bell: Arc<Bell, Global>,
     progress: Mutex<Progress>,
     changed: Condvar,
-    // What its thread takes over.
+    // What the thread that waits for the child takes over.
     child: Mutex<Option<Child<SystemProcess>>>,
-    // What the thread that reads takes over.
+    // What the thread that reads its output takes over.
     reader: Mutex<Option<PipeReader>>,
-    // Where the mark of its end is written, once.
+    // Where the end mark is written, once.
     writer: Mutex<Option<PipeWriter>>,
 }
 
@@ -54,13 +54,13 @@ impl ServiceProcess {
         }
     }
 
-    /// It could not be started.
+    /// The child could not be started.
     pub fn fail<R: Wait>(&self, rt: &R) {
         self.progress.lock(rt).fail();
         self.bell.ring(rt);
     }
 
-    /// It runs.
+    /// The child runs.
     pub fn begin<R: Wait>(&self, rt: &R, child: Child<SystemProcess>, pipe: Option<Pipe>) {
         self.progress
             .lock(rt)
@@ -73,17 +73,18 @@ impl ServiceProcess {
         self.bell.ring(rt);
     }
 
-    /// What its thread takes over, once.
+    /// The child, for the thread that waits for it; None the second time.
     pub fn take_child<R: Wait>(&self, rt: &R) -> Option<Child<SystemProcess>> {
         self.child.lock(rt).take()
     }
 
-    /// What the thread that reads takes over, once.
+    /// The reading end of the pipe, for the thread that reads it; None the second time.
     pub fn take_reader<R: Wait>(&self, rt: &R) -> Option<PipeReader> {
         self.reader.lock(rt).take()
     }
 
-    /// Its process number, where a signal may be sent to it; `end_signal` has to follow then. It waits for a shell that is under way.
+    /// The child's process number, if a signal may be sent to it now; then `end_signal` has to follow. It waits first until no other shell
+    /// is under way.
     pub fn begin_signal<R: Wait>(&self, rt: &R) -> Option<u32> {
         let progress = self.progress.lock(rt);
         let mut progress = self
@@ -92,14 +93,14 @@ impl ServiceProcess {
         progress.begin_signal()
     }
 
-    /// The shell that sent it a signal has ended.
+    /// The shell that sent the signal has ended.
     pub fn end_signal<R: Wait>(&self, rt: &R) {
         self.progress.lock(rt).end_signal();
         self.changed.notify_all();
         self.bell.ring(rt);
     }
 
-    /// It wrote these bytes, at most 64. It waits until they can be taken in, or are wanted no more.
+    /// The child wrote these bytes, at most 64. It waits until there is room for them, or they are wanted no more.
     pub fn write<R: Wait>(&self, rt: &R, bytes: &[u8]) {
         let count = bytes.len();
         let progress = self.progress.lock(rt);
@@ -113,7 +114,7 @@ impl ServiceProcess {
         self.bell.ring(rt);
     }
 
-    /// Nothing more is read. The ends of the pipe that still lie here are closed.
+    /// Nothing more is read. Closes the ends of the pipe that are still here.
     pub fn stop_reading<R: Wait>(&self, rt: &R) {
         let writer = self.writer.lock(rt).take();
         drop(writer);
@@ -123,14 +124,14 @@ impl ServiceProcess {
         self.changed.notify_all();
     }
 
-    /// It wrote its first newline, and what it wrote up to there was noted: its end waits for no more of it.
+    /// The child wrote its first newline, and what it wrote up to there was taken in: the report of its end waits for no more.
     pub fn stop_hearing<R: Wait>(&self, rt: &R) {
         self.progress.lock(rt).stop_hearing();
         self.changed.notify_all();
     }
 
-    /// It ended so, and was waited for: no signal begins from now on. The end is told once all was read that it wrote, or after a second,
-    /// and not before a shell has ended that is under way.
+    /// The child ended with `exit`, and was waited for: no signal begins from now on. Its end can be reported once all that it wrote, up to
+    /// its first newline, was read, or after a second, and not while a shell is under way.
     pub fn end<R: Wait + Clock>(&self, rt: &R, exit: Exit) {
         self.progress.lock(rt).begin_to_end();
         self.write_end_mark(rt);
@@ -145,17 +146,17 @@ impl ServiceProcess {
         self.bell.ring(rt);
     }
 
-    /// Whether the mark behind its last byte counts by now.
+    /// Whether the end mark counts by now.
     pub fn is_mark_due<R: Wait>(&self, rt: &R) -> bool {
         self.progress.lock(rt).is_mark_due()
     }
 
-    /// Whether it is still read.
+    /// Whether its output is still read.
     pub fn is_read<R: Wait>(&self, rt: &R) -> bool {
         self.progress.lock(rt).is_read()
     }
 
-    /// Wakes whoever reads what it writes, once that was read which it wrote before.
+    /// Writes the end mark, if it wasn't written yet, so that the thread that reads stops behind what the child wrote before.
     pub fn write_end_mark<R: Wait>(&self, rt: &R) {
         let writer = self.writer.lock(rt).take();
         if let Some(mut writer) = writer {
@@ -163,14 +164,14 @@ impl ServiceProcess {
         }
     }
 
-    /// Nobody listens to it any more. Whether that is new.
+    /// Nobody listens to the child any more. Returns whether that is new.
     pub fn give_up<R: Wait>(&self, rt: &R) -> bool {
         let is_new = self.progress.lock(rt).give_up();
         self.changed.notify_all();
         is_new
     }
 
-    /// The next thing to tell.
+    /// The next report of the child; None where there is nothing to report.
     pub fn next_report<R: Wait>(&self, rt: &R) -> Option<Report> {
         let report = self.progress.lock(rt).next_report(&self.start)?;
         self.changed.notify_all();

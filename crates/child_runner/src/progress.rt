@@ -8,7 +8,7 @@ use arrayvec::ArrayVec;
 use order_lanes::Report;
 use s6_events::Exit;
 
-/// What is to be told first.
+/// How far the start of a child was told.
 #[derive(Clone, Copy, PartialEq, Eq, Debug)]
 enum Stage {
     Starting,
@@ -37,7 +37,7 @@ pub(crate) struct Progress {
 }
 
 impl Progress {
-    /// Of a child that is about to start.
+    /// The progress of a child that is about to start.
     pub fn new() -> Progress {
         Progress {
             stage: Stage::Starting,
@@ -55,7 +55,7 @@ impl Progress {
         self.stage = Stage::Failed;
     }
 
-    /// It lives. Whether it is read.
+    /// It lives. `is_read` is whether its output is read.
     pub fn begin(&mut self, program: &Program, pid: u32, is_read: bool) {
         self.is_read = is_read;
         self.stage = match program {
@@ -65,7 +65,7 @@ impl Progress {
         self.signals.begin(pid);
     }
 
-    /// Its process number, where it may be sent a signal now. A shell is under way from then on, until `end_signal`.
+    /// Its process number, if it may be sent a signal now. From then on a shell counts as under way, until `end_signal`.
     pub fn begin_signal(&mut self) -> Option<u32> {
         self.signals.begin_signal()
     }
@@ -85,7 +85,7 @@ impl Progress {
         self.signals.reap();
     }
 
-    /// Whether the mark behind its last byte counts: it was waited for, or nobody listens.
+    /// Whether the end mark counts: it was waited for, or nobody listens.
     pub fn is_mark_due(&self) -> bool {
         self.signals.is_reaped || self.is_given_up
     }
@@ -105,7 +105,7 @@ impl Progress {
         self.is_heard = true;
     }
 
-    /// Whether its end can be told: all that matters of what it wrote was read, or nobody listens.
+    /// Whether its end can be told: its output is read no more, or its first newline was, or nobody listens.
     pub fn may_end(&self) -> bool {
         !self.is_read || self.is_heard || self.is_given_up
     }
@@ -114,7 +114,7 @@ impl Progress {
         self.exit = Some(exit);
     }
 
-    /// Nobody listens any more. Whether that is new.
+    /// Nobody listens any more. Returns whether that is new.
     pub fn give_up(&mut self) -> bool {
         let is_new = !self.is_given_up;
         self.is_given_up = true;
@@ -126,7 +126,7 @@ impl Progress {
         self.is_given_up || self.exit.is_some()
     }
 
-    /// Whether so many more bytes can wait to be told.
+    /// Whether there is room for `count` more bytes that wait to be told.
     pub fn has_room(&self, count: usize) -> bool {
         count <= 64usize.saturating_sub(self.written.len())
     }
@@ -138,7 +138,7 @@ impl Progress {
         }
     }
 
-    /// The next thing to tell, in order: its start, what it wrote, and its end, once no shell is under way.
+    /// The next report, in order: its start, what it wrote, and its end once no shell is under way; None where there is nothing to report.
     pub fn next_report(&mut self, start: &Start) -> Option<Report>
         ensures { IfSome result (λ r. IsTrue (is_end r) → self.old.signals.is_shell_out ≡ false) }
     {
@@ -165,7 +165,7 @@ impl Progress {
         Some(Report::Notify(start.sid, start.generation, bytes))
     }
 
-    // Its end: not while a shell is under way, which would send the signal to a number that the tree holds for free.
+    // The report of its end; None while a shell is under way, since that may still send a signal to a number that the tree takes for free.
     fn end_report(&self, start: &Start) -> Option<Report>
         ensures { IfSome result (λ _. self.now.signals.is_shell_out ≡ false) }
     {

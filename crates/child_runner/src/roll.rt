@@ -1,4 +1,4 @@
-//! What a backend was asked and gave, and which starts still live.
+//! A backend's roll: what it was asked and gave, and which of its starts still live.
 ghost use Rattle.std.specs.Prelude.{◌≡◌, ◌<◌, ◌++◌, ◌∷◌, [], List, length, IsTrue, Some, slice_get};
 ghost use Rattle.std.specs.Prelude.{OnOk, OnErr, IfSome, IfNone, remove, if◌then◌else◌};
 ghost use Rattle.std.specs.List.{All};
@@ -13,8 +13,8 @@ use std::alloc::Global;
 use std::marker::Model;
 use std::snapshot::Snapshot;
 
-/// What was asked and what was given, for contracts alone: these lists take no memory. A report is let through if it is of a start
-/// that was asked and hasn't ended.
+/// What was asked and what was given, for contracts alone: these two lists take no memory. A report is let through if it is of a start that
+/// was asked and hasn't ended.
 #[derive(Drop)]
 pub(crate) struct Roll {
     living: Vec<Order>,
@@ -33,7 +33,7 @@ impl Model for Roll {
     ghost invariant = { λ r. All (WasAsked (orders_in r.asked.items)) r.living.items };
 }
 
-// The first of these orders that the report answers.
+// The index of the first of these orders that the report answers; None where it answers none.
 fn place_of(orders: &[Order], report: &Report) -> Option<usize>
     ensures place { IfSome result (λ k. k < length orders.now) }
     ensures answered { IfSome result (λ k. (order : Asked)
@@ -79,7 +79,7 @@ fn add_given(given: &mut Vec<Snapshot<Report>>, report: &Report) -> Result<(), N
     Ok(())
 }
 
-// Behind its last report a start lives no more.
+// Takes the start out, if this is its last report.
 fn end_last(living: &mut Vec<Order>, place: usize, report: &Report)
     requires { place < length living.old.items }
     ensures left { living.new.items

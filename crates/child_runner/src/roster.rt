@@ -96,7 +96,7 @@ impl Roster {
         number
     }
 
-    /// Whether no child is taken any more.
+    /// Whether no more children are taken.
     pub fn is_ending<R: Wait>(&self, rt: &R) -> bool {
         self.entries.lock(rt).is_ending
     }
@@ -143,7 +143,7 @@ impl Roster {
         self.changed.notify_all();
     }
 
-    /// A child that is given up from now on; None where each is.
+    /// Gives up a child that wasn't given up before, and returns it; None where there is none, or memory is refused.
     pub fn give_one_up<R: Wait>(&self, rt: &R) -> Option<Arc<ServiceProcess, Global>> {
         let entries = self.entries.lock(rt);
         for entry in entries.entries.as_slice() {

@@ -10,13 +10,13 @@ use std::sync::Wait;
 /// What became of a signal.
 #[derive(Clone, Copy, PartialEq, Eq, Debug)]
 pub(crate) enum Sending {
-    /// The shell has ended, or the child can be sent no signal any more.
+    /// The shell that sent it has ended, or the child can't be sent a signal any more.
     Done,
-    /// There is no shell that could be run.
+    /// There is no shell that can be run, or it can't run `kill`.
     NoShell,
 }
 
-/// A shell that tries whether signals can be sent here, beside whoever started it.
+/// A shell that tries whether signals can be sent here, while its caller goes on.
 #[derive(Drop)]
 pub struct ShellProbe {
     shell: Option<Child<SystemProcess>>,
@@ -32,8 +32,8 @@ impl ShellProbe {
         ShellProbe { shell }
     }
 
-    /// Waits for the shell. Whether signals can be sent: whether `/bin/sh` could be run, and its `kill` ended with 0. False also where
-    /// memory was refused, or the system had no room for a process.
+    /// Waits for the shell. True where signals can be sent: `/bin/sh` could be run, and its `kill` ended with 0. False also where memory
+    /// was refused, or the system had no room for a process.
     pub fn has_shell(self) -> bool {
         match self.shell {
             Some(mut shell) => matches!(shell.wait(), Ok(status) if status.success()),
@@ -42,8 +42,8 @@ impl ShellProbe {
     }
 }
 
-/// Has a shell send a child a signal, if it wasn't waited for yet, and waits for the shell. `Busy` where the system has no room now for
-/// the shell, `NoMemory` where a growth was refused: then no signal was sent.
+/// Has a shell send a child a signal, if the child wasn't waited for yet, and waits for the shell. `Busy` where the system has no room for
+/// the shell now, `NoMemory` where memory is refused: then no signal was sent.
 pub(crate) fn signal_child<R: Processes + Wait>(
     rt: &R,
     alloc: Global,
@@ -74,7 +74,7 @@ fn run_kill<R: Processes>(
     }
 }
 
-// Whether a program can't be started now nor later, since there is none or it may not be run.
+// Whether the program can be started neither now nor later, because it isn't there or may not be run.
 fn is_lasting(error: &io::Error) -> bool {
     matches!(
         error.kind(),

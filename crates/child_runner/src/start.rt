@@ -12,7 +12,7 @@ pub(crate) enum Program {
     Finish,
 }
 
-/// A service's program, and its generation.
+/// One start of a service's program: the service's serial, the generation, and which program.
 #[derive(Clone, Copy, PartialEq, Eq, Debug)]
 pub(crate) struct Start {
     pub sid: Sid,
@@ -54,7 +54,7 @@ impl Start {
     }
 }
 
-/// Whether nothing comes after the report.
+/// Whether no report of the start comes after this one.
 pub(crate) fn is_last(report: &Report) -> bool
     ensures { result ≡ is_last report.now }
 {

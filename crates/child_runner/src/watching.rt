@@ -1,4 +1,4 @@
-//! The threads of one child: one waits for it, and one more reads what it writes.
+//! The threads of one child: one waits for it, and another reads its output, if that is read.
 ghost use Rattle.std.specs.Prelude.{◌≤◌, length};
 
 use crate::end_mark::{Telling, telling_of};
@@ -16,10 +16,10 @@ use std::sync::{Arc, Wait};
 use std::thread::{Builder, JoinHandle, Threads};
 use std::time::Clock;
 
-/// How much stack a thread gets.
+/// How much stack a thread gets, in bytes.
 pub(crate) const STACK: usize = 256 * 1024;
 
-/// Waits for the child and tells how it ended; its descriptor is read meanwhile. Then it leaves the roster.
+/// Waits for the child and tells how it ended, while another thread reads its output. Then takes the child off the roster.
 pub(crate) fn watch<R: Threads + Wait + Clock + Copy + Send + Drop + 'static>(
     rt: R,
     roster: &Roster,
@@ -34,7 +34,8 @@ pub(crate) fn watch<R: Threads + Wait + Clock + Copy + Send + Drop + 'static>(
     roster.leave(&rt, process.number);
 }
 
-// Waits for the child and tells how it ended. The thread that reads its descriptor, if there is one.
+// Waits for the child and tells how it ended. Returns the thread that reads its output, if there is one. A child whose output is to be read
+// is killed where there can be no such thread.
 fn await_end<R: Threads + Wait + Clock + Copy + Send + Drop + 'static>(
     rt: R,
     process: &Arc<ServiceProcess, Global>,
@@ -53,7 +54,7 @@ fn await_end<R: Threads + Wait + Clock + Copy + Send + Drop + 'static>(
     listener
 }
 
-// The thread that reads a child's descriptor; None where there can be none.
+// Starts the thread that reads a child's output; None where it can't be started.
 fn start_listening<R: Threads + Wait + Clock + Copy + Send + Drop + 'static>(
     rt: R,
     process: &Arc<ServiceProcess, Global>,
@@ -65,7 +66,7 @@ fn start_listening<R: Threads + Wait + Clock + Copy + Send + Drop + 'static>(
         .ok()
 }
 
-/// Kills a child that can have no thread, and tells how it ended.
+/// Kills a child for which no thread can be started, and tells how it ended.
 pub(crate) fn give_back<R: Wait + Clock>(rt: &R, process: &ServiceProcess) {
     if let Some(mut child) = process.take_child(rt) {
         process.stop_reading(rt);
@@ -75,7 +76,7 @@ pub(crate) fn give_back<R: Wait + Clock>(rt: &R, process: &ServiceProcess) {
     }
 }
 
-// How a program ended.
+// How a program ended. Where the system can't tell, it counts as killed by signal 0.
 fn exit_of(status: io::Result<ExitStatus>) -> Exit {
     let Ok(status) = status else {
         return Exit::Killed(0);
@@ -87,21 +88,21 @@ fn exit_of(status: io::Result<ExitStatus>) -> Exit {
     Exit::Killed(u8::try_from(signal).unwrap_or(0))
 }
 
-/// How many bytes are read and not told yet, at most: as many as a report holds.
+/// The most bytes that were read and not told yet: as many as a report holds.
 const PART: usize = 64;
 
-/// What a child's reader knows.
+/// What the thread that reads a child's output keeps.
 #[derive(Drop)]
 struct Hearing {
     // What was read and not told yet.
     heard: ArrayVec<u8, PART>,
     limit: LineLimit,
-    // Whether the first newline was told, after which nothing is told any more.
+    // Whether the first newline was told; after it nothing more is told.
     is_told: bool,
 }
 
-// Tells what the child writes up to its first newline, and reads on until the mark of its end: a daemon that still writes would die of a
-// closed end.
+// Tells what the child writes up to its first newline, and reads on until the end mark, since a daemon that still writes would die of a
+// closed pipe.
 fn listen<R: Wait + Drop>(rt: R, process: Arc<ServiceProcess, Global>) {
     if let Some(mut reader) = process.take_reader(&rt) {
         listen_to(&rt, &process, &mut reader);
@@ -137,7 +138,7 @@ fn read_more(reader: &mut PipeReader, heard: &mut ArrayVec<u8, PART>) -> bool {
     }
 }
 
-// Tells what may be told of what was read. Whether nothing more is to be heard.
+// Tells what may be told of what was read. Returns whether nothing more will be read.
 fn hear<R: Wait>(rt: &R, process: &ServiceProcess, hearing: &mut Hearing, is_at_end: bool) -> bool {
     let mut telling = telling_of(hearing.heard.as_slice(), process.is_mark_due(rt));
     if is_at_end && !telling.is_last {
@@ -150,7 +151,7 @@ fn hear<R: Wait>(rt: &R, process: &ServiceProcess, hearing: &mut Hearing, is_at_
     telling.is_last
 }
 
-// Tells so many bytes, and keeps the others.
+// Tells the first `count` bytes, and keeps the others.
 fn tell<R: Wait>(rt: &R, process: &ServiceProcess, hearing: &mut Hearing, count: usize)
     requires { count ≤ length hearing.old.heard.items }
 {
@@ -163,7 +164,7 @@ fn tell<R: Wait>(rt: &R, process: &ServiceProcess, hearing: &mut Hearing, count:
     hearing.heard = rest;
 }
 
-// Tells these bytes, but nothing after a newline. Whether there was one.
+// Tells these bytes up to the first newline, as far as the limit allows. Returns whether there was a newline.
 fn tell_line<R: Wait>(
     rt: &R,
     process: &ServiceProcess,

@@ -1,4 +1,4 @@
--- What a connection was asked, made and was given to do, over any list of events.
+-- What a connection was asked, what it made, and what was to be done for it, over any list of events.
 use Rattle.std.specs.Prelude.{ℕ, List, [], ◌∷◌, ◌++◌, if◌then◌else◌}
 use Rattle.std.specs.declared.alloc.Global.{Global}
 use Rattle.tree_core.specs.declared.reply.Reply.{Reply}
@@ -27,7 +27,7 @@ pub data Event : Type 0 where
   Told : News → Event
   Leave : Event
 
--- the chart of all of them
+-- the chart's equation for each event
 abbrev pub moved_by : Event → View → Moved
 moved_by (Ask coming) c = stays (ask_next coming c)
 moved_by (Begin last_step now) c = begin_move last_step now c
@@ -43,7 +43,7 @@ abbrev pub taken_by : Event → View → List Request
 taken_by (Ask coming) c = if takes_requests c then coming else []
 taken_by event c = []
 
--- what the reply to a step says that it made, by serials
+-- the serial of what a step made, as the reply to it says
 abbrev pub made_by_reply : StandingChange → Reply Global → Made
 made_by_reply change.MakesWaiter (reply.Waiter id) = record nothing_made { waiters = id ∷ [] }
 made_by_reply change.MakesSubscription (reply.Subscription id) = record nothing_made { subscriptions = id ∷ [] }
@@ -71,7 +71,7 @@ pub record History : Type 0 where
   pub subscriptions : List ℕ
   pub done : List Done
 
--- of a connection that was opened
+-- the history of a connection that was just opened
 abbrev pub opened : History
 opened = record { now = new_view; taken = []; waiters = []; subscriptions = []; done = [] }
 

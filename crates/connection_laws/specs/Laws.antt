@@ -1,4 +1,4 @@
--- Laws of every list of events of a connection.
+-- Laws that hold for every list of events of a connection.
 use Rattle.std.specs.Prelude.{◌≡◌, ◌≤◌, ℕ, Bool, true, false, List, [], ◌∷◌, ◌++◌, All, length, map}
 use Rattle.std.specs.List.{Contains, flat_map, list_any}
 use Rattle.std.specs.declared.alloc.Global.{Global}
@@ -28,8 +28,8 @@ answered_by t = []
 abbrev pub answers : List Done → List Answer
 answers done = flat_map (λ d. answered_by d.todo) done
 
--- a step and a scan are answered by their reply, a status by that of the same services, a record by its steps, and each may be refused by
--- the server itself
+-- which answer a request may have: a step and a scan the reply, a status that of the same services, a record its number of steps, `follow`
+-- and `clock` their own ones; and each may have an own answer of the server
 abbrev pub Answers : Request → Answer → Type 0
 Answers request (answer.Own o) = Unit {0}
 Answers (Step act) answer.TheReply = Unit {0}
@@ -40,13 +40,13 @@ Answers (Follow services) answer.Following = Unit {0}
 Answers Clock answer.Clock = Unit {0}
 Answers request a = ⊥
 
--- the answers are those of the requests, one to one and in order, and these requests are left
+-- the answers are those of the first requests, one to one and in order, and `left` are the other requests
 abbrev pub AreAnswered : List Request → List Answer → List Request → Type 0
 AreAnswered requests [] left = requests ≡ left
 AreAnswered [] (a ∷ given) left = ⊥
 AreAnswered (r ∷ requests) (a ∷ given) left = Answers r a × AreAnswered requests given left
 
--- the requests that are begun and not answered, of one that stands so
+-- the requests that are begun and not answered, by the phase of the connection
 abbrev pub IsStep : Request → Type 0
 IsStep (Step act) = Unit {0}
 IsStep r = ⊥
@@ -71,7 +71,7 @@ pub record Pending (h : History) (left : List Request) : Type 0 where
   pub are : left ≡ begun ++ h.now.asked
   pub is_begun : IsBegun h.now.phase begun
 
--- the requests that were taken are answered one to one, in the order asked; while the client is there those that are left are pending
+-- the requests that were taken are answered one to one, in the order asked; while the client has not left, those that are left are pending
 pub record AnsweredInOrder (h : History) : Type 0 where
   pub left : List Request
   pub answered : AreAnswered h.taken (answers h.done) left
@@ -95,7 +95,7 @@ abbrev pub asks_for : List ℕ → Request → Bool
 asks_for name (Follow services) = is_followed name services
 asks_for name r = false
 
--- news that were told were of what it made, or of a service whose letters it asked for
+-- news that were told were of a waiter or a subscription that it made, or of a service whose letters it asked for
 abbrev pub was_made : News → History → Bool
 was_made (news.Match m) h = is_among m.subscription h.subscriptions
 was_made (news.Release r) h = is_among r.waiter h.waiters
@@ -104,7 +104,7 @@ was_made (news.Letter l) h = list_any (asks_for l.name) h.taken
 abbrev pub ToldItsOwn : History → Type 0
 ToldItsOwn h = (n : News) → Contains h.done (record { event = Told n; todo = Tell }) → was_made n h ≡ true
 
--- of one that is gone nothing stands
+-- a connection that is gone has nothing left
 abbrev pub NothingIsLeft : History → Type 0
 NothingIsLeft h = h.now.phase ≡ Gone → h.now.made ≡ nothing_made
 
@@ -116,18 +116,18 @@ submitted_by t = []
 abbrev pub submitted : List Done → List (Act Global)
 submitted done = flat_map (λ d. submitted_by d.todo) done
 
--- what ends all that stands: the released waiters, the others, and the subscriptions, each once
+-- the acts that end all that it made: the released waiters, the others, and the subscriptions, each once
 abbrev pub ends_of : Made → List (Act Global)
 ends_of made = map Cancel (made.released ++ made.waiters) ++ map Unsubscribe made.subscriptions
 
--- the client has left, and nothing of before is under way
+-- the client has left, and no request of it is under way
 abbrev pub is_ending : Phase → Bool
 is_ending Leaving = true
 is_ending Cancelling = true
 is_ending Gone = true
 is_ending phase = false
 
--- from then on what is handed in, and then what ends all that still stands, is what ended all that stood
+-- the acts that are handed in from then on, and then those that end all that is left, are the acts that ended all that it had
 abbrev pub EndsOnce : History → List Event → Type 0
 EndsOnce h events =
     submitted (run events h).done ++ ends_of (run events h).now.made ≡ submitted h.done ++ ends_of h.now.made

@@ -26,7 +26,7 @@ byte_of Once = 79
 byte_of Restart = 114
 byte_of Exit = 120
 
--- all of them
+-- all control letters
 abbrev pub control_letters : List ControlLetter
 control_letters =
     Alarm ∷ Abort ∷ Quit ∷ Hangup ∷ Kill ∷ Interrupt ∷ Terminate ∷ User1 ∷ User2 ∷ Pause ∷ Continue ∷ WindowChange ∷ Up
@@ -37,7 +37,7 @@ control_letters =
 unfoldable pub letter_of_byte : ℕ → Option ControlLetter
 letter_of_byte b = find (λ letter. byte_of letter == b) control_letters
 
--- the number of the signal that the letter stands for, by Linux on x86-64
+-- the number of the signal that the letter stands for, on Linux for x86-64
 abbrev pub signal_of : ControlLetter → Option ℕ
 signal_of Alarm = Some 14
 signal_of Abort = Some 6

@@ -4,7 +4,7 @@ ghost use Rattle.control_letters.specs.ControlLetter.{byte_of, letter_of_byte, s
 
 use arrayvec::ArrayVec;
 
-/// What a service may be told, one letter each. Page `s6-svc`; the letters that stand for a signal do something only while `run`
+/// What a service may be told, each by one letter. Page `s6-svc`; the letters that stand for a signal do something only while `run`
 /// is there.
 #[derive(Clone, Copy, Debug, Default, PartialEq, Eq)]
 pub enum ControlLetter {
@@ -70,7 +70,7 @@ const ALL: [ControlLetter; 17] = [
 ];
 
 impl ControlLetter {
-    /// The letter that is written as this byte, or None where it is none.
+    /// The letter that this byte stands for; None where it stands for none.
     #[tactic(auto, unfolding(crate::specs::ControlLetter::letter_of_byte))]
     pub fn of_byte(byte: u8) -> Option<ControlLetter>
         ensures { result ≡ letter_of_byte byte }
@@ -78,7 +78,7 @@ impl ControlLetter {
         among(ALL.as_slice(), byte)
     }
 
-    /// The byte that is written for it.
+    /// The byte that stands for it.
     pub fn byte(self) -> u8
         ensures { result ≡ byte_of self }
     {
@@ -103,7 +103,7 @@ impl ControlLetter {
         }
     }
 
-    /// The number of the signal that it stands for, by Linux on x86-64; None for `u`, `d`, `O`, `r` and `x`.
+    /// The number of the signal that it stands for, on Linux for x86-64; None for `u`, `d`, `O`, `r` and `x`.
     pub fn signal(self) -> Option<u8>
         ensures { result ≡ signal_of self }
     {
@@ -129,7 +129,7 @@ impl ControlLetter {
     }
 }
 
-// The first of some letters that is written as this byte.
+// The first of these letters that this byte stands for.
 fn among(letters: &[ControlLetter], byte: u8) -> Option<ControlLetter>
     ensures { result ≡ find (λ letter. byte_of letter == byte) letters.now }
 {

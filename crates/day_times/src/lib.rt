@@ -11,7 +11,7 @@ const MILLISECOND: i128 = 1_000_000;
 /// The text of a time of day.
 pub type DayText = ArrayString<33>;
 
-/// The time of day so many milliseconds after the beginning of 1970, to the second, as `2026-11-27T11:18:48Z`; None past the year 9999.
+/// The time of day `millis` milliseconds after the beginning of 1970, to the second, as `2026-11-27T11:18:48Z`; None past the year 9999.
 pub fn day_second(millis: u64) -> Option<DayText> {
     day_text(millis, 0)
 }

@@ -2,7 +2,7 @@
 use Rattle.std.specs.Prelude.{ℕ, List}
 use Rattle.deadlines.specs.declared.timer.Timer.{Timer}
 
--- the timers that are set, in rising serial, and how many more fit with no growth
+-- the timers that are set, in rising serial, and how many more fit without more memory
 pub record Armed : Type 0 where
   pub timers : List Timer
   pub spare_capacity : ℕ

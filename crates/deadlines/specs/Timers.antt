@@ -31,7 +31,7 @@ with_timer sid at timers = below sid timers ++ record { sid = sid; at = at } ∷
 abbrev pub without_timer : ℕ → List Timer → List Timer
 without_timer sid timers = below sid timers ++ above sid timers
 
--- one change, and the changes of a step in their order
+-- the timers after one change, and after the changes of a step, in order
 abbrev pub with_timer_change : List Timer → TimerChange → List Timer
 with_timer_change timers (Set sid at) = with_timer sid at timers
 with_timer_change timers (Clear sid) = without_timer sid timers

@@ -9,12 +9,12 @@ use s6_events::{At, NoMemory, Sid};
 use std::alloc::Allocator;
 use std::marker::Model;
 
-/// The timers that are set, at most one for a service: in rising serial, and once more in the order of their moments.
+/// The timers that are set, at most one for each service. They are kept twice: in rising serial, and in the order of their moments.
 #[derive(Drop)]
 pub struct Deadlines<A: Allocator> {
     timers: Vec<Timer, A>,
     queue: Vec<Timer, A>,
-    // The memory of the changes of the last step, for those of the next.
+    // The list of the last step's changes, kept so that the next step can use its memory.
     spare: Vec<TimerChange, A>,
 }
 
@@ -73,7 +73,7 @@ fn place_of(timers: &[Timer], sid: Sid) -> usize
     low
 }
 
-// The timer at this place is that of the service.
+// Whether the timer at this place is that of the service.
 fn is_at(timers: &[Timer], place: usize, sid: Sid) -> bool
     ensures { result ≡ is_timer_of sid (slice_get timers.now place) }
 {
@@ -81,7 +81,7 @@ fn is_at(timers: &[Timer], place: usize, sid: Sid) -> bool
 }
 
 impl<A: Allocator + Copy> Deadlines<A> {
-    /// No timer is set. It keeps the allocator.
+    /// Deadlines with no timer set. They keep the allocator.
     pub fn new(alloc: A) -> Deadlines<A>
         ensures { result.timers ≡ [] }
     {
@@ -92,8 +92,8 @@ impl<A: Allocator + Copy> Deadlines<A> {
         }
     }
 
-    /// Sets the timer of a service to a moment, in place of the one that it had. `NoMemory` where the growth was refused; nothing
-    /// has changed then, and the room that a plan was given is still there.
+    /// Sets the timer of a service to a moment, in place of the one that it had. It always succeeds where there is still room.
+    /// `NoMemory` where memory is refused: nothing has changed then, and a plan still has its room.
     pub fn set(&mut self, sid: Sid, at: At) -> Result<(), NoMemory>
         ensures ok { OnOk result (self.new.timers ≡ with_timer sid at self.old.timers) }
         ensures err { OnErr result (self.new.timers ≡ self.old.timers) }
@@ -137,8 +137,8 @@ impl<A: Allocator + Copy> Deadlines<A> {
         }
     }
 
-    /// The services whose timers are set to a moment at most `now`, in rising serial. Where none is due, the timer of the least moment
-    /// alone is looked at, and no memory is asked for. `NoMemory` where a growth was refused.
+    /// The services whose timers are set to a moment at most `now`, in rising serial. Where none is due, only the timer with the least
+    /// moment is looked at, and no memory is asked for. `NoMemory` where memory is refused.
     pub fn due<B: Allocator + Copy>(&self, alloc: B, now: At) -> Result<Vec<Sid, B>, NoMemory>
         ensures due { IfOk result (λ sids. sids.items ≡ due_by now self.now.timers) }
         ensures rising { IfOk result (λ sids. is_rising sids.items ≡ true) }
@@ -156,8 +156,8 @@ impl<A: Allocator + Copy> Deadlines<A> {
         Ok(sids)
     }
 
-    /// Makes room for these changes, and changes nothing else: a plan that was made before keeps its room, also where this one is
-    /// refused. `NoMemory` where a growth was refused; none is asked for where there is nothing to change.
+    /// Makes room for these changes, and changes nothing else: an earlier plan keeps its room, even where this call is refused.
+    /// `NoMemory` where memory is refused; never where there is nothing to change.
     pub fn prepare(&mut self, changes: &[TimerChange]) -> Result<DeadlinesPlan<A>, NoMemory>
         ensures ok { IfOk result (λ plan. plan ≡ changes.now) }
         ensures room { OnOk result (length changes.now ≤ self.new.spare_capacity) }
@@ -174,7 +174,7 @@ impl<A: Allocator + Copy> Deadlines<A> {
         Ok(DeadlinesPlan { changes: planned })
     }
 
-    /// Makes the changes of a plan that these deadlines made, where nothing changed in between.
+    /// Makes the changes of a plan. These deadlines made the plan, and nothing has changed since.
     pub fn commit(&mut self, plan: DeadlinesPlan<A>)
         requires { length plan ≤ self.old.spare_capacity }
         ensures { self.new.timers ≡ with_timer_changes plan self.old.timers }
@@ -185,7 +185,7 @@ impl<A: Allocator + Copy> Deadlines<A> {
         self.spare = plan.changes;
     }
 
-    // One change, for which there is room.
+    // Makes one change, for which there is room.
     fn make(&mut self, change: &TimerChange)
         requires { 0 < self.old.spare_capacity }
         ensures timers { self.new.timers ≡ with_timer_change self.old.timers change.now }

@@ -41,7 +41,7 @@ fn place_in(queue: &[Timer], timer: &Timer) -> usize
     low
 }
 
-/// Takes a timer out that stands in the queue.
+/// Takes this timer, which is in the queue, out of it.
 pub fn take_out<A: Allocator>(queue: &mut Vec<Timer, A>, timer: &Timer)
     requires order { in_moment_order queue.old.items ≡ true }
     requires there { 0 < sum_by (is_this timer.now) queue.old.items }
@@ -55,7 +55,7 @@ pub fn take_out<A: Allocator>(queue: &mut Vec<Timer, A>, timer: &Timer)
     queue.remove(place);
 }
 
-/// Puts a timer in at its place; there is room for it.
+/// Puts this timer into the queue, at its place; there is room for it.
 pub fn put_in<A: Allocator>(queue: &mut Vec<Timer, A>, timer: &Timer)
     requires order { in_moment_order queue.old.items ≡ true }
     requires room { vec_len queue.old < vec_capacity queue.old }

@@ -30,7 +30,7 @@ abbrev pub spelled_range : Option ℕ → Option ℕ → Option DeathItem
 spelled_range (Some low) (Some high) = if nat_le low high then Some (Range low high) else None
 spelled_range low high = None
 
--- an item, from the word and the place of its first dash
+-- the item that a word spells, where its first dash is at this place, or it has none
 abbrev pub item_with_dash : Option ℕ → List ℕ → Option DeathItem
 item_with_dash None word = spelled_exit (number_up_to 255 word) (signal_of_word word)
 item_with_dash (Some place) word = spelled_range (number_up_to 255 (take place word))
@@ -53,7 +53,7 @@ with_word (Some items) word = and_item items (spelled_item word)
 abbrev pub items_of : List (List ℕ) → Option (List DeathItem)
 items_of words = fold with_word (Some []) words
 
--- the list that a text spells: at most 32 items, one comma between two
+-- the list that words spell, at most 32; and the list that a text spells, with one comma between two words
 abbrev pub list_of : List (List ℕ) → Option (List DeathItem)
 list_of words = if nat_le (length words) 32 then items_of words else None
 

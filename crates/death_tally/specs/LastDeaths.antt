@@ -2,7 +2,7 @@
 use Rattle.std.specs.Prelude.{◌≡◌, ℕ, ◌-◌, List, [], ◌∷◌, ◌++◌, length, drop}
 use Rattle.s6_events.specs.declared.exit.Exit.{Exit}
 
--- the newest of these deaths, at most so many, oldest first
+-- the newest of these deaths, at most `most`, oldest first
 abbrev pub last_deaths : ℕ → List (ℕ × Exit) → List (ℕ × Exit)
 last_deaths most deaths = drop (length deaths - most) deaths
 

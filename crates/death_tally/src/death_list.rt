@@ -11,7 +11,7 @@ use servicedir::{parse_digits, signal_named};
 use std::alloc::{AllocError, Allocator};
 use std::marker::Model;
 
-/// Exits that a list names. Page `s6-permafailon`.
+/// An item of a list of exits. Page `s6-permafailon`.
 #[derive(Clone, Copy, Debug, PartialEq, Eq)]
 pub enum DeathItem {
     /// An exit code, as `7`.
@@ -128,9 +128,9 @@ fn list_in(words: &[&[u8]]) -> Option<DeathList>
 }
 
 impl DeathList {
-    /// The list that a text spells: 1 to 32 items, one comma between two. An item is a number from 0 to 255, as `7`; two of them, the
-    /// second one not below the first, as `1-2`; or the name of a signal in capitals, as `SIGTERM` or `TERM`. None for any other text.
-    /// `NoMemory` where a growth was refused.
+    /// The list that a text spells: 1 to 32 items, with one comma between two. An item is a number from 0 to 255, as `7`; two such
+    /// numbers with a dash between them, the second not below the first, as `1-2`; or the name of a signal in capitals, as `SIGTERM` or
+    /// `TERM`. None for any other text. `NoMemory` where memory is refused.
     pub fn parse<A: Allocator + Copy>(alloc: A, text: &[u8]) -> Result<Option<DeathList>, NoMemory>
         ensures { IfOk result (λ list. list ≡ death_list text.now) }
     {

@@ -1,4 +1,4 @@
-//! The last deaths of a service, and whether enough of them are such as a list names. Pages `servicedir`, `max-death-tally`, and
+//! The last deaths of a service, and whether a list names the exits of enough of them. Pages `servicedir`, `max-death-tally`, and
 //! `s6-permafailon`.
 #![tactic(auto)]
 

@@ -1,4 +1,4 @@
-//! Whether enough listed deaths came within the last seconds.
+//! Whether enough deaths whose exits a list names came within the last seconds.
 ghost use Rattle.std.specs.Prelude.{◌≡◌, ◌≤◌, length, filter};
 ghost use Rattle.death_tally.specs.PermanentFailure.{is_counted, are_permanent_failure};
 
@@ -7,7 +7,7 @@ use super::tally::Tally;
 use s6_events::{At, Exit};
 use std::alloc::Allocator;
 
-// Whether a death counts.
+// Whether a death counts: it is at most `seconds` seconds ago, and the list names its exit.
 fn counts(death: &(At, Exit), now: At, seconds: u32, list: &DeathList) -> bool
     ensures { result ≡ is_counted now seconds list.now death.now }
 {
@@ -29,9 +29,8 @@ fn count_of(deaths: &[(At, Exit)], now: At, seconds: u32, list: &DeathList) -> u
     count
 }
 
-/// Whether at least `count` of the deaths that the tally has are no longer ago than so many seconds and are named by the list: a
-/// permanent failure. A count of 0 is always met. Page `s6-permafailon`; what a count of 0 means is this project's
-/// own rule.
+/// Whether there is a permanent failure: at least `count` deaths of the tally are at most `seconds` seconds ago, and the list names
+/// their exits. A count of 0 is always met. Page `s6-permafailon`; what a count of 0 means is this project's own rule.
 pub fn permafails<A: Allocator + Copy>(
     tally: &Tally<A>,
     now: At,

@@ -11,6 +11,6 @@ pub record NotesView : Type 0 where
   pub lost : ℕ
   pub is_open : Bool
 
--- one more is lost; the count stays at the greatest number that a word holds
+-- the count once one more note is lost; it stays at the greatest number of 64 bits
 abbrev pub one_more : ℕ → ℕ
 one_more n = min (n + 1) (2 ^ 64 - 1)

@@ -1,4 +1,4 @@
-//! Lines for standard error, written by a thread of their own: a slow reader of standard error keeps nobody else waiting.
+//! Lines for standard error. A thread of their own writes them, so a slow reader of standard error keeps nobody else waiting.
 #![tactic(auto)]
 
 mod note_list;

@@ -6,17 +6,17 @@ ghost use Rattle.error_notes.specs.declared.note_list.LostNote.TheVariants.{Full
 use std::alloc::{AllocError, Allocator};
 use std::marker::Model;
 
-/// The most bytes that wait: a note by which there would be more is lost.
+/// The most bytes that wait. A note with which there would be more is lost.
 pub const NOTES_LIMIT: usize = 65_536;
 
 /// Why a note was lost.
 #[derive(Clone, Copy, Debug, PartialEq, Eq)]
 pub enum LostNote {
-    /// More bytes would wait than may.
+    /// More than 65,536 bytes would wait.
     Full = 1,
-    /// Nothing more is written.
+    /// The list was closed before.
     Closed = 2,
-    /// A growth was refused.
+    /// Memory was refused.
     NoMemory = 3,
 }
 
@@ -32,8 +32,8 @@ impl From<AllocError> for LostNote {
     }
 }
 
-/// The notes that wait to be written, at most 65,536 bytes, and how many were lost since the last were taken. A note is one or more
-/// whole lines: it waits whole, or is lost and counted.
+/// The notes that wait to be written, at most 65,536 bytes, and how many were lost since the last were taken. A note is one or more whole
+/// lines. It waits whole, or is lost and counted.
 #[derive(Drop)]
 pub struct NoteList<A: Allocator> {
     bytes: Vec<u8, A>,
@@ -64,7 +64,7 @@ impl<A: Allocator + Copy> NoteList<A> {
         }
     }
 
-    /// A note waits behind all that wait already. At each fault it is lost and counted, and nothing else has changed.
+    /// Adds a note behind all that wait already. At a fault the note is lost and counted, and nothing else has changed.
     pub fn post(&mut self, note: &[u8]) -> Result<(), LostNote>
         ensures whole { OnOk result (self.new
             ≡ record self.old { waiting = self.old.waiting ++ note.now }) }
@@ -107,8 +107,8 @@ impl<A: Allocator + Copy> NoteList<A> {
         self.lost = self.lost.saturating_add(1);
     }
 
-    /// Moves all that waits into a text, whose own bytes are gone; their memory serves for what is posted next. How many notes were lost
-    /// since it was called last.
+    /// Moves all that waits into `text`, and returns how many notes were lost since the last call. What was in `text` is gone; its memory
+    /// serves for what is posted next.
     pub fn take_all(&mut self, text: &mut Vec<u8, A>) -> u64
         ensures text { text.new.items ≡ self.old.waiting }
         ensures lost { result ≡ self.old.lost }

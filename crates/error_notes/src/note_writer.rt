@@ -1,4 +1,4 @@
-//! Notes as a writer of lines, and as where a log's records go.
+//! A writer that posts lines, and the records of a log, as notes.
 ghost use Rattle.std.specs.Prelude.{◌≡◌, Some, [], true};
 
 use crate::note_list::NOTES_LIMIT;
@@ -10,9 +10,10 @@ use std::fmt::Display;
 use std::io::{self, Write};
 use std::sync::Wait;
 
-/// Posts what is written to it: the whole lines of one write are one note, so that nothing comes between them. A line is posted once its
-/// newline was written. A record that is logged by it is one line. It never fails and waits for no reader. Lines for which memory is
-/// refused, or of more than 65,536 bytes, are lost and counted; what was written behind the last newline is dropped with the writer.
+/// Posts what is written to it. A line is posted once its newline was written; the lines that one write ends are one note, so that nothing
+/// comes between them. A record that is logged is a note of one line. It never fails and doesn't wait for a reader. Lines for which memory
+/// is refused, or of more than 65,536 bytes together, are lost and counted as one note. What was written behind the last newline is dropped
+/// with the writer.
 #[derive(Drop)]
 pub struct NoteWriter<'a, R> {
     rt: &'a R,
@@ -33,7 +34,7 @@ impl<'a, R: Wait> NoteWriter<'a, R> {
         }
     }
 
-    // Adds to what is to be posted.
+    // Adds to the bytes that are to be posted.
     fn add(&mut self, part: &[u8]) {
         let fits = part.len() <= NOTES_LIMIT.saturating_sub(self.line.len());
         if !fits || self.line.extend_from_slice(part).is_err() {

@@ -1,11 +1,11 @@
-//! Where notes are posted, and the thread that writes them waits.
+//! The notes that anybody posts, and for which the thread that writes them waits.
 use crate::note_list::NoteList;
 use std::alloc::Global;
 use std::sync::{Condvar, Mutex, Wait};
 use std::time::{Clock, Duration};
 
-/// The lines for standard error that are still to be written. Anybody may post, and nobody who posts waits for whoever reads standard
-/// error: one thread writes, by `write_notes`, and holds no lock meanwhile.
+/// The lines for standard error that are still to be written. Anybody may post, and nobody who posts waits for the reader of standard
+/// error: one thread writes, in `write_notes`, and holds no lock meanwhile.
 #[derive(Drop)]
 pub struct Notes {
     pub(crate) alloc: Global,
@@ -46,7 +46,7 @@ impl Notes {
         self.changed.notify_all();
     }
 
-    /// Waits until all was written that was posted before `close`, but at most so long. Whether it was.
+    /// Waits until all that was posted before `close` was written, but at most for `time`. Returns whether it was.
     pub fn await_written<R: Wait + Clock>(&self, rt: &R, time: Duration) -> bool {
         let is_written = self.is_written.lock(rt);
         let (is_written, _late) = self
@@ -55,8 +55,8 @@ impl Notes {
         *is_written
     }
 
-    /// Waits until there is something to tell, and moves the notes into the text: how many were lost. None once there is nothing, and
-    /// never will be.
+    /// Waits until there is something to tell, moves the notes into `text`, and returns how many were lost. None once the list was closed
+    /// and nothing is left to tell.
     pub(crate) fn wait_for_notes<R: Wait>(&self, rt: &R, text: &mut Vec<u8>) -> Option<u64> {
         let list = self.list.lock(rt);
         let mut list = self

@@ -8,11 +8,11 @@ use std::sync::{Arc, Wait};
 use std::thread::{Builder, Threads};
 use std::time::Clock;
 
-/// How much stack the thread gets.
+/// How much stack the thread gets, in bytes.
 const STACK: usize = 256 * 1024;
 
-/// Writes notes as they come, each line by one call of `write_all`, and after them how many were lost. A line that can't be written is
-/// left out. It returns once the notes were closed and all were written.
+/// Writes notes as they come, each line by one call of `write_all`, and after them a line that says how many were lost, if any were. A line
+/// that can't be written is left out. It returns once the notes were closed and all were written.
 pub fn write_notes<R: Wait, E: Write>(rt: &R, notes: &Notes, errors: &mut E) {
     let mut text = Vec::new(notes.alloc);
     for _ in rt.forever() {
@@ -27,14 +27,14 @@ pub fn write_notes<R: Wait, E: Write>(rt: &R, notes: &Notes, errors: &mut E) {
     notes.finish(rt);
 }
 
-// Writes each line at once.
+// Writes each line by one call of `write_all`.
 fn write_lines<E: Write>(errors: &mut E, text: &[u8]) {
     for line in text.split_inclusive(|byte| *byte == b'\n') {
         let _ = errors.write_all(line);
     }
 }
 
-// Tells how many notes were lost.
+// Writes the line that says how many notes were lost.
 fn write_loss<E: Write>(errors: &mut E, lost: u64) {
     let mut line = ArrayString::<64>::new();
     let _ = writeln!(line, "svscan: {lost} notes were lost");
@@ -45,8 +45,8 @@ fn write_to<R: Wait + Drop, E: Write + Drop>(rt: R, notes: Arc<Notes, Global>, m
     write_notes(&rt, &notes, &mut errors);
 }
 
-/// Notes, and a thread that writes them to `errors`. Nobody joins the thread, since it may sit in a write for ever: wait for it by
-/// `await_written`. None where memory is refused or the thread can't be started.
+/// Makes notes, and starts a thread that writes them to `errors`. Nobody joins the thread, since it may sit in a write for ever: wait for
+/// it by `await_written`. None where memory is refused or the thread can't be started.
 pub fn start_notes<
     R: Threads + Wait + Clock + Copy + Send + Sync + Drop + 'static,
     E: Write + Send + Drop + 'static,

@@ -33,19 +33,19 @@ directory_request_of (wanted.Unsubscribe id) = unsubscribe id
 abbrev pub Offer : Type 0
 Offer = Option (List ℕ × Bool)
 
--- a service is there for the caller to say; a free directory is there once it was made
+-- whether a source is there: a free directory is there once it was made, and a service counts as there, since the caller looks for it
 abbrev pub is_there : Source → WrittenDirectories → Bool
 is_there (Service sid) d = true
 is_there (Directory name) d = has_directory name d
 
--- so many free directories, and so many subscriptions, stand at most
+-- the most free directories that stand, and the most subscriptions
 abbrev pub directory_limit : ℕ
 directory_limit = 256
 
 abbrev pub subscription_limit : ℕ
 subscription_limit = 256
 
--- why it is refused
+-- why a request is refused, if it is
 abbrev pub directory_refusal : DirectoryRequest → WrittenDirectories → Option DirectoryFault
 directory_refusal no_directory_request d = None
 directory_refusal (make_directory name) d =
@@ -56,13 +56,13 @@ directory_refusal (subscribe source) d =
     then Some TooMany else None
 directory_refusal (unsubscribe id) d = if has_subscription id d then None else Some NoSuch
 
--- with one subscription more, where a pattern is offered
+-- with one more subscription, where a pattern is offered
 abbrev pub subscribed_to : Source → Offer → WrittenDirectories → WrittenDirectories
 subscribed_to source None d = d
 subscribed_to source (Some offer) d =
     record d { subscriptions = d.subscriptions ++ new_subscription source offer.0 offer.1 d ∷ []; next = d.next + 1 }
 
--- what is there once it is done
+-- what is there once a request is done
 abbrev pub with_request_done : DirectoryRequest → Offer → WrittenDirectories → WrittenDirectories
 with_request_done no_directory_request offer d = d
 with_request_done (make_directory name) offer d =
@@ -71,17 +71,17 @@ with_request_done (send name letters) offer d = after_message name d letters
 with_request_done (subscribe source) offer d = subscribed_to source offer d
 with_request_done (unsubscribe id) offer d = record d { subscriptions = subscriptions_without id d.subscriptions }
 
--- what it gives: a message is seen by the subscriptions of its directory
+-- the hits that a request gives: a message is seen by the subscriptions of its directory
 abbrev pub hits_of_request : (List ℕ → List ℕ → Bool) → DirectoryRequest → WrittenDirectories → List (ℕ × Hit)
 hits_of_request test (send name letters) d = matches_sent test name d letters
 hits_of_request test change d = []
 
--- how it is answered
+-- how a request is answered
 abbrev pub answer_of_request : DirectoryRequest → WrittenDirectories → DirectoryAnswer
 answer_of_request (subscribe source) d = answer.Subscribed d.next
 answer_of_request change d = answer.Done
 
--- the same, where it may be refused
+-- the same three where the request may be refused
 abbrev pub unless : {A : Type 0} → Option DirectoryFault → A → A → A
 unless None one other = one
 unless (Some fault) one other = other

@@ -35,7 +35,7 @@ pub record WrittenDirectories : Type 0 where
   pub subscriptions : List WrittenSubscription
   pub next : ℕ
 
--- before anything
+-- no moment, no free directory and no subscription yet
 abbrev pub new_directories : WrittenDirectories
 new_directories = record { history = []; free = []; subscriptions = []; next = 1 }
 
@@ -87,7 +87,7 @@ unfoldable pub directories_after_moments : WrittenDirectories → List Moment �
 directories_after_moments d [] = d
 directories_after_moments d (m ∷ ms) = directories_after_moments (directories_after_moment d m) ms
 
--- one letter more is sent to the free directory of a name
+-- one more letter is sent to the free directory of a name
 abbrev pub free_with_letter : List ℕ → ℕ → FreeDirectory → FreeDirectory
 free_with_letter name x f = if bytes_eq name f.name then record f { letters = f.letters ++ x ∷ [] } else f
 

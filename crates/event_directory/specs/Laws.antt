@@ -7,7 +7,7 @@ use Rattle.event_directory.specs.Sending.{hit_ids, hits_of_letter}
 use Rattle.event_directory.specs.SubscriberList.{least_match, list_by, subscriber_list, live_with, list_with_letter}
 use Rattle.event_directory.specs.declared.source.Source.{Source}
 
--- a list is that of the least match of its text, and then the list of what follows that match
+-- the list of a text is made of its least match and the list of what follows that match
 abbrev pub BeginsAgain : Type 0
 BeginsAgain =
     (find : List ℕ → Bool) (repeats : Bool) (text : List ℕ) →
@@ -22,12 +22,12 @@ pub record IsLeastMatch (find : List ℕ → Bool) (text : List ℕ) (k : ℕ) :
   pub matches : find (take k text) ≡ true
   pub least : (j : ℕ) → 1 ≤ j → j < k → find (take j text) ≡ false
 
--- a least match is one
+-- what `least_match` finds is the least match
 abbrev pub LeastIsLeast : Type 0
 LeastIsLeast = (find : List ℕ → Bool) (text : List ℕ) (k : ℕ) → least_match find text ≡ Some k
     → IsLeastMatch find text k
 
--- without a least match there is none at all, in the letters that are searched
+-- where `least_match` finds none, there is no match at all in the letters that are searched
 abbrev pub NoneIsNone : Type 0
 NoneIsNone =
     (find : List ℕ → Bool) (text : List ℕ) → least_match find text ≡ None →
@@ -37,7 +37,7 @@ NoneIsNone =
 abbrev pub StartsLive : Type 0
 StartsLive = (find : List ℕ → Bool) (repeats : Bool) → subscriber_list find repeats [] ≡ live_with []
 
--- the list of a text with one letter more is found from the list of the text
+-- the list of a text with one more letter is found from the list of the text
 abbrev pub GrowsByLetters : Type 0
 GrowsByLetters =
     (find : List ℕ → Bool) (repeats : Bool) (x : ℕ) (text : List ℕ) →

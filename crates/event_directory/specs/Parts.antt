@@ -11,24 +11,24 @@ pub record Listened : Type 0 where
   pub source : Source
   pub kept : StoredDirectory
 
--- as they stand
+-- a source with its subscriptions, as they stand
 abbrev pub followed_of : Listened → Followed
 followed_of l = record { source = l.source; standing = l.kept.standing }
 
--- as they will stand once what is prepared is heard
+-- a source with its subscriptions, as they will stand once what is prepared is heard
 abbrev pub followed_after : Listened → Followed
 followed_after l = record { source = l.source; standing = l.kept.prepared }
 
--- for how many more there is room
+-- a source, and for how many more subscriptions to it there is room
 abbrev pub room_of : Listened → Source × ℕ
 room_of l = (l.source, l.kept.room)
 
--- for how many more of this source there is room
+-- for how many more subscriptions to this source there is room
 abbrev pub room_at : Source → List (Source × ℕ) → ℕ
 room_at source [] = 0
 room_at source (r ∷ rs) = if is_same_source source r.0 then r.1 else room_at source rs
 
--- nothing is listened to of this source
+-- this source is none of these
 abbrev pub IsAbsent : Source → List Source → Type 0
 IsAbsent source sources = list_any (is_same_source source) sources ≡ false
 

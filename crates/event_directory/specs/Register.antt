@@ -23,7 +23,7 @@ use Rattle.event_directory.specs.declared.source.Source.TheVariants.{Service, Di
 use Rattle.event_directory.specs.declared.sub_view.State.{State}
 
 -- the names of the free directories, the subscribers, what those of each source have heard and what they are prepared to hear,
--- the next serial, and for how many more of each there is room
+-- the next serial, and how many more there is room for: subscriptions to each source, names, subscribers and sources
 pub record Registered : Type 0 where
   pub names : List (List ℕ)
   pub subscribers : List (ℕ × Source)
@@ -61,7 +61,7 @@ abbrev pub subscribers_without : ℕ → List (ℕ × Source) → List (ℕ × S
 subscribers_without id [] = []
 subscribers_without id (s ∷ ss) = if s.0 == id then ss else (s ∷ subscribers_without id ss)
 
--- the others than those of a source
+-- those of all other sources
 abbrev pub followed_others : Source → List Followed → List Followed
 followed_others source fs = filter (λ f. not (is_same_source source f.source)) fs
 
@@ -77,7 +77,7 @@ without_subscription_at id source (f ∷ fs) =
     if is_same_source source f.source then followed_if f.source (kept_without id f.standing) fs
     else (f ∷ without_subscription_at id source fs)
 
--- the same in all
+-- the same in all that is shown
 abbrev pub without_subscription_by : ℕ → Source → DirectoriesShown → DirectoriesShown
 without_subscription_by id source s = record {
   names = s.names;
@@ -86,7 +86,7 @@ without_subscription_by id source s = record {
   next = s.next;
 }
 
--- with one name more
+-- with one more free directory, of this name
 abbrev pub with_free_name : List ℕ → DirectoriesShown → DirectoriesShown
 with_free_name name s = record {
   names = s.names ++ name ∷ [];
@@ -96,11 +96,11 @@ with_free_name name s = record {
   next = s.next;
 }
 
--- with what was heard
+-- with this as what was heard
 abbrev pub with_followed : List Followed → DirectoriesShown → DirectoriesShown
 with_followed fs s = record { names = s.names; subscribers = s.subscribers; followed = fs; next = s.next }
 
--- what is left to be done when the step is made
+-- what is prepared, where this change is left to be made
 abbrev pub prepared_by_pending : {F A : Type 0} → Pending F A → DirectoriesShown → DirectoriesPrepared
 prepared_by_pending pending.Nothing s = record { shown = s; joins = None }
 prepared_by_pending (pending.Make name) s = record { shown = with_free_name name s; joins = None }
@@ -109,13 +109,13 @@ prepared_by_pending (pending.Start directory) s = record { shown = s; joins = So
 prepared_by_pending (pending.Unsubscribe id source) s =
     record { shown = without_subscription_by id source s; joins = None }
 
--- there is room for a subscription to a source that is listened to
+-- there is room for a subscription to a source that has a directory
 pub record CanJoin (source : Source) (r : Registered) : Type 0 where
   pub subscriber : 0 < r.subscriber_room
   pub place : 0 < room_at source r.rooms
   pub next : r.next < 2 ^ 63
 
--- there is room for a subscription to a source that is not listened to
+-- there is room for a subscription to a source that has no directory yet, in the new one that it gets
 pub record CanStart (source : Source) (standing : List KeptSubscription) (room : ℕ) (r : Registered) : Type 0 where
   pub subscriber : 0 < r.subscriber_room
   pub directory : 0 < r.source_room
@@ -124,7 +124,7 @@ pub record CanStart (source : Source) (standing : List KeptSubscription) (room :
   pub absent : IsAbsent source (map (λ x. x.0) r.rooms)
   pub next : r.next < 2 ^ 63
 
--- there is room for what is left to be done
+-- there is room for the change that is left to be made
 abbrev pub HasRoom : {F A : Type 0} → Pending F A → Registered → Type 0
 HasRoom pending.Nothing r = Unit {0}
 HasRoom (pending.Make name) r = 0 < r.name_room
@@ -154,7 +154,7 @@ abbrev pub without_subscription_of : Option Source → ℕ → DirectoriesShown 
 without_subscription_of None id s = s
 without_subscription_of (Some source) id s = without_subscription_by id source s
 
--- what a change prepares that is not refused
+-- what a change that is not refused prepares
 abbrev pub stored_change : (List ℕ → List ℕ → Bool) → DirectoryRequest → DirectoriesShown → DirectoriesPrepared
 stored_change test no_directory_request s = record { shown = s; joins = None }
 stored_change test (make_directory name) s = record { shown = with_free_name name s; joins = None }
@@ -164,7 +164,7 @@ stored_change test (subscribe source) s = record { shown = s; joins = Some sourc
 stored_change test (unsubscribe id) s =
     record { shown = without_subscription_of (source_of id s.subscribers) id s; joins = None }
 
--- what it gives
+-- the hits that it gives
 abbrev pub stored_given : (List ℕ → List ℕ → Bool) → DirectoryRequest → DirectoriesShown → List (ℕ × Hit)
 stored_given test (send name letters) s = hits_of_message test name letters s.followed
 stored_given test change s = []
@@ -174,7 +174,7 @@ abbrev pub stored_told : DirectoryRequest → DirectoriesShown → DirectoryAnsw
 stored_told (subscribe source) s = answer.Subscribed s.next
 stored_told change s = answer.Done
 
--- the same of any change
+-- the same of any change, which may be refused
 abbrev pub refusal_in : DirectoryRequest → DirectoriesShown → Option DirectoryFault
 refusal_in change s = stored_refusal change s.names s.subscribers
 

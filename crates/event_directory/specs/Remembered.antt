@@ -20,7 +20,7 @@ pub record DirectoriesShown : Type 0 where
   pub followed : List Followed
   pub next : ℕ
 
--- what is there once the step that is prepared is made, but for a subscription; and the source that one is to hear
+-- what is there once the prepared step is made, without a subscription that it makes; and the source of that, if it makes one
 pub record DirectoriesPrepared : Type 0 where
   pub shown : DirectoriesShown
   pub joins : Option Source
@@ -44,14 +44,14 @@ abbrev pub kept_at : Source → List Followed → List KeptSubscription
 kept_at source [] = []
 kept_at source (f ∷ fs) = if is_same_source source f.source then f.standing else kept_at source fs
 
--- with one subscription more of this source
+-- with one more subscription to this source
 abbrev pub with_subscription_at : Source → KeptSubscription → List Followed → List Followed
 with_subscription_at source one [] = record { source = source; standing = one ∷ [] } ∷ []
 with_subscription_at source one (f ∷ fs) =
     if is_same_source source f.source then (record { source = f.source; standing = f.standing ++ one ∷ [] } ∷ fs)
     else (f ∷ with_subscription_at source one fs)
 
--- with a subscription of this source
+-- with a new subscription to this source
 abbrev pub with_subscription_to : Source → List ℕ × Bool → DirectoriesShown → DirectoriesShown
 with_subscription_to source offer s = record {
   names = s.names;
@@ -60,17 +60,17 @@ with_subscription_to source offer s = record {
   next = s.next + 1;
 }
 
--- with a subscription of this source, if there is one and a pattern is offered
+-- with a new subscription to this source, if there is one and a pattern is offered
 abbrev pub with_subscription_by : Option Source → Offer → DirectoriesShown → DirectoriesShown
 with_subscription_by None offer s = s
 with_subscription_by (Some source) None s = s
 with_subscription_by (Some source) (Some offer) s = with_subscription_to source offer s
 
--- what is there once it is made, with the pattern that is offered
+-- what is there once the prepared step is made, with the pattern that is offered
 abbrev pub directories_after_commit : DirectoriesPrepared → Offer → DirectoriesShown
 directories_after_commit p offer = with_subscription_by p.joins offer p.shown
 
--- the directories are remembered so: each source's subscriptions have heard what their texts say
+-- what is shown remembers these directories: the subscriptions to each source have heard what their texts say
 pub record AreHeard (test : List ℕ → List ℕ → Bool) (s : DirectoriesShown) (d : WrittenDirectories) : Type 0 where
   pub names : s.names ≡ map (λ f. f.name) d.free
   pub subscribers : s.subscribers ≡ map (λ p. (p.id, p.source)) d.subscriptions

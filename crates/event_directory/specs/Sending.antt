@@ -29,7 +29,7 @@ heard_of test s = subscriber_list (test s.pattern) s.repeats s.text
 abbrev pub kept_subscription : (List ℕ → List ℕ → Bool) → TextSubscription → KeptSubscription
 kept_subscription test s = record { id = s.id; pattern = s.pattern; repeats = s.repeats; heard = heard_of test s }
 
--- a subscription after these letters more
+-- a subscription after these letters, behind its text
 abbrev pub with_more_text : List ℕ → TextSubscription → TextSubscription
 with_more_text letters s = record { id = s.id; pattern = s.pattern; repeats = s.repeats; text = s.text ++ letters }
 
@@ -71,7 +71,7 @@ abbrev pub left_without : ℕ → List TextSubscription → List TextSubscriptio
 left_without id [] = []
 left_without id (s ∷ ss) = if s.id == id then ss else (s ∷ left_without id ss)
 
--- what is stored of a subscription after one letter more
+-- what is stored of a subscription after one more letter
 abbrev pub kept_with_letter : (List ℕ → List ℕ → Bool) → ℕ → KeptSubscription → KeptSubscription
 kept_with_letter test x s = record {
   id = s.id;
@@ -86,7 +86,7 @@ abbrev pub hit_from : (List ℕ → List ℕ → Bool) → ℕ → KeptSubscript
 hit_from test x s = option_map (λ h. (s.id, h))
     (hit_between x s.heard (list_with_letter (test s.pattern) s.repeats x s.heard))
 
--- what is stored after one letter more
+-- what is stored after one more letter
 abbrev pub after_letter : (List ℕ → List ℕ → Bool) → ℕ → List KeptSubscription → List KeptSubscription
 after_letter test x stored = map (kept_with_letter test x) stored
 

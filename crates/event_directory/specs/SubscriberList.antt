@@ -7,7 +7,7 @@ use Rattle.event_directory.specs.declared.sub_view.State.TheVariants as state
 use Rattle.event_directory.specs.declared.hit.Hit.{Hit}
 use Rattle.event_directory.specs.declared.hit.Hit.TheVariants as hit
 
--- so many letters of one text are searched
+-- the most letters of one text that are searched
 abbrev pub text_limit : ℕ
 text_limit = 1024
 
@@ -25,7 +25,7 @@ first_of_list (k ∷ ks) = Some k
 unfoldable pub least_to : (ℕ → Bool) → ℕ → Option ℕ
 least_to test n = first_of_list (filter test (one_to n))
 
--- the least number of letters, from 1 to 1,024, such that the pattern finds a match in so many first letters of the text
+-- the least k from 1 to 1,024 such that the pattern finds a match in the first k letters of the text
 unfoldable pub least_match : (List ℕ → Bool) → List ℕ → Option ℕ
 least_match find text = least_to (λ k. find (take k text)) (min text_limit (length text))
 
@@ -35,25 +35,25 @@ pub record Heard : Type 0 where
   pub state : State
   pub text : List ℕ
 
--- live, with nothing heard yet
+-- live, with an empty list, and these letters, without a match
 abbrev pub live_with : List ℕ → Heard
 live_with text = record { letters = []; state = state.Live; text = text }
 
--- ended in this state, with nothing heard yet
+-- ended in this state, with an empty list
 abbrev pub over_in : State → Heard
 over_in s = record { letters = []; state = s; text = [] }
 
--- with letters that were heard before
+-- with these letters in front of its list
 abbrev pub after_hearing : List ℕ → Heard → Heard
 after_hearing letters h = record { letters = letters ++ h.letters; state = h.state; text = h.text }
 
--- by the least match of the text: its letter, and then Done, or what is heard of the rest; without one, Overlong or Live
+-- by the least match of the text: its last letter, and then Done, or the list of the rest; without one, Overlong or Live
 abbrev pub list_by : Option ℕ → (List ℕ → Heard) → Bool → List ℕ → Heard
 list_by None follow repeats text = if nat_le 1025 (length text) then over_in state.Overlong else live_with text
 list_by (Some k) follow repeats text =
     after_hearing (slice_index text (k - 1) ∷ []) (if repeats then follow (drop k text) else over_in state.Done)
 
--- of a text that has at most n letters
+-- the list of a text that has at most n letters
 unfoldable pub list_within : ℕ → (List ℕ → Bool) → Bool → List ℕ → Heard
 list_within zero find repeats text = live_with text
 list_within (suc n) find repeats text =
@@ -80,7 +80,7 @@ hit_between x before with_it =
     else if is_live before.state && is_overlong with_it.state then Some hit.Overlong
     else None
 
--- the list with one letter more, by the list before it
+-- the list with one more letter, by the list before it
 abbrev pub list_with_letter : (List ℕ → Bool) → Bool → ℕ → Heard → Heard
 list_with_letter find repeats x h =
     if is_live h.state then

@@ -29,10 +29,10 @@ use std::marker::Model;
 #[derive(Drop)]
 pub struct Directories<F: Finds, A: Allocator> {
     register: Register<F, A>,
-    // Whether the letters of a step are prepared in it.
+    // Whether the letters of a step are prepared in `register`.
     is_prepared: bool,
     pending: Pending<F, A>,
-    // Of the plan that was made last; each has another.
+    // Counts the calls of `prepare`, modulo 2^64. The plan that one gives has this as its number.
     number: u64,
 }
 
@@ -53,7 +53,7 @@ impl<F: Finds, A: Allocator> Model for Directories<F, A> {
 }
 
 impl<F: Finds, A: Allocator + Copy> Directories<F, A> {
-    /// No directory, and no subscription. It keeps the allocator.
+    /// Directories with no free directory and no subscription. They keep the allocator.
     pub fn new(alloc: A) -> Directories<F, A>
         ensures empty { AreHeard F.test result.shown new_directories }
         ensures serials { result.shown.next ≡ 1 }
@@ -75,23 +75,24 @@ impl<F: Finds, A: Allocator + Copy> Directories<F, A> {
         self.stored_list(id)
     }
 
-    // `list`, by what is stored alone.
+    // As `list`; its clause speaks only of what is stored.
     fn stored_list(&self, id: SubId) -> Option<SubView<'_>>
         ensures { option_map (λ v. (v.letters.now, v.state)) result ≡ view_in id self.now.shown }
     {
         self.register.list(id)
     }
 
-    /// Works out a step: its moments in order, and then one change. Each subscription of a service sees the letters that its
-    /// supervisor told in these moments; each of a free directory the letters of a message to it. A new subscription sees what
-    /// comes after the step. Nothing that is shown changes, and what was prepared before is forgotten.
+    /// Works out a step: its moments in order, and then one change. Each subscription to a service sees the letters of the service's
+    /// marks among these moments; each subscription to a free directory sees the letters of a message to it. A new subscription sees
+    /// what comes after the step. Nothing that is shown changes, and what was prepared before is forgotten.
     ///
-    /// A change may be refused, as the answer says: Exists where a free directory has the name that is to be made; TooMany where
+    /// A change may be refused, and the answer says why: Exists where a free directory has the name that is to be made; TooMany where
     /// 256 free directories, or 256 subscriptions, stand already; NoSuch where the free directory that is named, or the
-    /// subscription, does not stand. Then the moments alone are heard.
+    /// subscription, does not stand. Only the moments are heard then.
     ///
-    /// The next serial is below 2^63. NoMemory where a growth was refused; then nothing is prepared. A step that does nothing takes no memory, and gives nothing.
-    /// Pages `s6-mkfifodir`, `s6-ftrig-notify` and `s6-ftrig-listen1`; the order of a step is chosen here.
+    /// The next serial has to be below 2^63. NoMemory where memory is refused: nothing is prepared then. A step with no moment and no
+    /// change takes no memory, and gives nothing. Pages `s6-mkfifodir`, `s6-ftrig-notify` and `s6-ftrig-listen1`; the order of a step
+    /// is chosen here.
     pub fn prepare(
         &mut self,
         moments: &[Moment],
@@ -125,7 +126,7 @@ impl<F: Finds, A: Allocator + Copy> Directories<F, A> {
         Ok(plan)
     }
 
-    // `prepare`, by what is stored alone.
+    // As `prepare`; its clauses speak only of what is stored.
     fn prepare_stored(
         &mut self,
         moments: &[Moment],
@@ -170,9 +171,9 @@ impl<F: Finds, A: Allocator + Copy> Directories<F, A> {
         })
     }
 
-    /// Makes the step of the plan, which is the last that `prepare` gave: its number says so. It takes no memory. A subscription
-    /// that it makes takes the pattern that is offered, and whether it repeats; where none is to be made, or none is offered,
-    /// nobody subscribes. Then nothing is prepared.
+    /// Makes the step of this plan, which has to be the last one that `prepare` gave, by its number. It takes no memory. Where the step
+    /// makes a subscription, that gets the pattern that is offered, and repeats or not, as is offered with it; where no pattern is
+    /// offered, it is not made. Afterwards nothing is prepared.
     pub fn commit(&mut self, plan: DirectoriesPlan<A>, offered: Option<(F, bool)>)
         requires number { plan_number plan ≡ self.old.number }
         ensures after { self.new.shown
@@ -191,7 +192,7 @@ impl<F: Finds, A: Allocator + Copy> Directories<F, A> {
 }
 
 impl<A: Allocator + Copy> Directories<Pattern, A> {
-    /// All that is shown as plain data, of each pattern its text. `NoMemory` where a growth was refused.
+    /// All that is shown, as plain data, where a pattern is its text. `NoMemory` where memory is refused.
     pub fn image(&self, alloc: A) -> Result<DirectoriesImage<A>, NoMemory>
         ensures { IfOk result (λ image. image ≡ self.now.shown) }
     {
@@ -199,7 +200,7 @@ impl<A: Allocator + Copy> Directories<Pattern, A> {
     }
 }
 
-// Whether a step gives nothing and changes nothing: it asks nothing, and there is no moment, or nobody who hears one.
+// Whether a step gives nothing and changes nothing: it asks for no change, and there is no moment, or no subscription.
 fn is_unheard<F: Finds, A: Allocator + Copy>(
     register: &Register<F, A>,
     moments: &[Moment],

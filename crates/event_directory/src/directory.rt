@@ -21,20 +21,20 @@ use std::marker::Model;
 /// The subscriptions of one event directory, in the order in which they were made, so in rising serial. Page `fifodir`; that
 /// they are remembered in memory, and not in a folder of pipes, is chosen here.
 ///
-/// They have one text, in which each live subscription knows where its own begins; what lies before the first of these is
-/// dropped, and a letter that nobody hears is not kept.
+/// They share one text, and each live subscription knows where its own text begins in it. What comes before all of these is
+/// dropped, and a letter that no live subscription hears is not kept.
 ///
 /// The letters of a step are planned and then heard: `prepare` takes all memory and changes nothing that is shown, `commit`
-/// takes none. `send` does both for one letter. A call that is refused leaves the plan that stood before it: its `commit` still
-/// hears the plan's letters, and no others. How many subscriptions there may be is for the caller to say.
+/// takes none. `send` does both for one letter. A call that is refused memory leaves the plan that stood before it: `commit` still
+/// hears the letters of that plan, and no others. The caller limits how many subscriptions there are.
 #[derive(Drop)]
 pub struct Directory<F: Finds, A: Allocator> {
     subscriptions: Vec<Subscription<F, A>, A>,
     // The letters that are heard, and after them those that are being prepared.
     text: Vec<Letter, A>,
-    // How many are heard.
+    // How many of these letters are heard.
     heard: usize,
-    // Whether a plan stands that was not committed yet.
+    // Whether there is a plan that was not committed yet.
     is_planned: bool,
     // The letters of that plan.
     planned: Vec<Letter, A>,
@@ -71,9 +71,9 @@ impl<F: Finds, A: Allocator + Copy> Directory<F, A> {
         }
     }
 
-    /// Subscribes from now on, with a serial greater than those before: once, or again after each match. Page
-    /// `s6-ftrig-listen1`. A plan that stands gives it nothing. Where a growth is refused, the pattern comes back and nothing has
-    /// changed.
+    /// Subscribes from now on, with a serial greater than those before: for one match, or again after each match. Page
+    /// `s6-ftrig-listen1`. It does not hear the letters of a plan that stands. Where memory is refused, the pattern comes back and
+    /// nothing has changed.
     pub fn subscribe(&mut self, id: SubId, pattern: F, repeats: bool) -> Result<(), F>
         requires { All (λ s. s.id < id) self.old.standing }
         ensures ok { OnOk result (self.new.standing
@@ -95,7 +95,7 @@ impl<F: Finds, A: Allocator + Copy> Directory<F, A> {
         Ok(())
     }
 
-    /// Subscribes from now on, in the place that `prepare` made. A plan that stands gives it nothing.
+    /// Subscribes from now on, in the place that `prepare` made. It does not hear the letters of a plan that stands.
     pub fn join(&mut self, id: SubId, pattern: F, repeats: bool)
         requires room { 0 < self.old.room }
         requires greater { All (λ s. s.id < id) self.old.standing }
@@ -111,7 +111,7 @@ impl<F: Finds, A: Allocator + Copy> Directory<F, A> {
         self.take_in(id, pattern, repeats);
     }
 
-    // `join`, by what is stored alone.
+    // As `join`; its clauses speak only of what is stored.
     pub(crate) fn take_in(&mut self, id: SubId, pattern: F, repeats: bool)
         requires { 0 < self.old.room }
         ensures after { self.new.standing ≡
@@ -140,7 +140,7 @@ impl<F: Finds, A: Allocator + Copy> Directory<F, A> {
         })
     }
 
-    // A place for one more subscription.
+    // Makes a place for one more subscription.
     pub(crate) fn reserve(&mut self) -> Result<(), NoMemory>
         ensures room { OnOk result (0 < self.new.room) }
         ensures same { self.new.standing ≡ self.old.standing }
@@ -151,7 +151,7 @@ impl<F: Finds, A: Allocator + Copy> Directory<F, A> {
         Ok(())
     }
 
-    // Whether nobody subscribes.
+    // Whether there is no subscription.
     pub(crate) fn is_empty(&self) -> bool
         ensures { result ≡ (length self.now.standing == 0) }
     {
@@ -169,7 +169,7 @@ impl<F: Finds, A: Allocator + Copy> Directory<F, A> {
         self.leave(id);
     }
 
-    // `unsubscribe`, by what is stored alone. While a plan stands, its text stays.
+    // As `unsubscribe`; its clauses speak only of what is stored. While a plan stands, no letter is dropped from the text.
     fn leave(&mut self, id: SubId)
         ensures after { self.new.standing ≡ kept_without id self.old.standing }
         ensures planned { self.new.planned ≡ kept_without id self.old.planned }
@@ -194,7 +194,7 @@ impl<F: Finds, A: Allocator + Copy> Directory<F, A> {
         self.stored_view(id)
     }
 
-    // `list`, by what is stored alone.
+    // As `list`; its clause speaks only of what is stored.
     fn stored_view(&self, id: SubId) -> Option<SubView<'_>>
         ensures { option_map (λ v. (v.letters.now, v.state)) result ≡ view_of id self.now.standing }
     {
@@ -205,8 +205,8 @@ impl<F: Finds, A: Allocator + Copy> Directory<F, A> {
         })
     }
 
-    /// Sends one letter: each live subscription looks at it, and the hits come in rising serial. A plan that stood is forgotten.
-    /// Page `s6-ftrig-notify`. NoMemory: nothing has changed, and the plan that stood stands.
+    /// Sends one letter: each live subscription looks at it. Returns the hits, in rising serial. A plan that stood is forgotten.
+    /// Page `s6-ftrig-notify`. NoMemory where memory is refused: nothing has changed then, and a plan that stood still stands.
     pub fn send(&mut self, letter: Letter) -> Result<Vec<(SubId, Hit), A>, NoMemory>
         ensures hits { IfOk result (λ hits. hits.items
             ≡ hits_from F.test letter self.old.standing) }
@@ -224,7 +224,7 @@ impl<F: Finds, A: Allocator + Copy> Directory<F, A> {
         Ok(hits)
     }
 
-    // `send`, by what is stored alone.
+    // As `send`; its clauses speak only of what is stored.
     fn hear(&mut self, letter: Letter) -> Result<Vec<(SubId, Hit), A>, NoMemory>
         ensures hits { IfOk result (λ hits. hits.items
             ≡ hits_from F.test letter self.old.standing) }
@@ -240,7 +240,7 @@ impl<F: Finds, A: Allocator + Copy> Directory<F, A> {
         Ok(hits)
     }
 
-    // Begins to prepare: no letter is prepared.
+    // Begins to prepare: no letter is prepared yet.
     pub(crate) fn begin(&mut self)
         ensures prepared { self.new.prepared ≡ self.old.standing }
         ensures same { self.new.standing ≡ self.old.standing }
@@ -251,7 +251,7 @@ impl<F: Finds, A: Allocator + Copy> Directory<F, A> {
         self.text.truncate(self.heard);
     }
 
-    // Prepares one letter more, and says what it will give. It is not kept where nobody listens.
+    // Prepares one more letter, and returns the hits that it will give. It is not kept where no subscription listens.
     pub(crate) fn prepare_more(&mut self, letter: Letter) -> Result<Vec<(SubId, Hit), A>, NoMemory>
         ensures hits { IfOk result (λ hits. hits.items
             ≡ hits_from F.test letter self.old.prepared) }
@@ -270,8 +270,8 @@ impl<F: Finds, A: Allocator + Copy> Directory<F, A> {
         Ok(hits)
     }
 
-    /// Plans the letters of one step, and makes a place for one more subscription: nothing is heard yet, and a plan that stood
-    /// before is forgotten. NoMemory: nothing has changed, and the plan that stood stands.
+    /// Plans the letters of one step, and makes a place for one more subscription. Nothing is heard yet, and a plan that stood
+    /// before is forgotten. NoMemory where memory is refused: nothing has changed then, and a plan that stood still stands.
     pub fn prepare(&mut self, letters: &[Letter]) -> Result<LettersPlan<A>, NoMemory>
         ensures hits { IfOk result (λ plan. plan
             ≡ hits_from_letters F.test letters.now self.old.standing) }
@@ -289,7 +289,7 @@ impl<F: Finds, A: Allocator + Copy> Directory<F, A> {
         Ok(plan)
     }
 
-    // `prepare`, by what is stored alone.
+    // As `prepare`; its clauses speak only of what is stored.
     fn prepare_stored(&mut self, letters: &[Letter]) -> Result<LettersPlan<A>, NoMemory>
         ensures hits { IfOk result (λ plan. plan
             ≡ hits_from_letters F.test letters.now self.old.standing) }
@@ -321,7 +321,7 @@ impl<F: Finds, A: Allocator + Copy> Directory<F, A> {
         Ok(())
     }
 
-    /// Hears the letters of the plan that stands, and gives the hits of its plan. Then no plan stands, so that a second commit
+    /// Hears the letters of the plan that stands, and returns the hits of `plan`. Afterwards no plan stands, so that a second commit
     /// hears nothing.
     pub fn commit(&mut self, plan: LettersPlan<A>) -> Vec<Vec<(SubId, Hit), A>, A>
         ensures after { self.new.standing ≡ self.old.planned }
@@ -333,7 +333,7 @@ impl<F: Finds, A: Allocator + Copy> Directory<F, A> {
         plan.hits
     }
 
-    // Hears what is planned, if a plan stands. Then none does.
+    // Hears what is planned, if a plan stands. Afterwards none does.
     fn hear_planned(&mut self)
         ensures after { self.new.standing ≡ self.old.planned }
         ensures idle { self.new.planned ≡ self.new.standing }
@@ -348,7 +348,7 @@ impl<F: Finds, A: Allocator + Copy> Directory<F, A> {
         self.heard = forget(&mut self.text, &self.subscriptions);
     }
 
-    // Hears what is prepared. Then no plan stands.
+    // Hears what is prepared. Afterwards no plan stands.
     pub(crate) fn hear_prepared(&mut self)
         ensures after { self.new.standing ≡ self.old.prepared }
         ensures idle { self.new.planned ≡ self.new.standing }
@@ -369,7 +369,7 @@ impl<A: Allocator + Copy> Directory<Pattern, A> {
     }
 }
 
-// Prepares several letters, and says what each will give.
+// Prepares several letters, and returns the hits that each of them will give.
 fn prepare_letters<F: Finds, A: Allocator + Copy>(
     directory: &mut Directory<F, A>,
     letters: &[Letter],
@@ -390,7 +390,7 @@ fn prepare_letters<F: Finds, A: Allocator + Copy>(
     Ok(hits)
 }
 
-// Drops the letters that nobody looks at, and says how many are left.
+// Drops the letters at which no live subscription looks, and returns how many are left.
 fn forget<F: Finds, A: Allocator + Copy>(
     text: &mut Vec<Letter, A>,
     subscriptions: &[Subscription<F, A>],
@@ -406,7 +406,7 @@ fn forget<F: Finds, A: Allocator + Copy>(
     left
 }
 
-// The letters after the first ones.
+// A copy of the letters after the first `heard` ones.
 fn copy_after<A: Allocator + Copy>(
     alloc: A,
     text: &[Letter],
@@ -420,7 +420,7 @@ fn copy_after<A: Allocator + Copy>(
     Ok(letters)
 }
 
-// These letters take the place of those after the first ones, in the room that there is.
+// Puts these letters after the first `heard` ones, in place of those that were there; there is room for them.
 fn put_after<A: Allocator + Copy>(text: &mut Vec<Letter, A>, heard: usize, letters: &[Letter])
     requires there { heard ≤ vec_len text.old }
     requires room { heard + length letters.now ≤ vec_capacity text.old }
@@ -430,7 +430,7 @@ fn put_after<A: Allocator + Copy>(text: &mut Vec<Letter, A>, heard: usize, lette
     text.extend_from_slice(letters).unwrap();
 }
 
-// Drops the first letters.
+// Drops the first `gone` letters.
 fn drop_front<A: Allocator + Copy>(text: &mut Vec<Letter, A>, gone: usize)
     requires { gone ≤ vec_len text.old }
     ensures { text.new.items ≡ drop gone text.old.items }

@@ -9,13 +9,13 @@ use thiserror::Error;
 pub enum DirectoryChange<'a> {
     /// Nothing.
     Nothing,
-    /// A free directory of this name. Page `s6-mkfifodir`.
+    /// A free directory of this name is to be made. Page `s6-mkfifodir`.
     Make(Name),
-    /// This message to the free directory of this name. Page `s6-ftrig-notify`.
+    /// This message is to be sent to the free directory of this name. Page `s6-ftrig-notify`.
     Send(Name, &'a Message),
-    /// A subscription to this source; its pattern is handed in when the step is made. Page `s6-ftrig-listen1`.
+    /// A subscription to this source is to be made; its pattern is handed in with `commit`. Page `s6-ftrig-listen1`.
     Subscribe(Source),
-    /// The subscription of this serial ends.
+    /// The subscription of this serial is to end.
     Unsubscribe(SubId),
 }
 

@@ -1,4 +1,4 @@
-//! A test of a text.
+//! What a directory asks of a pattern.
 ghost use Rattle.std.specs.Prelude.{◌≡◌, ℕ, List, Bool, IfOk};
 
 use s6_events::{Letter, NoMemory};
@@ -12,7 +12,7 @@ pub trait Finds: Drop {
     /// Whether a pattern of this text finds a match in these letters.
     ghost test: { List ℕ → List ℕ → Bool };
 
-    /// Whether there is a match in these letters. NoMemory: the search was refused memory.
+    /// Whether there is a match in these letters. NoMemory where the search is refused memory.
     fn finds(&mut self, letters: &[Letter]) -> Result<bool, NoMemory>
         ensures found { IfOk result (λ found. found ≡ test (source self.old) letters.now) }
         ensures same { source self.new ≡ source self.old };

@@ -6,6 +6,6 @@ use s6_events::Letter;
 pub enum Hit {
     /// The pattern finds a match in the text up to this letter, and found none before it.
     Matched(Letter),
-    /// This letter is the 1,025th of a text without a match: the subscription has ended.
+    /// This letter is the 1,025th of a text without a match: the subscription hears no more.
     Overlong,
 }

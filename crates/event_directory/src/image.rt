@@ -76,7 +76,7 @@ impl<A: Allocator> Model for DirectoriesImage<A> {
     } };
 }
 
-// A subscription as plain data; its directory's text is this one.
+// A subscription as plain data; `text` is that of its directory.
 fn image_of<A: Allocator + Copy>(
     alloc: A,
     text: &[Letter],
@@ -94,7 +94,7 @@ fn image_of<A: Allocator + Copy>(
     })
 }
 
-/// The subscriptions of a directory as plain data; the directory's text is this one.
+/// The subscriptions of a directory as plain data; `text` is that of the directory.
 pub fn images_of<A: Allocator + Copy>(
     alloc: A,
     text: &[Letter],

@@ -1,8 +1,8 @@
 //! Laws of a subscription's list. Each is the contract of a function that does nothing, so that its statement is proved.
 ghost use Rattle.event_directory.specs.Laws.{BeginsAgain, LeastIsLeast, NoneIsNone, StartsLive, GrowsByLetters, MatchesRise};
 
-/// A list is the letter of the least match of its text, and then the list of what follows it, which counts from 1 again; without
-/// a match it is Overlong from 1,025 letters on, and else Live.
+/// A list begins with the last letter of the least match of its text. Where the subscription repeats, the list of the text after that
+/// match follows, counted from 1 again; else it is Done. Without a match the list is empty: Overlong from 1,025 letters on, else Live.
 pub fn begins_again()
     ensures { BeginsAgain }
 {}
@@ -14,7 +14,7 @@ pub fn least_match_is_least()
     ensures none { NoneIsNone }
 {}
 
-/// The list of a text with one letter more is found from the list of the text alone, by one search at most.
+/// The list of a text with one more letter is found from the list of the text alone, by one search at most.
 pub fn one_letter_more()
     ensures start { StartsLive }
     ensures next { GrowsByLetters }

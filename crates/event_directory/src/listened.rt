@@ -16,7 +16,7 @@ use crate::sub_view::SubView;
 use s6_events::{Letter, NoMemory, SubId};
 use std::alloc::Allocator;
 
-/// Begins to prepare: no letter is prepared.
+/// Begins to prepare in each directory: no letter is prepared yet.
 pub fn begin_each<F: Finds, A: Allocator + Copy>(listened: &mut [SourceDirectory<F, A>])
     ensures same { map followed_of listened.new ≡ map followed_of listened.old }
     ensures prepared { map followed_after listened.new ≡ map followed_of listened.old }
@@ -27,7 +27,7 @@ pub fn begin_each<F: Finds, A: Allocator + Copy>(listened: &mut [SourceDirectory
     }
 }
 
-/// Hears what was prepared.
+/// Hears what was prepared in each directory.
 pub fn commit_each<F: Finds, A: Allocator + Copy>(listened: &mut [SourceDirectory<F, A>])
     ensures after { map followed_of listened.new ≡ map followed_after listened.old }
     ensures rooms { map room_of listened.new ≡ map room_of listened.old }
@@ -49,7 +49,7 @@ fn place_in<F: Finds, A: Allocator + Copy>(
         .position(|directory| directory.is_of(source))
 }
 
-/// Prepares one letter more of this source; what it gives is added to `matches`.
+/// Prepares one more letter of this source, and adds the hits that it will give to `matches`.
 pub fn hear<F: Finds, A: Allocator + Copy>(
     listened: &mut [SourceDirectory<F, A>],
     source: Source,
@@ -75,7 +75,7 @@ pub fn hear<F: Finds, A: Allocator + Copy>(
     Ok(())
 }
 
-/// Makes a place for one more subscription in the directory of this source, and says whether there is one.
+/// Makes a place for one more subscription in the directory of this source. Returns whether the source has a directory.
 pub fn reserve_at<F: Finds, A: Allocator + Copy>(
     listened: &mut [SourceDirectory<F, A>],
     source: Source,
@@ -116,7 +116,8 @@ pub fn take_in_at<F: Finds, A: Allocator + Copy>(
     }
 }
 
-/// Ends the subscription of this serial and this source, if there is one. A source that nobody hears is not listened to any more.
+/// Ends the subscription of this serial and this source, if there is one. Where the source has no subscription left, its directory is
+/// dropped.
 pub fn leave_at<F: Finds, A: Allocator + Copy>(
     listened: &mut Vec<SourceDirectory<F, A>, A>,
     source: Source,

@@ -10,18 +10,18 @@ use std::alloc::Global;
 use std::marker::Model;
 use text_matcher::{BuildFault, Limits, TextMatcher};
 
-// So many letters of one text are searched.
+// The most letters of one text that are searched.
 pub(crate) const TEXT_LIMIT: usize = 1024;
 
-/// How large the automaton of a pattern may be. So whatever is subscribed, a letter that 256 subscriptions look at is heard soon,
-/// and their matchers take little memory.
+/// How large the automaton of a pattern may be. With this limit, whatever the patterns, a letter at which 256 subscriptions look is
+/// heard soon, and their matchers take little memory.
 pub const PATTERN_LIMITS: Limits = Limits {
     bytes: 16_384,
     states: 256,
 };
 
-/// A regular expression of the crate `regex`, built from a text of 1 to 256 bytes 0x20 to 0x7e, with all that searching for it
-/// takes. A clause sees its text. Page `s6-ftrig-listen1`; s6 takes POSIX expressions.
+/// A regular expression of the crate `regex`, built from a text of 1 to 256 bytes 0x20 to 0x7e, with all that a search for it
+/// needs. A clause sees it as its text. Page `s6-ftrig-listen1`; s6 takes POSIX expressions.
 #[derive(Drop)]
 pub struct Pattern {
     // Behind a pointer, since acts that may hold a pattern are moved about.
@@ -42,8 +42,8 @@ impl Model for Pattern {
 }
 
 impl Pattern {
-    /// The pattern of this text. Length is looked for first; Refused: `regex` refused the text, and not for want of memory, or its
-    /// automaton is larger than `PATTERN_LIMITS` allow.
+    /// The pattern of this text. Length, which is looked for first: the text is not 1 to 256 bytes from 0x20 to 0x7e. Refused: `regex`
+    /// refuses the text, or its automaton is larger than `PATTERN_LIMITS` allow. NoMemory: memory is refused.
     pub fn build(alloc: Global, text: &str) -> Result<Pattern, PatternFault>
         ensures ok { IfOk result (λ p. p ≡ text.now) }
         ensures expression { IfOk result (λ _. is_expression text.now ≡ true) }
@@ -85,7 +85,7 @@ impl Finds for Pattern {
     }
 }
 
-// Why a text that makes no matcher is no pattern.
+// The fault of a pattern whose matcher was not built.
 fn fault_of(fault: BuildFault) -> PatternFault
     ensures { result ≡ pattern_fault fault }
 {
@@ -95,7 +95,7 @@ fn fault_of(fault: BuildFault) -> PatternFault
     }
 }
 
-// The letters as bytes.
+// Fills `bytes` with the bytes of these letters.
 fn spell(bytes: &mut Vec<u8>, letters: &[Letter]) -> Result<(), NoMemory>
     ensures letters { OnOk result (bytes.new.items ≡ letters.now) }
     ensures ascii { OnOk result (All (λ b. b < 128) bytes.new.items) }

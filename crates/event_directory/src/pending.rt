@@ -12,10 +12,10 @@ pub enum Pending<F: Finds, A: Allocator> {
     Nothing,
     /// The free directory of this name is made.
     Make(Name),
-    /// The next subscription is to this source, which is listened to.
+    /// A subscription to this source is made; the source has a directory already.
     Join(Source),
-    /// The next subscription is to a source that is not listened to yet: this is its directory.
+    /// A subscription is made to a source that has no directory yet: it gets this one.
     Start(SourceDirectory<F, A>),
-    /// The subscription of this serial ends, which is to this source.
+    /// The subscription of this serial, which is to this source, ends.
     Unsubscribe(SubId, Source),
 }

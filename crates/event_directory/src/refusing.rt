@@ -84,7 +84,7 @@ fn unsubscribe_refusal(subscribers: &[(SubId, Source)], id: SubId) -> Option<Dir
     }
 }
 
-/// Why a change is refused, where these free directories and these subscribers stand.
+/// Why a change is refused, where these free directories and these subscribers stand; None where it is not.
 pub fn refusal(
     names: &[Name],
     subscribers: &[(SubId, Source)],

@@ -22,14 +22,14 @@ use s6_events::{Moment, Name, NoMemory, SubId};
 use std::alloc::Allocator;
 use std::marker::Model;
 
-/// The free directories and the subscriptions, beside what is being prepared of them.
+/// The free directories and the subscriptions, as they are and as they are being prepared.
 #[derive(Drop)]
 pub struct Register<F: Finds, A: Allocator> {
-    // Of the free directories, in the order in which they were made.
+    // The names of the free directories, in the order in which they were made.
     names: Vec<Name, A>,
-    // In rising serial.
+    // The serial and the source of each subscription, in rising serial.
     subscribers: Vec<(SubId, Source), A>,
-    // One for each source that has a subscription.
+    // The directory of each source that has a subscription.
     listened: Vec<SourceDirectory<F, A>, A>,
     // The serial of the next subscription.
     next: u64,
@@ -58,7 +58,7 @@ impl<F: Finds, A: Allocator> Model for Register<F, A> {
 }
 
 impl<F: Finds, A: Allocator + Copy> Register<F, A> {
-    /// With nothing in it.
+    /// A register with nothing in it.
     pub fn new(alloc: A) -> Register<F, A>
         ensures { shown_in result ≡ record
             { names = []; subscribers = []; followed = []; next = 1 } }
@@ -71,7 +71,7 @@ impl<F: Finds, A: Allocator + Copy> Register<F, A> {
         }
     }
 
-    /// Where its memory comes from.
+    /// The allocator that it was made with.
     pub fn allocator(&self) -> A {
         *self.names.allocator()
     }
@@ -83,7 +83,7 @@ impl<F: Finds, A: Allocator + Copy> Register<F, A> {
         SubId(self.next)
     }
 
-    /// Whether nobody subscribes to anything.
+    /// Whether there is no subscription.
     pub fn is_silent(&self) -> bool
         ensures { result ≡ true → self.now.followed ≡ [] }
     {
@@ -106,7 +106,7 @@ impl<F: Finds, A: Allocator + Copy> Register<F, A> {
         list_at(&self.listened, source, id)
     }
 
-    /// Why a change is refused.
+    /// Why a change is refused; None where it is not.
     pub fn refusal(&self, change: &DirectoryChange<'_>) -> Option<DirectoryFault>
         ensures { result ≡ stored_refusal
             (directory_request_of change.now) self.now.names self.now.subscribers }
@@ -114,7 +114,7 @@ impl<F: Finds, A: Allocator + Copy> Register<F, A> {
         refusal(&self.names, &self.subscribers, change)
     }
 
-    /// Begins to prepare: no letter is prepared.
+    /// Begins to prepare: no letter is prepared yet.
     pub fn begin(&mut self)
         ensures same { without_prepared self.new ≡ without_prepared self.old }
         ensures prepared { self.new.prepared ≡ self.old.followed }
@@ -122,7 +122,7 @@ impl<F: Finds, A: Allocator + Copy> Register<F, A> {
         begin_each(&mut self.listened);
     }
 
-    /// Prepares these moments; what they give is added to `matches`.
+    /// Prepares these moments, and adds the hits that they will give to `matches`.
     pub fn hear_moments(
         &mut self,
         moments: &[Moment],
@@ -138,7 +138,7 @@ impl<F: Finds, A: Allocator + Copy> Register<F, A> {
         hear_moments(&mut self.listened, moments, matches)
     }
 
-    /// Prepares the letters of a message to the free directory of this name; what they give is added to `matches`.
+    /// Prepares the letters of a message to the free directory of this name, and adds the hits that they will give to `matches`.
     pub fn hear_message(
         &mut self,
         name: Name,
@@ -173,7 +173,7 @@ impl<F: Finds, A: Allocator + Copy> Register<F, A> {
         Ok(())
     }
 
-    /// Makes all places that one more subscription to this source takes.
+    /// Makes all places for one more subscription to this source, and returns the change that is left to be made.
     pub fn reserve_subscription(&mut self, source: &Source) -> Result<Pending<F, A>, NoMemory>
         requires { self.old.next < 2 ^ 63 }
         ensures shown { shown_in self.new ≡ shown_in self.old }
@@ -192,7 +192,7 @@ impl<F: Finds, A: Allocator + Copy> Register<F, A> {
         Ok(Pending::Start(directory))
     }
 
-    /// One more name, in a place that was made.
+    /// Adds a free directory of this name, in a place that was made.
     pub fn add_name(&mut self, name: Name)
         requires { 0 < self.old.name_room }
         ensures { shown_in self.new ≡ with_free_name name (shown_in self.old) }
@@ -200,7 +200,7 @@ impl<F: Finds, A: Allocator + Copy> Register<F, A> {
         self.names.push_reserved(name);
     }
 
-    /// Subscribes to a source that is listened to, in places that were made.
+    /// Subscribes to a source that has a directory, in places that were made.
     pub fn join(&mut self, source: &Source, pattern: F, repeats: bool)
         requires { CanJoin source.now self.old }
         ensures { shown_in self.new
@@ -212,7 +212,7 @@ impl<F: Finds, A: Allocator + Copy> Register<F, A> {
         self.next += 1;
     }
 
-    /// Subscribes to a source that is not listened to yet, in places that were made.
+    /// Subscribes to a source that has no directory yet, in places that were made: it gets this one.
     pub fn start(&mut self, mut directory: SourceDirectory<F, A>, pattern: F, repeats: bool)
         requires { CanStart directory.source directory.kept.standing directory.kept.room self.old }
         ensures { shown_in self.new

@@ -31,7 +31,7 @@ impl<F: Finds, A: Allocator> Model for SourceDirectory<F, A> {
 }
 
 impl<F: Finds, A: Allocator + Copy> SourceDirectory<F, A> {
-    /// With no subscription, and a place for one.
+    /// The directory of this source, with no subscription, and a place for one.
     pub fn with_place(alloc: A, source: Source) -> Result<SourceDirectory<F, A>, NoMemory>
         ensures source { IfOk result (λ d. d.source ≡ source) }
         ensures none { IfOk result (λ d. d.kept.standing ≡ []) }
@@ -55,7 +55,7 @@ impl<F: Finds, A: Allocator + Copy> SourceDirectory<F, A> {
         same_source(source, self.source)
     }
 
-    /// Begins to prepare: no letter is prepared.
+    /// Begins to prepare: no letter is prepared yet.
     pub fn begin(&mut self)
         ensures source { self.new.source ≡ self.old.source }
         ensures prepared { self.new.kept.prepared ≡ self.old.kept.standing }
@@ -65,7 +65,7 @@ impl<F: Finds, A: Allocator + Copy> SourceDirectory<F, A> {
         self.directory.begin();
     }
 
-    /// Prepares one letter more, and says what it will give.
+    /// Prepares one more letter, and returns the hits that it will give.
     pub fn prepare_more(&mut self, letter: Letter) -> Result<Vec<(SubId, Hit), A>, NoMemory>
         ensures source { self.new.source ≡ self.old.source }
         ensures hits { IfOk result (λ hits. hits.items
@@ -87,7 +87,7 @@ impl<F: Finds, A: Allocator + Copy> SourceDirectory<F, A> {
         self.directory.hear_prepared();
     }
 
-    /// A place for one more subscription.
+    /// Makes a place for one more subscription.
     pub fn reserve(&mut self) -> Result<(), NoMemory>
         ensures source { self.new.source ≡ self.old.source }
         ensures room { OnOk result (0 < self.new.kept.room) }
@@ -107,7 +107,7 @@ impl<F: Finds, A: Allocator + Copy> SourceDirectory<F, A> {
         self.directory.take_in(id, pattern, repeats);
     }
 
-    /// Ends the subscription of this serial, if there is one, and says whether none is left.
+    /// Ends the subscription of this serial, if there is one, and returns whether no subscription is left.
     pub fn unsubscribe(&mut self, id: SubId) -> bool
         ensures source { self.new.source ≡ self.old.source }
         ensures after { self.new.kept.standing ≡ kept_without id self.old.kept.standing }

@@ -14,7 +14,7 @@ use crate::register::Register;
 use s6_events::{Moment, NoMemory, SubId};
 use std::alloc::Allocator;
 
-// Prepares a subscription that ends.
+// Prepares the end of the subscription of this serial.
 fn prepare_leave<F: Finds, A: Allocator + Copy>(
     register: &Register<F, A>,
     id: SubId,
@@ -29,7 +29,7 @@ fn prepare_leave<F: Finds, A: Allocator + Copy>(
     }
 }
 
-// Prepares a change that is not refused, after the moments of its step; what it gives is added to `matches`.
+// Prepares a change that is not refused, after the moments of its step, and adds the hits that it will give to `matches`.
 fn prepare_change<F: Finds, A: Allocator + Copy>(
     register: &mut Register<F, A>,
     change: &DirectoryChange<'_>,
@@ -68,8 +68,8 @@ fn prepare_change<F: Finds, A: Allocator + Copy>(
     }
 }
 
-/// Prepares a step: its moments, and then its change, if it is not refused; what they give is added to `matches`. NoMemory: what
-/// is shown stays.
+/// Prepares a step: its moments, and then its change, if that is not refused. Adds the hits that they will give to `matches`. NoMemory
+/// where memory is refused: what is shown stays then too.
 pub fn work_out<F: Finds, A: Allocator + Copy>(
     register: &mut Register<F, A>,
     moments: &[Moment],
@@ -115,7 +115,7 @@ fn hear_step<F: Finds, A: Allocator + Copy>(
     register.hear_moments(moments, matches)
 }
 
-/// Does what was left to be done when the step is made.
+/// Makes the change of a prepared step.
 pub fn finish_step<F: Finds, A: Allocator + Copy>(
     register: &mut Register<F, A>,
     pending: Pending<F, A>,

@@ -16,7 +16,7 @@ use crate::source_directory::SourceDirectory;
 use s6_events::{Letter, Moment, Name, NoMemory, SubId};
 use std::alloc::Allocator;
 
-// Prepares one moment more.
+// Prepares one more moment.
 fn hear_moment<F: Finds, A: Allocator + Copy>(
     listened: &mut [SourceDirectory<F, A>],
     moment: Moment,
@@ -37,7 +37,7 @@ fn hear_moment<F: Finds, A: Allocator + Copy>(
     }
 }
 
-/// Prepares these moments; what they give is added to `matches`.
+/// Prepares these moments, and adds the hits that they will give to `matches`.
 pub fn hear_moments<F: Finds, A: Allocator + Copy>(
     listened: &mut [SourceDirectory<F, A>],
     moments: &[Moment],
@@ -58,7 +58,7 @@ pub fn hear_moments<F: Finds, A: Allocator + Copy>(
     Ok(())
 }
 
-// Prepares one letter more, sent to the free directory of this name.
+// Prepares one more letter, sent to the free directory of this name.
 fn hear_byte<F: Finds, A: Allocator + Copy>(
     listened: &mut [SourceDirectory<F, A>],
     name: Name,
@@ -81,7 +81,7 @@ fn hear_byte<F: Finds, A: Allocator + Copy>(
     }
 }
 
-/// Prepares these letters, sent to the free directory of this name; what they give is added to `matches`.
+/// Prepares these letters, sent to the free directory of this name, and adds the hits that they will give to `matches`.
 pub fn hear_letters<F: Finds, A: Allocator + Copy>(
     listened: &mut [SourceDirectory<F, A>],
     name: Name,

@@ -1,4 +1,4 @@
-//! One subscription: what a letter gives it (a match, Done, Overlong), and where in the text of its directory its own begins.
+//! One subscription: what a letter gives it (a match, Done, Overlong), and where its own text begins in that of its directory.
 ghost use Rattle.std.specs.Prelude.{◌≡◌, ◌<◌, ◌≤◌, ◌+◌, [], IfOk, OnOk, length, vec_len};
 ghost use Rattle.event_directory.specs.SubscriberList.{hit_between, is_live};
 ghost use Rattle.event_directory.specs.Stored.{heard_in, live_offset, new_reader, new_reading, next_reading};
@@ -12,7 +12,7 @@ use s6_events::{Letter, NoMemory, SubId};
 use std::alloc::Allocator;
 use std::marker::Model;
 
-/// What letters that are not heard yet will make of a subscription.
+/// What a subscription will have heard once certain letters are heard that are not heard yet.
 #[derive(Drop)]
 pub struct Draft<A: Allocator> {
     // The letters at which its texts will match, after those that it has heard.
@@ -22,7 +22,7 @@ pub struct Draft<A: Allocator> {
 }
 
 impl<A: Allocator> Draft<A> {
-    // Of a subscription that has heard nothing, and will hear nothing.
+    // The draft of a subscription that has heard nothing, and will hear nothing.
     fn new(alloc: A) -> Draft<A>
     where
         A: Copy,
@@ -46,7 +46,7 @@ pub struct Subscription<F: Finds, A: Allocator> {
     id: SubId,
     pattern: F,
     repeats: bool,
-    // There is room in it for the letters of each draft.
+    // The letters at which its texts matched. There is room behind them for those of each draft.
     letters: Vec<Letter, A>,
     state: State,
     // How far from the end of its directory's text its own begins: the letters since its last match, while it is live.
@@ -85,7 +85,7 @@ impl<F: Finds, A: Allocator> Model for Subscription<F, A> {
 }
 
 impl<F: Finds, A: Allocator + Copy> Subscription<F, A> {
-    /// A subscription from now on.
+    /// A subscription that is made now, and has heard nothing.
     pub fn new(alloc: A, id: SubId, pattern: F, repeats: bool) -> Subscription<F, A>
         ensures standing { result.standing ≡ new_reader id (F.source pattern) repeats }
         ensures prepared { result.prepared ≡ new_reading }
@@ -138,7 +138,7 @@ impl<F: Finds, A: Allocator + Copy> Subscription<F, A> {
         self.state
     }
 
-    /// Of its directory's text, which is this one, the letters since its last match, while it is live.
+    /// The letters since its last match, while it is live, else none. They are the end of `text`, which is its directory's text.
     pub fn text_in<'t>(&self, text: &'t [Letter]) -> &'t [Letter]
         ensures { result.now ≡ (heard_in text.now self.now.standing.reading).text }
     {
@@ -148,7 +148,7 @@ impl<F: Finds, A: Allocator + Copy> Subscription<F, A> {
         &text[text.len().saturating_sub(self.offset)..]
     }
 
-    /// From which place on, from the end of its directory's text, it looks at it.
+    /// How many letters it needs, from the end of its directory's text: those since its last match while it is live, else none.
     pub fn live_offset(&self) -> usize
         ensures { result ≡ live_offset self.now.standing.reading }
     {
@@ -166,7 +166,7 @@ impl<F: Finds, A: Allocator + Copy> Subscription<F, A> {
         self.prepared.state == State::Live
     }
 
-    /// Begins to prepare: no letter is prepared.
+    /// Begins to prepare: no letter is prepared yet.
     pub fn begin(&mut self)
         ensures same { self.new.standing ≡ self.old.standing }
         ensures planned { self.new.planned ≡ self.old.planned }
@@ -177,7 +177,7 @@ impl<F: Finds, A: Allocator + Copy> Subscription<F, A> {
         self.prepared.offset = self.offset;
     }
 
-    /// Prepares the last letter of the text, and says what it will give.
+    /// Prepares `letter`, the last one of `text`, and returns the hit that it will give, if any.
     pub fn prepare(&mut self, text: &[Letter], letter: Letter) -> Result<Option<Hit>, NoMemory>
         requires { live_offset self.old.prepared < length text.now }
         ensures same { self.new.standing ≡ self.old.standing }
@@ -213,7 +213,7 @@ impl<F: Finds, A: Allocator + Copy> Subscription<F, A> {
         Ok(Some(Hit::Matched(letter)))
     }
 
-    /// What was prepared becomes what is planned, and the other way round.
+    /// Exchanges what is prepared and what is planned.
     pub fn exchange(&mut self)
         ensures same { self.new.standing ≡ self.old.standing }
         ensures prepared { self.new.prepared ≡ self.old.planned }

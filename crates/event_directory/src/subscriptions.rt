@@ -10,7 +10,7 @@ use crate::subscription::Subscription;
 use s6_events::{Letter, NoMemory, SubId};
 use std::alloc::Allocator;
 
-/// Begins to prepare: no letter is prepared.
+/// Begins to prepare in each subscription: no letter is prepared yet.
 pub fn begin_all<F: Finds, A: Allocator + Copy>(subscriptions: &mut [Subscription<F, A>])
     ensures same { map standing_of_stored subscriptions.new
         ≡ map standing_of_stored subscriptions.old }
@@ -24,7 +24,7 @@ pub fn begin_all<F: Finds, A: Allocator + Copy>(subscriptions: &mut [Subscriptio
     }
 }
 
-/// From which place on, from the end of the text, somebody looks at it.
+/// How many letters, from the end of the text, the subscriptions need: none of them needs the letters before these.
 pub fn greatest_offset<F: Finds, A: Allocator + Copy>(subscriptions: &[Subscription<F, A>]) -> usize
     ensures { result ≡ greatest_offset (map standing_of_stored subscriptions.now) }
 {
@@ -35,7 +35,7 @@ pub fn greatest_offset<F: Finds, A: Allocator + Copy>(subscriptions: &[Subscript
     greatest
 }
 
-/// Whether somebody looks at the next letter that is prepared.
+/// Whether some subscription looks at the next letter that is prepared.
 pub fn any_listens<F: Finds, A: Allocator + Copy>(subscriptions: &[Subscription<F, A>]) -> bool
     ensures { result ≡ list_any (λ s. is_live s.prepared.state) subscriptions.now }
 {
@@ -44,7 +44,7 @@ pub fn any_listens<F: Finds, A: Allocator + Copy>(subscriptions: &[Subscription<
         .any(|subscription| subscription.listens())
 }
 
-/// Prepares the last letter of the text, and says what it will give, in the order of the subscriptions.
+/// Prepares `letter`, the last one of `text`, and returns the hits that it will give, in the order of the subscriptions.
 pub fn prepare_all<F: Finds, A: Allocator + Copy>(
     alloc: A,
     subscriptions: &mut [Subscription<F, A>],
@@ -73,7 +73,7 @@ pub fn prepare_all<F: Finds, A: Allocator + Copy>(
     Ok(hits)
 }
 
-// What was prepared becomes what is planned, and the other way round.
+// Exchanges what is prepared and what is planned, in each subscription.
 fn exchange_all<F: Finds, A: Allocator + Copy>(subscriptions: &mut [Subscription<F, A>])
     ensures same { map standing_of_stored subscriptions.new
         ≡ map standing_of_stored subscriptions.old }

@@ -1,4 +1,5 @@
-//! The first two arguments of the program `finish`, which say how `run` ended; the name, its third, is added in `commands.rt` of child_runner.
+//! The first two arguments of the program `finish`, which say how `run` ended. The third, the name, is added in `commands.rt` of
+//! child_runner.
 ghost use Rattle.std.specs.Prelude.{◌≡◌};
 ghost use Rattle.finish_core.specs.FinishArguments.{finish_arguments};
 

@@ -16,7 +16,7 @@ pub enum Verdict125 {
     Ordinary,
 }
 
-/// The verdict of a `finish` that ended so: permanent after the exit code 125, else ordinary. Page `servicedir`,
+/// The verdict of a `finish` that ended with this exit: permanent for the exit code 125, else ordinary. Page `servicedir`,
 /// "finish".
 pub fn verdict(exit: Exit) -> Verdict125
     ensures { result ≡ verdict_of exit }

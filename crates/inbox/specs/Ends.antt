@@ -7,7 +7,7 @@ use Rattle.inbox.specs.declared.submission.Submission.{Submission}
 abbrev pub places : ℕ
 places = 64
 
--- whose ring it is, and which
+-- the actor whose ring it is, and the name of the ring
 pub record RingView : Type 0 where
   pub actor : ℕ
   pub ring : RingName

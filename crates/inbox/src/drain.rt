@@ -13,7 +13,7 @@ use std::alloc::Global;
 use std::marker::{Model, PhantomData};
 use tree_core::Input;
 
-/// The tree's end of an actor's ring: here its submissions are taken, oldest first.
+/// The tree's end of an actor's ring, where its submissions are taken out, oldest first.
 #[derive(Drop)]
 pub struct Drain<C: Channels> {
     actor: Actor,
@@ -35,7 +35,7 @@ impl<C: Channels> Model for Drain<C> {
 }
 
 impl<C: Channels> Drain<C> {
-    // The end of a ring.
+    // The drain at the end of this ring.
     pub(crate) fn over(actor: Actor, consumer: Consumer<Submission>) -> Drain<C>
         requires { consumer_ring consumer ≡ C.seat_ring actor }
         ensures { result ≡ record {
@@ -59,8 +59,8 @@ impl<C: Channels> Drain<C> {
         self.actor
     }
 
-    /// Takes the oldest submission, as the actor's input; None where the ring has none. It takes no lock and no memory, and waits
-    /// for nobody.
+    /// Takes out the oldest submission, as the actor's input; None where the ring has none. It takes no lock and no memory, and waits for
+    /// nobody.
     pub fn take_next(&mut self) -> Option<Input<Global>>
         ensures actor { self.new.actor ≡ self.old.actor }
         ensures taken { IfSome result
@@ -79,7 +79,7 @@ impl<C: Channels> Drain<C> {
         })
     }
 
-    /// Whether all that the seat of the same actor ever submitted was taken; None where the ring told nothing of the seat's end.
+    /// Whether all that the seat of the same actor ever submitted was taken out; None where the ring didn't tell what that is.
     pub fn is_drained(&mut self, finished: &mut Finished<C>) -> Option<bool>
         requires { finished.old.actor ≡ self.old.actor }
         ensures actor { self.new.actor ≡ self.old.actor }

@@ -32,7 +32,7 @@ impl<C: Channels> Model for Finished<C> {
 }
 
 impl<C: Channels> Finished<C> {
-    // What a producer gave at its end.
+    // The end of this actor's seat, with what its ring told of all that was submitted.
     pub(crate) fn over(actor: Actor, ring: Option<rtrb::Finished<Submission>>) -> Finished<C>
         requires { ForSome ring (λ r. finished_ring r ≡ C.seat_ring actor) }
         ensures { result ≡ record { actor = actor; submitted = option_map (λ r. all_sent r) ring } }

@@ -1,4 +1,5 @@
-//! The rings: one for each actor, of 64 places. A seat hands in at its end, and gets a ticket, numbered from 1, or that the ring is full.
+//! The rings: one for each actor, of 64 places. A seat hands in at one end of its ring, and gets a ticket with a number, which counts from
+//! 1, or the answer that the ring is full.
 ghost use Rattle.std.specs.Prelude.{◌≡◌, ◌+◌, ◌-◌, ◌^◌, ◌<◌, ◌≤◌, [], ◌∷◌, ◌++◌, length, map, IsOk, IfOk, IfErr, IfSome};
 ghost use Rattle.rtrb.specs.Ring.{sent, known_free, producer_capacity};
 ghost use Rattle.channel_names.specs.RingName.{producer_ring};
@@ -18,7 +19,7 @@ use tree_core::Act;
 /// How many submissions a ring holds.
 const PLACES: usize = 64;
 
-/// A new ring, through which nothing went yet. Its ends come once a run has picked the names of its rings.
+/// A new ring, through which nothing went yet. A run makes its two ends once it has picked the names of its rings.
 #[derive(Drop)]
 pub struct Ring {
     actor: Actor,
@@ -43,7 +44,7 @@ impl Model for Ring {
 }
 
 impl Ring {
-    // A ring for the actor.
+    // A new ring for this actor.
     fn open(alloc: Global, actor: Actor) -> Result<Ring, NoMemory>
         ensures { IfOk result (λ r. r.actor ≡ actor) }
     {
@@ -62,7 +63,7 @@ impl Ring {
         self.actor
     }
 
-    /// Its two ends, in a run whose ring of this actor it is.
+    /// Makes the ring's two ends. `C` names this ring as that of the actor.
     pub fn ends<C: Channels>(self) -> (Seat<C>, Drain<C>)
         requires { self.ring ≡ C.seat_ring self.actor }
         ensures seat { result.0 ≡ record { actor = self.actor; submitted = []; waiting = 0 } }
@@ -77,8 +78,7 @@ impl Ring {
     }
 }
 
-/// A ring for each of so many actors, 1 to 16, in the order of their numbers, which begin at 0. `NoMemory` where a growth was
-/// refused.
+/// A new ring for each of `actors` actors, 1 to 16, in the order of their numbers, which begin at 0. `NoMemory` where memory is refused.
 pub fn open_rings(alloc: Global, actors: u8) -> Result<Vec<Ring>, NoMemory>
     requires { (1 ≤ actors) × (actors ≤ 16) }
     ensures { IfOk result (λ rings. map (λ r. r.actor) rings.items ≡ numbers_below actors) }
@@ -93,8 +93,7 @@ pub fn open_rings(alloc: Global, actors: u8) -> Result<Vec<Ring>, NoMemory>
     Ok(rings)
 }
 
-/// What an actor gets for a submission, and by which its reply is asked for later. The number counts the submissions of its
-/// seat, from 1.
+/// What an actor gets for a submission; with it the reply is asked for later. The number counts the submissions of its seat, from 1.
 #[derive(Clone, Copy, PartialEq, Eq, Debug)]
 pub struct Ticket {
     pub actor: Actor,
@@ -107,7 +106,7 @@ pub struct Ticket {
 #[error("64 submissions of the seat wait to be taken")]
 pub struct Full;
 
-/// An actor's end of its ring: here it hands in what happened. It may move to a thread of its own.
+/// An actor's end of its ring, where it hands in what happened. It may move to a thread of its own.
 #[derive(Drop)]
 pub struct Seat<C: Channels> {
     actor: Actor,
@@ -130,7 +129,7 @@ impl<C: Channels> Model for Seat<C> {
 }
 
 impl<C: Channels> Seat<C> {
-    // The end of a ring through which nothing went yet.
+    // The seat at the end of a ring through which nothing went yet.
     pub(crate) fn over(actor: Actor, producer: Producer<Submission>) -> Seat<C>
         requires ring { producer_ring producer ≡ C.seat_ring actor }
         requires unused { (sent producer ≡ []) × (known_free producer ≡ places)
@@ -145,8 +144,8 @@ impl<C: Channels> Seat<C> {
         }
     }
 
-    /// Hands in an act that comes at this moment. `Full` where the ring holds 64 that aren't known to be taken: the act then comes
-    /// back, and nothing has changed. It takes no lock and no memory, and waits for nobody. A seat takes fewer than 2^63
+    /// Hands in an act with this moment. `Full` where the ring holds 64 submissions that aren't known to be taken: the act comes back, and
+    /// was not submitted. It takes no lock and no memory, and waits for nobody. Call it only while the seat has taken fewer than 2^63
     /// submissions; `sent` counts them.
     pub fn submit(&mut self, at: At, act: Act<Global>) -> Result<Ticket, (Act<Global>, Full)>
         requires { length self.old.submitted < 2 ^ 63 }
@@ -180,14 +179,14 @@ impl<C: Channels> Seat<C> {
         self.actor
     }
 
-    /// How many submissions were taken in so far.
+    /// How many submissions were handed in so far.
     pub fn sent(&self) -> u64
         ensures { result ≡ length self.now.submitted }
     {
         self.count
     }
 
-    /// Submits no more. By what is left of the seat a drain can tell whether it took all.
+    /// Ends the seat: it submits no more. From what is left of it a drain can tell whether it took all.
     pub fn finish(self) -> Finished<C>
         ensures actor { result.actor ≡ self.actor }
         ensures submitted { IfSome result.submitted (λ all. all ≡ self.submitted) }

@@ -1,4 +1,4 @@
-//! An input, as it lies in a ring.
+//! An input, as a ring holds it.
 use s6_events::At;
 use std::alloc::Global;
 use tree_core::Act;

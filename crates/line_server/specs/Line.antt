@@ -9,7 +9,7 @@ line_limit = 8192
 abbrev pub HasNoNewline : List ℕ → Type 0
 HasNoNewline bytes = All (λ b. b ≢ 10) bytes
 
--- the bytes are a line within the limit, its newline, and the rest
+-- the bytes are a line, its newline, and the rest; with its newline the line is within the limit
 pub record IsLine (bytes line rest : List ℕ) : Type 0 where
   pub bytes_are : bytes ≡ line ++ 10 ∷ rest
   pub plain : HasNoNewline line

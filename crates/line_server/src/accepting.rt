@@ -11,7 +11,7 @@ use std::time::Clock;
 /// The stack of a thread that reads or writes one connection, in bytes.
 pub const STACK_SIZE: usize = 256 * 1024;
 
-/// Accepts and serves connections until `Server::end` is called. All of its threads have ended when it comes back.
+/// Accepts and serves connections until `Server::end` is called. When it returns, all of its threads have ended.
 pub fn serve<W: Answers + Sync, R: Threads + Wait + Clock + Sync>(rt: &R, server: &Server<W>) {
     thread::scope(thread::scope_env(), rt, |scope| {
         if !start_last(scope, rt, server) {
@@ -21,7 +21,7 @@ pub fn serve<W: Answers + Sync, R: Threads + Wait + Clock + Sync>(rt: &R, server
     });
 }
 
-// The two threads of the last seat. Whether both run.
+// Starts the two threads of the last seat. Returns whether both run.
 fn start_last<'s, E, W: Answers + Sync, R: Threads + Wait + Clock + Sync>(
     scope: &Scope<'s, E>,
     rt: &'s R,
@@ -64,7 +64,7 @@ fn accept_all<'s, E, W: Answers + Sync, R: Threads + Wait + Clock + Sync>(
     }
 }
 
-// A connection gets a seat, if one is free or will be soon; else it is sent `busy` and closed.
+// Gives a connection a seat, if one is free or will be soon; else sends it `busy` and closes it.
 fn seat_one<'s, E, W: Answers + Sync, R: Threads + Wait + Clock + Sync>(
     scope: &Scope<'s, E>,
     rt: &'s R,
@@ -83,7 +83,7 @@ fn seat_one<'s, E, W: Answers + Sync, R: Threads + Wait + Clock + Sync>(
     }
 }
 
-// Gives a connection a seat with a thread that reads it; where there is none, the last seat. Whether it has one.
+// Gives a connection a seat and a thread that reads it; where one of them can't be had, the last seat. Returns whether it has a seat.
 fn is_seated<'s, E, W: Answers + Sync, R: Threads + Wait + Clock + Sync>(
     scope: &Scope<'s, E>,
     rt: &'s R,
@@ -99,7 +99,7 @@ fn is_seated<'s, E, W: Answers + Sync, R: Threads + Wait + Clock + Sync>(
     server.take_last_seat(rt, mailbox)
 }
 
-// The thread that reads a connection. Whether it runs.
+// Starts the thread that reads a connection. Returns whether it runs.
 fn start_reader<'s, E, W: Answers + Sync, R: Threads + Wait + Clock + Sync>(
     scope: &Scope<'s, E>,
     rt: &'s R,

@@ -12,10 +12,11 @@ use std::sync::{Arc, Wait};
 use std::thread::{self, Builder, Scope, Threads};
 use std::time::Clock;
 
-/// How many bytes of a connection are read at once. The lines in them are answered before more is read.
+/// The most bytes of a connection that are read at once. The lines in them are answered before more is read.
 const READ_SIZE: usize = 4_096;
 
-/// The connection of a seat to its end. Where the system has no thread to write it, it goes on at the last seat.
+/// Serves the connection of a seat to its end. Where the system has no thread to write it, the connection goes on at the last seat; if that
+/// is not free, it is sent `busy` and closed.
 pub fn converse_at<W: Answers + Sync, R: Threads + Wait + Clock + Sync>(
     rt: &R,
     server: &Server<W>,
@@ -35,14 +36,14 @@ pub fn converse_at<W: Answers + Sync, R: Threads + Wait + Clock + Sync>(
     }
 }
 
-// What stands of the connection ends, and then its seat is free.
+// Tells whoever answers that the connection has ended, and frees its seat.
 fn leave_seat<W: Answers, R: Wait>(rt: &R, server: &Server<W>, seat: usize) {
     server.answers.leave(rt, seat);
     server.free_seat(rt, seat);
 }
 
-// One connection to its end: its lines are read and answered here, and what is posted is written by a thread beside this one. False where
-// there is no such thread; then nothing was read.
+// Serves one connection to its end: this thread reads and answers its lines, and a second one writes what is posted. False where the second
+// one can't be started; then nothing was read.
 fn is_conversed<W: Answers + Sync, R: Threads + Wait + Clock + Sync>(
     rt: &R,
     server: &Server<W>,
@@ -63,7 +64,7 @@ fn is_conversed<W: Answers + Sync, R: Threads + Wait + Clock + Sync>(
     is_written
 }
 
-// The thread that writes a connection. Whether it runs.
+// Starts the thread that writes a connection. Returns whether it runs.
 fn start_writer<'s, E, R: Threads + Wait + Sync>(
     scope: &Scope<'s, E>,
     rt: &'s R,
@@ -114,7 +115,7 @@ pub fn write_last<W: Answers, R: Wait>(rt: &R, server: &Server<W>) {
     }
 }
 
-// Writes what is posted until nothing more will be, or the connection takes nothing more.
+// Writes what is posted, until nothing more will be posted or the connection takes no more.
 fn write_all<R: Wait>(rt: &R, alloc: Global, mailbox: &Mailbox) {
     let mut text = Vec::new(alloc);
     for _ in rt.forever() {
@@ -148,7 +149,7 @@ fn read_all<W: Answers, R: Wait + Clock>(
     server.note(rt, seat, SeatUse::Leaving);
 }
 
-// Reads what has come. Whether more may come.
+// Reads what has come, at most 4,096 bytes. False where no more will come, where reading fails, or where memory is refused.
 fn read_some(mut stream: &UnixStream, buffer: &mut LineBuffer<Global>) -> bool {
     let mut bytes = [0u8; READ_SIZE];
     match stream.read(&mut bytes) {
@@ -158,7 +159,7 @@ fn read_some(mut stream: &UnixStream, buffer: &mut LineBuffer<Global>) -> bool {
     }
 }
 
-// Answers each whole line that has come. Until all are answered the connection is needed, and then it is silent.
+// Answers each whole line that has come. The connection counts as needed until all are answered, and as silent from then on.
 fn answer_lines<W: Answers, R: Wait + Clock>(
     rt: &R,
     server: &Server<W>,

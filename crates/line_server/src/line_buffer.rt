@@ -10,18 +10,18 @@ use std::marker::Model;
 /// The most bytes of a line, with its newline.
 pub const LINE_LIMIT: usize = 8_192;
 
-/// What stands at the front of the bytes that came.
+/// What the bytes begin with.
 #[derive(Clone, Copy, Debug, PartialEq, Eq)]
 pub enum LineStatus {
     /// A whole line.
     Whole,
-    /// Some of a line, whose newline has not come.
+    /// A part of a line, whose newline has not come.
     Part,
     /// A line of more than 8,192 bytes, with its newline.
     TooLong,
 }
 
-/// The bytes that came and were given in no line yet.
+/// The bytes that have come, without the lines that were taken out.
 #[derive(Drop)]
 pub struct LineBuffer<A: Allocator> {
     bytes: Vec<u8, A>,
@@ -45,7 +45,7 @@ impl<A: Allocator + Copy> LineBuffer<A> {
         }
     }
 
-    /// These bytes have come. Where a growth is refused, the buffer is as it was.
+    /// Adds bytes that have come. Where memory is refused, the buffer is as it was.
     pub fn add(&mut self, more: &[u8]) -> Result<(), AllocError>
         ensures ok { OnOk result (self.new ≡ self.old ++ more.now) }
         ensures err { OnErr result (self.new ≡ self.old) }
@@ -53,8 +53,8 @@ impl<A: Allocator + Copy> LineBuffer<A> {
         self.bytes.extend_from_slice(more)
     }
 
-    /// Takes the first line out, if a whole one of at most 8,192 bytes has come, and puts it into `line` without its newline; what was
-    /// in `line` is gone. At any other answer, and where a growth is refused, the buffer is as it was.
+    /// Takes the first line out, if it has come whole and has at most 8,192 bytes with its newline, and puts it into `line` without the
+    /// newline; what was in `line` is gone. At any other answer, and where memory is refused, the buffer is as it was.
     pub fn next_line(&mut self, line: &mut Vec<u8, A>) -> Result<LineStatus, AllocError>
         ensures whole { result ≡ Ok Whole → IsLine self.old line.new.items self.new }
         ensures part { result ≡ Ok Part → IsPart self.old × (self.new ≡ self.old) }
@@ -76,7 +76,7 @@ impl<A: Allocator + Copy> LineBuffer<A> {
     }
 }
 
-// The place of the first newline, or the number of the bytes where there is none.
+// The index of the first newline, or the number of bytes where there is none.
 fn first_newline(bytes: &[u8]) -> usize
     ensures bound { result ≤ length bytes.now }
     ensures plain { HasNoNewline (take result bytes.now) }
@@ -85,7 +85,7 @@ fn first_newline(bytes: &[u8]) -> usize
     memchr(b'\n', bytes).unwrap_or(bytes.len())
 }
 
-// Without the first ones; the others keep their order.
+// Drops the first `count` bytes. The others keep their order.
 fn drop_front<A: Allocator>(bytes: &mut Vec<u8, A>, count: usize)
     requires { count ≤ length bytes.old.items }
     ensures { bytes.new.items ≡ drop count bytes.old.items }

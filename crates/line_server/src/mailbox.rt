@@ -1,4 +1,5 @@
-//! Where texts for one connection are posted, and whoever writes them waits. A connection for which too much waits is ended here.
+//! The mailbox of one connection: texts are posted there, and the thread that writes them waits there. It ends a connection for which too
+//! much waits.
 use crate::outbox::{Outbox, PostFault};
 use std::alloc::Global;
 use std::net::Shutdown;
@@ -15,7 +16,7 @@ pub struct Mailbox {
 }
 
 impl Mailbox {
-    /// For a connection to which nothing was written yet.
+    /// The mailbox of a connection to which nothing was written yet.
     pub fn new(alloc: Global, stream: UnixStream) -> Mailbox {
         Mailbox {
             stream,
@@ -29,15 +30,15 @@ impl Mailbox {
         &self.stream
     }
 
-    /// Posts a text, which is written behind all that was posted before. It waits for no reader. `Full` and `NoMemory` end the connection
-    /// at once, since its texts could not be whole any more. `Closed` leaves it alone: what was posted before is still written.
+    /// Posts a text, which is written after all that was posted before. It doesn't wait for the client to read. `Full` and `NoMemory` end
+    /// the connection at once, since a text would be missing. At `Closed` the connection goes on: what was posted before is still written.
     pub fn post<R: Wait>(&self, rt: &R, text: &[u8]) -> Result<(), PostFault> {
         let posted = self.add(rt, text);
         self.wake();
         posted
     }
 
-    /// The same, but whoever writes is not woken: call `wake` once several texts are posted.
+    /// Posts a text like `post`, but doesn't wake the thread that writes: call `wake` once several texts are posted.
     pub fn add<R: Wait>(&self, rt: &R, text: &[u8]) -> Result<(), PostFault> {
         let posted = self.outbox.lock(rt).post(text);
         match posted {
@@ -47,7 +48,7 @@ impl Mailbox {
         posted
     }
 
-    /// Wakes whoever writes.
+    /// Wakes the thread that writes.
     pub fn wake(&self) {
         self.changed.notify_all();
     }
@@ -58,13 +59,14 @@ impl Mailbox {
         self.changed.notify_all();
     }
 
-    /// Ends the connection at once, in both directions: whoever reads or writes it comes back.
+    /// Ends the connection at once, in both directions: calls that read or write it return.
     pub fn end<R: Wait>(&self, rt: &R) {
         self.close(rt);
         let _ = self.stream.shutdown(Shutdown::Both);
     }
 
-    /// Waits until something was posted, and moves it into the text. False once nothing waits and nothing more will.
+    /// Waits until something is posted, and moves all that was posted into `text`. False once nothing waits and nothing more will be
+    /// posted.
     pub fn wait_for_text<R: Wait>(&self, rt: &R, text: &mut Vec<u8>) -> bool {
         let mut outbox = self.changed.wait_while(rt, self.outbox.lock(rt), |outbox| {
             outbox.is_open() && outbox.is_empty()

@@ -7,23 +7,23 @@ ghost use Rattle.line_server.specs.declared.outbox.PostFault.TheVariants.{Full, 
 use std::alloc::{AllocError, Allocator};
 use std::marker::Model;
 
-/// The most bytes that wait for a connection: one that reads so little that more would wait is closed.
+/// The most bytes that wait for a connection. One that reads so slowly that more would wait is closed.
 pub const OUTBOX_LIMIT: usize = 1_048_576;
 
 /// Why a text was not posted.
 #[derive(Clone, Copy, Debug, PartialEq, Eq)]
 pub enum PostFault {
-    /// More bytes would wait than may.
+    /// More than 1,048,576 bytes would wait.
     Full = 1,
-    /// Nothing more is written to the connection.
+    /// The outbox was closed before: nothing more may be posted.
     Closed = 2,
-    /// A growth was refused.
+    /// Memory was refused.
     NoMemory = 3,
 }
 
 impl PostFault {
-    /// Whether the connection has to end: a text is missing that its reader waits for. Where the mailbox was closed before, what waits in
-    /// it is whole, and is still written.
+    /// Whether the connection has to end, because a text is missing that its reader waits for. Where the outbox was closed before, nothing
+    /// that waits in it is missing, and it is still written.
     pub fn ends_connection(self) -> bool
         ensures { result ≡ ends_connection self }
     {
@@ -75,7 +75,7 @@ impl<A: Allocator + Copy> Outbox<A> {
         }
     }
 
-    /// A text waits behind all that waits already. At a fault nothing has changed.
+    /// Adds a text behind all that waits already. At a fault nothing has changed.
     pub fn post(&mut self, text: &[u8]) -> Result<(), PostFault>
         ensures ok { OnOk result (self.new
             ≡ record self.old { unsent = self.old.unsent ++ text.now }) }
@@ -94,7 +94,7 @@ impl<A: Allocator + Copy> Outbox<A> {
         Ok(())
     }
 
-    /// Moves all that waits into a text, whose own bytes are gone; their memory serves for what is posted next.
+    /// Moves all that waits into `text`. What was in `text` is gone; its memory serves for what is posted next.
     pub fn take_all(&mut self, text: &mut Vec<u8, A>)
         ensures text { text.new.items ≡ self.old.unsent }
         ensures outbox { self.new ≡ record self.old { unsent = [] } }

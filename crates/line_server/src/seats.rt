@@ -7,7 +7,7 @@ use std::sync::{Arc, Wait};
 /// The most connections at one time.
 pub const SEAT_COUNT: usize = 11;
 
-/// The seat whose threads are there from the start, so that a connection can come where the system has no thread for it.
+/// The seat whose threads run from the start, so that a connection can come even where the system has no thread for it.
 pub const LAST_SEAT: usize = SEAT_COUNT - 1;
 
 /// A connection on its seat.
@@ -17,7 +17,7 @@ struct Sitting {
     doing: SeatUse,
 }
 
-// What the connection of a seat does; it is needed where somebody keeps it, and a free seat gives nothing away.
+// What the connection of a seat does. One that is kept counts as needed, and so does a free seat: neither gives way.
 fn use_of(sitting: &Option<Sitting>, is_kept: bool) -> SeatUse {
     match sitting {
         Some(sitting) if !is_kept => sitting.doing,
@@ -34,7 +34,7 @@ pub struct Seats {
 }
 
 impl Seats {
-    /// All seats are free. Afterwards no call takes memory.
+    /// All seats are free. No later call takes memory.
     pub fn new(alloc: Global) -> Result<Seats, AllocError> {
         let mut sittings = Vec::with_capacity(alloc, SEAT_COUNT)?;
         for _ in 0..SEAT_COUNT {
@@ -47,8 +47,8 @@ impl Seats {
         })
     }
 
-    /// The connection takes the first free seat but the last, and is silent since this moment, in milliseconds; None where none is free, or
-    /// all is ending.
+    /// Gives the connection the first free seat, but not the last one; it counts as silent since the moment `now`, in milliseconds. None
+    /// where none of these is free, or the server is ending.
     pub fn take(&mut self, mailbox: Arc<Mailbox>, now: u64) -> Option<usize> {
         let sittings = self.sittings.as_slice();
         let seat = sittings.iter().position(|taken| taken.is_none())?;
@@ -58,7 +58,7 @@ impl Seats {
         Some(seat)
     }
 
-    /// The connection takes the last seat. False where that is not free, or all is ending.
+    /// Gives the connection the last seat. False where that is not free, or the server is ending.
     pub fn take_last(&mut self, mailbox: Arc<Mailbox>, now: u64) -> bool {
         self.take_at(LAST_SEAT, mailbox, now)
     }
@@ -77,14 +77,15 @@ impl Seats {
         }
     }
 
-    /// What the connection on this seat does now.
+    /// Notes what the connection on this seat does now.
     pub fn note(&mut self, seat: usize, doing: SeatUse) {
         if let Some(Some(sitting)) = self.sittings.get_mut(seat) {
             sitting.doing = doing;
         }
     }
 
-    /// Ends the first connection that has been silent for two seconds at this moment, of those that nobody keeps: its seat will be free.
+    /// Ends the first connection that isn't kept and has been silent for two seconds or more at the moment `now`, in milliseconds: its seat
+    /// will be free.
     pub fn end_silent<R: Wait>(&mut self, rt: &R, kept: &[bool; SEAT_COUNT], now: u64) {
         let mut uses = [SeatUse::Needed; SEAT_COUNT];
         let sittings = self.sittings.as_slice();
@@ -100,7 +101,7 @@ impl Seats {
         }
     }
 
-    /// Whether no seat is free, and one will be soon.
+    /// Whether no seat is free now, but one will be soon.
     pub fn is_about_to_be_free(&self) -> bool {
         let sittings = self.sittings.as_slice();
         sittings.iter().all(|taken| taken.is_some())
@@ -136,7 +137,7 @@ impl Seats {
         self.is_ending
     }
 
-    /// No connection is taken any more, and each that is there is ended at once.
+    /// Takes no connection from now on, and ends each that is there at once.
     pub fn end_all<R: Wait>(&mut self, rt: &R) {
         self.is_ending = true;
         for sitting in self.sittings.as_slice().iter().flatten() {

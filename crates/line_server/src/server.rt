@@ -11,14 +11,14 @@ use std::os::unix::net::{UnixListener, UnixStream};
 use std::sync::{Arc, Condvar, Mutex, Wait};
 use std::time::{Clock, Duration};
 
-/// How long no connection is accepted where the system lacks something for it, such as descriptors, and no other one ends, in
-/// milliseconds.
+/// How long no connection is accepted after the system lacked something for it, such as a descriptor, in milliseconds; less where another
+/// connection ends before.
 const ACCEPT_WAIT: u64 = 100;
 
-/// How long a connection that knocks waits for a seat that will be free, in milliseconds.
+/// How long a connection that knocks waits at most for a seat that will be free, in milliseconds.
 const KNOCK_WAIT: u64 = 100;
 
-/// What becomes of a connection once a line was answered.
+/// What happens to a connection after a line was answered.
 #[derive(Clone, Copy, Debug, PartialEq, Eq)]
 pub enum Next {
     /// Its next line is read.
@@ -27,27 +27,28 @@ pub enum Next {
     Close,
 }
 
-/// Who answers the lines of connections. Its calls for one seat come one after the other, those for two seats at the same time.
+/// Whoever answers the lines of connections. Its calls for one seat come one after the other; calls for two seats may come at the same
+/// time.
 pub trait Answers {
-    /// A line has come on this seat, without its newline. It may be answered later: what is posted to the mailbox is written in that
-    /// order.
+    /// A line has come on this seat; `line` is without its newline. It may be answered later. Texts are written in the order in which they
+    /// are posted to the mailbox.
     fn answer<R: Wait + Clock>(&self, rt: &R, seat: usize, line: &[u8], mailbox: &Mailbox) -> Next;
 
-    /// Comes back once each line of this seat that was given is answered. No other line of it is read before.
+    /// Returns once each line of this seat that was given to `answer` is answered. No further line of the seat is read before that.
     fn settle<R: Wait>(&self, rt: &R, seat: usize);
 
-    /// A line of more than 8,192 bytes is coming on this seat, behind those that were given. What is posted is written, and the connection
-    /// ends.
+    /// A line of more than 8,192 bytes is coming on this seat, after those that were given to `answer`. What is posted is still written,
+    /// and then the connection ends.
     fn refuse_long_line<R: Wait>(&self, rt: &R, seat: usize, mailbox: &Mailbox);
 
-    /// Whether the connection of this seat stays though it says nothing: something is still to be told to it.
+    /// Whether the connection of this seat is kept though it says nothing, because something may still be told to it.
     fn keeps<R: Wait>(&self, rt: &R, seat: usize) -> bool;
 
     /// The connection of this seat has ended, and no line of it is being answered. The seat is free afterwards.
     fn leave<R: Wait>(&self, rt: &R, seat: usize);
 }
 
-/// The present moment of the system's clock, in milliseconds; 0 where the system has none.
+/// The present moment of the system's monotonic clock, in milliseconds; 0 where the system has none.
 pub fn millis_of<R: Clock>(rt: &R) -> u64 {
     match rt.monotonic() {
         Ok(passed) => u64::try_from(passed.as_millis()).unwrap_or(u64::MAX),
@@ -55,31 +56,31 @@ pub fn millis_of<R: Clock>(rt: &R) -> u64 {
     }
 }
 
-/// A server of lines: at most 11 connections at one time. A further one is sent `busy` and a newline, and closed, unless one of the 11 has
-/// said nothing for two seconds, and waits for nothing: that one is closed, and its seat is given to whoever knocks.
+/// A server of lines, for at most 11 connections at one time. A further one is sent `busy` and a newline, and closed. But where one of the
+/// 11 has said nothing for two seconds, and waits for nothing, that one is closed, and its seat goes to the one that knocks.
 ///
-/// The threads of the last seat are there from the start, and one descriptor is kept: where the system has no thread, or no descriptor, for a
-/// connection, one can come all the same.
+/// The threads of the last seat run from the start, and one descriptor is kept in reserve. So where the system has no thread or no
+/// descriptor for a connection, one can still come.
 #[derive(Drop)]
 pub struct Server<W: Answers> {
     pub(crate) alloc: Global,
     pub(crate) listener: UnixListener,
-    // The listener once more, to end it by: at the end there may be no descriptor to make one.
+    // A second descriptor of the listener, by which `end` ends it: at that time there may be no descriptor left to make one.
     waker: UnixStream,
-    // A descriptor that is given up where a connection can't be accepted for want of one.
+    // A descriptor in reserve, which is given up where a connection can't be accepted for want of one.
     spare: Mutex<Option<UnixListener>>,
     pub(crate) seats: Mutex<Seats>,
-    // Where a seat became free, or all is ending.
+    // Notified when a seat becomes free, and when the server is ending.
     changed: Condvar,
-    // What the two threads of the last seat work on: one reads the connection, and one writes it.
+    // Where the two threads of the last seat get their work: one reads the connection, and one writes to it.
     pub(crate) last_read: WorkDesk<Arc<Mailbox>>,
     pub(crate) last_written: WorkDesk<Arc<Mailbox>>,
     pub(crate) answers: W,
 }
 
 impl<W: Answers> Server<W> {
-    /// Over a listener from which nothing was accepted, with free seats. It takes two descriptors more; where the system has none that is
-    /// an error, and the listener is closed.
+    /// A server on a listener from which nothing was accepted, with free seats. It takes two more descriptors; where the system has none,
+    /// that is the error, and the listener is closed.
     pub fn new(
         alloc: Global,
         listener: UnixListener,
@@ -104,7 +105,7 @@ impl<W: Answers> Server<W> {
         })
     }
 
-    /// Who answers.
+    /// Whoever answers the lines.
     pub fn answers(&self) -> &W {
         &self.answers
     }
@@ -114,7 +115,7 @@ impl<W: Answers> Server<W> {
         self.seats.lock(rt).mailbox(seat)
     }
 
-    // A seat for a connection, but the last; None where none is free.
+    // Gives a connection a seat, but not the last one; None where none of these is free.
     pub(crate) fn take_seat<R: Wait + Clock>(
         &self,
         rt: &R,
@@ -124,7 +125,7 @@ impl<W: Answers> Server<W> {
         self.seats.lock(rt).take(own, millis_of(rt))
     }
 
-    // The last seat for a connection, whose threads begin with it. False where it is not free.
+    // Gives a connection the last seat, whose threads begin to serve it. False where that seat is not free.
     pub(crate) fn take_last_seat<R: Wait + Clock>(&self, rt: &R, mailbox: &Arc<Mailbox>) -> bool {
         matches!(self.begin_last_seat(rt, mailbox), Ok(true))
     }
@@ -145,7 +146,7 @@ impl<W: Answers> Server<W> {
         Ok(true)
     }
 
-    // Has a connection leave that has been silent for long, if there is one.
+    // Ends a connection that has been silent for two seconds, if there is one.
     fn end_silent<R: Wait + Clock>(&self, rt: &R) {
         let mut kept = [true; SEAT_COUNT];
         for (seat, is_kept) in kept.iter_mut().enumerate() {
@@ -154,7 +155,7 @@ impl<W: Answers> Server<W> {
         self.seats.lock(rt).end_silent(rt, &kept, millis_of(rt));
     }
 
-    // Has a connection leave that has been silent for long, if there is one, and waits for a seat that will be free, but not for long.
+    // Ends a connection that has been silent for two seconds, if there is one. Waits at most 100 milliseconds for a seat that will be free.
     pub(crate) fn make_way<R: Wait + Clock>(&self, rt: &R) {
         self.end_silent(rt);
         let seats = self.seats.lock(rt);
@@ -164,7 +165,7 @@ impl<W: Answers> Server<W> {
         });
     }
 
-    // What the connection on this seat does now.
+    // Notes what the connection on this seat does now.
     pub(crate) fn note<R: Wait>(&self, rt: &R, seat: usize, doing: SeatUse) {
         self.seats.lock(rt).note(seat, doing);
     }
@@ -175,12 +176,12 @@ impl<W: Answers> Server<W> {
         self.changed.notify_all();
     }
 
-    // Gives the spare descriptor up. Whether there was one.
+    // Gives up the spare descriptor. Returns whether there was one.
     fn give_up_spare<R: Wait>(&self, rt: &R) -> bool {
         self.spare.lock(rt).take().is_some()
     }
 
-    // Takes a spare descriptor again, if the system has one.
+    // Takes a spare descriptor again, if it was given up and the system has one.
     pub(crate) fn keep_spare<R: Wait>(&self, rt: &R) {
         let mut spare = self.spare.lock(rt);
         if spare.is_none() {
@@ -188,9 +189,9 @@ impl<W: Answers> Server<W> {
         }
     }
 
-    // Waits after a connection could not be accepted. Where the system lacks something for it, the spare descriptor is given up; where there
-    // is none, a connection that is silent for long has to leave, and one that ended since the count of `freed` is awaited, but not for
-    // long. The count then, or None where all is ending.
+    // Called after a connection could not be accepted. Where the system lacks something for it, it gives up the spare descriptor. Where
+    // there is none, it ends a connection that has been silent for two seconds, and waits at most 100 milliseconds for a seat that has
+    // become free since their count was `freed`. Returns the count then, or None where the server is ending.
     pub(crate) fn wait_to_accept<R: Wait + Clock>(
         &self,
         rt: &R,
@@ -216,7 +217,7 @@ impl<W: Answers> Server<W> {
         Some(seats.freed())
     }
 
-    /// Ends the server, from any thread: no connection is accepted any more, each one that is there ends, and `serve` comes back.
+    /// Ends the server, from any thread: no connection is accepted any more, each one that is there ends, and `serve` returns.
     pub fn end<R: Wait>(&self, rt: &R) {
         self.seats.lock(rt).end_all(rt);
         self.changed.notify_all();

@@ -2,7 +2,7 @@
 ghost use Rattle.std.specs.Prelude.{◌≡◌, All, IfSome, IfNone, Some, true, false, option_map, slice_get};
 ghost use Rattle.line_server.specs.Silence.{gives_way};
 
-/// How long a connection may say nothing, in milliseconds, before another one that knocks gets its seat.
+/// After this long without a line, in milliseconds, a connection may lose its seat to another one that knocks.
 pub const SILENCE_LIMIT: u64 = 2_000;
 
 /// What the connection of a seat does.
@@ -17,7 +17,7 @@ pub enum SeatUse {
 }
 
 impl SeatUse {
-    /// Whether it has said nothing for so long that another one gets its seat.
+    /// Whether it has said nothing for two seconds or more at the moment `now`, in milliseconds, so that another one may get its seat.
     pub fn gives_way(&self, now: u64) -> bool
         ensures { result ≡ gives_way now self.now }
     {
@@ -28,7 +28,7 @@ impl SeatUse {
     }
 }
 
-/// The first seat whose connection has said nothing for so long that another one gets it; None where there is none.
+/// The first seat whose connection gives way at the moment `now`, in milliseconds; None where there is no such seat.
 pub fn first_silent(uses: &[SeatUse], now: u64) -> Option<usize>
     ensures some { IfSome result
         (λ seat. option_map (λ u. gives_way now u) (slice_get uses.now seat) ≡ Some true) }

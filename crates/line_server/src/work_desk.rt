@@ -1,4 +1,4 @@
-//! Where a thread that is there from the start gets one thing after another to work on.
+//! Where a thread gets one thing after another to work on.
 use std::sync::{Condvar, Mutex, Wait};
 
 #[derive(Drop)]
@@ -28,7 +28,7 @@ impl<T: Drop> WorkDesk<T> {
         }
     }
 
-    /// Gives a thing to work on. It comes back where the one before is not done, or nothing more is worked on.
+    /// Gives the thread a thing to work on. The thing comes back where the one before is not done, or the desk was ended.
     pub fn give<R: Wait>(&self, rt: &R, thing: T) -> Result<(), T> {
         let mut work = self.work.lock(rt);
         if work.is_over || work.is_under_way || work.given.is_some() {
@@ -39,7 +39,7 @@ impl<T: Drop> WorkDesk<T> {
         Ok(())
     }
 
-    /// Waits for the next thing, which is then worked on; None once nothing more comes.
+    /// Waits for the next thing, and takes it to work on it; None once the desk was ended and nothing is left.
     pub fn take<R: Wait>(&self, rt: &R) -> Option<T> {
         let mut work = self.changed.wait_while(rt, self.work.lock(rt), |work| {
             !work.is_over && work.given.is_none()
@@ -62,7 +62,7 @@ impl<T: Drop> WorkDesk<T> {
         });
     }
 
-    /// Nothing more is worked on.
+    /// Ends the desk: nothing more can be given.
     pub fn end<R: Wait>(&self, rt: &R) {
         let mut work = self.work.lock(rt);
         work.is_over = true;

@@ -12,9 +12,9 @@ use Rattle.order_lanes.specs.declared.lanes.Lanes as lanes
 use Rattle.status_board.specs.declared.board.Board as board
 use Rattle.order_lanes.proofs.lane.Lane.TheSendSync as lane
 use Rattle.inbox.proofs.Crosses.{drain_send}
-use Rattle.run_records.specs.contracts.run.Run as Run
 use Rattle.tree_core.specs.contracts.image.Image as Image
 use Rattle.tree_core.proofs.Crosses.{input_send, tree_send}
+use Rattle.run_records.proofs.Crosses.{run_send}
 use Rattle.run_history.proofs.history.Keeper.TheSendSync as keeper
 use Rattle.locked_services.specs.contracts.room.Room as Room
 use Rattle.locked_services.specs.contracts.room.Room.TheInside as RoomInside
@@ -23,9 +23,6 @@ use Rattle.locked_services.specs.contracts.running.RunningTree.TheInside as Insi
 
 image_send : IsSend (Image.the_row Global.the_row heap.ghosts)
 image_send = search (crosses, sendable) depth 60 fits 20000
-
-run_send : IsSend Run.the_row
-run_send = search (crosses, sendable) depth 60 fits 20000
 
 flag_send : IsSend bool
 flag_send = search sendable

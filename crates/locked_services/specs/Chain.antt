@@ -28,6 +28,6 @@ abbrev pub chain_end : StoredTree → List ClosedRun → StoredTree
 chain_end tree [] = tree
 chain_end tree (run ∷ runs) = chain_end run.tree runs
 
--- they are one run
+-- together they are one legal run from this tree
 abbrev pub AreOneRun : StoredTree → List ClosedRun → Type 0
 AreOneRun tree runs = IsLegalRun (record { opening = tree; steps = chain_steps runs; tree = chain_end tree runs })

@@ -15,19 +15,19 @@ use Rattle.locked_services.specs.declared.closing.CloseFault.{CloseFault}
 use Rattle.locked_services.specs.declared.closing.CloseFault.TheVariants.{Missing, Left}
 use Rattle.locked_services.specs.declared.closing.Closed.{Closed}
 
--- how many finishes this actor has
+-- how many of the finishes are those of this actor's seat
 abbrev pub finishes_of : ℕ → List FinishedView → ℕ
 finishes_of actor finishes = count_by (λ f. f.actor == actor) finishes
 
--- each is of one of so many seats
+-- each finish is of a seat with a number below `seats`
 abbrev pub AreKnown : ℕ → List FinishedView → Type 0
 AreKnown seats finishes = (k : ℕ) (f : FinishedView) → slice_get finishes k ≡ Some f → f.actor < seats
 
--- of each the ring told all that its seat had submitted
+-- for each finish the ring told what the seat had submitted
 abbrev pub AreTold : List FinishedView → Type 0
 AreTold finishes = (k : ℕ) (f : FinishedView) → slice_get finishes k ≡ Some f → IsSome f.submitted
 
--- there is just one for each of so many seats, and the ring of each told all that was submitted
+-- there is just one finish for each of so many seats, and no other, and for each the ring told what the seat had submitted
 pub record AreComplete (seats : ℕ) (finishes : List FinishedView) : Type 0 where
   pub known : AreKnown seats finishes
   pub one : (actor : ℕ) → actor < seats → finishes_of actor finishes ≡ 1
@@ -37,7 +37,7 @@ pub record AreComplete (seats : ℕ) (finishes : List FinishedView) : Type 0 whe
 abbrev pub AreTaken : List DrainView → List FinishedView → Type 0
 AreTaken drains finishes = (k : ℕ) (f : FinishedView) → slice_get finishes k ≡ Some f → f.submitted ≡ Some (taken_from f.actor drains)
 
--- an input of one of these seats is still in its ring
+-- an input of one of these seats is still in its ring, or the ring didn't tell what the seat had submitted
 abbrev pub IsInputLeft : List DrainView → List FinishedView → Type 0
 IsInputLeft drains finishes =
     (k : ℕ) × (f : FinishedView) × (slice_get finishes k ≡ Some f) × (f.submitted ≡ Some (taken_from f.actor drains) → ⊥)
@@ -49,11 +49,11 @@ IsServed before k None (Some desk) = ⊥
 IsServed before k (Some lane) None = ⊥
 IsServed before k (Some lane) (Some desk) = (lane.number ≡ k) × (desk.lane ≡ k) × (desk.asked ≡ before k ++ lane.sent)
 
--- at each place they do
+-- at each place this is so
 abbrev pub AreServed : (ℕ → List Order) → List LaneView → List DeskView → Type 0
 AreServed before lanes desks = (k : ℕ) → IsServed before k (slice_get lanes k) (slice_get desks k)
 
--- an order is still in a lane's ring or held at its desk, or at some place there is no such desk
+-- at some place it isn't so: an order is still in the lane's ring or held at its desk, or the lane and the desk there don't belong together
 abbrev pub IsOrderLeft : (ℕ → List Order) → List LaneView → List DeskView → Type 0
 IsOrderLeft before lanes desks = (k : ℕ) × (IsServed before k (slice_get lanes k) (slice_get desks k) → ⊥)
 
@@ -71,7 +71,7 @@ AreCarriedOut {B} asked before lanes steps backends =
     (k : ℕ) (b : B) → slice_get backends k ≡ Some b → asked b ≡ before k ++ orders_of_lane lanes k (orders_of steps)
 
 -- a run was closed with these finishes: there is just one for each seat, all that was submitted was done, all orders of the steps were
--- asked, the steps are a legal history, and for its end stands the tree
+-- asked, the steps are a legal history, and the tree stands for its end
 pub record IsClosed {B : Type 0} (asked : B → List Order) (before : ℕ → List Order) (v : RunningView) (finishes : List FinishedView)
     (closed : Closed B) : Type 0 where
   pub complete : AreComplete (length v.drains) finishes
@@ -88,13 +88,13 @@ abbrev pub IsRunFrom : {B : Type 0} → StoredTree → Closed B → Type 0
 IsRunFrom tree closed = (closed.steps ≡ length closed.run.steps)
     × IsLegalRun (record { opening = tree; steps = closed.run.steps; tree = closed.tree.value })
 
--- why a run isn't closed: the finishes aren't complete, or they are, and something is left
+-- why a run isn't closed. Missing: the finishes aren't complete. Left: they are, and something is still to be done
 pub record IsFault (before : ℕ → List Order) (v : RunningView) (desks : List DeskView) (finishes : List FinishedView)
     (fault : CloseFault) : Type 0 where
   pub missing : fault ≡ Missing → AreComplete (length v.drains) finishes → ⊥
   pub left : fault ≡ Left → AreComplete (length v.drains) finishes × IsLeft before v desks finishes
 
--- the ends of rings, without what is seen of these
+-- the ends of rings, without what is seen of the rings
 abbrev pub drain_unseen : DrainView → DrainView
 drain_unseen d = record d { seen = [] }
 
@@ -104,7 +104,7 @@ lane_unseen l = record l { free = 0 }
 abbrev pub desk_unseen : DeskView → DeskView
 desk_unseen d = record d { seen = [] }
 
--- the same ends, of whose rings more or less may be seen
+-- the same ends, but for what is seen of their rings
 abbrev pub AreSameDrains : List DrainView → List DrainView → Type 0
 AreSameDrains old new = map drain_unseen new ≡ map drain_unseen old
 

@@ -3,7 +3,7 @@ use Rattle.std.specs.Prelude.{◌≡◌, ℕ, ◌+◌, List, [], slice_get, Some
 use Rattle.channel_names.specs.RingName.{RingName}
 use Rattle.inbox.specs.Ends.{RingView, SeatView}
 
--- from this number on, each ring stands at its actor's place and has the name of the actor's ring
+-- the rings are those of the actors from number n on, in order, and each has the name of its actor's ring
 abbrev pub AreNamedFrom : ℕ → (ℕ → RingName) → List RingView → Type 0
 AreNamedFrom n names rings = (k : ℕ) (r : RingView) → slice_get rings k ≡ Some r → (r.actor ≡ n + k) × (r.ring ≡ names r.actor)
 

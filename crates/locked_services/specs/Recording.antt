@@ -1,4 +1,4 @@
--- What is written of runs of which each goes on from the one before.
+-- The text of runs of which each goes on from the one before.
 use Rattle.std.specs.Prelude.{ℕ, List, [], ◌∷◌, ◌++◌, map, true, false}
 use Rattle.std.specs.List.{flat_map}
 use Rattle.std.specs.declared.alloc.Global.{Global}
@@ -6,7 +6,7 @@ use Rattle.s6_replay.specs.Script.{Recorded}
 use Rattle.run_records.specs.RunText.{recorded_of, run_text}
 use Rattle.locked_services.specs.Chain.{ClosedRun, chain_steps}
 
--- the text of the first behind the head line, and then those of the others
+-- the head line and the text of the first run, and then the texts of the others
 abbrev pub chain_text : List ClosedRun → List ℕ
 chain_text [] = []
 chain_text (run ∷ runs) = run_text true run.steps ++ flat_map (λ later. run_text false later.steps) runs

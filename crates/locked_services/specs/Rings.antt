@@ -19,7 +19,7 @@ pub record GiveOne (old new : RunningView) : Type 0 where
 abbrev pub TakesNothing : RunningView → RunningView → Type 0
 TakesNothing old new = (new.drains ≡ old.drains) × (new.held ≡ old.held)
 
--- where the run is full or a lane blocked, nothing was taken; where there was no input, the rings gave none
+-- where the run is full or a lane blocked, nothing was taken; where there was no input, the rings gave none; else they gave at most one
 abbrev pub TakesBy : Stop → RunningView → RunningView → Type 0
 TakesBy stop.RunFull old new = TakesNothing old new
 TakesBy (stop.Blocked lane) old new = TakesNothing old new
@@ -27,12 +27,12 @@ TakesBy stop.Idle old new = Give [] old.drains new.drains
 TakesBy stop.Done old new = GiveOne old new
 TakesBy stop.NoMemory old new = GiveOne old new
 
--- how many inputs so many steps may take: one each, and one more that found no memory
+-- how many inputs a drive of so many steps may take: one for each step, and one more where it ended because memory was refused
 abbrev pub most_taken : DriveStop → ℕ → ℕ
 most_taken drive.NoMemory steps = steps + 1
 most_taken end steps = steps
 
--- so many inputs at most were taken
+-- at most `most` inputs were taken
 pub record TakeMost (most : ℕ) (old new : RunningView) : Type 0 where
   pub given : List (Input Global)
   pub gives : Give given old.drains new.drains

@@ -12,7 +12,7 @@ use Rattle.locked_services.specs.Running.{RunningView, IsSoundRunning}
 abbrev pub shot_of : Machine → Shot
 shot_of m = record { at = m.steps; rows = record { items = all_rows m } }
 
--- the shot is that of the machine after some of the steps
+-- the shot is that of the machine after the first n steps, for some n
 abbrev pub IsShotOf : Machine → List RunStep → Shot → Type 0
 IsShotOf m steps shot = (n : ℕ) × (n ≤ length steps) × (shot ≡ shot_of (end_of m (take n steps)))
 
@@ -21,7 +21,7 @@ abbrev pub first_shot : List Shot → Option Shot
 first_shot [] = None
 first_shot (shot ∷ shots) = Some shot
 
--- so many steps more
+-- the new steps are the old ones and then n more
 abbrev pub Grows : ℕ → List RunStep → List RunStep → Type 0
 Grows n old new = (more : List RunStep) × (length more ≡ n) × (new ≡ old ++ more)
 
@@ -31,8 +31,8 @@ pub record RoomView : Type 0 where
   pub shots : List Shot
   pub is_shown : Bool
 
--- the run began with this tree; the first shot is that of it, each shot is one of the run, none was taken after fewer steps than one
--- before it, and where the present state is shown the last shot is that
+-- the run began with this tree; the first shot is that of it, each shot is one of the run, none was taken after fewer steps than one before
+-- it; and where `is_shown`, the last shot is that of the present state
 pub record IsSoundRoom (opening : StoredTree) (v : RoomView) : Type 0 where
   pub begins : v.running.opening ≡ opening
   pub first : (m : Machine) → StandsFor v.running.opening m → first_shot v.shots ≡ Some (shot_of m)
@@ -41,7 +41,7 @@ pub record IsSoundRoom (opening : StoredTree) (v : RoomView) : Type 0 where
   pub last : v.is_shown ≡ true → (m : Machine) → StandsFor v.running.opening m
       → last_shot v.shots ≡ Some (shot_of (end_of m v.running.steps))
 
--- all that is true whenever its lock is free of a room whose run began with this tree
+-- all that is true of a room, whose run began with this tree, whenever its lock is free
 pub record IsSoundHistory (opening : StoredTree) (v : RoomView) : Type 0 where
   pub running : IsSoundRunning v.running
   pub room : IsSoundRoom opening v

@@ -33,7 +33,7 @@ taken_from actor drains = taken_by (slice_get drains actor)
 abbrev pub submissions_in : ℕ → List (Input Global) → List Submission
 submissions_in actor inputs = flat_map (submission_by actor) inputs
 
--- there are as many rings as before, and each gave its actor's of these inputs, and no more
+-- there are as many rings as before, and each gave those of these inputs that are its actor's, in order, and no more
 pub record Give (given : List (Input Global)) (old new : List DrainView) : Type 0 where
   pub each : length new ≡ length old
   pub taken : (actor : ℕ) → taken_from actor new ≡ taken_from actor old ++ submissions_in actor given
@@ -46,6 +46,6 @@ AreNumbered drains = (k : ℕ) (drain : DrainView) → slice_get drains k ≡ So
 abbrev pub NoneSeen : List DrainView → Type 0
 NoneSeen drains = (k : ℕ) (drain : DrainView) → slice_get drains k ≡ Some drain → drain.seen ≡ []
 
--- nor in those at places below n
+-- nothing is seen beyond what was taken in the rings at places below n
 abbrev pub NoneSeenBelow : ℕ → List DrainView → Type 0
 NoneSeenBelow n drains = (k : ℕ) (drain : DrainView) → k < n → slice_get drains k ≡ Some drain → drain.seen ≡ []

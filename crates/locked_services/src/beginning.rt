@@ -1,4 +1,4 @@
-//! What a run needs memory for before it begins.
+//! The parts of a run for which memory is taken before it begins.
 ghost use Rattle.std.specs.Prelude.{◌≡◌, [], IfOk};
 
 use run_records::Run;
@@ -6,7 +6,7 @@ use s6_events::NoMemory;
 use std::alloc::Global;
 use tree_core::{Effect, Image, Tree};
 
-/// All that a run keeps of its beginning: the image of its tree, no step yet, and an effect that each step fills anew.
+/// What is made before a run begins: the image of its tree, a run with no step, and an effect that each step fills anew.
 #[derive(Drop)]
 pub struct Beginning {
     pub opening: Image<Global>,
@@ -15,7 +15,7 @@ pub struct Beginning {
 }
 
 impl Beginning {
-    /// The beginning of a run of this tree. `NoMemory` where a growth was refused.
+    /// What a run of this tree begins with. `NoMemory` where memory is refused.
     pub fn of(alloc: Global, tree: &Tree<Global>) -> Result<Beginning, NoMemory>
         ensures opening { IfOk result (λ b. b.opening ≡ tree.now) }
         ensures steps { IfOk result (λ b. b.run.steps ≡ []) }

@@ -13,14 +13,14 @@ use tree_core::Tree;
 /// Why a run was not closed.
 #[derive(Clone, Copy, PartialEq, Eq, Debug)]
 pub enum CloseFault {
-    /// There isn't just one finish for each seat, or the ring of one told nothing of its end. This is looked for first.
+    /// There isn't just one finish for each seat, or a seat's ring told nothing of the seat's end. This is looked for first.
     Missing = 1,
-    /// An input or an order is still to be done.
+    /// An input or an order is still to be done, or the desks aren't just those of the lanes.
     Left = 2,
 }
 
-/// What a run leaves: its tree, how many steps it made, these steps, and the backends of its lanes, in the order of their numbers. A long run
-/// takes milliseconds to be dropped, so that may be left to another thread.
+/// What a run leaves: its tree, how many steps it made, these steps, and the backends of its lanes, in the order of the lanes' numbers. To
+/// drop a long run takes milliseconds, so another thread may do it.
 #[derive(Drop)]
 pub struct Closed<B: Drop> {
     pub tree: Box<Tree<Global>>,
@@ -29,7 +29,7 @@ pub struct Closed<B: Drop> {
     pub backends: Vec<B>,
 }
 
-// How many finishes this actor has.
+// How many of the finishes are those of this actor's seat.
 fn count_finishes<C: Channels>(finishes: &Vec<Finished<C>>, actor: usize) -> usize
     ensures { result ≡ finishes_of actor finishes.now.items }
 {
@@ -42,7 +42,7 @@ fn count_finishes<C: Channels>(finishes: &Vec<Finished<C>>, actor: usize) -> usi
     count
 }
 
-// Whether each finish is of one of so many seats.
+// Whether each finish is of a seat with a number below `seats`.
 fn are_known<C: Channels>(finishes: &Vec<Finished<C>>, seats: usize) -> bool
     ensures yes { result ≡ true → AreKnown seats finishes.now.items }
     ensures no { result ≡ false → AreKnown seats finishes.now.items → ⊥ }
@@ -74,7 +74,7 @@ fn has_one_each<C: Channels>(finishes: &Vec<Finished<C>>, seats: usize) -> bool
     true
 }
 
-// Whether all that the seat submitted was taken; None where its ring told nothing of its end.
+// Whether all that this seat submitted was taken; None where its ring told nothing of the seat's end.
 fn is_drained<C: Channels>(drains: &mut Vec<Drain<C>>, finished: &mut Finished<C>) -> Option<bool>
     requires numbered { AreNumbered drains.old.items }
     requires known { finished.old.actor < length drains.old.items }
@@ -98,7 +98,7 @@ fn both(one: bool, other: bool) -> bool
     one && other
 }
 
-// Whether all that these seats submitted was taken; None where the ring of one told nothing of its end.
+// Whether all that these seats submitted was taken; None where a ring told nothing of its seat's end.
 fn are_drained<C: Channels>(
     drains: &mut Vec<Drain<C>>,
     finishes: &mut Vec<Finished<C>>,
@@ -123,8 +123,8 @@ fn are_drained<C: Channels>(
     Some(all)
 }
 
-/// Why a run with these rings can't be closed with these finishes, by its inputs alone: they aren't just one for each ring; or one of
-/// their inputs is still in its ring, or is held.
+/// Why a run with these rings can't be closed with these finishes, by its inputs alone. `Missing`: there isn't just one finish for each
+/// ring, or a ring told nothing of its seat's end. `Left`: an input is still in a ring, or one is held. None where neither is so.
 pub fn input_fault<C: Channels>(
     drains: &mut Vec<Drain<C>>,
     finishes: &mut Vec<Finished<C>>,

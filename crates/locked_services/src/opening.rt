@@ -15,7 +15,7 @@ pub struct SeatEnds<C: Channels> {
     pub drains: Vec<Drain<C>>,
 }
 
-/// The ends of new rings, in a run whose rings these are. `NoMemory` where a growth was refused.
+/// The ends of these new rings, whose names are those that `C` gives to the rings of its seats. `NoMemory` where memory is refused.
 pub fn seat_ends<C: Channels>(alloc: Global, rings: Vec<Ring>) -> Result<SeatEnds<C>, NoMemory>
     requires { AreNamed C.seat_ring rings.items }
     ensures numbered { IfOk result (λ ends. AreNumbered ends.drains.items) }

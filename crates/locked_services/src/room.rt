@@ -46,7 +46,7 @@ pub struct Room<C: Channels + Lanes, D: Board<C>> {
     keeper: Keeper<C>,
 }
 
-// All inputs that were done become known to the keeper, by a type that names them.
+// Tells the keeper all inputs that were done. For the proof, the type `N` names them.
 fn keep<N: Whole, C: Channels + Lanes, R: Wait>(
     rt: &R,
     keeper: &mut Keeper<C>,
@@ -60,7 +60,7 @@ fn keep<N: Whole, C: Channels + Lanes, R: Wait>(
     keeper.extend::<N, R>(rt);
 }
 
-/// A room that was not closed, and why, with all that it was to be closed with.
+/// A room that was not closed, why it was not, and all that `close` was given beside it.
 #[derive(Drop)]
 pub struct NotClosed<C: Channels + Lanes, D: Board<C>, B: Backend> {
     pub room: Room<C, D>,
@@ -83,7 +83,7 @@ impl<C: Channels + Lanes, D: Board<C>> Model for Room<C, D> {
 }
 
 impl<C: Channels + Lanes, D: Board<C>> Room<C, D> {
-    /// A room of this running tree, in which no step was made, and whose state alone was published on the board.
+    /// A room of this running tree, which has made no step. Its present state is the only one that was published on the board.
     pub fn begin(running: RunningTree<C>, board: D, keeper: Keeper<C>) -> Room<C, D>
         requires keeper { keeper ≡ [] }
         requires opening { running.opening ≡ C.opening }
@@ -92,7 +92,7 @@ impl<C: Channels + Lanes, D: Board<C>> Room<C, D> {
             D.shots board ≡ shot_of (end_of m running.steps) ∷ [] }
         ensures { result ≡ record { running = running; shots = D.shots board; is_shown = true } }
     {
-        // There is a machine for which its tree stands.
+        // For the proof: there is a machine for which its tree stands.
         let _steps = running.steps();
         Room {
             running,
@@ -102,7 +102,7 @@ impl<C: Channels + Lanes, D: Board<C>> Room<C, D> {
         }
     }
 
-    /// All inputs that were done become known. What was known is a beginning of them.
+    /// Sets `known` to all inputs that were done. What it was before is a beginning of them.
     pub fn show<R: Wait>(&mut self, rt: &R, known: &mut History<C>)
         ensures same { self.new ≡ self.old }
         ensures all { known.new ≡ inputs_of self.old.running.steps }
@@ -119,7 +119,7 @@ impl<C: Channels + Lanes, D: Board<C>> Room<C, D> {
         self.keeper.tell()
     }
 
-    /// Makes one step, of the input that is held or, where none is held, of one newly taken.
+    /// Makes one step, of the input that is held or, where none is held, of one that it takes from the rings.
     pub fn step_one<R: Wait>(&mut self, rt: &R) -> Stop
         ensures opening { self.new.running.opening ≡ self.old.running.opening }
         ensures shots { self.new.shots ≡ self.old.shots }
@@ -144,7 +144,7 @@ impl<C: Channels + Lanes, D: Board<C>> Room<C, D> {
         stop
     }
 
-    /// Publishes the present state. `NoMemory` where that is refused: the board is then as it was.
+    /// Publishes the present state. `NoMemory` where memory is refused: the board is then as it was.
     pub fn publish(&mut self) -> Result<(), NoMemory>
         ensures running { self.new.running ≡ self.old.running }
         ensures added { OnOk result ((m : Machine) → StandsFor self.old.running.opening m →
@@ -159,7 +159,8 @@ impl<C: Channels + Lanes, D: Board<C>> Room<C, D> {
         Ok(())
     }
 
-    /// Names all that was published so far: first the state with which the run began, and then states that it came to.
+    /// All shots that were published so far, for a reader to learn: the first shows the state with which the run began, and each later one
+    /// a state that it came to.
     pub fn tell(&self) -> Told<C>
         ensures shots { result ≡ self.now.shots }
         ensures rising { NeverFalls result }
@@ -167,7 +168,7 @@ impl<C: Channels + Lanes, D: Board<C>> Room<C, D> {
         self.board.tell()
     }
 
-    /// The reply to the input of a ticket; None where its step isn't made yet. `NoMemory` where a growth was refused.
+    /// The reply to the input of a ticket; None where its step isn't made yet. `NoMemory` where memory is refused.
     pub fn reply(&self, ticket: Ticket) -> Result<Option<Reply<Global>>, NoMemory>
         ensures { IfOk result
             (λ reply. reply ≡ reply_at ticket.actor ticket.number self.now.running.steps) }
@@ -175,7 +176,7 @@ impl<C: Channels + Lanes, D: Board<C>> Room<C, D> {
         self.running.reply(ticket)
     }
 
-    /// All that the step of this number gave, from 1; None where there are fewer. `NoMemory` where a growth was refused.
+    /// All that step `number` gave, counted from 1; None where there is no such step. `NoMemory` where memory is refused.
     pub fn effect(&self, number: u64) -> Result<Option<Effect<Global>>, NoMemory>
         ensures { IfOk result (λ effect. option_map (λ e. outcome_of e) effect
             ≡ outcome_at number self.now.running.steps) }
@@ -183,8 +184,8 @@ impl<C: Channels + Lanes, D: Board<C>> Room<C, D> {
         self.running.effect(number)
     }
 
-    /// Fills an effect with all that the step of this number gave, from 1; what it held is gone. False where there are fewer. `NoMemory` where a
-    /// growth was refused.
+    /// Fills an effect with all that step `number` gave, counted from 1; what it held is gone. False where there is no such step: nothing
+    /// is filled in. `NoMemory` where memory is refused: the effect may then be filled in part.
     pub fn fill(&self, number: u64, effect: &mut Effect<Global>) -> Result<bool, NoMemory>
         ensures { IfOk result
             (λ is_there. IsFilled is_there (outcome_of effect.new) number self.now.running.steps) }
@@ -192,23 +193,23 @@ impl<C: Channels + Lanes, D: Board<C>> Room<C, D> {
         self.running.fill(number, effect)
     }
 
-    /// Whose input the step of this number took, from 1; None where there are fewer.
+    /// Whose input step `number` took, counted from 1; None where there is no such step.
     pub fn actor(&self, number: u64) -> Option<Actor>
         ensures { result ≡ actor_at number self.now.running.steps }
     {
         self.running.actor(number)
     }
 
-    /// The moment at which the input of the step of this number was handed in, from 1; None where there are fewer.
+    /// The moment at which the input of step `number` was handed in, counted from 1; None where there is no such step.
     pub fn moment(&self, number: u64) -> Option<At>
         ensures { result ≡ moment_at number self.now.running.steps }
     {
         self.running.moment(number)
     }
 
-    /// Writes the run as a recorded script, behind the head line if `head`: for each step the line of its input, and that of its reply.
-    /// How many steps these are. The writer is not flushed. The texts of runs that go on from one another, of which the first began with
-    /// a new tree and is written behind the head line, are one script (`laws::recording`).
+    /// Writes the run as a recorded script: the head line, if `head`, and then for each step the line of its input and that of its reply.
+    /// Returns how many steps these are. The writer is not flushed. Where each run goes on from the one before, and only the first is
+    /// written with the head line, their texts in a row are one script (`laws::recording`).
     pub fn write_run<W: Write>(&self, head: bool, writer: &mut W) -> Result<u64, RunFault>
         ensures ok { IfOk result (λ count. IsWritten count head self.now.running.steps
             (W.contents writer.old) (W.contents writer.new)) }
@@ -218,9 +219,10 @@ impl<C: Channels + Lanes, D: Board<C>> Room<C, D> {
         self.running.write_run(head, writer)
     }
 
-    /// How many steps were made. What holds at every moment: the steps are a legal history from each machine for which the first tree
-    /// stood, and the tree stands for its end; each actor's steps and the held input are what its ring gave; each lane was sent its
-    /// orders; and the shots are states of this history, each no older than the one before, the first of them that with which it began.
+    /// How many steps were made. The clause `sound` says what holds at every moment. The steps are a legal history from each machine for
+    /// which the first tree stood, and the tree stands for its end. Each actor's steps, and then the held input if it is the actor's, are
+    /// what its ring gave. Each lane was sent its orders. Each shot shows a state of this history: the first shows the one with which it
+    /// began, and none is older than the one before.
     pub fn steps(&self) -> usize
         ensures count { result ≡ length self.now.running.steps }
         ensures sound { IsSoundHistory C.opening self.now }
@@ -228,7 +230,7 @@ impl<C: Channels + Lanes, D: Board<C>> Room<C, D> {
         self.running.steps()
     }
 
-    // Makes at most so many steps.
+    // Makes at most `most` steps.
     fn step_many<R: Wait>(&mut self, rt: &R, most: u64) -> Driven
         ensures opening { self.new.running.opening ≡ self.old.running.opening }
         ensures shots { self.new.shots ≡ self.old.shots }
@@ -261,7 +263,9 @@ impl<C: Channels + Lanes, D: Board<C>> Room<C, D> {
         }
     }
 
-    /// Makes at most so many steps, and then publishes, if it made any. What an earlier drive could not publish is published first.
+    /// Makes at most `most` steps, and then publishes the state, if it made any. Where an earlier drive could not publish, this one
+    /// publishes first; if memory for that is refused, it makes no step. Where the state can't be published, the answer is `NoMemory`, and
+    /// the steps that were made stay.
     pub fn drive<R: Wait>(&mut self, rt: &R, most: u64) -> Driven
         ensures opening { self.new.running.opening ≡ self.old.running.opening }
         ensures steps { Grows result.steps self.old.running.steps self.new.running.steps }
@@ -319,7 +323,7 @@ impl<C: Channels + Lanes, D: Board<C>> Room<C, D> {
         self.running.next_due()
     }
 
-    // Why the run can't be closed with these desks and finishes.
+    // Why the run can't be closed with these desks and finishes; None where it can be.
     fn close_fault<B: Backend>(
         &mut self,
         desks: &mut Vec<Desk<B, C>>,
@@ -350,9 +354,9 @@ impl<C: Channels + Lanes, D: Board<C>> Room<C, D> {
         running.into_parts()
     }
 
-    /// Closes the run, where there is just one finish for each seat, and all that was submitted was done, and all orders were asked.
-    /// The desks are those of the lanes, in the order of their numbers; `backends` is an empty list with room for theirs. Else all
-    /// comes back as it was, but that more may have been seen of the rings. It takes no memory.
+    /// Closes the run, where there is just one finish for each seat, all that was submitted was done, and all orders were asked. `desks`
+    /// are those of the lanes, in the order of the lanes' numbers; `backends` is an empty list with room for the desks' backends. At a
+    /// fault all comes back as it was, except that more may have been seen of what is in the rings. It takes no memory.
     pub fn close<B: Backend>(
         self,
         desks: Vec<Desk<B, C>>,

@@ -41,7 +41,7 @@ pub struct RunningTree<C: Channels + Lanes> {
     opening: Image<Global>,
     tree: Box<Tree<Global>>,
     run: Run,
-    // Filled anew by each step: its list of orders is large, and making one costs more than most steps.
+    // Filled anew by each step: its list of orders is large, and to make a new one would cost more than most steps do.
     effect: Box<Effect<Global>>,
     drains: Vec<Drain<C>>,
     held: Option<Input<Global>>,
@@ -87,7 +87,7 @@ impl<C: Channels + Lanes> RunningTree<C> {
             run,
             effect,
         } = beginning;
-        // There is a machine for which the tree stands.
+        // For the proof: there is a machine for which the tree stands.
         let _clock = tree.now();
         RunningTree {
             alloc,
@@ -101,7 +101,7 @@ impl<C: Channels + Lanes> RunningTree<C> {
         }
     }
 
-    // Takes an input from the rings, if none is held. Whether one is held then.
+    // Takes an input from the rings, if none is held. Returns whether one is held now.
     fn fetch(&mut self) -> bool
         ensures opening { self.new.opening ≡ self.old.opening }
         ensures tree { self.new.tree ≡ self.old.tree }
@@ -121,7 +121,7 @@ impl<C: Channels + Lanes> RunningTree<C> {
         self.held.is_some()
     }
 
-    // The least lane that may have no room for the orders of a step.
+    // The least lane that may have no room for the orders of a step; None where each has room.
     fn blocked(&mut self) -> Option<usize>
         ensures opening { self.new.opening ≡ self.old.opening }
         ensures tree { self.new.tree ≡ self.old.tree }
@@ -134,7 +134,8 @@ impl<C: Channels + Lanes> RunningTree<C> {
         blocked_lane(&mut self.lanes, ORDER_LIMIT)
     }
 
-    // Makes the step of the input that is held.
+    // Makes the step of the input that is held. `NoMemory` where memory is refused: the input is then still held, and the tree and the
+    // steps are as they were.
     fn make_step(&mut self) -> Result<(), NoMemory>
         requires held { IsSome self.old.held }
         requires few { length self.old.steps < run_limit }
@@ -170,8 +171,8 @@ impl<C: Channels + Lanes> RunningTree<C> {
         }
     }
 
-    /// Makes one step, of the input that is held or, where none is held, of one newly taken. What keeps it from that is looked for in
-    /// this order: a full run, a lane without room, no input.
+    /// Makes one step, of the input that is held or, where none is held, of one that it takes from the rings. Before that it looks for what
+    /// prevents a step, in this order: a full run, a lane that may have no room, no input.
     pub fn step_one(&mut self) -> Stop
         ensures opening { self.new.opening ≡ self.old.opening }
         ensures done { result ≡ Done → (s : RunStep) × (self.new.steps ≡ self.old.steps ++ s ∷ [])
@@ -200,7 +201,7 @@ impl<C: Channels + Lanes> RunningTree<C> {
         }
     }
 
-    /// How many steps were made; and what is promised of a run at every moment.
+    /// How many steps were made. The clause `sound` is what is promised of a run at every moment.
     pub fn steps(&self) -> usize
         ensures count { result ≡ length self.now.steps }
         ensures sound { IsSoundRunning self.now }
@@ -221,7 +222,7 @@ impl<C: Channels + Lanes> RunningTree<C> {
         }
     }
 
-    /// The reply to the input of a ticket; None where its step isn't made yet. `NoMemory` where a growth was refused.
+    /// The reply to the input of a ticket; None where its step isn't made yet. `NoMemory` where memory is refused.
     pub fn reply(&self, ticket: Ticket) -> Result<Option<Reply<Global>>, NoMemory>
         ensures { IfOk result
             (λ reply. reply ≡ reply_at ticket.actor ticket.number self.now.steps) }
@@ -229,7 +230,7 @@ impl<C: Channels + Lanes> RunningTree<C> {
         self.run.reply(self.alloc, ticket.actor, ticket.number)
     }
 
-    /// All that the step of this number gave, from 1; None where there are fewer. `NoMemory` where a growth was refused.
+    /// All that step `number` gave, counted from 1; None where there is no such step. `NoMemory` where memory is refused.
     pub fn effect(&self, number: u64) -> Result<Option<Effect<Global>>, NoMemory>
         ensures { IfOk result
             (λ effect. option_map (λ e. outcome_of e) effect ≡ outcome_at number self.now.steps) }
@@ -237,7 +238,7 @@ impl<C: Channels + Lanes> RunningTree<C> {
         self.run.effect(self.alloc, number)
     }
 
-    /// Fills an effect with all that the step of this number gave, as `Run::fill` does.
+    /// Fills an effect with all that step `number` gave, as `Run::fill` does.
     pub fn fill(&self, number: u64, effect: &mut Effect<Global>) -> Result<bool, NoMemory>
         ensures { IfOk result
             (λ is_there. IsFilled is_there (outcome_of effect.new) number self.now.steps) }
@@ -245,14 +246,14 @@ impl<C: Channels + Lanes> RunningTree<C> {
         self.run.fill(number, effect)
     }
 
-    /// Whose input the step of this number took, from 1; None where there are fewer.
+    /// Whose input step `number` took, counted from 1; None where there is no such step.
     pub fn actor(&self, number: u64) -> Option<Actor>
         ensures { result ≡ actor_at number self.now.steps }
     {
         self.run.actor(number)
     }
 
-    /// The moment at which the input of the step of this number was handed in, from 1; None where there are fewer.
+    /// The moment at which the input of step `number` was handed in, counted from 1; None where there is no such step.
     pub fn moment(&self, number: u64) -> Option<At>
         ensures { result ≡ moment_at number self.now.steps }
     {
@@ -269,7 +270,7 @@ impl<C: Channels + Lanes> RunningTree<C> {
         self.run.write(self.alloc, head, writer)
     }
 
-    // Why the run can't be closed with these finishes, by its inputs alone.
+    // Why the run can't be closed with these finishes, by its inputs alone; None where these allow it.
     fn input_fault(&mut self, finishes: &mut Vec<Finished<C>>) -> Option<CloseFault>
         ensures same { IsSameRunning self.old self.new }
         ensures lanes { self.new.lanes ≡ self.old.lanes }
@@ -287,7 +288,7 @@ impl<C: Channels + Lanes> RunningTree<C> {
         input_fault(&mut self.drains, finishes, is_held)
     }
 
-    // Whether there is just the desk of each lane, and its backend was asked all orders of the lane.
+    // Whether the desks are just those of the lanes, in the order of their numbers, and each backend was asked all orders of its lane.
     fn is_served<B: Backend>(&mut self, desks: &mut Vec<Desk<B, C>>) -> bool
         ensures same { IsSameRunning self.old self.new }
         ensures desks { AreSameDesks desks.old.items desks.new.items }

@@ -1,10 +1,10 @@
-//! Whether all orders of a run were asked, and the backends that were.
+//! Whether all orders of a run were asked; and the backends, taken from their desks.
 ghost use Rattle.std.specs.Prelude.{◌≡◌, ◌≤◌, [], length, map, Some, true, false, vec_capacity};
 ghost use Rattle.locked_services.specs.Closing.{AreSameDesks, AreSameLanes, AreServed, IsServed, IsOrderLeft};
 
 use order_lanes::{Backend, Desk, Lane, Lanes};
 
-// Whether this lane and this desk are those of the number, and the desk's backend was asked all that was ever sent into the lane.
+// Whether the lane and the desk both have this number, and the desk's backend was asked all that was ever sent into the lane.
 fn is_served<B: Backend, L: Lanes>(number: usize, lane: &mut Lane<L>, desk: &mut Desk<B, L>) -> bool
     ensures lane { lane.new ≡ record lane.old { free = lane.new.free } }
     ensures desk { desk.new ≡ record desk.old { seen = desk.new.seen } }
@@ -18,7 +18,8 @@ fn is_served<B: Backend, L: Lanes>(number: usize, lane: &mut Lane<L>, desk: &mut
     desk.is_done(lane)
 }
 
-/// Whether there is just the desk of each lane, and its backend was asked all that was ever sent into the lane.
+/// Whether the desks are just those of the lanes, in the order of their numbers, and each backend was asked all that was ever sent into its
+/// lane.
 pub fn are_served<B: Backend, L: Lanes>(
     lanes: &mut Vec<Lane<L>>,
     desks: &mut Vec<Desk<B, L>>,
@@ -43,7 +44,7 @@ pub fn are_served<B: Backend, L: Lanes>(
     true
 }
 
-/// The backends of these desks, in their order, in a list that has room for them.
+/// The backends of these desks, in the same order, in `room`, an empty list with room for them.
 pub fn backends_of<B: Backend, L: Lanes>(desks: Vec<Desk<B, L>>, room: Vec<B>) -> Vec<B>
     requires empty { room.items ≡ [] }
     requires fits { length desks.items ≤ vec_capacity room }

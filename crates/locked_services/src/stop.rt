@@ -1,17 +1,17 @@
-//! Why no step was made.
+//! What comes of an attempt to make a step, and why a drive ends.
 
-/// What one look at the rings did: a step, or none, and why.
+/// What came of an attempt to make one step: the step, or why there was none.
 #[derive(Clone, Copy, PartialEq, Eq, Debug)]
 pub enum Stop {
     /// A step was made.
     Done,
     /// No input is held, and no ring gave one.
     Idle,
-    /// This lane, the least such, may have no room for the orders of a step. No input was taken.
+    /// This lane may have no room for the orders of a step; it is the least such lane. No input was taken.
     Blocked(usize),
     /// The run has as many steps as a run may have. No input was taken.
     RunFull,
-    /// A growth was refused. The tree and its run are as they were, and the input is held: it is tried next.
+    /// Memory was refused. The tree and its run are as they were. The input is held, and is the next one tried.
     NoMemory,
 }
 
@@ -22,11 +22,11 @@ pub enum DriveStop {
     Idle,
     /// All steps that were asked for were made.
     Count,
-    /// This lane, the least such, may have no room for the orders of a step.
+    /// This lane may have no room for the orders of a step; it is the least such lane.
     Blocked(usize),
     /// The run has as many steps as a run may have.
     RunFull,
-    /// A step, or what was to be published after the last one, found no memory.
+    /// Memory was refused: for a step, or for publishing the state before the first step or after the last.
     NoMemory,
 }
 

@@ -7,7 +7,7 @@ use inbox::Drain;
 use std::alloc::Global;
 use tree_core::Input;
 
-/// Takes the oldest submission of the first ring that gives one.
+/// Takes the oldest submission of the first ring that gives one; None where no ring does.
 pub fn take_next<C: Channels>(drains: &mut Vec<Drain<C>>) -> Option<Input<Global>>
     requires { AreNumbered drains.old.items }
     ensures numbered { AreNumbered drains.new.items }

@@ -31,15 +31,15 @@ pub record IsSoundNew (rings : List RingView) (lane_rings : List LaneRingView) (
   pub numbered : AreNumbered lane_rings
   pub each : backends ≡ length lane_rings
 
--- there are 1 to so many
+-- the number is from 1 to `most`
 abbrev pub is_within : ℕ → ℕ → Bool
 is_within most number = nat_le 1 number && nat_le number most
 
--- why no office has so many actors and lanes
+-- why no office may have so many actors and lanes
 abbrev pub refusal : ℕ → ℕ → Option OpenFault
 refusal actors lanes = if is_within 16 actors then (if is_within 4 lanes then None else Some Lanes) else Some Actors
 
--- this fault, where there is none yet
+-- the fault that there is, or else `other`
 abbrev pub fault_or : OpenFault → Option OpenFault → OpenFault
 fault_or other None = other
 fault_or other (Some fault) = fault

@@ -9,10 +9,10 @@ use Rattle.status_board.specs.declared.shot.Shot.{Shot}
 abbrev pub AreReaders : List Shot → List (List Shot) → Type 0
 AreReaders published readers = (k : ℕ) (known : List Shot) → slice_get readers k ≡ Some known → known ≡ published
 
--- from this number on, each ring stands at its lane's place and has the name of the lane's ring
+-- the rings are those of the lanes from number n on, in order, and each has the name of its lane's ring
 abbrev pub AreLaneRings : (ℕ → RingName) → ℕ → List LaneRingView → Type 0
 AreLaneRings names n rings = (k : ℕ) (r : LaneRingView) → slice_get rings k ≡ Some r → (r.number ≡ n + k) × (r.ring ≡ names r.number)
 
--- from this number on, each lane's backend was asked before what is said of its lane
+-- the backends are those of the lanes from number n on, in order, and each was asked just what `before` gives for its lane
 abbrev pub AreAsked : {B : Type 0} → (B → List Order) → (ℕ → List Order) → ℕ → List B → Type 0
 AreAsked {B} asked before n backends = (k : ℕ) (b : B) → slice_get backends k ≡ Some b → asked b ≡ before (n + k)

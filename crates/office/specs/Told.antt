@@ -12,11 +12,11 @@ use Rattle.locked_services.specs.Submissions.{NoneSeen}
 use Rattle.locked_services.specs.declared.stop.DriveStop.{DriveStop}
 use Rattle.locked_services.specs.declared.stop.DriveStop.TheVariants as ended
 
--- this is true of the run that began with this tree and has done just these inputs
+-- `says` is true of a room whose run began with this tree and has done just these inputs
 abbrev pub IsTold : StoredTree → List (Input Global) → (RoomView → Type 0) → Type 0
 IsTold opening inputs says = (v : RoomView) × IsSoundHistory opening v × (inputs_of v.running.steps ≡ inputs) × says v
 
--- so many inputs more
+-- the inputs after are those before and then n more
 abbrev pub AddsInputs : ℕ → List (Input Global) → List (Input Global) → Type 0
 AddsInputs n before after = (more : List (Input Global)) × (length more ≡ n) × (after ≡ before ++ more)
 

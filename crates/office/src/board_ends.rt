@@ -23,7 +23,7 @@ fn first_shot(tree: &Tree<Global>) -> Shot
     }
 }
 
-// So many readers of this board.
+// Makes `count` readers of this board. `Board` where it gives no reader, `NoMemory` where memory for their list is refused.
 #[tactic(auto, using(crate::proofs::Readers::readers_more))]
 fn readers_of<C: Channels, R: Wait + Drop>(
     alloc: Global,
@@ -46,7 +46,8 @@ fn readers_of<C: Channels, R: Wait + Drop>(
     Ok(readers)
 }
 
-/// The writer and so many readers of a board on which the first shot of this tree was published, in a run whose board it is.
+/// Opens the board, to which `C` gives its name, with the first shot of this tree as all that was published. Returns its writer and
+/// `readers` readers. `NoMemory` where memory is refused, `Board` where the board gives no reader.
 pub fn board_ends<C: Channels, R: Wait + Drop>(
     alloc: Global,
     rt: R,

@@ -5,7 +5,8 @@ ghost use Rattle.order_lanes.specs.declared.desk.Carried.TheVariants.{Asked, Idl
 use order_lanes::{Backend, Carried, Desk, Lanes};
 use std::sync::{Mutex, Wait};
 
-/// Asks the backend what its ring gives, while it takes that, and at most so many times: the last answer.
+/// Asks the desk's backend one order after another, at most `most`, until none is left or the backend hands one back. Returns what the last
+/// `carry_one` did.
 pub fn carry_many<B: Backend, L: Lanes>(desk: &mut Desk<B, L>, most: u64) -> Carried
     requires { 1 ≤ most }
     ensures rest { (desk.new.lane ≡ desk.old.lane) × (desk.new.given ≡ desk.old.given) }
@@ -22,7 +23,7 @@ pub fn carry_many<B: Backend, L: Lanes>(desk: &mut Desk<B, L>, most: u64) -> Car
     desk.carry_one()
 }
 
-/// Asks the backend of this desk so many times what its ring gives, each time under the desk's lock.
+/// Gives this desk `turns` turns: in each its backend is asked one order, if there is one, under the desk's lock.
 pub fn carry_in_turns<B: Backend, L: Lanes, R: Wait>(rt: &R, desk: &Mutex<Desk<B, L>>, turns: u64) {
     for _ in 0..turns {
         desk.lock(rt).carry_one();

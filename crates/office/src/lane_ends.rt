@@ -16,7 +16,7 @@ pub struct LaneEnds<B: Backend, L: Lanes> {
 }
 
 impl<B: Backend, L: Lanes> LaneEnds<B, L> {
-    /// No lane, and room for so many. `NoMemory` where a growth was refused.
+    /// Lists with no lane and no desk, and room for `count` of each. `NoMemory` where memory is refused.
     pub fn with_room(alloc: Global, count: usize) -> Result<LaneEnds<B, L>, NoMemory>
         ensures lanes { IfOk result (λ e. (e.lanes.items ≡ []) × (count ≤ vec_capacity e.lanes)) }
         ensures desks { IfOk result (λ e. (e.desks.items ≡ []) × (count ≤ vec_capacity e.desks)) }
@@ -27,7 +27,8 @@ impl<B: Backend, L: Lanes> LaneEnds<B, L> {
         })
     }
 
-    /// The ends of these rings, with these backends, in a run that names them so. There is room for them.
+    /// Fills the lists with the ends of these rings, each with the backend at its place. `L` gives the rings their names. There is room for
+    /// the ends.
     pub fn fill(self, rings: Vec<LaneRing>, backends: Vec<B>) -> LaneEnds<B, L>
         requires empty { (self.lanes.items ≡ []) × (self.desks.items ≡ []) }
         requires lane_room { length rings.items ≤ vec_capacity self.lanes }

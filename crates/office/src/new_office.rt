@@ -19,16 +19,16 @@ pub const ACTOR_LIMIT: usize = 16;
 /// The most lanes of an office.
 pub const LANE_LIMIT: usize = 4;
 
-/// Why an office was not opened. The first two are looked for first, in this order.
+/// Why an office was not opened. `Actors` is looked for first, and then `Lanes`.
 #[derive(Clone, Copy, PartialEq, Eq, Debug, Error)]
 pub enum OpenFault {
-    /// There are 1 to 16 actors.
+    /// There were no actors, or more than 16.
     #[error("there are 1 to 16 actors")]
     Actors = 1,
-    /// There are 1 to 4 lanes, each with a backend.
+    /// There were no backends, or more than 4. Each backend gets a lane.
     #[error("there are 1 to 4 lanes")]
     Lanes = 2,
-    /// A growth was refused.
+    /// Memory was refused.
     #[error("out of memory")]
     NoMemory = 3,
     /// The board gave no reader.
@@ -36,8 +36,8 @@ pub enum OpenFault {
     Board = 4,
 }
 
-/// A tree, with new rings for its actors, a new ring for each backend, and new histories for its board and its inputs. A run gives names to these,
-/// and opens the office then.
+/// A tree, with new rings for its actors, a new ring for each backend, and new histories for its board and its inputs. A run gives names to
+/// these, and then opens the office.
 #[derive(Drop)]
 pub struct NewOffice<B: Drop> {
     pub(crate) tree: Box<Tree<Global>>,
@@ -59,7 +59,7 @@ impl<B: Drop> Model for NewOffice<B> {
     ghost invariant = { λ o. IsSoundNew o.rings.items o.lane_rings.items (length o.backends.items) };
 }
 
-// Whether there are 1 to so many.
+// Whether the number is from 1 to `most`.
 fn is_in_limit(number: usize, most: usize) -> bool
     ensures { result ≡ is_within most number }
 {
@@ -69,7 +69,7 @@ fn is_in_limit(number: usize, most: usize) -> bool
     number <= most
 }
 
-// Why no office has so many actors and lanes.
+// Why no office may have so many actors and lanes; None where one may.
 fn refuse(actors: usize, lanes: usize) -> Option<OpenFault>
     ensures { result ≡ refusal actors lanes }
 {
@@ -82,7 +82,7 @@ fn refuse(actors: usize, lanes: usize) -> Option<OpenFault>
     None
 }
 
-// A new ring for each of so many actors.
+// A new ring for each of `actors` actors, in the order of their numbers. `NoMemory` where memory is refused.
 #[tactic(auto, using(crate::proofs::Numbered::length_rings, crate::proofs::Numbered::ordered_rings))]
 fn new_rings(alloc: Global, actors: usize) -> Result<Vec<Ring>, NoMemory>
     requires { (1 ≤ actors) × (actors ≤ 16) }
@@ -94,8 +94,8 @@ fn new_rings(alloc: Global, actors: usize) -> Result<Vec<Ring>, NoMemory>
 }
 
 impl<B: Drop> NewOffice<B> {
-    /// An office of this tree, with so many actors, and a lane for each of these backends. At a fault the tree and the backends come
-    /// back.
+    /// An office of this tree, with `actors` actors, and a lane for each of these backends. `Actors` or `Lanes` where there are too few or
+    /// too many, `NoMemory` where memory is refused: the tree and the backends then come back.
     pub fn new(
         alloc: Global,
         tree: Box<Tree<Global>>,

@@ -38,20 +38,21 @@ use std::thread::Threads;
 use thiserror::Error;
 use tree_core::{Effect, Reply};
 
-/// The thread of this lane, and maybe those of greater ones, could not be made.
+/// The thread of this lane could not be made, and perhaps those of lanes with greater numbers.
 #[derive(Clone, Copy, PartialEq, Eq, Debug, Error)]
 #[error("no thread for lane {lane}")]
 pub struct NotStarted {
     pub lane: usize,
 }
 
-/// A tree that several threads run: a room, which one thread at a time enters, and beside it a desk for each lane behind a lock of
-/// its own, so that no backend keeps anybody out of the room. What is promised of a room and of a desk holds whenever their lock is
-/// free. Contracts see how many lanes there are.
+/// A tree that several threads run. It has a room, which one thread at a time enters, and for each lane a desk behind a lock of its own, so
+/// that no backend keeps anybody out of the room. What is promised of a room or of a desk holds whenever its lock is free. Contracts see
+/// how many lanes there are.
 ///
-/// A call that tells of the run takes what its caller knows of it, a `History`, and makes known all inputs that were done: what was known
-/// begins what is known then, and the answer is that of the run that did just these. So all answers of a caller are of one run. Two
-/// callers, as two threads, see that theirs is the same run (`compare`). What an order or a report is, the desk's own calls say.
+/// A call that tells of the run takes a `History`: the inputs that its caller knows to be done. The call sets it to all inputs that were
+/// done: what was known before is a beginning of these. The answer is that of the run that did just these inputs. So all answers to a
+/// caller are of one run. Two callers, such as two threads, learn by `compare` that theirs is the same run. The contracts of `Desk` tell
+/// what a backend was asked and what it reported.
 #[derive(Drop)]
 pub struct Office<C: Channels + Lanes, D: Board<C>, B: Backend> {
     room: Mutex<Room<C, D>>,
@@ -93,8 +94,8 @@ impl<C: Channels + Lanes, D: Board<C>, B: Backend> Office<C, D, B> {
         self.desks.len()
     }
 
-    /// Makes at most so many steps in the room, and publishes where it made any. All inputs that were done before, and those of these steps,
-    /// become known.
+    /// Makes at most `most` steps in the room, and publishes the state, as `Room::drive` does. All inputs that were done before, and those
+    /// of these steps, become known.
     pub fn drive<W: Wait>(&self, rt: &W, known: &mut History<C>, most: u64) -> Driven
         ensures longer { IsPrefix known.old known.new }
         ensures most { result.steps ≤ most }
@@ -111,7 +112,7 @@ impl<C: Channels + Lanes, D: Board<C>, B: Backend> Office<C, D, B> {
         driven
     }
 
-    /// What is known of the run: all inputs that were done so far.
+    /// All inputs that were done so far, for a caller that knows none yet.
     pub fn history<W: Wait>(&self, rt: &W) -> History<C>
         ensures { (v : RoomView) × IsSoundHistory C.opening v
             × (result ≡ inputs_of v.running.steps) }
@@ -121,7 +122,7 @@ impl<C: Channels + Lanes, D: Board<C>, B: Backend> Office<C, D, B> {
         room.history()
     }
 
-    /// Makes all inputs that were done so far known to both. What one of them knew begins what the other one knew.
+    /// Makes all inputs that were done so far known to both. Before, one of the two was a beginning of the other.
     pub fn compare<W: Wait>(&self, rt: &W, one: &mut History<C>, other: &mut History<C>)
         ensures longer { IsPrefix one.old one.new × IsPrefix other.old other.new }
         ensures same { one.new ≡ other.new }
@@ -132,7 +133,7 @@ impl<C: Channels + Lanes, D: Board<C>, B: Backend> Office<C, D, B> {
         room.show(rt, other);
     }
 
-    /// Names all that was published so far.
+    /// All shots that were published so far, for a reader to learn.
     pub fn tell<W: Wait>(&self, rt: &W, known: &mut History<C>) -> Told<C>
         ensures longer { IsPrefix known.old known.new }
         ensures shots { IsTold C.opening known.new (λ v. result ≡ v.shots) }
@@ -144,7 +145,7 @@ impl<C: Channels + Lanes, D: Board<C>, B: Backend> Office<C, D, B> {
         room.tell()
     }
 
-    /// The reply to the input of a ticket; None where its step isn't made yet. `NoMemory` where a growth was refused.
+    /// The reply to the input of a ticket; None where its step isn't made yet. `NoMemory` where memory is refused.
     pub fn reply<W: Wait>(
         &self,
         rt: &W,
@@ -161,7 +162,7 @@ impl<C: Channels + Lanes, D: Board<C>, B: Backend> Office<C, D, B> {
         room.reply(ticket)
     }
 
-    /// All that the step of this number gave, from 1; None where there are fewer. `NoMemory` where a growth was refused.
+    /// All that step `number` gave, counted from 1; None where there is no such step. `NoMemory` where memory is refused.
     pub fn effect<W: Wait>(
         &self,
         rt: &W,
@@ -178,8 +179,9 @@ impl<C: Channels + Lanes, D: Board<C>, B: Backend> Office<C, D, B> {
         room.effect(number)
     }
 
-    /// Fills an effect with all that the step of this number gave, from 1; what it held is gone. False where there are fewer. `NoMemory` where a
-    /// growth was refused. Whoever reads each step keeps one effect for all of them.
+    /// Fills an effect with all that step `number` gave, counted from 1; what it held is gone. False where there is no such step: nothing
+    /// is filled in. `NoMemory` where memory is refused: the effect may then be filled in part. A caller that reads many steps takes less
+    /// memory if it fills the same effect each time.
     pub fn fill<W: Wait>(
         &self,
         rt: &W,
@@ -197,7 +199,7 @@ impl<C: Channels + Lanes, D: Board<C>, B: Backend> Office<C, D, B> {
         room.fill(number, effect)
     }
 
-    /// Whose input the step of this number took, from 1; None where there are fewer.
+    /// Whose input step `number` took, counted from 1; None where there is no such step.
     pub fn actor<W: Wait>(&self, rt: &W, known: &mut History<C>, number: u64) -> Option<Actor>
         ensures longer { IsPrefix known.old known.new }
         ensures told { IsTold C.opening known.new (λ v. result ≡ actor_at number v.running.steps) }
@@ -208,7 +210,7 @@ impl<C: Channels + Lanes, D: Board<C>, B: Backend> Office<C, D, B> {
         room.actor(number)
     }
 
-    /// The moment at which the input of the step of this number was handed in, from 1; None where there are fewer.
+    /// The moment at which the input of step `number` was handed in, counted from 1; None where there is no such step.
     pub fn moment<W: Wait>(&self, rt: &W, known: &mut History<C>, number: u64) -> Option<At>
         ensures longer { IsPrefix known.old known.new }
         ensures told { IsTold C.opening known.new (λ v. result ≡ moment_at number v.running.steps) }
@@ -274,7 +276,8 @@ impl<C: Channels + Lanes, D: Board<C>, B: Backend> Office<C, D, B> {
         room.next_due()
     }
 
-    /// Asks a lane's backend what its ring gives, while it takes that, and at most so many times: the last answer.
+    /// Asks a lane's backend one order after another, at most `most`, until none is left or the backend hands one back. Returns what the
+    /// last `carry_one` did.
     pub fn carry<W: Wait>(&self, rt: &W, lane: usize, most: u64) -> Carried
         requires lane { lane < self.now }
         requires most { 1 ≤ most }
@@ -292,10 +295,10 @@ impl<C: Channels + Lanes, D: Board<C>, B: Backend> Office<C, D, B> {
 }
 
 impl<C: Channels + Lanes, D: Board<C>, B: Backend> Office<C, D, B> {
-    /// Closes the run, once each seat has finished and all threads that used the office have returned: the tree, how many steps it made,
-    /// and the backends, in the order of their lanes. Offices of which each was opened on the tree that the one before gave back are one run
-    /// (`locked_services::laws::chain`). `Room::close` says what a close needs, and what it leaves. At a fault the office and the finishes come
-    /// back as they were. It takes no lock and no memory.
+    /// Closes the run, once each seat has finished and all threads that used the office have returned. Returns the tree, how many steps it
+    /// made, these steps, and the backends, in the order of their lanes. Where each office was opened on the tree that the one before gave
+    /// back, they are one run (`locked_services::laws::chain`). `Room::close` says what a close needs, and what it leaves. All inputs that
+    /// were done become known. At a fault the office and the finishes come back. It takes no lock and no memory.
     pub fn close<R: Wait>(
         self,
         rt: &R,
@@ -343,8 +346,8 @@ impl<C: Channels + Lanes, D: Board<C>, B: Backend> Office<C, D, B> {
 }
 
 impl<C: Channels + Lanes + Send + Sync, D: Board<C>, B: Backend + Send> Office<C, D, B> {
-    /// Serves each lane in a thread of its own: so many times its backend is asked what its ring gives. `NotStarted` names the least
-    /// lane whose thread could not be made; the others were served.
+    /// Serves each lane in a thread of its own, for `turns` turns: in each its backend is asked one order, if there is one. `NotStarted`
+    /// names the least lane whose thread could not be made; each lane whose thread was made was served.
     pub fn serve_lanes<R: Threads + Wait + Sync>(
         &self,
         rt: &R,
@@ -358,7 +361,7 @@ impl<C: Channels + Lanes + Send + Sync, D: Board<C>, B: Backend + Send> Office<C
     }
 }
 
-// Serves each desk in a thread of its own: whether that of each lane could be made.
+// Serves each desk in a thread of its own. Returns for each lane whether its thread could be made, and true where there is no lane.
 fn serve_each<B: Backend + Send, L: Lanes + Send + Sync, R: Threads + Wait + Sync>(
     rt: &R,
     desks: &[Mutex<Desk<B, L>>],

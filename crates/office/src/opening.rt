@@ -25,7 +25,7 @@ use std::alloc::Global;
 use std::sync::Wait;
 use tree_core::Tree;
 
-/// An open office, a seat for each actor, as many readers of the board, and what is known of the run: that no input was done.
+/// An open office, a seat for each actor, as many readers of the board, and what is known of the run, which has done no input yet.
 #[derive(Drop)]
 pub struct Opened<C: Channels + Lanes, D: Board<C>, B: Backend> {
     pub office: Office<C, D, B>,
@@ -34,7 +34,7 @@ pub struct Opened<C: Channels + Lanes, D: Board<C>, B: Backend> {
     pub known: History<C>,
 }
 
-// All that an office has but its tree and its lanes' ends.
+// The parts of an office for which memory is taken. The lists of its lanes and desks are still empty.
 #[derive(Drop)]
 struct Parts<C: Channels + Lanes, D: Board<C>, B: Backend> {
     beginning: Beginning,
@@ -45,7 +45,8 @@ struct Parts<C: Channels + Lanes, D: Board<C>, B: Backend> {
     spare: Spare<B, C>,
 }
 
-// Makes all for which memory is needed, in a run that names the rings and the board so.
+// Makes the parts for which memory is taken. `C` gives the rings and the board their names. `NoMemory` where memory is refused, `Board`
+// where the board gives no reader.
 fn make_parts<C: Channels + Lanes, R: Wait + Drop, B: Backend>(
     alloc: Global,
     rt: R,
@@ -97,7 +98,7 @@ fn make_parts<C: Channels + Lanes, R: Wait + Drop, B: Backend>(
     })
 }
 
-// The room of a run that begins with this tree, whose first shot alone was published.
+// The room of a run that begins with this tree. The tree's first shot is all that was published.
 fn new_room<C: Channels + Lanes, D: Board<C>>(
     alloc: Global,
     beginning: Beginning,
@@ -179,8 +180,9 @@ impl<C: Channels + Lanes, D: Board<C>, B: Backend> Parts<C, D, B> {
 }
 
 impl<B: Backend> NewOffice<B> {
-    /// Opens it, in a run whose tree, rings and board these are: with a seat for each actor and as many readers, and with no step made.
-    /// `NoMemory` where a growth was refused, and `Board` where the board gave no reader: the tree and the backends then come back.
+    /// Opens the office, with a seat for each actor, as many readers of the board, and no step made. `C` gives its rings, board and history
+    /// their names. `NoMemory` where memory is refused, and `Board` where the board gives no reader: the tree and the backends then come
+    /// back.
     pub fn open<C: Channels + Lanes, R: Wait + Drop>(
         self,
         alloc: Global,

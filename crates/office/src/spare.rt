@@ -1,4 +1,4 @@
-//! What the close of an office fills.
+//! The lists that the close of an office fills.
 ghost use Rattle.std.specs.Prelude.{◌≡◌, ◌≤◌, [], vec_capacity};
 
 use crate::new_office::LANE_LIMIT;
@@ -19,7 +19,7 @@ pub struct Spare<B: Backend, L: Lanes> {
 }
 
 impl<B: Backend, L: Lanes> Spare<B, L> {
-    /// New lists. `NoMemory` where a growth was refused.
+    /// New lists. `NoMemory` where memory is refused.
     pub fn new(alloc: Global) -> Result<Spare<B, L>, NoMemory> {
         Ok(Spare {
             desks: Vec::with_capacity(alloc, LANE_LIMIT)?,

@@ -29,6 +29,6 @@ answers (Finish sid generation name code signal) report = is_of_finish sid gener
 answers (Signal sid generation number) report = false
 answers (KillFinish sid generation) report = false
 
--- the report is of something whose start was asked
+-- the report is of a program whose start was asked
 unfoldable pub IsOfAsked : List Order → Report → Type 0
 IsOfAsked asked report = IsTrue (list_any (λ order. answers order report) asked)

@@ -1,4 +1,4 @@
--- The tree of a run of which nothing is said.
+-- The tree and the history that stand in where a run has named none.
 use Rattle.std.specs.Prelude.{[], false}
 use Rattle.atomic_table.specs.Seated.{TableId}
 use Rattle.tree_core.specs.StandsFor.{StoredTree}
@@ -17,6 +17,6 @@ no_tree = record {
   directories = record { names = []; subscribers = []; followed = []; next = 0 };
 }
 
--- the name of no history
+-- a name that is no history's
 abbrev pub no_inputs : TableId
 no_inputs = record { words = 0; slots = 0; views_name = 0; atom = 0; block = 0; offset = 0; slot_names = [] }

@@ -1,4 +1,4 @@
--- What a report tells the tree.
+-- The act by which the tree is told a report.
 use Rattle.std.specs.declared.alloc.Global.{Global}
 use Rattle.tree_core.specs.declared.input.Act.{Act}
 use Rattle.tree_core.specs.declared.input.Act.TheVariants as act

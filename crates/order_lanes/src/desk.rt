@@ -1,4 +1,4 @@
-//! Where a backend is asked what its lane's ring gives.
+//! The desk of a lane, where its backend is asked the orders from the lane's ring.
 ghost use Rattle.std.specs.Prelude.{◌≡◌, ◌↔◌, [], ◌∷◌, ◌++◌, Some, None, IfSome, IfNone, IsTrue};
 ghost use Rattle.rtrb.specs.Ring.{received, known_items};
 ghost use Rattle.channel_names.specs.RingName.{consumer_ring};
@@ -25,8 +25,8 @@ pub enum Carried {
     Refused(AskFault),
 }
 
-/// A lane's other end: a backend, which is asked what the ring gives, in order. An order that comes back is held, and is the next
-/// one asked.
+/// A lane's other end: it takes orders from the ring and asks them of a backend, in order. An order that the backend hands back is held,
+/// and asked again before any other.
 #[derive(Drop)]
 pub struct Desk<B: Backend, L: Lanes> {
     lane: usize,
@@ -58,7 +58,7 @@ impl<B: Backend, L: Lanes> Model for Desk<B, L> {
 }
 
 impl<B: Backend, L: Lanes> Desk<B, L> {
-    // The end of a ring from which nothing was taken.
+    // The desk at the end of a ring from which nothing was taken.
     pub(crate) fn over(lane: usize, consumer: Consumer<Order>, backend: B) -> Desk<B, L>
         requires ring { consumer_ring consumer ≡ L.lane_ring lane }
         requires unused { received consumer ≡ [] }
@@ -88,7 +88,7 @@ impl<B: Backend, L: Lanes> Desk<B, L> {
         self.lane
     }
 
-    // The order that is next, which is held from now on.
+    // The next order, which is held from now on; None where there is none.
     #[tactic(auto, using(crate::proofs::Turns::takes_next))]
     fn hold_next(&mut self) -> Option<Order>
         ensures rest { (self.new.lane ≡ self.old.lane) × (self.new.given ≡ self.old.given) }
@@ -107,7 +107,7 @@ impl<B: Backend, L: Lanes> Desk<B, L> {
         self.held
     }
 
-    /// Asks the backend the order that is held, or else the ring's next.
+    /// Asks the backend one order: the one that is held, or else the next of the ring.
     #[tactic(auto, using(crate::proofs::Turns::asks_held))]
     pub fn carry_one(&mut self) -> Carried
         ensures rest { (self.new.lane ≡ self.old.lane) × (self.new.given ≡ self.old.given) }
@@ -156,7 +156,7 @@ impl<B: Backend, L: Lanes> Desk<B, L> {
         waiting == 0
     }
 
-    /// The backend, which is served no more.
+    /// Gives up the desk, and returns its backend.
     pub fn into_backend(self) -> B
         ensures asked { B.asked result ≡ self.asked }
         ensures given { B.given result ≡ self.given }

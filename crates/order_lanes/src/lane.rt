@@ -9,7 +9,7 @@ use rtrb::Producer;
 use s6_events::Order;
 use std::marker::{Model, PhantomData};
 
-/// The tree's end of a lane: here its orders are sent, in order. It takes no lock and no memory.
+/// The tree's end of a lane, where its orders are sent, in order. Its calls take no lock and no memory.
 #[derive(Drop)]
 pub struct Lane<L: Lanes> {
     number: usize,
@@ -32,7 +32,7 @@ impl<L: Lanes> Model for Lane<L> {
 }
 
 impl<L: Lanes> Lane<L> {
-    // The end of a ring.
+    // The lane at the end of this ring.
     pub(crate) fn over(number: usize, producer: Producer<Order>) -> Lane<L>
         requires ring { producer_ring producer ≡ L.lane_ring number }
         requires room { producer_capacity producer ≡ lane_room }

@@ -1,4 +1,4 @@
-//! Which lane an order goes by, and whether there is room for it.
+//! Which lane is an order's, and whether there is room for it.
 ghost use Rattle.std.specs.Prelude.{◌≡◌, ◌<◌, ◌+◌, ◌++◌, ◌∷◌, [], ℕ, length, IfSome, IfNone};
 ghost use Rattle.order_lanes.specs.LaneOrders.{sid_of, lane_of, orders_of_lane};
 ghost use Rattle.order_lanes.specs.Lane.{sent_in, HaveRoom, IsBlocked};
@@ -7,7 +7,7 @@ use crate::lane::Lane;
 use crate::lanes::Lanes;
 use s6_events::Order;
 
-/// The least lane with fewer than so many free places, as far as is known; None where each lane has so many.
+/// The least lane that has fewer than `places` free places, as far as is known; None where each lane has at least as many.
 pub fn blocked_lane<L: Lanes>(lanes: &mut Vec<Lane<L>>, places: usize) -> Option<usize>
     ensures sent { (k : ℕ) → sent_in k lanes.new.items ≡ sent_in k lanes.old.items }
     ensures len { length lanes.new.items ≡ length lanes.old.items }
@@ -23,7 +23,7 @@ pub fn blocked_lane<L: Lanes>(lanes: &mut Vec<Lane<L>>, places: usize) -> Option
     None
 }
 
-// Whose order it is.
+// The serial of the order's service.
 fn sid_of_order(order: &Order) -> u64
     ensures { result ≡ sid_of order.now }
 {
@@ -35,7 +35,7 @@ fn sid_of_order(order: &Order) -> u64
     }
 }
 
-/// Of so many lanes the one by which the order goes: service `sid` has lane `sid` mod the number of lanes.
+/// The lane of an order where there are `lanes` of them: service `sid` has lane `sid` mod `lanes`.
 pub fn lane_of(order: &Order, lanes: usize) -> usize
     requires { 0 < lanes }
     ensures { result ≡ lane_of lanes order.now }

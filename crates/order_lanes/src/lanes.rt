@@ -1,9 +1,9 @@
 //! Which tree a run begins with, and which rings and backends its lanes have.
 use std::marker::Brand;
 
-/// Which tree a run begins with, which ring each of its lanes has, and which orders the lane's backend had taken before. A lane's end in
-/// the tree and its desk bear such a type, so that a contract knows that they belong together, and to which run. A run picks it once its
-/// rings are made.
+/// For proofs: which tree a run begins with, which ring each of its lanes has, and which orders the lane's backend had taken before. The
+/// tree's end of a lane and the lane's desk have such a type as parameter, so a contract knows that they belong together, and to which run.
+/// A run picks the type once its rings are made.
 pub trait Lanes {
     ghost use Rattle.std.specs.Prelude.{ℕ, List};
     ghost use Rattle.channel_names.specs.RingName.{RingName};

@@ -1,4 +1,4 @@
-//! How orders leave the tree: a ring for each lane, and a backend that is asked what its ring gives.
+//! How orders leave the tree: a ring for each lane, and a backend that is asked the orders from it.
 #![tactic(auto)]
 
 mod backend;

@@ -9,7 +9,7 @@ use std::marker::Model;
 use std::snapshot::Snapshot;
 use std::sync::{Arc, Mutex, Wait};
 
-/// A backend that writes down what it is asked, and gives reports that were laid ready. It is Busy so often at first.
+/// A backend that writes down what it is asked, and gives reports that it got when it was made. It first answers `Busy` a number of times.
 #[derive(Drop)]
 pub struct Probe<R> {
     rt: R,
@@ -30,8 +30,8 @@ impl<R> Model for Probe<R> {
 }
 
 impl<R> Probe<R> {
-    /// A backend that answers its first `busy` asks Busy, and writes each later order into `log` too. The reports are given in
-    /// their order.
+    /// A backend that answers `Busy` the first `busy` times, and writes each later order into `log` too. It gives the reports in their
+    /// order.
     pub fn new(
         rt: R,
         alloc: Global,
@@ -73,7 +73,7 @@ impl<R: Wait + Drop> Backend for Probe<R> {
 
     ghost given = { λ p. p.given };
 
-    /// `Busy` while it is to be busy; `NoMemory` where one of the two lists can't grow, and then neither has the order.
+    /// `Busy` as often as it was made to; `NoMemory` where memory for one of the two lists is refused, and then neither has the order.
     fn ask(&mut self, order: Order) -> Result<(), (Order, AskFault)> {
         if self.busy > 0 {
             self.busy -= 1;
@@ -85,7 +85,7 @@ impl<R: Wait + Drop> Backend for Probe<R> {
         }
     }
 
-    /// The first report that waits and whose start was asked. Those before it, whose start wasn't, are dropped.
+    /// The first report that waits and whose start was asked. Those before it, whose start wasn't asked, are dropped.
     fn report(&mut self) -> Option<Report> {
         for _ in 0..self.waiting.len() {
             self.given.reserve(1).ok()?;

@@ -9,7 +9,7 @@ use s6_events::{Order, Report, Sid};
 use std::alloc::Global;
 use tree_core::Act;
 
-// These bytes once more.
+// A copy of these bytes.
 fn same_bytes(bytes: &ArrayVec<u8, 64>) -> ArrayVec<u8, 64>
     ensures { result ≡ bytes.now }
 {

@@ -14,7 +14,7 @@ use std::marker::Model;
 /// How many orders a lane's ring holds.
 pub const LANE_ROOM: usize = 4096;
 
-/// A lane's new ring, through which nothing went yet. Its ends come once a run has picked the names of its rings.
+/// A lane's new ring, through which nothing went yet. A run makes its two ends once it has picked the names of its rings.
 #[derive(Drop)]
 pub struct LaneRing {
     number: usize,
@@ -39,7 +39,7 @@ impl Model for LaneRing {
 }
 
 impl LaneRing {
-    // The ring of the lane of this number.
+    // A new ring for the lane of this number.
     fn open(alloc: Global, number: usize) -> Result<LaneRing, NoMemory>
         ensures { IfOk result (λ r. r.number ≡ number) }
     {
@@ -58,7 +58,7 @@ impl LaneRing {
         self.number
     }
 
-    /// The lane, and the desk of its backend, in a run whose ring of this lane it is.
+    /// Makes the ring's two ends: the lane, and the desk of this backend. `L` names this ring as that of the lane.
     pub fn ends<B: Backend, L: Lanes>(self, backend: B) -> (Lane<L>, Desk<B, L>)
         requires ring { self.ring ≡ L.lane_ring self.number }
         requires before { B.asked backend ≡ L.asked_before self.number }
@@ -84,8 +84,8 @@ impl LaneRing {
     }
 }
 
-/// A ring for each of so many lanes, 1 to 4, in the order of their numbers, which begin at 0. `NoMemory` where a growth was
-/// refused; nothing is kept then.
+/// A new ring for each of `lanes` lanes, 1 to 4, in the order of their numbers, which begin at 0. `NoMemory` where memory is refused;
+/// nothing is kept then.
 #[tactic(auto, using(crate::proofs::Numbers::numbered_more))]
 pub fn open_lane_rings(alloc: Global, lanes: usize) -> Result<Vec<LaneRing>, NoMemory>
     requires { (1 ≤ lanes) × (lanes ≤ 4) }

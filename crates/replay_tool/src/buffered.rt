@@ -1,4 +1,4 @@
-//! The tool `replay`: buffers round what it reads and writes.
+//! The tool `replay`, with buffers for what it reads and writes.
 ghost use Rattle.std.specs.Prelude.{◌≡◌, ◌⊎◌, IfOk, IfErr, OnOk};
 ghost use Rattle.s6_replay.specs.Replay.{IsWhole, Stops};
 ghost use Rattle.s6_replay.specs.Migration.{Migrates, MigrateStops};
@@ -12,7 +12,7 @@ use s6_replay::{Checked, Counts, ReplayFault, check, migrate, run};
 use std::alloc::{Allocator, Global};
 use std::io::{BufRead, BufReader, BufWriter, Read, Write};
 
-// Replays a script, and hands on what a buffer still holds. A writer that fails then is told as `Write`, whatever else was wrong.
+// Replays a script, and flushes the writer. Where the flush fails, the fault is `Write`, whatever else was wrong.
 fn replay_whole<A: Allocator + Copy, R: BufRead, W: Write>(
     alloc: A,
     patterns: Global,
@@ -34,8 +34,8 @@ fn replay_whole<A: Allocator + Copy, R: BufRead, W: Write>(
 }
 
 /// Replays the script that the input gives, and writes its transcript, each through a buffer of 8,192 bytes. Patterns take
-/// their memory from `patterns`, and all else from `alloc`. At a fault the transcript that was written before it has left the buffer,
-/// but at `Write`, where its end may be missing.
+/// their memory from `patterns`, and all else from `alloc`. At a fault but `Write` the transcript that was written before has left the
+/// buffer; at `Write` its end may be missing.
 pub fn replay<A: Allocator + Copy, R: Read + Drop, W: Write + Drop>(
     alloc: A,
     patterns: Global,
@@ -52,7 +52,7 @@ pub fn replay<A: Allocator + Copy, R: Read + Drop, W: Write + Drop>(
     Ok(())
 }
 
-// Migrates a script, and hands on what a buffer still holds. A writer that fails then is told as `Write`, whatever else was wrong.
+// Migrates a script, and flushes the writer. Where the flush fails, the fault is `Write`, whatever else was wrong.
 fn migrate_whole<A: Allocator + Copy, R: BufRead, W: Write>(
     alloc: A,
     patterns: Global,
@@ -74,8 +74,8 @@ fn migrate_whole<A: Allocator + Copy, R: BufRead, W: Write>(
     migrated
 }
 
-/// Reads the script of version 1 that the input gives, and writes the script of version 2 of the same inputs with the replies of a new
-/// tree, each through a buffer of 8,192 bytes. Memory and faults are as those of `replay`.
+/// Reads the script of version 1 that the input gives, and writes the script of version 2 with the same inputs and the replies of a new
+/// tree, each through a buffer of 8,192 bytes. Memory and faults are as in `replay`.
 pub fn record_replies<A: Allocator + Copy, R: Read + Drop, W: Write + Drop>(
     alloc: A,
     patterns: Global,
@@ -92,8 +92,8 @@ pub fn record_replies<A: Allocator + Copy, R: Read + Drop, W: Write + Drop>(
     Ok(())
 }
 
-/// Reads the script of version 2 that the input gives through a buffer of 8,192 bytes, and checks its replies. Memory and faults are as
-/// those of `replay`.
+/// Reads the script of version 2 that the input gives, through a buffer of 8,192 bytes, and checks its replies. Memory and faults are as in
+/// `replay`.
 pub fn check_replies<A: Allocator + Copy, R: Read + Drop>(
     alloc: A,
     patterns: Global,
@@ -105,7 +105,7 @@ pub fn check_replies<A: Allocator + Copy, R: Read + Drop>(
     check(alloc, patterns, &mut reader)
 }
 
-// Tells the story of a script, and hands on what a buffer still holds. A writer that fails then is told as `Write`, whatever else was wrong.
+// Tells the story of a script, and flushes the writer. Where the flush fails, the fault is `Write`, whatever else was wrong.
 fn tell_whole<A: Allocator + Copy, R: BufRead, W: Write>(
     alloc: A,
     patterns: Global,
@@ -125,8 +125,7 @@ fn tell_whole<A: Allocator + Copy, R: BufRead, W: Write>(
     told
 }
 
-/// Reads the script that the input gives, and writes its story, each through a buffer of 8,192 bytes. Memory and faults are as those of
-/// `replay`.
+/// Reads the script that the input gives, and writes its story, each through a buffer of 8,192 bytes. Memory and faults are as in `replay`.
 pub fn story<A: Allocator + Copy, R: Read + Drop, W: Write + Drop>(
     alloc: A,
     patterns: Global,
@@ -142,7 +141,7 @@ pub fn story<A: Allocator + Copy, R: Read + Drop, W: Write + Drop>(
     tell_whole(alloc, patterns, &mut reader, &mut writer)
 }
 
-/// The same with times of day, where the script's clock was 0 so many milliseconds after the beginning of 1970.
+/// The same, with times of day in place of seconds. The script's clock was 0 `start` milliseconds after the beginning of 1970.
 pub fn dated_story<A: Allocator + Copy, R: Read + Drop, W: Write + Drop>(
     alloc: A,
     patterns: Global,
@@ -160,8 +159,7 @@ pub fn dated_story<A: Allocator + Copy, R: Read + Drop, W: Write + Drop>(
     tell_whole(alloc, patterns, &mut reader, &mut writer)
 }
 
-// Draws the timeline of a script, and hands on what a buffer still holds. A writer that fails then is told as `Write`, whatever else was
-// wrong.
+// Draws the timeline of a script, and flushes the writer. Where the flush fails, the fault is `Write`, whatever else was wrong.
 fn draw_whole<A: Allocator + Copy, R: BufRead, W: Write>(
     alloc: A,
     patterns: Global,
@@ -175,8 +173,8 @@ fn draw_whole<A: Allocator + Copy, R: BufRead, W: Write>(
     drawn
 }
 
-/// Reads the script that the input gives, and writes its timeline, each through a buffer of 8,192 bytes. Memory and faults are as those
-/// of `replay`; nothing is written before the whole script was read.
+/// Reads the script that the input gives, and writes its timeline, each through a buffer of 8,192 bytes. Memory and faults are as in
+/// `replay`; nothing is written before the whole script was read.
 pub fn timeline<A: Allocator + Copy, R: Read + Drop, W: Write + Drop>(
     alloc: A,
     patterns: Global,

@@ -2,18 +2,18 @@
 use day_times::day_millisecond;
 use std::io::{Result, Write};
 
-/// A writer of a story. The seconds with which each line begins become the time of day, by the time of day at which they were 0.
+/// A writer for a story. It writes each line with a time of day in place of the seconds with which the line begins.
 #[derive(Debug, Drop)]
 pub struct Dated<W> {
     writer: W,
-    /// When the seconds were 0, in milliseconds since the beginning of 1970.
+    /// The time of day at which the seconds were 0, in milliseconds since the beginning of 1970.
     start: u64,
-    /// The milliseconds that were read of the moment of a line; None behind that.
+    /// What was read so far of the moment of a line, in milliseconds; None behind the moment.
     moment: Option<u64>,
 }
 
 impl<W> Dated<W> {
-    /// A writer that writes to this one.
+    /// A writer that writes lines with times of day to this writer.
     pub fn new(writer: W, start: u64) -> Dated<W> {
         Dated {
             writer,
@@ -23,7 +23,7 @@ impl<W> Dated<W> {
     }
 }
 
-// The milliseconds of a moment, one more of its bytes read: its decimals are three.
+// The milliseconds of a moment, after one more of its bytes. A moment has three decimals, so its point is passed over.
 fn read_further(moment: u64, byte: u8) -> u64 {
     match byte {
         b'0'..=b'9' => moment

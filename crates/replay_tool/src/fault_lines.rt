@@ -7,16 +7,16 @@ use arrayvec::ArrayVec;
 use s6_replay::{ReplayFault, write_whole};
 use std::io::{self, Write};
 
-/// The status of a program that was not used as it says, or whose input is no script.
+/// The status of a program whose words were wrong, or whose input is no script.
 pub const USAGE_STATUS: u8 = 100;
 
 /// The status of a program to which the system refused something.
 pub const SYSTEM_STATUS: u8 = 111;
 
-/// The line for a strange tool, or none.
+/// The line where the words name no tool, or an unknown one.
 pub const NO_TOOL: &[u8] = b"s6_tree: unknown tool\n";
 
-/// The line for a word after `replay`.
+/// The line where the words after `replay` are wrong.
 pub const REPLAY_USAGE: &[u8] = b"replay: usage\n";
 
 fn write_line<W: Write>(fault: &ReplayFault, writer: &mut W) -> io::Result<()>
@@ -53,9 +53,9 @@ fn tell<W: Write>(fault: &ReplayFault, writer: &mut W)
     }
 }
 
-/// Writes the line that tells of a fault of `replay`, and answers the exit status: 100 where the input is no script, 111 where the
-/// system refused something. Where the line cannot be written whole, its beginning may be, and the status is answered all the same.
-/// Takes no memory. The lines and statuses are chosen here, after the exit codes of s6's programs.
+/// Writes the line about a fault of `replay`, and returns the exit status: 100 where the input is no script, 111 where the system refused
+/// something. Where the line can't be written whole, a part from its beginning on may be, and the status is the same. Takes no memory. The
+/// lines are this program's own; the statuses are after the exit codes of s6's programs.
 pub fn replay_fault<W: Write>(fault: &ReplayFault, writer: &mut W) -> u8
     ensures status { result ≡ status_of fault.now }
     ensures line { (n : ℕ) × Appends (W.contents writer.old) (W.contents writer.new)

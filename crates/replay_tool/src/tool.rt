@@ -1,4 +1,4 @@
-//! What the command line asks for, and doing it: `replay`, or the texts of the program. Its other tools are looked for before.
+//! Finds out what the command line asks for, `replay` or a text of the program, and does it. The other tools are looked for before.
 use crate::buffered::{check_replies, dated_story, record_replies, replay, story, timeline};
 use crate::fault_lines::{NO_TOOL, REPLAY_USAGE, SYSTEM_STATUS, USAGE_STATUS, replay_fault};
 use crate::help_texts::{HELP, REPLAY_HELP, VERSION};
@@ -11,10 +11,10 @@ use std::io::{Read, Write};
 /// The status of a check that found another reply than the machine's.
 const DIFFERS_STATUS: u8 = 1;
 
-// No word that is known is longer.
+// No known word has more bytes.
 const LONGEST_WORD: usize = 16;
 
-// No time of day is longer that is taken.
+// No time of day that is taken has more bytes.
 const LONGEST_DAY: usize = 40;
 
 // The nanoseconds of a millisecond.
@@ -29,7 +29,7 @@ enum Asked {
     Check,
     Migrate,
     Story,
-    // With times of day, where the clock was 0 so many milliseconds after the beginning of 1970.
+    // With times of day; the script's clock was 0 this many milliseconds after the beginning of 1970.
     DatedStory(u64),
     Timeline,
     ReplayHelp,
@@ -52,7 +52,8 @@ fn is_word(env: &impl Env, place: usize, text: &[u8]) -> bool {
     }
 }
 
-// The milliseconds from the beginning of 1970 to the time of day at this place of the command line; None where it is none, or before.
+// The milliseconds from the beginning of 1970 to the time of day at this place of the command line; None where there is no time of day, or
+// one before 1970.
 fn day_at(env: &impl Env, place: usize) -> Option<u64> {
     let mut word = [0; LONGEST_DAY];
     let count = env.arg(place, &mut word).ok()?;
@@ -60,7 +61,7 @@ fn day_at(env: &impl Env, place: usize) -> Option<u64> {
     u64::try_from(instant.nanosecond / MILLISECOND).ok()
 }
 
-// What the words behind `replay --story` ask for, where there are some.
+// What the command line asks for, where words follow `replay --story`.
 fn asked_of_story(env: &impl Env) -> Asked {
     if !is_word(env, 3, b"--since") || has_word(env, 5) {
         return Asked::ReplayUsage;
@@ -111,7 +112,7 @@ fn asked_tool(env: &impl Env) -> Asked {
     }
 }
 
-// Prints a text. Where it can't be written whole, that is told.
+// Prints a text, and returns the exit status. Where the text can't be written whole, a line on `errors` says so.
 fn print<W: Write, E: Write>(mut output: W, errors: &mut E, text: &[u8]) -> u8
 where
     W: Drop,
@@ -123,7 +124,7 @@ where
     SYSTEM_STATUS
 }
 
-// Prints what a check found, and answers the exit status: 1 where a reply differs.
+// Prints what a check found, and returns the exit status: 1 where a reply differs.
 fn print_checked<W: Write, E: Write>(mut output: W, errors: &mut E, checked: Checked) -> u8
 where
     W: Drop,
@@ -138,7 +139,7 @@ where
     replay_fault(&ReplayFault::Write, errors)
 }
 
-// Tells how a tool ended that only reads and writes.
+// The exit status of a tool that only reads and writes. A line on `errors` tells its fault.
 fn ended<E: Write>(done: Result<(), ReplayFault>, errors: &mut E) -> u8 {
     match done {
         Ok(()) => 0,
@@ -146,15 +147,16 @@ fn ended<E: Write>(done: Result<(), ReplayFault>, errors: &mut E) -> u8 {
     }
 }
 
-// Tells that the program was not used as it says.
+// Writes this line, which says that the words are wrong, and returns the status 100.
 fn refuse<E: Write>(errors: &mut E, line: &[u8]) -> u8 {
     let _ = errors.write_all(line);
     USAGE_STATUS
 }
 
-/// Runs the tool that the command line asks for, on this input and these two outputs, and answers the exit status: 0 where it was
-/// done, 1 where a recorded reply is not the machine's, 100 where the command line or the input is not as it should be, 111 where the system refused something. At 100 and 111
-/// one line on `errors` says why; where it can't be written, the status is answered all the same. No word needs memory.
+/// Runs the tool that the command line asks for, on this input and these two outputs, and returns the exit status: 0 where it was done, 1
+/// where a recorded reply is not the machine's, 100 where the command line is wrong or the input is no script, 111 where the system refused
+/// something. At 100 and 111 one line on `errors` says why; where it can't be written, the status is the same. Reading the command line
+/// takes no memory.
 pub fn run_tool<A: Allocator + Copy, R: Read + Drop, W: Write + Drop, E: Write>(
     env: &impl Env,
     alloc: A,

@@ -1,4 +1,4 @@
-//! The one history of a run: all inputs that were done. It stands in proofs alone.
+//! The one history of a run: all inputs that were done. It exists in proofs alone.
 ghost use Rattle.std.specs.Prelude.{◌≡◌, []};
 ghost use mathlib.Core.List.{IsPrefix};
 ghost use Rattle.crossbeam_utils.specs.Seq.{cell_view};
@@ -15,7 +15,7 @@ use std::mem;
 use std::sync::Wait;
 use tree_core::Input;
 
-/// All inputs of a run, once some more were done.
+/// Names all inputs of a run, after some more were done.
 pub trait Whole {
     ghost use Rattle.std.specs.Prelude.{List};
     ghost use Rattle.std.specs.declared.alloc.Global.{Global};
@@ -30,14 +30,14 @@ impl Whole for Brand {
     ghost whole = { [] };
 }
 
-/// What a pass knows: the keeper's all inputs, and a token's a beginning of them. No value of it is made.
+/// What a pass knows: the keeper's pass knows all inputs, and the pass of a token a beginning of them. No value of this type is made.
 pub struct View {
     pub keeps: bool,
     pub all: LinkedList<Input<Global>>,
     pub claim: LinkedList<Input<Global>>,
 }
 
-/// The rule: one pass knows all, and each claim begins it.
+/// The rule: at most one pass knows all inputs, and each claim is a beginning of them.
 pub struct Growing;
 
 impl Protocol<[u64; 1], View> for Growing {
@@ -49,7 +49,7 @@ impl Protocol<[u64; 1], View> for Growing {
     ghost first = { knower [] };
 }
 
-/// The step that adds some inputs, so that these are all.
+/// The step that adds inputs, after which all inputs are those that `N` names.
 pub struct Extends<N: Whole> {
     of: PhantomData<N>,
 }
@@ -60,7 +60,7 @@ impl<N: Whole> Outcome<[u64; 1], View> for Extends<N> {
     ghost then = { Extended N.whole };
 }
 
-/// The step that compares a claim with all.
+/// The step that compares a claim with all inputs.
 pub struct Checks;
 
 impl Outcome<[u64; 1], View> for Checks {
@@ -69,7 +69,7 @@ impl Outcome<[u64; 1], View> for Checks {
     ghost then = { Checked };
 }
 
-/// How a token comes from the keeper's pass, and goes back.
+/// How a token is split from the keeper's pass, and joined with it again.
 pub struct AllSoFar;
 
 impl Split<View> for AllSoFar {
@@ -94,7 +94,7 @@ pub type Cell = RuledSeqCell<[u64; 1], View, Growing, 1>;
 /// A pass of it.
 pub type Receipt = Pass<[u64; 1], View>;
 
-/// A history with no input, which no run has named yet. Contracts see it as the name that it is to get.
+/// A history with no input, which no run has named yet. Contracts see it as its name.
 #[derive(Drop)]
 pub struct NewHistory {
     cell: Cell,
@@ -115,7 +115,7 @@ impl Model for NewHistory {
 }
 
 impl NewHistory {
-    /// A new history. `AllocError` where memory was refused.
+    /// A new history. `AllocError` where memory is refused.
     pub fn new(alloc: Global) -> Result<NewHistory, AllocError> {
         let (cell, pass) = Cell::ruled(alloc, [0])?;
         Ok(NewHistory { cell, pass })
@@ -143,7 +143,7 @@ impl<C: Lanes> Model for History<C> {
 }
 
 impl<C: Lanes> History<C> {
-    // The token of this pass.
+    // The token with this pass.
     fn over(pass: Receipt) -> History<C>
         requires cell { pass.table_id ≡ C.history }
         requires free { pass.me.1 ≡ [] }
@@ -166,7 +166,7 @@ impl<C: Lanes> History<C> {
     }
 }
 
-/// What knows all of the history, and alone adds to it. It lies under the lock.
+/// The keeper knows all of the history, and alone adds to it. It is under the lock.
 #[derive(Drop)]
 pub struct Keeper<C: Lanes> {
     cell: Cell,
@@ -189,7 +189,7 @@ impl<C: Lanes> Model for Keeper<C> {
 }
 
 impl<C: Lanes> Keeper<C> {
-    /// The keeper of this history, in a run that names it.
+    /// The keeper of this history. `C` names it.
     pub fn over(new: NewHistory) -> Keeper<C>
         requires { new ≡ C.history }
         ensures { result ≡ [] }
@@ -202,7 +202,7 @@ impl<C: Lanes> Keeper<C> {
         }
     }
 
-    /// All inputs are then those that a type names, of which the ones so far are a beginning. It can't be refused.
+    /// Makes all inputs those that the type `N` names. The inputs so far are a beginning of these. It can't be refused.
     pub fn extend<N: Whole, R: Wait>(&mut self, rt: &R)
         requires longer { IsPrefix self.old N.whole }
         ensures { self.new ≡ N.whole }
@@ -210,7 +210,7 @@ impl<C: Lanes> Keeper<C> {
         self.cell.swap_as::<Extends<N>, R>(rt, &mut self.pass, [0]);
     }
 
-    /// All inputs so far.
+    /// A token of all inputs so far.
     pub fn tell(&mut self) -> History<C>
         ensures same { self.new ≡ self.old }
         ensures all { result ≡ self.old }
@@ -222,7 +222,7 @@ impl<C: Lanes> Keeper<C> {
         }
     }
 
-    /// Makes all inputs so far known. What was known begins them.
+    /// Sets `known` to all inputs so far. What it was before is a beginning of them.
     pub fn show<R: Wait>(&mut self, rt: &R, known: &mut History<C>)
         ensures same { self.new ≡ self.old }
         ensures all { known.new ≡ self.old }

@@ -1,11 +1,13 @@
 -- The orders of all records grow, and each record's part stays.
-use Rattle.std.proofs.Common.{◌≡◌, ℕ, zero, suc, ◌+◌, ◌≤◌, List, [], ◌∷◌, ◌++◌, All, map, take, drop, length, refl, ap, ◌∙◌, arith}
+use Rattle.std.proofs.Common.{◌≡◌, ℕ, suc, ◌+◌, ◌≤◌, List, [], ◌∷◌, ◌++◌, All, map, take, drop, length, refl, ap, ◌∙◌, arith}
 use Rattle.std.proofs.lemmas.List.{drop-append-le, take-append-le, length-drop, length-append, map-append}
 use Rattle.std.proofs.Math.Seq.{drop-append_seam}
 use Rattle.s6_events.specs.declared.order.Order.{Order}
 use Rattle.tree_core.specs.Limits.{order_limit}
 use Rattle.run_records.specs.declared.record.Record.{Record}
-use Rattle.run_records.specs.Runs.{RunStep, step_of, IsWithin}
+use Rattle.run_records.specs.Runs.{RunStep}
+use Rattle.run_records.specs.WholeSteps.{step_of, IsWithin}
+use Rattle.run_records.proofs.Snoc.{all_snoc}
 
 part_grown : (orders more : List Order) (first count : ℕ) → first + count ≤ length orders
     → take count (drop first (orders ++ more)) ≡ take count (drop first orders)
@@ -39,12 +41,6 @@ steps_snoc orders more after rs rs_after r t within e f last =
     rw e (rw f (map-append (step_of (orders ++ more)) rs (r ∷ [])
     ∙ (ap (λ (ts : List RunStep). ts ++ step_of (orders ++ more) r ∷ []) (all_grown orders more rs within)
     ∙ ap (λ (x : RunStep). map (step_of orders) rs ++ x ∷ []) last)))
-
-pub all_snoc : {A : Type 0} (P : A → Type 0) (xs : List A) (x : A) → All P xs → P x → All P (xs ++ x ∷ [])
-all_snoc P [] x all p zero d below = p
-all_snoc P [] x all p (suc k) d below = absurd (omega arith)
-all_snoc P (y ∷ ys) x all p zero d below = all zero y (omega arith)
-all_snoc P (y ∷ ys) x all p (suc k) d below = all_snoc P ys x (λ j e b. all (suc j) e (omega arith)) p k d (omega arith)
 
 -- each record's part lies within the orders still
 pub within_snoc : (orders more after : List Order) (rs rs_after : List Record) (r : Record) → All (IsWithin orders) rs

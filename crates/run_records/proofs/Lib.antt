@@ -1,4 +1,6 @@
+pub mod Snoc
 pub mod Growing
-pub mod Reading
+pub mod LogReading
 pub mod Placing
 pub mod RunText
+pub mod Crosses

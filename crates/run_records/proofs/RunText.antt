@@ -1,21 +1,21 @@
 -- The text of a run, step by step.
-use Rattle.std.proofs.Common.{◌≡◌, ℕ, zero, suc, ◌+◌, ◌<◌, List, [], ◌∷◌, ◌++◌, length, map, take, drop, get_or, slice_get, option_map, Option, Some, Bool, true, false, refl, sym, ap, subst, ◌∙◌, arith, append-nil, append_assoc}
+use Rattle.std.proofs.Common.{◌≡◌, ℕ, zero, suc, ◌+◌, ◌<◌, List, [], ◌∷◌, ◌++◌, length, take, drop, slice_get, Option, Some, Bool, true, false, refl, sym, ap, subst, ◌∙◌, arith, append-nil, append_assoc}
 use Rattle.std.specs.Io.KnownBytes.{Appends}
 use Rattle.std.proofs.KnownBytes.{Appends-nil, Appends-trans}
 use Rattle.std.proofs.lemmas.List.{length-append, take-append-le}
-use Rattle.std.proofs.lemmas.Option.{slice_get-map, slice_get_read}
-use Rattle.s6_events.specs.declared.order.Order.{Order}
 use Rattle.s6_replay.specs.Lines.{AppendsFront}
 use Rattle.s6_replay.specs.Recording.{FitsLine}
 use Rattle.s6_replay.specs.Script.{head_line, step_lines}
 use Rattle.s6_replay.specs.declared.version.Version.TheVariants.{Two}
 use Rattle.s6_replay.proofs.Migrations.{front_more}
-use Rattle.run_records.specs.declared.record.Record.{Record}
-use Rattle.run_records.specs.Runs.{RunStep, step_of}
-use Rattle.run_records.specs.RunText.{recorded_of, lines_of, run_text, AllFit, StopsHead, StopsStep, StopsWriting}
+use Rattle.run_records.specs.Runs.{RunStep}
+use Rattle.std.specs.declared.alloc.Global.{Global}
+use Rattle.tree_core.specs.declared.input.Input.{Input}
+use Rattle.tree_core.specs.declared.reply.Reply.{Reply}
+use Rattle.run_records.specs.RunText.{recorded_of, recorded_reply, lines_of, run_text, AllFit, StopsHead, StopsStep, StopsWriting}
 use Rattle.run_records.specs.declared.writing.RunFault.{RunFault}
 use Rattle.run_records.specs.declared.writing.RunFault.TheVariants.{Write, NoMemory, Unspelt}
-use Rattle.run_records.proofs.Growing.{all_snoc}
+use Rattle.run_records.proofs.Snoc.{all_snoc}
 
 pub lines_join : (xs ys : List RunStep) → lines_of (xs ++ ys) ≡ lines_of xs ++ lines_of ys
 lines_join [] ys = refl
@@ -38,13 +38,6 @@ split_at : (k : ℕ) (steps : List RunStep) (s : RunStep) → slice_get steps k 
 split_at k [] s e = cc (e)
 split_at zero (x ∷ xs) s e = ap (λ (y : RunStep). y ∷ xs) (cc (e))
 split_at (suc k) (x ∷ xs) s e = ap (λ (ts : List RunStep). x ∷ ts) (split_at k xs s e)
-
--- the step of a record that is read
-pub step_here : (orders : List Order) (rs : List Record) (steps : List RunStep) (k : ℕ) (r : Record) → map (step_of orders) rs ≡ steps
-    → k < length rs → r ≡ get_or rs k r → slice_get steps k ≡ Some (step_of orders r)
-step_here orders rs steps k r e low read =
-    subst (λ (ss : List RunStep). slice_get ss k ≡ Some (step_of orders r)) e
-    (slice_get-map (step_of orders) rs k ∙ ap (option_map (step_of orders)) (slice_get_read rs (length rs) k r refl low read))
 
 -- the front of a text is one of what begins with it
 front_of_more : (a c : Option (List ℕ)) (xs ys : List ℕ) → AppendsFront a c xs → AppendsFront a c (xs ++ ys)
@@ -104,3 +97,15 @@ head_none a = Appends-nil a
 
 pub head_alone : (a b : Option (List ℕ)) → Appends a b (head_line Two) → Appends a b (run_text true [])
 head_alone a b p = subst (Appends a b) (sym (append-nil (head_line Two))) p
+
+-- the same step by other names
+pub same_lines : (a b : Option (List ℕ)) (i j : Input Global) (r t : Reply Global) → i ≡ j → r ≡ t
+    → Appends a b (step_lines Two (recorded_reply i r)) → Appends a b (step_lines Two (recorded_reply j t))
+same_lines a b i j r t p q e =
+    subst (λ (u : Reply Global). Appends a b (step_lines Two (recorded_reply j u))) q
+    (subst (λ (k : Input Global). Appends a b (step_lines Two (recorded_reply k r))) p e)
+
+pub same_stop : (fault : RunFault) (n : ℕ) (i j : Input Global) (r t : Reply Global) (a b : Option (List ℕ)) → i ≡ j → r ≡ t
+    → StopsStep fault n i r a b → StopsStep fault n j t a b
+same_stop fault n i j r t a b p q e =
+    subst (λ (u : Reply Global). StopsStep fault n j u a b) q (subst (λ (k : Input Global). StopsStep fault n k r a b) p e)

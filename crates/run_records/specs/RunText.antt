@@ -28,11 +28,11 @@ recorded_reply input reply = record { input = input; reply = reply_text reply }
 abbrev pub recorded_of : RunStep → Recorded Global
 recorded_of s = recorded_reply s.input s.outcome.reply
 
--- the lines of some steps
+-- the lines of these steps
 abbrev pub lines_of : List RunStep → List ℕ
 lines_of steps = flat_map (λ s. step_lines Two (recorded_of s)) steps
 
--- the same, behind the head line if it is wanted
+-- the head line, if it is wanted, and then the lines of the steps
 abbrev pub run_text : Bool → List RunStep → List ℕ
 run_text true steps = head_line Two ++ lines_of steps
 run_text false steps = lines_of steps
@@ -41,16 +41,16 @@ run_text false steps = lines_of steps
 abbrev pub AllFit : List RunStep → Type 0
 AllFit steps = All (λ s. FitsLine s.input) steps
 
--- all steps were written, and these are so many
+-- all steps were written, and `count` is how many these are
 abbrev pub IsWritten : ℕ → Bool → List RunStep → (held held' : Option (List ℕ)) → Type 0
 IsWritten count head steps held held' = (count ≡ length steps) × AllFit steps × Appends held held' (run_text head steps)
 
--- so many steps were written, and the next one was not
+-- the first n steps were written, and nothing of the next one
 abbrev pub IsWrittenUpTo : ℕ → Bool → List RunStep → (held held' : Option (List ℕ)) → Type 0
 IsWrittenUpTo n head steps held held' = (n < length steps) × Appends held held' (run_text head (take n steps))
 
--- why not all: some of the text was written, from the front on; there was no memory for a step, and those before it were written; or
--- the step of this number, from 1, has no line in a script, and those before it were written
+-- what each fault leaves written. Write: some of the text, from the front on, and not all. NoMemory: the steps before some step, for which
+-- there was no memory. Unspelt: the steps before that of this number, counted from 1, whose input has no line in a script
 abbrev pub StopsWriting : RunFault → Bool → List RunStep → (held held' : Option (List ℕ)) → Type 0
 StopsWriting Write head steps held held' = AppendsFront held held' (run_text head steps)
 StopsWriting NoMemory head steps held held' = (n : ℕ) × IsWrittenUpTo n head steps held held'
@@ -58,12 +58,12 @@ StopsWriting (Unspelt number) head steps held held' =
     (n : ℕ) × (s : RunStep) × (number ≡ n + 1) × (slice_get steps n ≡ Some s) × (FitsLine s.input → ⊥)
     × IsWrittenUpTo n head steps held held'
 
--- why one step was not written: some of its lines were, or nothing
+-- what each fault leaves written of one step. Write: some of its lines, from the front on, and not all. NoMemory, Unspelt: nothing
 abbrev pub StopsStep : RunFault → ℕ → Input Global → Reply Global → (held held' : Option (List ℕ)) → Type 0
 StopsStep Write number input reply held held' = AppendsFront held held' (step_lines Two (recorded_reply input reply))
 StopsStep NoMemory number input reply held held' = held' ≡ held
 StopsStep (Unspelt n) number input reply held held' = (n ≡ number) × (FitsLine input → ⊥) × (held' ≡ held)
 
--- the head line was not written, which is one that is wanted
+-- the head line is wanted, and was not written whole
 abbrev pub StopsHead : RunFault → Bool → (held held' : Option (List ℕ)) → Type 0
 StopsHead fault head held held' = (fault ≡ Write) × (head ≡ true) × AppendsFront held held' (head_line Two)

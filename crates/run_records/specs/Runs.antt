@@ -1,13 +1,11 @@
 -- A run as contracts see it: each input with what the machine gave.
-use Rattle.std.specs.Prelude.{◌≡◌, ℕ, Bool, true, false, zero, suc, ◌+◌, ◌≤◌, ◌==◌, List, [], ◌∷◌, ◌++◌, map, filter, take, drop, length, slice_get, option_map, Option, None, Some, if◌then◌else◌}
+use Rattle.std.specs.Prelude.{◌≡◌, ℕ, Bool, true, false, zero, suc, ◌<◌, ◌≤◌, ◌^◌, ◌==◌, List, [], ◌∷◌, ◌++◌, map, filter, length, slice_get, option_map, Option, None, Some, if◌then◌else◌}
 use Rattle.std.specs.declared.alloc.Global.{Global}
-use Rattle.s6_events.specs.declared.order.Order.{Order}
 use Rattle.tree_core.specs.declared.input.Input.{Input}
 use Rattle.tree_core.specs.declared.reply.Reply.{Reply}
 use Rattle.tree_core.specs.Limits.{order_limit}
 use Rattle.tree_core.specs.Machine.{Machine, Outcome}
 use Rattle.tree_core.specs.Run.{after_all, outcomes}
-use Rattle.run_records.specs.declared.record.Record.{Record}
 
 -- an input, and all that its step gave
 pub record RunStep : Type 0 where
@@ -19,35 +17,39 @@ pub record PlaceList : Type 0 where
   pub places : List ℕ
   pub room : ℕ
 
--- a run, and the room that is left: for records, for orders, and for the places of each actor's steps
-pub record RunView : Type 0 where
+-- steps that are kept as they are, and the room that is left: for steps, and for their orders
+pub record WholeView : Type 0 where
   pub steps : List RunStep
   pub room : ℕ
   pub order_room : ℕ
+
+-- there is room for a step, whatever it gives
+pub record WholeHasRoom (whole : WholeView) : Type 0 where
+  pub record_fits : 1 ≤ whole.room
+  pub orders_fit : order_limit ≤ whole.order_room
+
+-- the steps of a log, the room that is left, and those of them that are kept as they are
+pub record LogView : Type 0 where
+  pub steps : List RunStep
+  pub room : ℕ
+  pub whole : WholeView
+
+-- there is room for a step, whatever it gives
+pub record LogHasRoom (log : LogView) : Type 0 where
+  pub step_fits : 1 ≤ log.room
+  pub whole_fits : WholeHasRoom log.whole
+  pub few : length log.whole.steps < 2 ^ 32
+
+-- a run: its steps, the log that has them, and how many places each actor has room for
+pub record RunView : Type 0 where
+  pub steps : List RunStep
+  pub log : LogView
   pub place_room : List ℕ
 
 -- there is room for a step of this actor, whatever it gives
 pub record HasRoom (actor : ℕ) (run : RunView) : Type 0 where
-  pub record_fits : 1 ≤ run.room
-  pub orders_fit : order_limit ≤ run.order_room
+  pub log_fits : LogHasRoom run.log
   pub place_fits : (free : ℕ) → slice_get run.place_room actor ≡ Some free → 1 ≤ free
-
--- the step of a record, whose orders are a part of these
-abbrev pub step_of : List Order → Record → RunStep
-step_of orders one = record {
-  input = one.input;
-  outcome = record {
-    reply = one.reply;
-    events = one.events.items;
-    orders = take one.count (drop one.first orders);
-    matched = one.matched.items;
-    released = one.released.items;
-  };
-}
-
--- its part lies within them, and is no more than those of one step
-abbrev pub IsWithin : List Order → Record → Type 0
-IsWithin orders one = (one.first + one.count ≤ length orders) × (one.count ≤ order_limit)
 
 abbrev pub inputs_of : List RunStep → List (Input Global)
 inputs_of steps = map (λ s. s.input) steps

@@ -3,10 +3,14 @@
 
 mod record;
 mod run;
+mod step_log;
 mod step_places;
+mod whole_steps;
 mod writing;
 
 pub use record::Record;
 pub use run::{RUN_LIMIT, Run};
+pub use step_log::{LogRoom, Start, StepLog, Stored};
 pub use step_places::StepPlaces;
+pub use whole_steps::WholeSteps;
 pub use writing::RunFault;

@@ -1,34 +1,38 @@
 //! The steps of a run.
-ghost use Rattle.std.specs.Prelude.{◌≡◌, ◌-◌, ◌<◌, ◌≤◌, [], ◌∷◌, ◌++◌, length, OnOk, IfErr, IfOk, IfSome, slice_get, option_map};
+ghost use Rattle.std.specs.Prelude.{◌≡◌, ◌<◌, ◌≤◌, ◌⊎◌, [], ◌∷◌, ◌++◌, suc, length, OnOk, IfErr, IfOk, IfSome, IfNone, option_map};
 ghost use Rattle.tree_core.specs.Effect.{outcome_of};
 ghost use Rattle.tree_core.specs.Limits.{order_limit};
-ghost use Rattle.run_records.specs.Runs.{AreEmpty, IsFilled, IsWithin, HasRoom, step_of, actor_at, moment_at, outcome_at, reply_at};
+ghost use Rattle.run_records.specs.Runs.{AreEmpty, IsFilled, HasRoom, actor_at, moment_at, outcome_at, reply_at};
 ghost use Rattle.run_records.specs.RunText.{IsWritten, StopsWriting};
 
-use crate::record::Record;
+use crate::step_log::{LogRoom, StepLog};
 use crate::step_places::StepPlaces;
-use crate::writing::{RunFault, write_head, write_step};
-use s6_events::{Actor, At, NoMemory, Order};
+use crate::writing::{RunFault, write_head, write_stored};
+use s6_events::{Actor, At, NoMemory};
 use std::alloc::Global;
 use std::io::Write;
 use std::marker::Model;
-use std::mem;
-use tree_core::{Effect, ORDER_LIMIT, PlainInput, Reply};
+use tree_core::{Effect, PlainInput, Reply};
 
 /// How many actors there may be.
 const ACTORS: usize = 16;
 
-/// The most steps of a run. It has room for all of them from its beginning, so that none is moved while a lock is held.
+/// The most steps of a run.
 pub const RUN_LIMIT: usize = 262_144;
 
-/// For how many orders a run has room from its beginning.
-const ORDER_ROOM: usize = 2 * RUN_LIMIT;
+/// The room of a new run. Each block has more than 32 MiB: such a block the C library takes from the system by itself, whatever was given
+/// back before, and gives it back when the run is dropped. A page of a block uses memory only once it is written.
+const ROOM: LogRoom = LogRoom {
+    starts: 8_388_608,
+    bytes: 67_108_864,
+    whole: RUN_LIMIT,
+    orders: 2 * RUN_LIMIT,
+};
 
-/// The steps of a run, oldest first, and where those of each actor stand. Contracts see each step as its input and all that it gave.
+/// The steps of a run, oldest first, and the places of each actor's steps. Contracts see each step as its input and all that it gave.
 #[derive(Drop)]
 pub struct Run {
-    records: Vec<Record>,
-    orders: Vec<Order>,
+    log: StepLog,
     places: Vec<StepPlaces>,
 }
 
@@ -44,15 +48,12 @@ impl Model for Run {
 }
 
 impl Run {
-    /// No step yet. The room for all steps is asked of the system in two blocks, so large that the C library takes each from the
-    /// system by itself, and gives it back when the run is dropped; a page of them takes memory once it is written. `NoMemory` where
-    /// a growth was refused.
+    /// A run with no step, and with room for all, so that none is moved while a lock is held. `NoMemory` where memory is refused.
     pub fn new(alloc: Global) -> Result<Run, NoMemory>
         ensures { IfOk result (λ run. run.steps ≡ []) }
     {
         Ok(Run {
-            records: Vec::with_capacity(alloc, RUN_LIMIT)?,
-            orders: Vec::with_capacity(alloc, ORDER_ROOM)?,
+            log: StepLog::new(alloc, ROOM)?,
             places: no_places(alloc)?,
         })
     }
@@ -61,50 +62,32 @@ impl Run {
     pub fn len(&self) -> usize
         ensures { result ≡ length self.now.steps }
     {
-        self.records.len()
+        self.log.len()
     }
 
-    /// Makes room for one step more of this actor, whatever it gives. `NoMemory` where a growth was refused; the steps stay.
+    /// Makes room for one step more of this actor, whatever it gives. `NoMemory` where memory is refused, or where 2^32 steps are kept whole;
+    /// the steps stay.
     pub fn reserve(&mut self, actor: Actor) -> Result<(), NoMemory>
         ensures steps { self.new.steps ≡ self.old.steps }
         ensures room { OnOk result (HasRoom actor self.new) }
     {
-        self.records.reserve(1)?;
-        self.orders.reserve(ORDER_LIMIT)?;
+        self.log.reserve()?;
         self.places[usize::from(actor.number())].reserve()?;
         Ok(())
     }
 
-    /// Adds a step, for which there is room. What the effect holds goes into it: the effect keeps its orders, and is to be filled anew.
+    /// Adds a step of this input and this effect, for which there is room. The effect has to be filled anew before it is read again.
     pub fn add(&mut self, input: PlainInput<Global>, effect: &mut Effect<Global>)
         requires room { HasRoom input.actor self.old }
         requires orders { length effect.old.orders.items ≤ order_limit }
         ensures { self.new.steps
             ≡ self.old.steps ++ record { input = input; outcome = outcome_of effect.old } ∷ [] }
     {
-        let alloc = *self.records.allocator();
-        let first = self.orders.len();
-        let count = effect.orders.len();
-        if self
-            .orders
-            .extend_from_slice(effect.orders.as_slice())
-            .is_err()
-        {
-            unreachable!()
-        }
-        self.places[usize::from(input.actor.number())].push(self.records.len());
-        self.records.push_reserved(Record {
-            input,
-            reply: mem::replace(&mut effect.reply, Reply::Done),
-            events: mem::replace(&mut effect.events, Vec::new(alloc)),
-            matched: mem::replace(&mut effect.matched, Vec::new(alloc)),
-            released: mem::replace(&mut effect.released, Vec::new(alloc)),
-            first,
-            count,
-        });
+        self.places[usize::from(input.actor.number())].push(self.log.len());
+        self.log.push(input, effect);
     }
 
-    /// All that the step of this number gave, from 1; None where there are fewer. `NoMemory` where a growth was refused.
+    /// All that step `number` gave, counted from 1; None where there is no such step. `NoMemory` where memory is refused.
     pub fn effect(&self, alloc: Global, number: u64) -> Result<Option<Effect<Global>>, NoMemory>
         ensures { IfOk result
             (λ effect. option_map (λ e. outcome_of e) effect ≡ outcome_at number self.now.steps) }
@@ -117,52 +100,56 @@ impl Run {
         }
     }
 
-    /// Fills an effect with all that the step of this number gave, from 1; what it held is gone. False where there are fewer: nothing is filled
-    /// in. `NoMemory` where a growth was refused. A list of orders is filled in its place, so this is for whoever reads many steps.
+    // The place of the step of this number, from 1; None where there is no such step.
+    fn place_of(&self, number: u64) -> Option<usize>
+        ensures some { IfSome result (λ place. (number ≡ suc place) × (place < length self.now.steps)) }
+        ensures none { IfNone result ((number ≡ 0) ⊎ (length self.now.steps < number)) }
+    {
+        if number == 0 || number > self.log.len() as u64 {
+            None
+        } else {
+            Some((number - 1) as usize)
+        }
+    }
+
+    /// Fills an effect with all that step `number` gave, counted from 1; what it held is gone. False where there is no such step: nothing
+    /// is filled in. `NoMemory` where memory is refused: the effect may then be filled in part. The effect's lists are used again,
+    /// so a caller that reads many steps takes that memory once.
     pub fn fill(&self, number: u64, effect: &mut Effect<Global>) -> Result<bool, NoMemory>
         ensures { IfOk result
             (λ is_there. IsFilled is_there (outcome_of effect.new) number self.now.steps) }
     {
-        if number == 0 {
-            return Ok(false);
+        match self.place_of(number) {
+            Some(place) => {
+                self.log.fill(place, effect)?;
+                Ok(true)
+            }
+            None => Ok(false),
         }
-        let place = (number - 1) as usize;
-        if place >= self.records.len() {
-            return Ok(false);
-        }
-        fill_effect(self.orders.as_slice(), &self.records[place], effect)?;
-        Ok(true)
     }
 
-    /// Whose input the step of this number took, from 1; None where there are fewer.
+    /// Whose input step `number` took, counted from 1; None where there is no such step.
     pub fn actor(&self, number: u64) -> Option<Actor>
         ensures { result ≡ actor_at number self.now.steps }
     {
-        if number == 0 {
-            return None;
+        match self.place_of(number) {
+            Some(place) => Some(self.log.actor(place)),
+            None => None,
         }
-        let place = (number - 1) as usize;
-        if place >= self.records.len() {
-            return None;
-        }
-        Some(self.records[place].input.actor)
     }
 
-    /// The moment at which the input of the step of this number was handed in, from 1; None where there are fewer.
+    /// The moment at which the input of step `number` was handed in, counted from 1; None where there is no such step.
     pub fn moment(&self, number: u64) -> Option<At>
         ensures { result ≡ moment_at number self.now.steps }
     {
-        if number == 0 {
-            return None;
+        match self.place_of(number) {
+            Some(place) => Some(self.log.moment(place)),
+            None => None,
         }
-        let place = (number - 1) as usize;
-        if place >= self.records.len() {
-            return None;
-        }
-        Some(self.records[place].input.at)
     }
 
-    /// The reply to this actor's input of this number, from 1; None where there are fewer. `NoMemory` where a growth was refused.
+    /// The reply to this actor's input `number`, counted from 1 among its own; None where the run has no such input. `NoMemory` where
+    /// memory is refused.
     pub fn reply(
         &self,
         alloc: Global,
@@ -178,13 +165,13 @@ impl Run {
         let Some(place) = places.nth((number - 1) as usize) else {
             return Ok(None);
         };
-        let reply = self.records[place].reply.copied(alloc)?;
+        let reply = self.log.reply(alloc, place)?;
         Ok(Some(reply))
     }
 
-    /// Writes the steps as a recorded script: the head line, if `head`, and then for each step the line of its input and that of its
-    /// reply. How many steps these are. The texts of runs that go on from one another, the first behind the head line, are one script.
-    /// The writer is not flushed. `Write`, `NoMemory` and `Unspelt` say what was written.
+    /// Writes the steps as a recorded script: the head line, if `head`, and then for each step the line of its input and that of its reply.
+    /// Returns how many steps these are. Where each run goes on from the one before, and only the first is written with the head line,
+    /// their texts in a row are one script. The writer is not flushed. `RunFault` says what each fault leaves written.
     pub fn write<W: Write>(
         &self,
         alloc: Global,
@@ -200,17 +187,26 @@ impl Run {
             return Err(fault);
         }
         let mut text = Vec::new(alloc);
-        for place in 0..self.records.len() {
-            let record = &self.records[place];
-            if let Err(fault) = write_step(alloc, &mut text, record, place as u64 + 1, writer) {
+        let mut effect = Effect::new(alloc);
+        for place in 0..self.log.len() {
+            let stored = self.log.look(place);
+            let number = place as u64 + 1;
+            if let Err(fault) = write_stored(
+                alloc,
+                &mut text,
+                &mut effect,
+                stored,
+                number,
+                writer,
+            ) {
                 return Err(fault);
             }
         }
-        Ok(self.records.len() as u64)
+        Ok(self.log.len() as u64)
     }
 }
 
-// For each actor no step yet.
+// For each actor a list of places with no step.
 fn no_places(alloc: Global) -> Result<Vec<StepPlaces>, NoMemory>
     ensures count { IfOk result (λ all. length all.items ≡ 16) }
     ensures empty { IfOk result (λ all. AreEmpty all.items) }
@@ -220,25 +216,4 @@ fn no_places(alloc: Global) -> Result<Vec<StepPlaces>, NoMemory>
         all.push(StepPlaces::new(alloc))?;
     }
     Ok(all)
-}
-
-// Fills an effect with what a record says that its step gave.
-fn fill_effect(orders: &[Order], one: &Record, effect: &mut Effect<Global>) -> Result<(), NoMemory>
-    requires { IsWithin orders.now one.now }
-    ensures { OnOk result (outcome_of effect.new ≡ (step_of orders.now one.now).outcome) }
-{
-    let alloc = *effect.events.allocator();
-    effect.orders.clear();
-    let part = &orders[one.first..one.first + one.count];
-    if effect.orders.try_extend_from_slice(part).is_err() {
-        unreachable!()
-    }
-    effect.reply = one.reply.copied(alloc)?;
-    effect.events.clear();
-    effect.events.extend_from_slice(one.events.as_slice())?;
-    effect.matched.clear();
-    effect.matched.extend_from_slice(one.matched.as_slice())?;
-    effect.released.clear();
-    effect.released.extend_from_slice(one.released.as_slice())?;
-    Ok(())
 }

@@ -30,7 +30,7 @@ impl StepPlaces {
         }
     }
 
-    /// Makes room for one step more. `NoMemory` where a growth was refused.
+    /// Makes room for one step more. `NoMemory` where memory is refused; the places stay.
     pub fn reserve(&mut self) -> Result<(), NoMemory>
         ensures places { self.new.places ≡ self.old.places }
         ensures room { OnOk result (1 ≤ self.new.room) }
@@ -39,7 +39,7 @@ impl StepPlaces {
         Ok(())
     }
 
-    /// A step of the actor stands at this place; there is room for it.
+    /// Adds the place of the actor's next step, for which there is room.
     pub fn push(&mut self, place: usize)
         requires { 1 ≤ self.old.room }
         ensures { self.new.places ≡ self.old.places ++ place ∷ [] }
@@ -47,7 +47,7 @@ impl StepPlaces {
         self.list.push_reserved(place);
     }
 
-    /// The place of the actor's step of this number, from 0; None where there are fewer.
+    /// The place of the actor's step `number`, counted from 0; None where there is no such step.
     pub fn nth(&self, number: usize) -> Option<usize>
         ensures { result ≡ slice_get self.now.places number }
     {

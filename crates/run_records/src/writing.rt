@@ -1,16 +1,22 @@
 //! Writing a run as a recorded script.
-ghost use Rattle.std.specs.Prelude.{◌≡◌, [], IfErr, OnOk};
+ghost use Rattle.std.specs.Prelude.{◌≡◌, ℕ, List, [], IfErr, IfOk, OnOk};
 ghost use Rattle.std.specs.Io.KnownBytes.{Appends};
 ghost use Rattle.s6_replay.specs.Recording.{FitsLine};
 ghost use Rattle.s6_replay.specs.Script.{step_lines};
 ghost use Rattle.s6_replay.specs.declared.version.Version.TheVariants.{Two};
-ghost use Rattle.run_records.specs.RunText.{recorded_reply, run_fault_number, run_text, StopsHead, StopsStep};
+ghost use Rattle.tree_core.specs.Effect.{outcome_of};
+ghost use Rattle.step_codes.specs.StepCodes.{step_onto, FitsStep};
+ghost use Rattle.run_records.specs.Runs.{RunStep};
+ghost use Rattle.run_records.specs.Stored.{IsStored};
+ghost use Rattle.run_records.specs.RunText.{recorded_of, recorded_reply, run_fault_number, run_text, StopsHead, StopsStep};
 
-use crate::record::Record;
+use crate::step_log::Stored;
 use s6_replay::{SpellFault, spell_step, write_whole};
-use std::alloc::Global;
+use std::alloc::{AllocError, Global};
 use std::io::Write;
+use step_codes::{Code, take_act, take_head, take_outcome};
 use thiserror::Error;
+use tree_core::{Effect, PlainInput, Reply};
 
 /// Why a run was not written whole.
 #[derive(Clone, Copy, Debug, PartialEq, Eq, Error)]
@@ -53,22 +59,78 @@ pub(crate) fn write_head<W: Write>(head: bool, writer: &mut W) -> Result<(), Run
     Ok(())
 }
 
-// Writes the lines of the step of this number. The text is used again for each step.
-pub(crate) fn write_step<W: Write>(
+// Writes the lines of one step, as it is kept. `text` and `effect` are working memory, used again for each step; `number` is for the fault.
+pub(crate) fn write_stored<W: Write>(
     alloc: Global,
     text: &mut Vec<u8>,
-    step: &Record,
+    effect: &mut Effect<Global>,
+    stored: Stored<'_>,
     number: u64,
     writer: &mut W,
 ) -> Result<(), RunFault>
-    ensures fits { OnOk result (FitsLine step.now.input) }
-    ensures ok { OnOk result (Appends (W.contents writer.old) (W.contents writer.new)
-        (step_lines Two (recorded_reply step.now.input step.now.reply))) }
-    ensures fault { IfErr result
-        (λ fault. StopsStep fault number step.now.input step.now.reply
+    ensures fits { OnOk result ((s : RunStep) → IsStored s stored.entry → FitsLine s.input) }
+    ensures ok { OnOk result ((s : RunStep) → IsStored s stored.entry
+        → Appends (W.contents writer.old) (W.contents writer.new)
+        (step_lines Two (recorded_of s))) }
+    ensures fault { IfErr result (λ fault. (s : RunStep) → IsStored s stored.entry
+        → StopsStep fault number s.input s.outcome.reply
         (W.contents writer.old) (W.contents writer.new)) }
 {
-    match spell_step(alloc, text, &step.input, &step.reply) {
+    match stored {
+        Stored::Whole(record) => write_step(
+            alloc,
+            text,
+            &record.input,
+            &record.reply,
+            number,
+            writer,
+        ),
+        Stored::Coded(mut code) => {
+            let Ok(input) = read_step(alloc, &mut code, effect) else {
+                return Err(RunFault::NoMemory);
+            };
+            match write_step(alloc, text, &input, &effect.reply, number, writer) {
+                Ok(()) => Ok(()),
+                Err(fault) => Err(fault),
+            }
+        }
+    }
+}
+
+// Reads the input of a step, and makes the effect what it gave. An error where memory is refused.
+fn read_step(
+    alloc: Global,
+    code: &mut Code<'_>,
+    effect: &mut Effect<Global>,
+) -> Result<PlainInput<Global>, AllocError>
+    ensures { IfOk result (λ input. (s : RunStep) → (rest : List ℕ)
+        → FitsStep s.input s.outcome → code.old ≡ step_onto s.input s.outcome rest
+        → (input ≡ s.input) × (outcome_of effect.new ≡ s.outcome)) }
+{
+    let (actor, at) = take_head(code);
+    take_outcome(code, effect)?;
+    let act = take_act(alloc, code)?;
+    Ok(PlainInput { actor, at, act })
+}
+
+// Writes the lines of one step: that of its input and that of its reply. `text` is working memory, used again for each step; `number` is
+// for the fault.
+fn write_step<W: Write>(
+    alloc: Global,
+    text: &mut Vec<u8>,
+    input: &PlainInput<Global>,
+    reply: &Reply<Global>,
+    number: u64,
+    writer: &mut W,
+) -> Result<(), RunFault>
+    ensures fits { OnOk result (FitsLine input.now) }
+    ensures ok { OnOk result (Appends (W.contents writer.old) (W.contents writer.new)
+        (step_lines Two (recorded_reply input.now reply.now))) }
+    ensures fault { IfErr result
+        (λ fault. StopsStep fault number input.now reply.now
+        (W.contents writer.old) (W.contents writer.new)) }
+{
+    match spell_step(alloc, text, input, reply) {
         Ok(()) => {}
         Err(SpellFault::Unspelt) => return Err(RunFault::Unspelt(number)),
         Err(_) => return Err(RunFault::NoMemory),

@@ -5,11 +5,11 @@ use Rattle.run_stories.specs.declared.lanes.Change.{Change}
 use Rattle.run_stories.specs.declared.scale.Scale.{Scale}
 use Rattle.run_stories.specs.declared.shade.Shade.{Shade}
 
--- the place of a moment, within a width of 10,000 for the time from the first moment to the last
+-- the place of a moment, in a width of 10,000 that stands for the time from the first moment to the last
 abbrev pub place_of : Scale → ℕ → ℕ
 place_of scale at = min ((at - scale.first) * 10000 / max (scale.last - scale.first) 1) 10000
 
--- what is shown at a place, after this shade: that of the last change up to there
+-- what is shown at a place: the shade of the last change up to there, or this shade where there is no such change
 abbrev pub shown_at : Scale → Shade → List Change → ℕ → Shade
 shown_at scale shade [] place = shade
 shown_at scale shade (change ∷ more) place =
@@ -20,8 +20,8 @@ abbrev pub with_interval : List Interval → ℕ → ℕ → Shade → List Inte
 with_interval intervals from to shade =
     if nat_lt from to then intervals ++ (record { from = from; to = to; shade = shade }) ∷ [] else intervals
 
--- the intervals fill all from here to there: each begins where the one before it ends, none is empty, and it shows at each of its places
--- what is shown there
+-- the intervals fill all places from `from` to `to`: each begins where the one before it ends, none is empty, and each has, for each of its
+-- places, the shade that is shown there
 abbrev pub Fill : (ℕ → Shade) → ℕ → List Interval → ℕ → Type 0
 Fill shown from [] to = from ≡ to
 Fill shown from (one ∷ more) to =

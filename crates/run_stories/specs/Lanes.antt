@@ -8,7 +8,7 @@ use Rattle.run_stories.specs.declared.shade.Shade.TheVariants as shade
 use Rattle.run_stories.specs.declared.shade.Standing.{Standing}
 use Rattle.run_stories.specs.declared.shade.Standing.TheVariants as standing
 
--- what a mark makes of its standing: beside its status row, whether its supervisor is there, and whether it failed for good
+-- the standing of a service after this mark: whether its supervisor is there, and whether it failed for good
 abbrev pub standing_after : Standing → Mark → Standing
 standing_after s mark.SupervisorStarted = standing.Supervised
 standing_after s mark.Spawned = standing.Supervised
@@ -21,13 +21,13 @@ abbrev pub up_shade : Bool → Shade
 up_shade true = shade.Ready
 up_shade false = shade.Up
 
--- of one that is down with finish done, by whether it is wanted up, and whether it failed for good
+-- the shade of one that is down with its finish done, by whether it is wanted up, and by its standing
 abbrev pub done_shade : Bool → Standing → Shade
 done_shade true s = shade.Pausing
 done_shade false standing.Failed = shade.Failed
 done_shade false s = shade.Down
 
--- of one that is not up, by whether its finish is done
+-- the shade of one that is not up, by whether its finish is done
 abbrev pub down_shade : Bool → Bool → Standing → Shade
 down_shade false wanted_up s = shade.Finishing
 down_shade true wanted_up s = done_shade wanted_up s

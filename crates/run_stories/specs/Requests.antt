@@ -25,15 +25,15 @@ use Rattle.run_stories.specs.Words.{service_text, service_line, subscription_wor
 use Rattle.run_stories.specs.declared.cause.Cause.{Cause}
 use Rattle.run_stories.specs.declared.cause.Cause.TheVariants as cause
 
--- what an act tells of a run
+-- what an act tells of a program of a service
 abbrev pub cause_of : {A : Type 0} → Act A → Cause
 cause_of (Started sid generation pid) = cause.Started pid
 cause_of (Death sid generation exit) = cause.Died exit
 cause_of (FinishEnded sid generation exit) = cause.Finished exit
 cause_of act = cause.Other
 
--- whether an act is told where it was done: what a user did to the tree is, what only was asked is not, and what was reported is told by
--- its events
+-- whether an act has a line of its own once it is done. What a user does to the tree has one, and so has a failed start. A question or a
+-- tick has none; a scan, a wait and a subscription are told by their replies, and the other reports by their events
 abbrev pub is_told : {A : Type 0} → Act A → Bool
 is_told (Scanctl order) = true
 is_told (Svc name letters) = true
@@ -66,12 +66,12 @@ head_words (Send target message) = codes "message "
 head_words (MakeDir name) = codes "directory "
 head_words Tick = codes "tick"
 
--- whose event directory is meant
+-- which event directory is meant
 abbrev pub target_text : Target → List ℕ
 target_text (target.Service name) = name
 target_text (target.Directory name) = codes "directory " ++ name
 
--- of how many services something is wanted, their names, what is wanted, and for how long
+-- what a waiter waits for: all or one of the services, their names, the condition, and how long at most
 abbrev pub mode_words : Mode → List ℕ
 mode_words mode.All = codes "all of "
 mode_words mode.One = codes "one of "
@@ -95,7 +95,7 @@ abbrev pub wait_text : Condition → Mode → ℕ → List (List ℕ) → List �
 wait_text condition mode timeout names =
     (mode_words mode ++ names_text names) ++ (condition_words condition ++ patience_text timeout)
 
--- of what an act is
+-- what an act is about
 abbrev pub body_words : {A : Type 0} → List Row → Act A → List ℕ
 body_words rows (Scan listing) = []
 body_words rows (Scanctl order) = []
@@ -130,7 +130,7 @@ reason_word refusal.Exists = codes "exists"
 reason_word refusal.Ended = codes "ended"
 reason_word refusal.Spent = codes "spent"
 
--- the line of an act: what it is, of what, and what became of it
+-- the line of an act: what it is, what it is about, and what became of it
 abbrev pub act_line : ℕ → List ℕ → List ℕ → List ℕ → List ℕ
 act_line now head body ending = (moment_text now ++ head) ++ (body ++ (ending ++ 10 ∷ []))
 
@@ -151,7 +151,7 @@ listed_line now (Added sid name) = name_line now name (codes " added\n")
 listed_line now (Full name) = name_line now name (codes " has no place\n")
 listed_line now (Unread name) = name_line now name (codes " not read\n")
 
--- the lines of a reply, to an act of these words, which is told where it was done or is not
+-- the lines of a reply to an act with these words; `told` is whether the act has a line of its own once it is done
 abbrev pub reply_lines : {A : Type 0} → ℕ → List Row → Bool → List ℕ → List ℕ → Reply A → List ℕ
 reply_lines now rows told head body answers.Done = if told then act_line now head body [] else []
 reply_lines now rows told head body (answers.Refused why) = act_line now head body (codes " refused: " ++ reason_word why)

@@ -13,7 +13,7 @@ use Rattle.s6_replay.specs.declared.fault.ReplayFault.TheVariants.{Head, Line, P
 use Rattle.s6_replay.specs.declared.fault.ReplayFault.TheVariants.{NoMemory}
 use Rattle.run_stories.specs.Stories.{IsTold, story_of, run_story}
 
--- the story of the inputs of a script's steps, from a new machine on
+-- the story of the inputs of a script's steps, which a new machine takes
 abbrev pub script_story : {A : Type 0} → List (Recorded A) → List ℕ
 script_story steps = run_story [] new_machine (inputs_of steps)
 
@@ -25,7 +25,7 @@ TellsNext A true version rows rows' tree tree' left left' held held' =
     × ((text : List ℕ) × IsTold rows rows' text tree tree' s.input × Appends held held' text)
 TellsNext A false version rows rows' tree tree' left left' held held' = Consumes left left' [] × IsAtEnd left' × (held' ≡ held)
 
--- why it was not: reading stopped and nothing was written, or the step was read, and some of its story written, and not all
+-- why no step was told: reading stopped and nothing was written, or a step was read, and some of its story was written, and not all
 abbrev pub NextStops : (A : Type 0) → ReplayFault → Version → ℕ → (rows : List Row) → (tree : StoredTree)
     → (left left' held held' : Option (List ℕ)) → Type 0
 NextStops A fault version before rows tree left left' held held' =
@@ -39,7 +39,7 @@ IsStory A left left' held held' =
     (version : Version) × ((steps : List (Recorded A)) × MakeScript version steps × IsRead version steps left left'
     × Appends held held' (script_story steps))
 
--- reading stopped behind some steps, and their story was written
+-- reading stopped after some steps, and their story was written
 abbrev pub StopsTelling : (A : Type 0) → ReplayFault → (left left' held held' : Option (List ℕ)) → Type 0
 StopsTelling A fault left left' held held' =
     (version : Version) × ((steps : List (Recorded A)) × MakeScript version steps × Appends held held' (script_story steps)

@@ -40,7 +40,7 @@ name_or_serial None sid = codes "service " ++ decimal sid
 abbrev pub service_text : List Row → ℕ → List ℕ
 service_text rows sid = name_or_serial (find (λ row. row.sid == sid) rows) sid
 
--- the words of three marks, by what the input told
+-- the words of three marks, by what the act told
 abbrev pub spawned_words : Cause → List ℕ
 spawned_words (cause.Started pid) = codes "up, process " ++ decimal pid
 spawned_words c = codes "up"
@@ -63,11 +63,11 @@ event_words c mark.FinishDone = done_words c
 event_words c mark.PermanentFailure = codes "FAILED FOR GOOD"
 event_words c mark.SupervisorEnded = codes "supervised no more"
 
--- the beginning of a line of a service: the moment, its name, and a space
+-- the beginning of a line about a service: the moment, its name, and a space
 abbrev pub service_front : ℕ → List Row → ℕ → List ℕ
 service_front now rows sid = moment_text now ++ (service_text rows sid ++ 32 ∷ [])
 
--- a line of a service
+-- a line about a service
 abbrev pub service_line : ℕ → List Row → ℕ → List ℕ → List ℕ
 service_line now rows sid words = service_front now rows sid ++ (words ++ 10 ∷ [])
 
@@ -78,7 +78,7 @@ event_line now rows c e = service_line now rows e.sid (event_words c e.mark)
 abbrev pub signal_line : ℕ → List Row → ℕ → List ℕ → List ℕ
 signal_line now rows sid words = moment_text now ++ (words ++ (service_text rows sid ++ 10 ∷ []))
 
--- what is said of the end of a `finish` that takes too long
+-- the words of the signal to a `finish` that takes too long
 unfoldable pub kill_words : List ℕ
 kill_words = codes "signal KILL to finish of "
 

@@ -1,4 +1,4 @@
-//! The words of an act: what it is, of what, and whether it is told where it was done.
+//! The words of an act: what it is, what it is about, and whether it has a line of its own once it is done.
 ghost use Rattle.std.specs.Prelude.{◌≡◌, ◌++◌, ◌∷◌, map, OnOk};
 ghost use Rattle.std.specs.List.{flat_map};
 ghost use Rattle.control_letters.specs.ControlLetter.{byte_of};
@@ -13,8 +13,8 @@ use std::alloc::{AllocError, Allocator};
 use supervise_core::Row;
 use tree_core::{Act, ScanOrder, Target};
 
-/// Whether an act is told where it was done: what a user did to the tree is, what only was asked is not, and what was reported is told by
-/// its events.
+/// Whether an act has a line of its own once it is done. What a user does to the tree has one, and so has a failed start. A question or a
+/// tick has none; a scan, a wait and a subscription are told by their replies, and the other reports by their events.
 pub fn is_told<A: Allocator>(act: &Act<A>) -> bool
     ensures { result ≡ is_told act.now }
 {
@@ -30,7 +30,7 @@ pub fn is_told<A: Allocator>(act: &Act<A>) -> bool
     }
 }
 
-/// What an act is. A space follows where there is more to say.
+/// What an act is, with a space behind it where `push_body` adds more.
 pub fn head_of<A: Allocator>(act: &Act<A>) -> &'static [u8]
     ensures { result.now ≡ head_words act.now }
 {
@@ -57,7 +57,7 @@ pub fn head_of<A: Allocator>(act: &Act<A>) -> &'static [u8]
     }
 }
 
-// Adds whose event directory is meant.
+// Adds which event directory is meant.
 fn push_target<A: Allocator>(text: &mut Vec<u8, A>, target: &Target) -> Result<(), AllocError>
     ensures { OnOk result (text.new.items ≡ text.old.items ++ target_text target.now) }
 {
@@ -122,7 +122,7 @@ fn push_names<A: Allocator>(text: &mut Vec<u8, A>, names: &[Name]) -> Result<(),
     Ok(())
 }
 
-// Adds for how long a waiter waits; nothing where it is for ever.
+// Adds how long a waiter waits at most; nothing where it waits for ever.
 fn push_patience<A: Allocator>(text: &mut Vec<u8, A>, timeout: u32) -> Result<(), AllocError>
     ensures { OnOk result (text.new.items ≡ text.old.items ++ patience_text timeout) }
 {
@@ -163,7 +163,7 @@ fn push_letters<A: Allocator>(
     Ok(())
 }
 
-/// Adds of what an act is, with services named by these rows. An error where a growth was refused.
+/// Adds what an act is about. Services are named by these rows. An error where memory is refused.
 pub fn push_body<A: Allocator>(
     text: &mut Vec<u8, A>,
     rows: &[Row],

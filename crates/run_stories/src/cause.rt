@@ -1,4 +1,4 @@
-//! What an act tells of a run of a service.
+//! What an act tells of a program of a service.
 ghost use Rattle.std.specs.Prelude.{◌≡◌};
 ghost use Rattle.run_stories.specs.Requests.{cause_of};
 
@@ -6,14 +6,14 @@ use s6_events::Exit;
 use std::alloc::Allocator;
 use tree_core::Act;
 
-/// What an act tells of a run of a service, as far as the words of the events want it.
+/// What an act tells of a program of a service, as far as the words of events need it.
 #[derive(Clone, Copy)]
 pub enum Cause {
     /// `run` was spawned, with this process number.
     Started(u32),
-    /// `run` ended so.
+    /// `run` ended, in this way.
     Died(Exit),
-    /// `finish` ended so.
+    /// `finish` ended, in this way.
     Finished(Exit),
     /// Something else, or nothing.
     Other,

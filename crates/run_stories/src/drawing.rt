@@ -1,4 +1,4 @@
-//! The drawing of a timeline: a picture in SVG that needs nothing else.
+//! The drawing of a timeline: a picture in SVG that needs no other file.
 use crate::intervals::Interval;
 use crate::scale::{MARKS, Scale, WIDTH};
 use crate::shade::Shade;
@@ -15,7 +15,7 @@ const SHADES: &[Shade] = &[
     Shade::Failed,
 ];
 
-/// How high the legend, a lane and the axis are, how wide the lanes are, and what is free at the right, in pixels.
+/// The height of the legend, of a lane and of the axis, the width of the lanes, and the free space at the right, in pixels.
 const TOP: u64 = 40;
 
 const LANE: u64 = 22;
@@ -26,14 +26,15 @@ const LANES_WIDTH: u64 = WIDTH / 10;
 
 const RIGHT: u64 = 60;
 
-/// How wide a letter of a name is at most, what is free beside the names, and where the lanes begin at least, in pixels.
+/// The most width of a letter of a name, the free space beside the names, and the least distance from the left at which the lanes begin, in
+/// pixels.
 const LETTER: u64 = 8;
 
 const MARGIN: u64 = 20;
 
 const LEFT: u64 = 60;
 
-/// How far the words of the legend are from one another, in pixels.
+/// How far the words of the legend are apart, in pixels.
 const LEGEND_STEP: u64 = 150;
 
 /// Where a drawing has its parts, in pixels.
@@ -46,7 +47,7 @@ pub struct Layout {
 }
 
 impl Layout {
-    /// The layout of so many lanes, whose longest name has so many letters.
+    /// The layout for `lanes` lanes, whose longest name has `letters` letters.
     pub fn of(lanes: usize, letters: usize) -> Layout {
         let left = (letters as u64).saturating_mul(LETTER);
         let height = (lanes as u64).saturating_mul(LANE);
@@ -70,7 +71,7 @@ fn colour_of(shade: Shade) -> &'static str {
     }
 }
 
-// How high the line of a shade is, so that shades are told apart without their colours too.
+// How thick the line of a shade is, in pixels, so that shades can be told apart without their colours too.
 fn thickness_of(shade: Shade) -> u64 {
     match shade {
         Shade::Absent => 0,
@@ -111,7 +112,7 @@ fn write_head<W: Write>(writer: &mut W, layout: Layout) -> io::Result<()> {
     )
 }
 
-// Writes what a colour stands for.
+// Writes an entry of the legend: a line of this shade, and its word.
 fn write_key<W: Write>(writer: &mut W, left: u64, shade: Shade) -> io::Result<()> {
     let (colour, thickness, word) = (colour_of(shade), thickness_of(shade), word_of(shade));
     write!(
@@ -122,7 +123,7 @@ fn write_key<W: Write>(writer: &mut W, left: u64, shade: Shade) -> io::Result<()
     write!(writer, "<text x=\"{text}\" y=\"22\">{word}</text>\n")
 }
 
-// Writes what the colours stand for.
+// Writes the legend.
 fn write_legend<W: Write>(writer: &mut W, layout: Layout) -> io::Result<()> {
     let mut left = layout.left;
     for shade in SHADES {
@@ -132,8 +133,8 @@ fn write_legend<W: Write>(writer: &mut W, layout: Layout) -> io::Result<()> {
     Ok(())
 }
 
-// Writes a mark of the axis: a line through all lanes, and the moment below it. Moments are told in milliseconds where marks are closer
-// than a second.
+// Writes a mark of the axis: a line through all lanes, and the moment below it, in seconds. It has three decimals where marks are less than
+// a second apart.
 fn write_mark<W: Write>(
     writer: &mut W,
     layout: Layout,
@@ -156,7 +157,7 @@ fn write_mark<W: Write>(
     }
 }
 
-// Writes the marks of the axis, at whole steps.
+// Writes the marks of the axis, at multiples of their step.
 fn write_marks<W: Write>(writer: &mut W, layout: Layout, scale: &Scale) -> io::Result<()> {
     let step = scale.mark_step();
     let mut millis = scale.first_mark(step);
@@ -185,7 +186,7 @@ pub fn write_frame<W: Write>(writer: &mut W, layout: Layout, scale: &Scale) -> i
     )
 }
 
-// Writes a number of tenths.
+// Writes a number of tenths as a decimal number.
 fn write_tenths<W: Write>(writer: &mut W, tenths: u64) -> io::Result<()> {
     let (whole, tenth) = (tenths / 10, tenths % 10);
     if tenth == 0 {
@@ -203,7 +204,7 @@ fn write_interval<W: Write>(writer: &mut W, interval: &Interval) -> io::Result<(
     write_tenths(writer, interval.to.saturating_sub(interval.from))
 }
 
-// Writes the intervals of this shade as one line with gaps; nothing where there are none.
+// Writes the intervals of this shade as one line with gaps; nothing where there is no such interval.
 fn write_shade<W: Write>(writer: &mut W, intervals: &[Interval], shade: Shade) -> io::Result<()> {
     if !intervals.iter().any(|interval| interval.shade == shade) {
         return Ok(());

@@ -40,14 +40,14 @@ fn push_end<A: Allocator>(text: &mut Vec<u8, A>, exit: Exit) -> Result<(), Alloc
     }
 }
 
-/// The row of this serial, if there is one.
+/// The row of this serial; None where there is no such row.
 pub fn row_of<'a>(rows: &'a [Row], sid: Sid) -> Option<&'a Row>
     ensures { option_map (λ r. r.now) result ≡ find (λ row. row.sid == sid) rows.entry.now }
 {
     rows.iter().find(|row| row.sid == sid)
 }
 
-// Adds the name of a row, or the serial where there is none.
+// Adds the name of a row, or the serial where there is no row.
 fn push_row_name<A: Allocator>(
     text: &mut Vec<u8, A>,
     row: Option<&Row>,
@@ -65,7 +65,7 @@ fn push_row_name<A: Allocator>(
     }
 }
 
-/// Adds a service by its name in these rows, or by its serial where it has none there. An error where a growth was refused.
+/// Adds a service by its name in these rows, or by its serial where it has no row there. An error where memory is refused.
 pub fn push_service<A: Allocator>(
     text: &mut Vec<u8, A>,
     rows: &[Row],
@@ -83,7 +83,7 @@ fn push_process<A: Allocator>(text: &mut Vec<u8, A>, pid: u32) -> Result<(), All
     push_number(text, u64::from(pid))
 }
 
-// Adds what is said of a spawn.
+// Adds the words of a spawn.
 fn push_spawned<A: Allocator>(text: &mut Vec<u8, A>, cause: Cause) -> Result<(), AllocError>
     ensures { OnOk result (text.new.items ≡ text.old.items ++ spawned_words cause) }
 {
@@ -96,7 +96,7 @@ fn push_spawned<A: Allocator>(text: &mut Vec<u8, A>, cause: Cause) -> Result<(),
     }
 }
 
-// Adds what is said of a death.
+// Adds the words of a death.
 fn push_died<A: Allocator>(text: &mut Vec<u8, A>, cause: Cause) -> Result<(), AllocError>
     ensures { OnOk result (text.new.items ≡ text.old.items ++ died_words cause) }
 {
@@ -109,7 +109,7 @@ fn push_died<A: Allocator>(text: &mut Vec<u8, A>, cause: Cause) -> Result<(), Al
     }
 }
 
-// Adds what is said of a finish that is done.
+// Adds the words of a finish that is done.
 fn push_done<A: Allocator>(text: &mut Vec<u8, A>, cause: Cause) -> Result<(), AllocError>
     ensures { OnOk result (text.new.items ≡ text.old.items ++ done_words cause) }
 {
@@ -141,7 +141,7 @@ fn push_event_words<A: Allocator>(
     }
 }
 
-// Adds the beginning of a line of a service.
+// Adds the beginning of a line about a service.
 fn push_front<A: Allocator>(
     text: &mut Vec<u8, A>,
     now: At,
@@ -156,7 +156,7 @@ fn push_front<A: Allocator>(
     Ok(())
 }
 
-/// Adds a line of a service, of these words. An error where a growth was refused.
+/// Adds a line about a service, with these words. An error where memory is refused.
 pub fn push_service_line<A: Allocator>(
     text: &mut Vec<u8, A>,
     now: At,
@@ -214,7 +214,7 @@ fn push_signal_words<A: Allocator>(text: &mut Vec<u8, A>, number: u8) -> Result<
     text.extend_from_slice(b" to ")
 }
 
-// What is said of the end of a `finish` that takes too long.
+// The words of the signal to a `finish` that takes too long.
 #[tactic(auto, unfolding(crate::specs::Words::kill_words))]
 fn kill_bytes() -> &'static [u8]
     ensures { result.now ≡ kill_words }
@@ -222,7 +222,7 @@ fn kill_bytes() -> &'static [u8]
     b"signal KILL to finish of "
 }
 
-// Adds the line of a signal, of these words.
+// Adds the line of a signal, with these words.
 fn push_signal_line<A: Allocator>(
     text: &mut Vec<u8, A>,
     now: At,
@@ -361,8 +361,8 @@ fn push_releases<A: Allocator>(
     Ok(())
 }
 
-/// Adds a line for each event, order, match and release of a step, in the order in which they were made. The act told this, and services
-/// are named by these rows. An error where a growth was refused.
+/// Adds a line for each event, then for each order, match and release of a step, each kind in the order in which they were made. `cause` is
+/// what the act told; services are named by these rows. An error where memory is refused.
 pub fn push_effect<A: Allocator>(
     text: &mut Vec<u8, A>,
     now: At,

@@ -8,7 +8,7 @@ use crate::scale::{Scale, WIDTH};
 use crate::shade::Shade;
 use std::alloc::{AllocError, Allocator};
 
-/// A lane shows this from here to there, in tenths of a pixel.
+/// A part of a lane, from one place to another, in tenths of a pixel, and the shade that it shows.
 #[derive(Clone, Copy)]
 pub struct Interval {
     pub from: u64,
@@ -16,7 +16,7 @@ pub struct Interval {
     pub shade: Shade,
 }
 
-// Adds an interval from here to there, unless it would be empty.
+// Adds an interval, unless it would be empty.
 fn cut<A: Allocator>(
     intervals: &mut Vec<Interval, A>,
     from: u64,
@@ -31,8 +31,8 @@ fn cut<A: Allocator>(
     Ok(())
 }
 
-/// Makes the intervals those of a lane with these changes: they fill the whole width, one behind the other, and show at each tenth of a
-/// pixel what the last change up to there showed. An error where a growth was refused.
+/// Makes the intervals those of a lane with these changes. They fill the whole width, one behind the other, and show at each tenth of a
+/// pixel the shade of the last change up to there. An error where memory is refused.
 pub fn cut_lane<A: Allocator>(
     scale: &Scale,
     changes: &[Change],

@@ -8,14 +8,14 @@ use std::alloc::{AllocError, Allocator};
 use supervise_core::Row;
 use tree_core::{Effect, Tree};
 
-/// From this moment on a lane shows this.
+/// A change of a lane: from this moment on it shows this shade.
 #[derive(Clone, Copy)]
 pub struct Change {
     pub at: At,
     pub shade: Shade,
 }
 
-/// The lane of the services of one name. One that was dropped and comes again has the same lane.
+/// The lane of all services with one name: one that was dropped and comes again has the same lane.
 #[derive(Drop)]
 pub struct Lane<A: Allocator> {
     pub name: Name,
@@ -29,7 +29,7 @@ pub struct Lanes<A: Allocator> {
     pub lanes: Vec<Lane<A>, A>,
 }
 
-// Adds a change, where it is one. Of two at one moment the later one stays.
+// Adds a change, if the shade is another than before. Of two changes at one moment the later one stays.
 fn note<A: Allocator>(
     changes: &mut Vec<Change, A>,
     at: At,
@@ -53,7 +53,7 @@ impl<A: Allocator + Copy> Lanes<A> {
         }
     }
 
-    // The place of the lane of this name, which is made where there is none.
+    // The place of the lane with this name. Where there is no such lane, it is made.
     fn place_of(&mut self, alloc: A, name: Name) -> Result<usize, AllocError>
         ensures { IfOk result (λ place. place < length self.new.lanes.items) }
     {
@@ -74,7 +74,7 @@ impl<A: Allocator + Copy> Lanes<A> {
         Ok(place)
     }
 
-    // Notes what the service of this name shows now, after this mark if one was made.
+    // Notes what the lane of this name shows now, after this mark, if there is one.
     fn hear(
         &mut self,
         alloc: A,
@@ -95,8 +95,8 @@ impl<A: Allocator + Copy> Lanes<A> {
         note(&mut lane.changes, now, shade)
     }
 
-    /// Notes what a step made of each service that told a mark in it, and of the one of this name, if there is one. Services are named by
-    /// these rows. An error where a growth was refused.
+    /// Notes what lanes show after a step: those of the services with an event in it, and that of `named`, if there is such a service.
+    /// Services are named by these rows. An error where memory is refused.
     pub fn note_step(
         &mut self,
         alloc: A,

@@ -21,7 +21,7 @@ fn push_three_digits<A: Allocator>(text: &mut Vec<u8, A>, number: u64) -> Result
     ])
 }
 
-/// Adds so many milliseconds in seconds, with three decimals. An error where a growth was refused.
+/// Adds `millis` milliseconds in seconds, with three decimals. An error where memory is refused.
 pub fn push_seconds<A: Allocator>(text: &mut Vec<u8, A>, millis: u64) -> Result<(), AllocError>
     ensures { OnOk result (text.new.items ≡ text.old.items ++ seconds_text millis) }
 {
@@ -30,7 +30,7 @@ pub fn push_seconds<A: Allocator>(text: &mut Vec<u8, A>, millis: u64) -> Result<
     push_three_digits(text, millis % SECOND)
 }
 
-/// Adds the moment with which a line begins, and a space. An error where a growth was refused.
+/// Adds the moment with which a line begins, and a space. An error where memory is refused.
 pub fn push_moment<A: Allocator>(text: &mut Vec<u8, A>, now: At) -> Result<(), AllocError>
     ensures { OnOk result (text.new.items ≡ text.old.items ++ moment_text now) }
 {
@@ -39,7 +39,7 @@ pub fn push_moment<A: Allocator>(text: &mut Vec<u8, A>, now: At) -> Result<(), A
     Ok(())
 }
 
-/// Adds the moment with which a line begins, a word, and a serial. An error where a growth was refused.
+/// Adds the moment with which a line begins, a space, a word, and a serial. An error where memory is refused.
 pub fn push_serial<A: Allocator>(
     text: &mut Vec<u8, A>,
     now: At,

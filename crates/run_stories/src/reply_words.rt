@@ -29,7 +29,7 @@ fn reason_bytes(refusal: Refusal) -> &'static [u8]
     }
 }
 
-// Adds what an act is, and of what, behind the moment.
+// Adds the moment, what an act is, and what it is about.
 fn push_act<A: Allocator>(
     text: &mut Vec<u8, A>,
     now: At,
@@ -61,7 +61,7 @@ fn push_refused<A: Allocator>(
     text.extend_from_slice(b"\n")
 }
 
-// Adds the line of an act that was done, where it is told.
+// Adds the line of an act that was done, if it has one.
 fn push_act_done<A: Allocator>(
     text: &mut Vec<u8, A>,
     now: At,
@@ -157,8 +157,8 @@ fn push_all_listed<A: Allocator>(
     Ok(())
 }
 
-/// Adds the lines of a reply to an act of these words, which is told where it was done or is not. What was dropped is named by these rows.
-/// An error where a growth was refused.
+/// Adds the lines of a reply to an act with these words. `told` is whether the act has a line of its own once it is done. Services that
+/// were dropped are named by these rows. An error where memory is refused.
 pub fn push_reply_lines<A: Allocator>(
     text: &mut Vec<u8, A>,
     now: At,

@@ -1,10 +1,10 @@
-//! Which moments the width of all lanes stands for.
+//! The scale of a timeline: which moments the width of the lanes stands for.
 ghost use Rattle.std.specs.Prelude.{◌≡◌, ◌<◌, ◌-◌};
 ghost use Rattle.run_stories.specs.Intervals.{place_of};
 
 use s6_events::At;
 
-/// The width of all lanes, in tenths of a pixel.
+/// The width of the lanes, in tenths of a pixel.
 pub const WIDTH: u64 = 10_000;
 
 /// The most marks of the axis.
@@ -33,7 +33,8 @@ impl Scale {
         (past * WIDTH / self.whole().max(1)).min(WIDTH)
     }
 
-    /// How many milliseconds the marks of the axis are apart: one, two or five of a power of ten, so that no more than `MARKS` are needed.
+    /// How many milliseconds the marks of the axis are apart: one, two or five times a power of ten, so that no more than `MARKS` are
+    /// needed.
     pub fn mark_step(&self) -> u64
         ensures { 0 < result }
     {
@@ -53,7 +54,7 @@ impl Scale {
         }
     }
 
-    /// The first moment that is marked where the marks are so far apart, in milliseconds.
+    /// The first moment that is marked, in milliseconds, where marks are `step` milliseconds apart.
     pub fn first_mark(&self, step: u64) -> u64 {
         let first = self.first.millis();
         first.checked_next_multiple_of(step).unwrap_or(first)

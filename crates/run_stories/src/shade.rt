@@ -16,15 +16,15 @@ pub enum Shade {
     Ready,
     /// It has died, and its `finish` isn't done.
     Finishing,
-    /// It is down and wanted up: it pauses before its next start, or its first has not come yet.
+    /// It is down and wanted up: it pauses before its next start, or its first start has not come yet.
     Pausing,
-    /// It is down, and stays so.
+    /// It is down, and stays down.
     Down,
     /// Its `finish` reported a permanent failure, and it is down.
     Failed,
 }
 
-/// What the marks of a service say of it that its status row doesn't.
+/// What the marks of a service say about it and its status row doesn't.
 #[derive(Clone, Copy)]
 pub enum Standing {
     /// Its supervisor is there.

@@ -25,8 +25,8 @@ use std::io::{BufRead, Write};
 use supervise_core::Row;
 use tree_core::{Act, Effect, Input, Reply, SERVICE_LIMIT, Tree};
 
-// The rows of the last scan, by which services are named, and what is used again for each step: of what its act is, and its story, which
-// is the text of the scratch.
+// The rows of the last scan, by which services are named, and memory that is used again for each step: what its act is about, and its
+// story, which is the text of the scratch.
 #[derive(Drop)]
 struct Teller<A: Allocator> {
     rows: ArrayVec<Row, SERVICE_LIMIT>,
@@ -46,7 +46,7 @@ impl<A: Allocator + Copy> Teller<A> {
     }
 }
 
-/// Takes the rows of the services that stand, where a scan was done.
+/// Takes the rows of all services, if this is the reply to a scan that was done.
 pub fn follow_scan<A: Allocator + Copy>(
     rows: &mut ArrayVec<Row, SERVICE_LIMIT>,
     tree: &Tree<A>,
@@ -60,7 +60,7 @@ pub fn follow_scan<A: Allocator + Copy>(
     }
 }
 
-// Makes the text that of what an act is.
+// Fills the text with what an act is about.
 fn make_body<A: Allocator>(
     body: &mut Vec<u8, A>,
     rows: &ArrayVec<Row, SERVICE_LIMIT>,
@@ -72,7 +72,7 @@ fn make_body<A: Allocator>(
     push_body(body, rows.as_slice(), act)
 }
 
-// Makes the text the story of a step that the tree took. The act had these words.
+// Fills the text with the story of a step that the tree took. `told`, `head`, `body` and `cause` are those of its act.
 fn make_story<A: Allocator + Copy>(
     tree: &Tree<A>,
     rows: &mut ArrayVec<Row, SERVICE_LIMIT>,
@@ -106,7 +106,7 @@ fn make_story<A: Allocator + Copy>(
     Ok(())
 }
 
-// Applies an input, and makes the text the story of the step.
+// Applies an input, and fills the text with the story of the step.
 fn tell_step<A: Allocator + Copy>(
     tree: &mut Tree<A>,
     teller: &mut Teller<A>,
@@ -154,7 +154,7 @@ fn write_story<A: Allocator, W: Write>(
     }
 }
 
-// Reads the step behind so many others, and tells it. Whether there was one.
+// Reads the step after `done` others, and tells it. Returns whether there was one.
 fn tell_next<A: Allocator + Copy, R: BufRead, W: Write>(
     alloc: A,
     patterns: Global,
@@ -223,11 +223,12 @@ fn tell_all<A: Allocator + Copy, R: BufRead, W: Write>(
 }
 
 /// Reads a script of either version, hands its inputs to a new tree one after the other, and writes what happens, a line for each event, as
-/// docs/STORY.md tells. Replies in the script are read and not compared. Hand in a buffered reader and a buffered writer; it is not flushed
-/// here. Patterns take their memory from `patterns`, and all else from `alloc`.
+/// docs/STORY.md says. Replies in the script are read and not compared. Hand in a buffered reader and a buffered writer; the writer is not
+/// flushed here. Patterns take their memory from `patterns`, and all else from `alloc`.
 ///
 /// The limits and the faults are those of `s6_replay::run`. At `Line`, `Pattern`, `Truncated`, `Read` and `NoMemory` the story of all steps
-/// before was written, and nothing more; at `Write` some of it and of the next step's, from its beginning on; at `Head` nothing.
+/// before was written, and nothing more. At `Write` a part of the story of the steps that were read was written, from its beginning on, and
+/// not all. At `Head` nothing was written.
 pub fn tell_story<A: Allocator + Copy, R: BufRead, W: Write>(
     alloc: A,
     patterns: Global,

@@ -1,4 +1,4 @@
-//! The timeline of a script: a lane for each service.
+//! The timeline of a script: a lane for each service name.
 ghost use Rattle.std.specs.Prelude.{◌<◌};
 ghost use Rattle.s6_replay.specs.Script.{input_limit};
 
@@ -15,8 +15,8 @@ use std::io::{BufRead, Write};
 use supervise_core::Row;
 use tree_core::{Act, Input, SERVICE_LIMIT, Tree};
 
-// What was seen of a run so far: its lanes, the moment of its first step, the rows of its last scan, by which services are named, and what
-// is used again for each step.
+// What was seen of a run so far: its lanes, the moment of its first step, and the rows of its last scan, by which services are named. And
+// memory that is used again for each step.
 #[derive(Drop)]
 struct Watcher<A: Allocator> {
     lanes: Lanes<A>,
@@ -36,7 +36,7 @@ impl<A: Allocator + Copy> Watcher<A> {
     }
 }
 
-// The service that a user sends letters.
+// The service to which a user sends letters; None for any other act.
 fn lettered<A: Allocator>(act: &Act<A>) -> Option<Name> {
     match act {
         Act::Svc(name, _) => Some(*name),
@@ -44,7 +44,7 @@ fn lettered<A: Allocator>(act: &Act<A>) -> Option<Name> {
     }
 }
 
-// Applies an input, and notes what it made of the services.
+// Applies an input, and notes what the lanes show after it.
 fn watch_step<A: Allocator + Copy>(
     alloc: A,
     tree: &mut Tree<A>,
@@ -72,7 +72,7 @@ fn watch_step<A: Allocator + Copy>(
     }
 }
 
-// Reads the input behind so many others, and takes its step. Whether there was one.
+// Reads the step after `done` others, and watches it. Returns whether there was one.
 fn watch_next<A: Allocator + Copy, R: BufRead>(
     alloc: A,
     patterns: Global,
@@ -109,7 +109,7 @@ fn watch_all<A: Allocator + Copy, R: BufRead>(
     read_end(reader, version)
 }
 
-// How many letters the longest name of a lane has.
+// How many bytes the longest name of a lane has.
 fn longest_name<A: Allocator>(lanes: &[Lane<A>]) -> usize {
     let mut longest = 0;
     for lane in lanes {
@@ -187,14 +187,13 @@ fn draw_script<A: Allocator + Copy, R: BufRead, W: Write>(
     draw_all(alloc, writer, watcher, tree.now())
 }
 
-/// Reads a script of either version, hands its inputs to a new tree one after the other, and writes a picture in SVG: a lane for each name
-/// of a service, with what the service was from when to when, as docs/STORY.md tells. Replies in the script are read and not compared.
-/// Hand in a buffered reader and a buffered writer; it is not flushed here. Patterns take their memory from `patterns`, and all else from
-/// `alloc`: some 16 bytes for each change that a lane shows.
+/// Reads a script of either version, hands its inputs to a new tree one after the other, and writes a picture in SVG: a lane for each
+/// service name, which shows what the service was from when to when, as docs/STORY.md says. Replies in the script are read and not
+/// compared. Hand in a buffered reader and a buffered writer; the writer is not flushed here. Patterns take their memory from `patterns`,
+/// and all else from `alloc`: some 16 bytes for each change that a lane shows.
 ///
-/// The limits and the faults are those of `s6_replay::run`. The picture is written once the whole script was read: at a fault of the
-/// script, at `Read` and at `NoMemory` while it is read nothing was written; at `Write`, and at `NoMemory` later, a part of the picture, from
-/// its beginning on.
+/// The limits and the faults are those of `s6_replay::run`. The picture is written once the whole script was read. So nothing was written
+/// at a fault that comes before. At `Write`, and at `NoMemory` while it is written, a part of the picture was, from its beginning on.
 pub fn draw_timeline<A: Allocator + Copy, R: BufRead, W: Write>(
     alloc: A,
     patterns: Global,

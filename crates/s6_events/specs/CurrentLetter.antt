@@ -44,7 +44,7 @@ mark_or_done (Some (_, mark)) = mark
 abbrev pub current_letter : ℕ → List Moment → Mark
 current_letter sid history = mark_or_done (newest (start_or tells_state) sid history)
 
--- it after one more mark, if there is one: s begins anew, u, U, d and D become the letter, and O and x leave it
+-- the current letter after one more mark, if there is one: s makes it D; u, U, d and D become the letter; O and x leave it
 abbrev pub letter_after : Option Mark → Mark → Mark
 letter_after None letter = letter
 letter_after (Some SupervisorStarted) letter = FinishDone

@@ -13,12 +13,12 @@ with_padding text = text ++ replicate (64 - length text) 0
 abbrev pub from_text : List ℕ → Inside
 from_text text = record { bytes = with_padding text; len = length text }
 
--- the first of the bytes are a name, and the rest are zeros
+-- there are 64 bytes: the first `len` of them are a name, and the others are zeros
 abbrev pub IsPadded : Inside → Type 0
 IsPadded n = (n.len ≤ 64) × (length n.bytes ≡ 64) × (drop n.len n.bytes ≡ replicate (64 - n.len) 0)
     × IsTrue (is_name (take n.len n.bytes))
 
--- the fields come back from the text
+-- the text of a name gives its fields back
 pub inverse_proof : (n : Inside) → IsPadded n → from_text (take n.len n.bytes) ≡ n
 inverse_proof n h =
     let len : length (take n.len n.bytes) ≡ n.len = length-take-le n.len n.bytes (omega (arith, h.0, h.1)) in

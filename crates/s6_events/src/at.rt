@@ -34,7 +34,7 @@ impl At {
         At { millis: 0 }
     }
 
-    /// The moment of so many milliseconds, or None where that is more than 10^15.
+    /// The moment of `millis` milliseconds; None where `millis` is more than 10^15.
     pub fn new(millis: u64) -> Option<At>
         ensures { result ≡ (if nat_le millis last_moment then Some millis else None) }
     {
@@ -53,8 +53,8 @@ impl At {
         self.millis
     }
 
-    /// The number of the moment so many milliseconds later. It is no `At`, since it may lie past the greatest moment, where
-    /// nothing ever comes.
+    /// The number of the moment that is `millis` milliseconds later. It is a plain number, since it may be past the greatest moment;
+    /// then that moment never comes.
     pub fn later(self, millis: u32) -> u64
         ensures { result ≡ self + millis }
     {

@@ -1,5 +1,5 @@
-//! What a waiter waits for, and of how many of its services.
-/// What a waiter wants of each of its services. Pages `s6-svwait` and `s6-svlisten`.
+//! What a waiter waits for, and for how many of its services.
+/// What a waiter wants of its services. Pages `s6-svwait` and `s6-svlisten`.
 #[derive(Clone, Copy, Debug, Default, PartialEq, Eq)]
 pub enum Condition {
     /// `u`: it is up.
@@ -17,7 +17,7 @@ pub enum Condition {
     RestartedReady,
 }
 
-/// How many of its services a waiter wants its condition of. Page `s6-svwait`.
+/// Of how many of its services a waiter's condition has to hold. Page `s6-svwait`.
 #[derive(Clone, Copy, Debug, Default, PartialEq, Eq)]
 pub enum Mode {
     /// `a`: all of them, at one moment.

@@ -4,7 +4,7 @@ ghost use Rattle.s6_events.specs.CurrentLetter.{letter_after};
 
 use super::mark::Mark;
 
-/// The current letter of a service once it has one more mark. Before the first one it is D. Page `s6-svstat`.
+/// The current letter of a service after `mark`, where it was `letter` before. Before any mark it is D. Page `s6-svstat`.
 pub fn letter_after(letter: Mark, mark: Mark) -> Mark
     ensures { result ≡ letter_after (Some mark) letter }
 {

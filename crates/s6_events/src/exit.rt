@@ -1,5 +1,5 @@
 //! How a program ended.
-/// How a program ended. Page `s6-supervise`: its exit code, or the signal that killed it.
+/// How a program ended: with an exit code, or killed by a signal. Page `s6-supervise`.
 #[derive(Clone, Copy, PartialEq, Eq, Debug)]
 pub enum Exit {
     /// It ended by itself, with this code.

@@ -10,7 +10,7 @@ pub enum Field {
     NormallyUp,
     /// `ready`: it is ready, or down with `finish` done.
     Ready,
-    /// `paused`: it was stopped by SIGSTOP.
+    /// `paused`: it was told to stop by SIGSTOP.
     Paused,
     /// `pid`: the process number of `run`.
     Pid,
@@ -20,6 +20,6 @@ pub enum Field {
     Signal,
     /// `updownfor`: for how many seconds it has been up, or down.
     UpDownFor,
-    /// `readyfor`: for how many seconds it has been ready.
+    /// `readyfor`: for how many seconds it has been ready, or down with `finish` done.
     ReadyFor,
 }

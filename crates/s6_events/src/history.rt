@@ -1,4 +1,5 @@
-//! The list of all moments, of which the first may be forgotten. What a letter makes of a service is in `current_letter.rt`.
+//! The list of all moments, of which the first ones may be forgotten. How a mark changes the current letter of a service is in
+//! `current_letter.rt`.
 ghost use Rattle.std.specs.Prelude.{◌≡◌, ◌==◌, ◌+◌, ◌-◌, ◌^◌, ◌<◌, ◌≤◌, ◌++◌, ◌∷◌, [], length, drop, vec_len, vec_capacity, IsOk, IfOk, OnOk, OnErr, option_map};
 ghost use Rattle.s6_events.specs.History.{end_of, from_place, forgotten_by};
 
@@ -7,12 +8,12 @@ use crate::no_memory::NoMemory;
 use std::alloc::Allocator;
 use std::marker::Model;
 
-/// The moments since it was made, in the order in which they were pushed; places count from 0. The first of them may be forgotten.
+/// All moments that were pushed, in order; their places count from 0. The first ones may be forgotten; the others keep their places.
 #[derive(Drop)]
 pub struct History<A: Allocator> {
-    // So many lie in `moments` no more.
+    // How many of the first moments are no longer in `moments`.
     dropped: u64,
-    // So many of those that lie there are forgotten, and are dropped when they are half of them.
+    // How many of the first ones in `moments` are forgotten. They are dropped once they are at least half of `moments`.
     skipped: usize,
     moments: Vec<Moment, A>,
 }
@@ -80,8 +81,8 @@ impl<A: Allocator + Copy> History<A> {
         self.len() == 0
     }
 
-    /// Adds a moment at the end. `NoMemory` where the growth was refused; nothing has changed then, and the room that a plan was given
-    /// is still there. None is asked for where there is still room.
+    /// Adds a moment at the end. It always succeeds where there is still room. `NoMemory` where memory is refused: nothing has changed
+    /// then, and a plan still has its room.
     pub fn push(&mut self, moment: Moment) -> Result<(), NoMemory>
         requires { end_of self.old + 1 < 2 ^ 63 }
         ensures ok { OnOk result (self.new.kept ≡ self.old.kept ++ moment ∷ []) }
@@ -94,7 +95,8 @@ impl<A: Allocator + Copy> History<A> {
         Ok(())
     }
 
-    /// The moments from a place on, the empty slice at the place `len`; None where that place is not there yet.
+    /// The moments from a place on, the empty slice at the place `len`. None where the place is past `len`, or where a moment from it on is
+    /// forgotten.
     pub fn from(&self, place: u64) -> Option<&[Moment]>
         ensures { option_map (λ s. s.now) result ≡ from_place self.now place }
     {
@@ -110,7 +112,7 @@ impl<A: Allocator + Copy> History<A> {
         Some(&kept[before..])
     }
 
-    /// Forgets the moments before a place; past the end, all of them. Those that were forgotten stay so.
+    /// Forgets the moments before `place`, or all of them where `place` is past the end. What is forgotten already stays forgotten.
     pub fn forget(&mut self, place: u64)
         ensures forgotten { self.new.forgotten ≡ forgotten_by self.old place }
         ensures kept { self.new.kept ≡ drop (forgotten_by self.old place - self.old.forgotten) self.old.kept }
@@ -128,7 +130,7 @@ impl<A: Allocator + Copy> History<A> {
         }
     }
 
-    // Those that are forgotten lie in the vector no more.
+    // Drops the forgotten moments from the vector.
     fn drop_skipped(&mut self)
         ensures forgotten { self.new.forgotten ≡ self.old.forgotten }
         ensures kept { self.new.kept ≡ self.old.kept }
@@ -141,8 +143,8 @@ impl<A: Allocator + Copy> History<A> {
         self.skipped = 0;
     }
 
-    /// Makes room for the pushes of these moments, which the plan keeps, and changes nothing else: a plan that was made before keeps its room, also where this one is
-    /// refused. `NoMemory` where a growth was refused; none is asked for where there is nothing to push.
+    /// Makes room to push these moments, which the plan keeps, and changes nothing else: an earlier plan keeps its room, even where this
+    /// call is refused. `NoMemory` where memory is refused; never where there is no moment to push.
     pub fn prepare(&mut self, moments: Vec<Moment, A>) -> Result<HistoryPlan<A>, NoMemory>
         ensures ok { IfOk result (λ plan. plan ≡ moments.items) }
         ensures room { OnOk result (length moments.items ≤ self.new.spare_capacity) }
@@ -155,7 +157,7 @@ impl<A: Allocator + Copy> History<A> {
         Ok(HistoryPlan { moments })
     }
 
-    /// Makes the pushes of a plan that this history made, where nothing was pushed in between.
+    /// Pushes the moments of a plan. This history made the plan, and nothing was pushed since.
     pub fn commit(&mut self, plan: HistoryPlan<A>)
         requires room { length plan ≤ self.old.spare_capacity }
         requires count { end_of self.old + length plan < 2 ^ 63 }

@@ -3,7 +3,7 @@ ghost use Rattle.std.specs.Prelude.{◌≡◌, ◌≤◌, None, Some, nat_le, if
 
 use std::marker::Model;
 
-/// The serial of a service, counted from 1. No serial is used again, so a name that comes again is another service.
+/// The serial of a service, counted from 1 and never used again: where a name comes again, it is another service with another serial.
 #[derive(Clone, Copy, PartialEq, Eq, PartialOrd, Ord, Hash, Debug, Default)]
 pub struct Sid(pub u64);
 

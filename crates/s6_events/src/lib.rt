@@ -1,4 +1,4 @@
-//! What every layer speaks of: services, moments, marks, orders, reports, and the history of all of them.
+//! What every layer speaks of: names, serials, moments, marks, letters, orders, reports, and the history.
 #![tactic(auto)]
 
 mod at;

@@ -41,7 +41,7 @@ impl Model for Name {
 }
 
 impl Name {
-    /// The name of these bytes, or None where they make none.
+    /// The name with these bytes; None where they are no name.
     pub fn new(text: &[u8]) -> Option<Name>
         ensures { result ≡ (if is_name text.now then Some text.now else None) }
     {

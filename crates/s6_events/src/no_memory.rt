@@ -1,10 +1,10 @@
-//! The fault of a refused growth.
+//! The fault where memory is refused.
 ghost use Rattle.std.specs.Prelude.{◌≡◌};
 
 use std::alloc::{AllocError, AllocFailed};
 use thiserror::Error;
 
-/// A growth was refused for want of memory. Unless a call says otherwise, nothing has changed then.
+/// Memory was refused. Unless a call says otherwise, nothing has changed then.
 #[derive(Clone, Copy, Debug, PartialEq, Eq, Error)]
 #[error("out of memory")]
 pub struct NoMemory;

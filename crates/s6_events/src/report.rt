@@ -3,7 +3,7 @@ use crate::exit::Exit;
 use crate::ids::Sid;
 use arrayvec::ArrayVec;
 
-/// What became of a `run` or a `finish` whose start was asked. The second field is the generation. Page `s6-supervise`, "Detailed
+/// What became of a `run` or a `finish` whose start was ordered. The second field is the generation. Page `s6-supervise`, "Detailed
 /// operation".
 #[derive(Clone, Debug, PartialEq, Eq, Drop)]
 pub enum Report {

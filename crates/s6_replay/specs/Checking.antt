@@ -17,7 +17,7 @@ use Rattle.s6_replay.specs.declared.fault.ReplayFault.{ReplayFault}
 use Rattle.s6_replay.specs.declared.fault.ReplayFault.TheVariants.{Head, Line, Pattern, Truncated, Read, Write}
 use Rattle.s6_replay.specs.declared.fault.ReplayFault.TheVariants.{NoMemory}
 
--- the text of what a machine replies to an input
+-- the text of a machine's reply to an input
 abbrev pub reply_of : {A : Type 0} → Machine → Input A → List ℕ
 reply_of m input = reply_text (outcome m input).reply
 
@@ -25,7 +25,7 @@ reply_of m input = reply_text (outcome m input).reply
 abbrev pub AreLegal : {A : Type 0} → List (Recorded A) → Type 0
 AreLegal steps = map (λ s. s.reply) steps ≡ map (λ o. reply_text o.reply) (outcomes new_machine (inputs_of steps))
 
--- the truth says whether a recorded reply is the machine's, and the tree goes on as the machine does
+-- the truth value says whether a recorded reply is the machine's; where it is, the tree goes on as the machine does
 abbrev pub Compares : {A : Type 0} → Bool → StoredTree → StoredTree → Input A → List ℕ → Type 0
 Compares true tree tree' input reply =
     (m : Machine) → StandsFor tree m → StandsFor tree' (after m input) × (reply ≡ reply_of m input)
@@ -39,7 +39,8 @@ ComparesStep A Other tree tree' left left' =
     (s : Recorded A) × HasLines Two s × Consumes left left' (step_lines Two s) × Compares false tree tree' s.input s.reply
 ComparesStep A End tree tree' left left' = Consumes left left' [] × IsAtEnd left'
 
--- what a check found: all replies are the machine's, and so many inputs were read; or those before this line, and not the one in it
+-- what a check found. Legal: all replies are the machine's, and n inputs were read. Differs: the reply in line n is not the machine's, and
+-- all replies before it are
 abbrev pub Checks : (A : Type 0) → Checked → (left left' : Option (List ℕ)) → Type 0
 Checks A (Legal n) left left' =
     (steps : List (Recorded A)) × MakeScript Two steps × IsRead Two steps left left' × AreLegal steps × (n ≡ length steps)
@@ -49,7 +50,7 @@ Checks A (Differs n) left left' =
     × AreLegal steps × (last.reply ≢ reply_of (after_all new_machine (inputs_of steps)) last.input)
     × (n ≡ length steps * 2 + 3))
 
--- reading stopped behind some steps, whose replies are the machine's
+-- reading stopped after some steps, whose replies are the machine's
 abbrev pub StopsLegal : (A : Type 0) → ReplayFault → (left left' : Option (List ℕ)) → Type 0
 StopsLegal A fault left left' =
     (steps : List (Recorded A)) × MakeScript Two steps × AreLegal steps

@@ -8,7 +8,7 @@ use Rattle.s6_replay.specs.declared.line.Ended.TheVariants.{Newline, End, TooLon
 abbrev pub HasNoNewline : List ℕ → Type 0
 HasNoNewline line = All (λ b. b ≢ 10) line
 
--- some of a line: no newline has come, and it is within the limit
+-- a part of a line: no newline has come, and it is within the limit
 pub record IsPart (limit : ℕ) (line : List ℕ) : Type 0 where
   pub plain : HasNoNewline line
   pub within : length line ≤ limit
@@ -18,18 +18,18 @@ abbrev pub IsWithinLine : ℕ → List ℕ → Type 0
 IsWithinLine limit bytes = IsPart limit bytes ⊎
     ((line : List ℕ) × HasNoNewline line × (length line < limit) × (bytes ≡ line ++ 10 ∷ []))
 
--- how a line ended: by its newline, within the limit; by the end of the input; or it went on beyond the limit
+-- how a line ended: by its newline, within the limit; by the end of the input; or not at all, since it went on beyond the limit
 abbrev pub EndsAs : ℕ → Ended → Option (List ℕ) → Option (List ℕ) → List ℕ → Type 0
 EndsAs limit Newline old new line = HasNoNewline line × (length line < limit) × Consumes old new (line ++ 10 ∷ [])
 EndsAs limit End old new line = HasNoNewline line × (length line ≤ limit) × Consumes old new line × IsAtEnd new
 EndsAs limit TooLong old new line =
     HasNoNewline line × (length line ≡ limit) × ((b : ℕ) × Consumes old new (line ++ b ∷ []))
 
--- a line that began at `old`, as far as it was read: it has not ended and is within the limit, or how it ended
+-- a line that began at `old`, as far as it was read: it has not ended and is within the limit, or it ended as `ended` says
 abbrev pub GoesOnOrEnds : ℕ → Option Ended → Option (List ℕ) → Option (List ℕ) → List ℕ → Type 0
 GoesOnOrEnds limit None old new line = IsPart limit line × Consumes old new line
 GoesOnOrEnds limit (Some ended) old new line = EndsAs limit ended old new line
 
--- the writer got some of the bytes, from the front on, and not all
+-- the writer got some of the bytes, or none, from the front on, and not all
 abbrev pub AppendsFront : Option (List ℕ) → Option (List ℕ) → List ℕ → Type 0
 AppendsFront old new bytes = (n : ℕ) × (n < length bytes) × Appends old new (take n bytes)

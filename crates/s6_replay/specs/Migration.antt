@@ -1,4 +1,4 @@
--- Migration: a script without replies becomes one with the machine's.
+-- Migration: a script without replies becomes one with the machine's replies.
 use Rattle.std.specs.Prelude.{◌≡◌, ℕ, ◌<◌, ◌^◌, List, [], ◌∷◌, length, Option, ◌⊎◌}
 use Rattle.std.specs.Io.KnownBytes.{Consumes, Appends, IsAtEnd}
 use Rattle.tree_core.specs.declared.input.Input.{Input}
@@ -17,11 +17,11 @@ use Rattle.s6_replay.specs.declared.fault.ReplayFault.{ReplayFault}
 use Rattle.s6_replay.specs.declared.fault.ReplayFault.TheVariants.{Head, Line, Pattern, Truncated, Read, Write}
 use Rattle.s6_replay.specs.declared.fault.ReplayFault.TheVariants.{NoMemory}
 
--- an input, and what a machine replies to it
+-- an input, and a machine's reply to it
 abbrev pub recorded_step : {A : Type 0} → Machine → Input A → Recorded A
 recorded_step m input = record { input = input; reply = reply_of m input }
 
--- some inputs, and what a machine replies to each
+-- some inputs, and a machine's reply to each
 unfoldable pub recorded : {A : Type 0} → Machine → List (Input A) → List (Recorded A)
 recorded m [] = []
 recorded m (i ∷ is) = recorded_step m i ∷ recorded (after m i) is
@@ -30,14 +30,15 @@ recorded m (i ∷ is) = recorded_step m i ∷ recorded (after m i) is
 abbrev pub recorded_script : {A : Type 0} → List (Input A) → List ℕ
 recorded_script inputs = script Two (recorded new_machine inputs)
 
--- the head line was written, or some of it
+-- the head line was written; or it was not, but for some of it
 abbrev pub HeadWritten : Option (List ℕ) → Option (List ℕ) → Type 0
 HeadWritten held held' = Appends held held' (head_line Two)
 
 abbrev pub HeadUnwritten : ReplayFault → Option (List ℕ) → Option (List ℕ) → Type 0
 HeadUnwritten fault held held' = (fault ≡ Write) × AppendsFront held held' (head_line Two)
 
--- the lines of an input were written with a machine's reply, and what it gave was counted
+-- the lines of an input and of a machine's reply were written, the events and orders that it gave were counted, and the tree goes on as the
+-- machine does
 pub record Recording {A : Type 0} (events orders : ℕ) (tree : StoredTree) (held held' : Option (List ℕ)) (m : Machine)
     (input : Input A) : Type 0 where
   pub written : Appends held held' (step_lines Two (recorded_step m input))
@@ -45,7 +46,7 @@ pub record Recording {A : Type 0} (events orders : ℕ) (tree : StoredTree) (hel
   pub event_count : events ≡ length (outcome m input).events
   pub order_count : orders ≡ length (outcome m input).orders
 
--- so it was, whatever machine the tree stands for
+-- the same for each machine that the tree stands for
 abbrev pub IsRecorded : {A : Type 0} → (events orders : ℕ) → StoredTree → StoredTree → Input A → (held held' : Option (List ℕ)) → Type 0
 IsRecorded events orders tree tree' input held held' =
     (events < 2 ^ 64) × (orders < 2 ^ 64)
@@ -65,7 +66,7 @@ Records A (Done events orders) tree tree' left left' held held' =
     × IsRecorded events orders tree tree' s.input held held'
 Records A End tree tree' left left' held held' = Consumes left left' [] × IsAtEnd left' × (held' ≡ held)
 
--- why not: reading stopped, or the input was read and not recorded
+-- why no input was recorded: reading stopped, or the input was read and its lines were not written whole
 abbrev pub RecordStops : (A : Type 0) → ReplayFault → ℕ → StoredTree → (left left' held held' : Option (List ℕ)) → Type 0
 RecordStops A fault before tree left left' held held' =
     (StopsBehind A One before fault [] left left' × (held' ≡ held))
@@ -78,13 +79,13 @@ Migrates A counts left left' held held' =
     (steps : List (Recorded A)) × MakeScript One steps × IsRead One steps left left'
     × Appends held held' (recorded_script (inputs_of steps)) × CountsOf (inputs_of steps) counts
 
--- reading stopped behind some steps, and the script of their inputs with the machine's replies was written
+-- reading stopped after some steps, and the script of their inputs with the machine's replies was written
 abbrev pub StopsMigrating : (A : Type 0) → ReplayFault → (left left' held held' : Option (List ℕ)) → Type 0
 StopsMigrating A fault left left' held held' =
     (steps : List (Recorded A)) × MakeScript One steps × Appends held held' (recorded_script (inputs_of steps))
     × StopsBehind A One (length steps) fault (script One steps) left left'
 
--- where a migration stopped; at a failed write some of what it had to write was written, and not all
+-- where a migration stopped; at a failed write some of what was to be written was, and not all
 abbrev pub MigrateStops : (A : Type 0) → ReplayFault → (left left' held held' : Option (List ℕ)) → Type 0
 MigrateStops A Head left left' held held' = BeginsOtherwise One left × (held' ≡ held)
 MigrateStops A (Line n) left left' held held' = StopsMigrating A (Line n) left left' held held'

@@ -13,7 +13,7 @@ pub record FitsLine {A : Type 0} (i : Input A) : Type 0 where
   pub spelt : IsSpelt i
   pub within : length (input_line i) ≤ 65536
 
--- a failed write, as a fault of a record
+-- the fault of a record for a failed write
 abbrev pub spell_fault_of : WriteFault → SpellFault
 spell_fault_of writes.Write = Write
 spell_fault_of writes.NoMemory = NoMemory

@@ -29,7 +29,7 @@ pub record MakeScript {A : Type 0} (version : Version) (steps : List (Recorded A
   pub lines : AllByRecursion (HasLines version) steps
   pub few : length steps ≤ input_limit
 
--- the steps make a script, of whose inputs this was written: their transcript, and nothing else
+-- the steps make a script, and the transcript of their inputs was written, and nothing else
 abbrev pub Written : {A : Type 0} → Version → List (Recorded A) → (held held' : Option (List ℕ)) → Type 0
 Written version steps held held' = MakeScript version steps × Appends held held' (transcript (inputs_of steps))
 
@@ -44,7 +44,7 @@ IsWhole A counts left left' held held' =
     (version : Version) × ((steps : List (Recorded A)) × Written version steps held held'
     × IsRead version steps left left' × CountsOf (inputs_of steps) counts)
 
--- the transcript of some inputs was written, and some of the block of one more, whose line was read
+-- the transcript of some inputs was written, and then some of the block of one more, whose lines were read
 pub record WritesInto {A : Type 0} (version : Version) (steps : List (Recorded A)) (last : Recorded A)
     (left left' held between held' : Option (List ℕ)) : Type 0 where
   pub whole : Written version steps held between
@@ -54,13 +54,13 @@ pub record WritesInto {A : Type 0} (version : Version) (steps : List (Recorded A
   pub some : AppendsFront between held'
       (block (length steps + 1) (outcome (after_all new_machine (inputs_of steps)) last.input))
 
--- reading stopped behind some steps, and the transcript of their inputs was written
+-- reading stopped after some steps, and the transcript of their inputs was written
 abbrev pub StopsReading : (A : Type 0) → ReplayFault → (left left' held held' : Option (List ℕ)) → Type 0
 StopsReading A fault left left' held held' =
     (version : Version) × ((steps : List (Recorded A)) × Written version steps held held'
     × StopsBehind A version (length steps) fault (script version steps) left left')
 
--- where a replay stopped, and the transcript of the inputs before it: at a failed write there is one input more, and some of its
+-- where a replay stopped, with the transcript of the inputs before it written; at a failed write one more input was read, and some of its
 -- block was written, and not all
 abbrev pub Stops : (A : Type 0) → ReplayFault → (left left' held held' : Option (List ℕ)) → Type 0
 Stops A Head left left' held held' = ((version : Version) → BeginsOtherwise version left) × (held' ≡ held)

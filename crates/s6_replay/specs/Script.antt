@@ -20,7 +20,7 @@ head_line Two = codes "s6-script 2\n"
 abbrev pub input_limit : ℕ
 input_limit = 1000000
 
--- what a script says of a step: its input and, in version 2, the text of its reply
+-- what a script has for a step: its input and, in version 2, the text of its reply
 pub record Recorded (A : Type 0) : Type 0 where
   pub input : Input A
   pub reply : List ℕ
@@ -44,7 +44,7 @@ script version steps = head_line version ++ flat_map (step_lines version) steps
 abbrev pub inputs_of : {A : Type 0} → List (Recorded A) → List (Input A)
 inputs_of steps = map (λ s. s.input) steps
 
--- the input has a spelling, its line is within the limit, and its pattern, if it has one, is an expression
+-- the input has a spelling, its line is within the limit, and its pattern, if it has one, is one that `regex` reads
 pub record HasLine {A : Type 0} (i : Input A) : Type 0 where
   pub spelt : IsSpelt i
   pub within : length (input_line i) ≤ 65536
@@ -65,7 +65,7 @@ abbrev pub HasLines : {A : Type 0} → Version → Recorded A → Type 0
 HasLines One s = HasLine s.input
 HasLines Two s = HasLine s.input × IsReplyText s.reply
 
--- where a line begins behind some whole steps: that of an input, or that of the reply to an input that was read
+-- which line comes after some whole steps: that of an input, or that of the reply to an input that was read
 pub data Place (A : Type 0) : Type 0 where
   at_input : Place A
   at_reply : Input A → Place A
@@ -76,7 +76,7 @@ Comes version at_input = ⊤
 Comes One (at_reply i) = ⊥
 Comes Two (at_reply i) = HasLine i
 
--- what was read of its step before the line
+-- what of its step comes before the line
 abbrev pub lead : {A : Type 0} → Place A → List ℕ
 lead at_input = []
 lead (at_reply i) = input_line i
@@ -86,22 +86,23 @@ abbrev pub line_limit : {A : Type 0} → Place A → ℕ
 line_limit at_input = 65536
 line_limit (at_reply i) = 262144
 
--- the number of the input line behind so many steps; the head line is the first
+-- the number of the input line after `before` steps; the head line is line 1
 abbrev pub input_line_number : Version → ℕ → ℕ
 input_line_number One before = before + 2
 input_line_number Two before = before * 2 + 2
 
--- the number of the line, which in a script of version 2 is that of a reply behind each input
+-- the number of the line after `before` steps; in version 2 a reply line comes behind each input line
 abbrev pub line_number : {A : Type 0} → Version → Place A → ℕ → ℕ
 line_number version at_input before = input_line_number version before
 line_number version (at_reply i) before = before * 2 + 3
 
--- a line, without its newline, that is none there: it spells no input, or holds no reply
+-- a line, without its newline, that doesn't belong there: it spells no input, or holds no reply
 abbrev pub IsOther : {A : Type 0} → Place A → List ℕ → Type 0
 IsOther {A} at_input line = (i : Input A) → Spells line i → ⊥
 IsOther (at_reply i) line = (text : List ℕ) → IsReplyText text → line ≡ codes "= " ++ text → ⊥
 
--- what is no line there, behind so many steps: one that holds something else, or is too long, where a line may follow; else any byte
+-- bytes that are no line there after `before` steps. Where a further line may come: a line that holds something else, or one that is too
+-- long. After the last line that a script may have: any byte
 pub data IsNoLine {A : Type 0} (p : Place A) (before : ℕ) (bytes : List ℕ) : Type 0 where
   holds_other : before < input_limit → (line : List ℕ) → HasNoNewline line → length line < line_limit p → IsOther p line
       → bytes ≡ line ++ 10 ∷ [] → IsNoLine p before bytes
@@ -109,23 +110,23 @@ pub data IsNoLine {A : Type 0} (p : Place A) (before : ℕ) (bytes : List ℕ) :
       → IsNoLine p before bytes
   too_many : p ≡ at_input → before ≡ input_limit → length bytes ≡ 1 → IsNoLine p before bytes
 
--- a line, within the limit, that spells an input but for its pattern, which is refused
+-- a line, within the limit, that spells a subscription; `regex` may refuse its pattern
 pub record IsLineButForPattern (A : Type 0) (line : List ℕ) : Type 0 where
   pub plain : HasNoNewline line
   pub within : length line ≤ 65535
   pub but_for_pattern : SpellsButForPattern A line
 
--- the end of the input is no whole line there: something stands before it, or a reply is owed
+-- the input may not end there: a line has begun, or a reply line has to come
 abbrev pub IsOwed : {A : Type 0} → Place A → List ℕ → Type 0
 IsOwed at_input line = line ≢ []
 IsOwed (at_reply i) line = ⊤
 
--- this was read ahead, then what leads to the place, and then these bytes
+-- `ahead` was read, then what of the step comes before the line, and then these bytes
 abbrev pub ReadsOn : {A : Type 0} → List ℕ → Place A → List ℕ → Option (List ℕ) → Option (List ℕ) → Type 0
 ReadsOn ahead p bytes left left' = Consumes left left' (ahead ++ (lead p ++ bytes))
 
--- where reading stopped behind so many steps, of which this was read ahead: behind it no more than some of one line was read, at
--- NoMemory perhaps all of it, at Pattern all of it
+-- where reading stopped after `before` steps, for which `ahead` was read. Then came no more than a part of one line, perhaps a reply line
+-- behind its whole input line; at NoMemory it may be the whole line, at Pattern it is
 abbrev pub StopsBehind : (A : Type 0) → Version → ℕ → ReplayFault → List ℕ → (left left' : Option (List ℕ)) → Type 0
 StopsBehind A version before (Line n) ahead left left' =
     (p : Place A) × Comes version p × (n ≡ line_number version p before)
@@ -150,6 +151,6 @@ StopsBehind A version before Write ahead left left' = ⊥
 abbrev pub BeginsOtherwise : Version → Option (List ℕ) → Type 0
 BeginsOtherwise version left = (rest : List ℕ) → left ≢ Some (head_line version ++ rest)
 
--- some of a head line was read, from the front on, and nothing else
+-- some of a head line, or none, was read, from the front on, and nothing else
 abbrev pub ReadsHead : Option (List ℕ) → Option (List ℕ) → Type 0
 ReadsHead left left' = (version : Version) × ((n : ℕ) × Consumes left left' (take n (head_line version)))

@@ -1,4 +1,4 @@
--- One turn: the lines of a step are read, its input is done, and its block is written.
+-- One turn of a replay: the lines of a step are read, its input is done, and its block is written.
 use Rattle.std.specs.Prelude.{◌≡◌, ◌≢◌, ℕ, ◌+◌, ◌*◌, ◌<◌, ◌^◌, Bool, true, false, List, [], ◌∷◌, ◌++◌, All, codes, drop, length, take, Option, Some, None, ◌⊎◌}
 use Rattle.std.specs.Io.KnownBytes.{Consumes, Appends, IsAtEnd}
 use Rattle.tree_core.specs.declared.input.Input.{Input}
@@ -21,7 +21,7 @@ use Rattle.s6_replay.specs.declared.fault.ReplayFault.{ReplayFault}
 use Rattle.s6_replay.specs.declared.fault.ReplayFault.TheVariants.{Head, Line, Truncated, Read, Write}
 use Rattle.s6_replay.specs.declared.fault.ReplayFault.TheVariants.{NoMemory}
 
--- what an input gave was written under the number and counted, and the tree goes on as the machine does
+-- the block of an input was written with this number, its events and orders were counted, and the tree goes on as the machine does
 pub record Answers {A : Type 0} (events orders number : ℕ) (tree : StoredTree) (held held' : Option (List ℕ))
     (given : Outcome A) (m : Machine) : Type 0 where
   pub written : Appends held held' (block number given)
@@ -29,7 +29,7 @@ pub record Answers {A : Type 0} (events orders number : ℕ) (tree : StoredTree)
   pub event_count : events ≡ length given.events
   pub order_count : orders ≡ length given.orders
 
--- an input is answered so, whatever machine the tree stands for
+-- the same for each machine that the tree stands for
 abbrev pub IsAnswered : {A : Type 0} → (events orders number : ℕ) → StoredTree → StoredTree → Input A → Option (List ℕ)
     → Option (List ℕ) → Type 0
 IsAnswered events orders number tree tree' input held held' =
@@ -51,21 +51,21 @@ InputWasRead (Some input) line left left' =
     HasLine input × HasNoNewline line × (spelling input ≡ line) × Consumes left left' (input_line input)
 InputWasRead None line left left' = Consumes left left' [] × IsAtEnd left'
 
--- the text of a reply, in its line
+-- the text of a reply: its line without the first two bytes
 abbrev pub text_in : List ℕ → List ℕ
 text_in line = drop 2 line
 
--- the truth says whether a line holds a reply
+-- the truth value says whether a line holds a reply
 abbrev pub HoldsReply : List ℕ → Bool → Type 0
 HoldsReply line true = (line ≡ codes "= " ++ text_in line) × (text_in line ≢ []) × All IsPrintable (text_in line)
 HoldsReply line false = (text : List ℕ) → text ≢ [] → All IsPrintable text → line ≡ codes "= " ++ text → ⊥
 
--- a failed read, as a fault of a replay
+-- the fault of a replay for a failed read
 abbrev pub fault_of : ReadFault → ReplayFault
 fault_of reads.Read = Read
 fault_of reads.NoMemory = NoMemory
 
--- why no reply line was read, behind so many steps and the input
+-- why no reply line was read after `before` steps and an input
 abbrev pub ReplyStops : (A : Type 0) → ReplayFault → ℕ → Option (List ℕ) → Option (List ℕ) → Type 0
 ReplyStops A (Line n) before left left' = (n ≡ before * 2 + 3)
     × ((bytes : List ℕ) × ((i : Input A) → IsNoLine (at_reply i) before bytes) × Consumes left left' bytes)
@@ -90,7 +90,7 @@ Turns A (Done events orders) version before tree tree' left left' held held' =
     × IsAnswered events orders (before + 1) tree tree' s.input held held'
 Turns A End version before tree tree' left left' held held' = Consumes left left' [] × IsAtEnd left' × (held' ≡ held)
 
--- where a turn stopped: no step was read, or it was read and not answered
+-- where a turn stopped: no step was read, or one was read and not answered
 abbrev pub TurnStops : (A : Type 0) → ReplayFault → Version → ℕ → StoredTree → Option (List ℕ) → Option (List ℕ)
     → Option (List ℕ) → Option (List ℕ) → Type 0
 TurnStops A fault version before tree left left' held held' =
@@ -98,13 +98,13 @@ TurnStops A fault version before tree left left' held held' =
     ⊎ ((s : Recorded A) × HasLines version s × HasNoNewline (spelling s.input) × Consumes left left' (step_lines version s)
     × AnswerStops fault (before + 1) tree s.input held held')
 
--- why the head line was not read: the input begins otherwise, or the reader failed in it
+-- why the head line was not read: the input begins otherwise, or the reader failed
 abbrev pub HeadStops : ReplayFault → Option (List ℕ) → Option (List ℕ) → Type 0
 HeadStops Head left left' = (version : Version) → BeginsOtherwise version left
 HeadStops Read left left' = ReadsHead left left'
 HeadStops fault left left' = ⊥
 
--- why a text was not read: the input begins otherwise, or the reader failed in it
+-- why a text was not read: the input begins otherwise, or the reader failed
 abbrev pub LiteralStops : ReplayFault → List ℕ → Option (List ℕ) → Option (List ℕ) → Type 0
 LiteralStops Head text left left' = (rest : List ℕ) → left ≢ Some (text ++ rest)
 LiteralStops Read text left left' = (n : ℕ) × (n < length text) × Consumes left left' (take n text)

@@ -1,4 +1,4 @@
-//! The block of a step: its text, and writing all of it.
+//! The block of a step: how its text is made, and written whole.
 ghost use Rattle.std.specs.Prelude.{◌≡◌, Err, IfErr, OnOk};
 ghost use Rattle.std.specs.Io.KnownBytes.{Appends};
 ghost use Rattle.s6_replay.specs.Lines.{AppendsFront};
@@ -16,11 +16,11 @@ use tree_core::Effect;
 /// Why the block of a step was not written whole.
 #[derive(Clone, Copy, Debug, PartialEq, Eq, Error)]
 pub enum WriteFault {
-    /// The writer answered an error, or took no byte. A part of the block was written, from its beginning on: none of it, or some, which
-    /// may end within a line, but never all.
+    /// The writer answered an error, or took no byte. Of the block nothing was written, or a part from its beginning on, which may end
+    /// within a line, but never all.
     #[error("the transcript was not written")]
     Write = 1,
-    /// A growth was refused. Nothing was written.
+    /// Memory was refused. Nothing was written.
     #[error("out of memory")]
     NoMemory = 2,
 }
@@ -35,7 +35,7 @@ impl From<AllocError> for WriteFault {
     }
 }
 
-// Makes the text that of the block.
+// Fills the text with the block.
 fn make_block<A: Allocator>(
     number: u64,
     effect: &Effect<A>,
@@ -54,8 +54,8 @@ fn make_block<A: Allocator>(
     push_releases(text, effect.released.as_slice())
 }
 
-/// Writes all of the bytes. The only fault is `Write`: then some of them were written, from the front on, and not all. The writer is
-/// not flushed.
+/// Writes all of the bytes. The only fault is `Write`: then some of them, or none, were written, from the front on, and not all. The writer
+/// is not flushed.
 pub fn write_whole<W: Write>(writer: &mut W, bytes: &[u8]) -> Result<(), WriteFault>
     ensures ok { OnOk result (Appends (W.contents writer.old) (W.contents writer.new) bytes.now) }
     ensures write { IfErr result (λ fault. (fault ≡ WriteFault.Write)
@@ -71,9 +71,9 @@ pub fn write_whole<W: Write>(writer: &mut W, bytes: &[u8]) -> Result<(), WriteFa
     Ok(())
 }
 
-/// Writes the block of a step, which begins with this number: a line for the reply, then one for each event, order, match and
-/// release. The block is made whole in memory first, so that at `NoMemory` nothing of it was written; at `Write` a part of it was,
-/// from its beginning on, which may end within a line. The writer is not flushed.
+/// Writes the block of a step: a line with this number and the reply, then one for each event, order, match and release. The block is made
+/// whole in memory first, so at `NoMemory` nothing of it was written. At `Write` a part of it was, from its beginning on, which may end
+/// within a line. The writer is not flushed.
 pub fn write_effect<A: Allocator + Copy, W: Write>(
     alloc: A,
     number: u64,
@@ -92,7 +92,7 @@ pub fn write_effect<A: Allocator + Copy, W: Write>(
     write_block(number, effect, &mut text, writer)
 }
 
-// Writes the block of a step, made whole in a text first, whose memory is used again.
+// Writes the block of a step. The block is first made whole in `text`, whose memory is used again.
 pub fn write_block<A: Allocator, W: Write>(
     number: u64,
     effect: &Effect<A>,

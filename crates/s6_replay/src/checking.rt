@@ -18,7 +18,7 @@ use std::alloc::{Allocator, Global};
 use std::io::BufRead;
 use tree_core::{Effect, Input, Tree};
 
-// What was found of a step.
+// What was found out about a step.
 #[derive(Clone, Copy, Debug, PartialEq, Eq)]
 pub enum Compared {
     // Its reply is the machine's.
@@ -29,14 +29,14 @@ pub enum Compared {
     End,
 }
 
-// The text of a reply, in its line.
+// The text of a reply: its line without the first two bytes.
 fn text_of(line: &[u8]) -> &[u8]
     ensures { result.now ≡ text_in line.now }
 {
     &line[line.len().min(2)..]
 }
 
-// Applies an input. Whether the reply in this line is the machine's.
+// Applies an input. Returns whether the reply in this line is the machine's.
 fn compare_reply<A: Allocator + Copy>(
     tree: &mut Tree<A>,
     effect: &mut Effect<A>,
@@ -57,7 +57,7 @@ fn compare_reply<A: Allocator + Copy>(
     Ok(text_of(line) == text.as_slice())
 }
 
-// Reads the step behind so many others, applies its input, and compares its reply.
+// Reads the step after `done` others, applies its input, and compares its reply.
 fn compare_step<A: Allocator + Copy, R: BufRead>(
     alloc: A,
     patterns: Global,
@@ -121,11 +121,11 @@ fn check_all<A: Allocator + Copy, R: BufRead>(
     }
 }
 
-/// Reads a script of version 2, hands its inputs to a new tree one after the other, and compares each reply with the one recorded.
-/// `Legal` where all are the machine's; `Differs` at the first that is not, and nothing behind that line is read. Hand in a buffered
-/// reader. Patterns take their memory from `patterns`, and all else from `alloc`.
+/// Reads a script of version 2, hands its inputs to a new tree one after the other, and compares each reply with the recorded one. `Legal`
+/// where all recorded replies are the machine's; `Differs` at the first that is not, and nothing after that line is read. Hand in a
+/// buffered reader. Patterns take their memory from `patterns`, and all else from `alloc`.
 ///
-/// The limits and the faults are those of `run`; a script of version 1 is `Head`. A fault comes where all replies before it are the
+/// The limits and the faults are those of `run`; a script of version 1 gives `Head`. Where there is a fault, all replies before it are the
 /// machine's.
 pub fn check<A: Allocator + Copy, R: BufRead>(
     alloc: A,

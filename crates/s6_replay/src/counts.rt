@@ -24,7 +24,7 @@ impl Counts {
         }
     }
 
-    // One more input, and what it gave.
+    // The counts with one more input, which gave these events and orders.
     pub(crate) fn with_input(self, events: usize, orders: usize) -> Counts
         requires inputs { self.inputs + 1 < 2 ^ 64 }
         requires events { self.events + events < 2 ^ 128 }

@@ -26,7 +26,7 @@ pub fn push_events<A: Allocator>(text: &mut Vec<u8, A>, events: &[Event]) -> Res
     Ok(())
 }
 
-// Adds an order's word, its service and its run.
+// Adds an order's word, the serial of its service, and its generation.
 fn push_run<A: Allocator>(
     text: &mut Vec<u8, A>,
     word: &str,

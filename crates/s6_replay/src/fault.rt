@@ -4,31 +4,32 @@ ghost use Rattle.s6_replay.specs.FaultNumber.{number_of};
 
 use thiserror::Error;
 
-/// Why a script was not replayed to its end. Lines are counted from 1, the head line included, so that the first input stands in
-/// line 2. Faults, their numbers and their order are chosen here.
+/// Why a script was not replayed to its end. Lines are counted from 1, the head line included, so the first input is in line 2. Faults,
+/// their numbers and their order are this program's own.
 #[derive(Clone, Copy, Debug, PartialEq, Eq, Error)]
 pub enum ReplayFault {
     /// The input does not begin with the head line and its newline. Nothing was written.
     #[error("no head line")]
     Head,
-    /// This line is no input line, or it is past a limit: it has more than 65,536 bytes with its newline, or there are more than
-    /// 1,000,000 of them. The transcript of the inputs before was written.
+    /// This line is not the one that belongs there, an input line or in version 2 the reply line of an input; or it is past a limit: an
+    /// input line has at most 65,536 bytes with its newline, a reply line 262,144, and a script at most 1,000,000 input lines. The
+    /// transcript of the inputs before was written.
     #[error("line {0} is no input")]
     Line(u64),
     /// This line is an input but for its pattern, which `regex` refuses, and not for want of memory. The transcript of the inputs before
     /// was written.
     #[error("the pattern in line {0} does not build")]
     Pattern(u64),
-    /// The last line has no newline. The transcript of the inputs before was written.
+    /// The last line has no newline, or in version 2 the last input has no reply line. The transcript of the inputs before was written.
     #[error("the last line is not whole")]
     Truncated,
     /// The reader answered an error. The transcript of the inputs before was written.
     #[error("the script was not read")]
     Read,
-    /// The writer answered an error, or took no byte. The beginning of a transcript was written, which may end anywhere.
+    /// The writer answered an error, or took no byte. A beginning of the transcript was written, which may end anywhere.
     #[error("the transcript was not written")]
     Write,
-    /// A growth was refused. The transcript of the inputs before was written.
+    /// Memory was refused. The transcript of the inputs before was written.
     #[error("out of memory")]
     NoMemory,
 }

@@ -1,4 +1,4 @@
-//! Reading one line, which its newline ends and the limit of `limits.rt` may. Which fault its end is, is found in `reading.rt`.
+//! Reads one line, up to its newline or to a limit. `reading.rt` says which fault it is where a line ends otherwise than by its newline.
 ghost use Rattle.std.specs.Prelude.{◌≡◌, ◌<◌, ◌≤◌, List, ℕ, length, Option, None, Ok, IfOk, OnErr};
 ghost use Rattle.std.specs.Io.KnownBytes.{Consumes, Keeps};
 ghost use Rattle.s6_replay.specs.Lines.{EndsAs, GoesOnOrEnds, IsPart};
@@ -14,7 +14,7 @@ pub enum Ended {
     Newline,
     // By the end of the input.
     End,
-    // It did not: it has more bytes than a line may have.
+    // It didn't end: it has more bytes than a line may have.
     TooLong,
 }
 
@@ -25,7 +25,7 @@ pub enum ReadFault {
     NoMemory,
 }
 
-// Reads the next line, without its newline, which may have so many bytes with it. At a fault, what the line holds was read.
+// Reads the next line into `line`, without its newline. With its newline it may have LIMIT bytes. At a fault `line` holds what was read.
 pub fn read_line<A: Allocator + Copy, R: BufRead, const LIMIT: usize>(
     reader: &mut R,
     line: &mut Vec<u8, A>,
@@ -84,7 +84,7 @@ fn read_byte<A: Allocator + Copy, R: BufRead, const LIMIT: usize>(
     Ok(None)
 }
 
-// Reads what the reader's buffer has of a line, and tells whether its newline came.
+// Reads what the reader's buffer has of a line, and tells how the line ended if its newline came.
 fn read_buffered<A: Allocator + Copy, R: BufRead, const LIMIT: usize>(
     reader: &mut R,
     line: &mut Vec<u8, A>,

@@ -1,4 +1,4 @@
-//! Making a recorded script of one without replies.
+//! Migration: makes a recorded script from one without replies.
 ghost use Rattle.std.specs.Prelude.{◌≡◌, ◌<◌, ◌++◌, ◌∷◌, [], IfOk, IfErr, OnOk};
 ghost use Rattle.s6_script.specs.Spelling.{spelling};
 ghost use Rattle.tree_core.specs.Machine.{new_machine};
@@ -20,7 +20,7 @@ use std::alloc::{AllocError, Allocator, Global};
 use std::io::{BufRead, Write};
 use tree_core::{Effect, Input, Reply, Tree};
 
-// Makes the text that of a step's lines.
+// Fills the text with the two lines of a step.
 fn make_step<A: Allocator>(
     line: &[u8],
     reply: &Reply<A>,
@@ -36,7 +36,7 @@ fn make_step<A: Allocator>(
     text.extend_from_slice(b"\n")
 }
 
-// Applies the input of this line, and writes the line and its reply. Answers how many events and orders it gave.
+// Applies the input of this line, and writes the line and the reply. Returns how many events and orders it gave.
 fn record_input<A: Allocator + Copy, W: Write>(
     tree: &mut Tree<A>,
     effect: &mut Effect<A>,
@@ -69,7 +69,7 @@ fn record_input<A: Allocator + Copy, W: Write>(
     }
 }
 
-// Reads the input behind so many others, applies it, and writes its lines.
+// Reads the input after `done` others, applies it, and writes its lines.
 fn record_step<A: Allocator + Copy, R: BufRead, W: Write>(
     alloc: A,
     patterns: Global,
@@ -154,11 +154,12 @@ fn migrate_all<A: Allocator + Copy, R: BufRead, W: Write>(
 }
 
 /// Reads a script of version 1, hands its inputs to a new tree one after the other, and writes the script of version 2 of the same inputs
-/// with the replies of the tree. Hand in a buffered reader and a buffered writer; it is not flushed here. Patterns take their memory from
-/// `patterns`, and all else from `alloc`.
+/// with the replies of the tree. Hand in a buffered reader and a buffered writer; the writer is not flushed here. Patterns take their
+/// memory from `patterns`, and all else from `alloc`.
 ///
-/// The limits and the faults are those of `run`; a script of version 2 is `Head`, and then nothing was written. At a later fault the script
-/// of the inputs before it was written, at `Write` the beginning of that of one input more.
+/// The limits and the faults are those of `run`. A script of version 2 gives `Head`, and then nothing was written. At any later fault but
+/// `Write` the new script of the inputs before it was written. At `Write` a part of the new script was written, from its beginning on, and
+/// not all of it.
 pub fn migrate<A: Allocator + Copy, R: BufRead, W: Write>(
     alloc: A,
     patterns: Global,

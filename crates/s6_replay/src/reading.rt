@@ -1,4 +1,4 @@
-//! Reading the lines of a step: which fault each of them has, and where it is.
+//! Reads the lines of a step, and says which fault a line has, and which line it is.
 ghost use Rattle.std.specs.Prelude.{◌≡◌, ◌<◌, ◌≤◌, [], IfOk, IfErr, OnOk, IfSome};
 ghost use Rattle.std.specs.Io.KnownBytes.{Consumes, IsAtEnd};
 ghost use Rattle.s6_script.specs.Spelling.{spelling};
@@ -14,8 +14,8 @@ use std::alloc::{Allocator, Global};
 use std::io::{BufRead, Read};
 use tree_core::{Effect, Input};
 
-/// What is used again for each step, so that one that needs no more room than those before it takes no memory: its lines, a text of what
-/// was read or is written, and what the tree gave.
+/// Memory that is used again for each step: its lines, a text that is compared or written, and the effect that the tree fills. A step that
+/// needs no more room in these than those before it takes no memory for them.
 #[derive(Drop)]
 pub struct Scratch<A: Allocator> {
     pub line: Vec<u8, A>,
@@ -48,7 +48,7 @@ impl From<ReadFault> for ReplayFault {
     }
 }
 
-// The number of the input line behind so many steps. The head line is the first.
+// The number of the input line after `done` steps. The head line is line 1.
 pub fn input_line_number(version: Version, done: u64) -> u64
     requires { done ≤ input_limit }
     ensures { result ≡ input_line_number version done }
@@ -59,7 +59,7 @@ pub fn input_line_number(version: Version, done: u64) -> u64
     }
 }
 
-// Reads the next input, if there is one, behind so many steps.
+// Reads the input after `done` steps; None at the end of the script.
 fn read_input<A: Allocator + Copy, R: BufRead>(
     alloc: A,
     patterns: Global,
@@ -100,7 +100,7 @@ fn holds_reply(line: &[u8]) -> bool
     }
 }
 
-// Reads the reply line of the input that was read behind so many steps.
+// Reads the reply line of the input after `done` steps.
 fn read_reply<A: Allocator + Copy, R: BufRead>(
     reader: &mut R,
     line: &mut Vec<u8, A>,
@@ -125,7 +125,7 @@ fn read_reply<A: Allocator + Copy, R: BufRead>(
     }
 }
 
-/// Reads the lines of the next step, if there is one, behind so many steps. The limits and the faults are those of `run`.
+/// Reads the lines of the step after `done` others; None at the end of the script. The limits and the faults are those of `run`.
 pub fn read_step<A: Allocator + Copy, R: BufRead>(
     alloc: A,
     patterns: Global,
@@ -160,7 +160,7 @@ pub fn read_step<A: Allocator + Copy, R: BufRead>(
     }
 }
 
-/// Looks for the end of the input, after the last line that a script may have.
+/// Looks for the end of the input after 1,000,000 steps, as many as a script may have. `Line` where there is a further byte.
 pub fn read_end<R: BufRead>(reader: &mut R, version: Version) -> Result<(), ReplayFault>
     ensures ok { OnOk result (Consumes (R.remaining reader.old) (R.remaining reader.new) []
         × IsAtEnd (R.remaining reader.new)) }

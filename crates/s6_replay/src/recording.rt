@@ -1,4 +1,4 @@
-//! Writing inputs and replies, as a recorded script has them.
+//! Writes inputs and replies as a recorded script has them.
 ghost use Rattle.std.specs.Prelude.{◌≡◌, ◌++◌, Err, OnOk};
 ghost use Rattle.std.specs.Io.KnownBytes.{Appends};
 ghost use Rattle.s6_script.specs.Spelling.{spelling};
@@ -19,10 +19,10 @@ use tree_core::{PlainInput, Reply};
 /// Why an input or a reply was not written whole.
 #[derive(Clone, Copy, Debug, PartialEq, Eq, Error)]
 pub enum SpellFault {
-    /// The writer answered an error, or took no byte. The beginning was written, and not all.
+    /// The writer answered an error, or took no byte. Some of the text, or none, was written, from its beginning on, and not all.
     #[error("the record was not written")]
     Write = 1,
-    /// A growth was refused. Nothing was written.
+    /// Memory was refused. Nothing was written.
     #[error("out of memory")]
     NoMemory = 2,
     /// The input has no spelling within the limits of a script. Nothing was written.
@@ -53,8 +53,8 @@ impl From<WriteFault> for SpellFault {
     }
 }
 
-/// Writes the spelling of an input, without a newline. `Unspelt` where it has none, or one that is too long for an input line; then, and at
-/// `NoMemory`, nothing was written. At `Write` the beginning was.
+/// Writes the spelling of an input, without a newline. `Unspelt` where it has none, or one that is too long for an input line. At `Unspelt`
+/// and at `NoMemory` nothing was written, at `Write` not all of it.
 pub fn write_input<A: Allocator + Copy, W: Write>(
     alloc: A,
     input: &PlainInput<A>,
@@ -81,7 +81,7 @@ pub fn write_input<A: Allocator + Copy, W: Write>(
     Ok(())
 }
 
-/// Writes the text of a reply, without a number or a newline. At `NoMemory` nothing was written, at `Write` the beginning. `Unspelt` never
+/// Writes the text of a reply, without a number or a newline. At `NoMemory` nothing was written, at `Write` not all of it. `Unspelt` never
 /// comes.
 pub fn write_reply<A: Allocator + Copy, W: Write>(
     alloc: A,
@@ -102,7 +102,7 @@ pub fn write_reply<A: Allocator + Copy, W: Write>(
     Ok(())
 }
 
-/// Makes the text that of a step in a recorded script: the line of its input, and that of its reply. `Unspelt` where the input has no
+/// Fills the text with a step of a recorded script: the line of its input, and that of its reply. `Unspelt` where the input has no
 /// spelling, or one that is too long for an input line. `Write` never comes.
 pub fn spell_step<A: Allocator + Copy>(
     alloc: A,

@@ -51,19 +51,20 @@ fn replay_all<A: Allocator + Copy, R: BufRead, W: Write>(
     }
 }
 
-/// Replays a script of either version: reads its inputs one after the other, hands each to a new tree, and writes what the tree
-/// answers. Replies in the script are read and not compared. The script is read through the reader's own buffer and written a block at
-/// a time, so hand in a buffered writer; it is not flushed here. Patterns take their memory from `patterns`, and all else from `alloc`.
+/// Replays a script of either version: reads its inputs one after the other, hands them to a new tree, and writes what the tree answers.
+/// Replies in the script are read and not compared. The script is read through the reader's own buffer. The transcript is written a block
+/// at a time, so hand in a buffered writer; it is not flushed here. Patterns take their memory from `patterns`, and all else from `alloc`.
 ///
-/// An input line has at most 65,536 bytes with its newline, a reply line 262,144, and a script at most 1,000,000 input lines. These
-/// limits are looked at before what a line holds, and before its end. An input is done once its reply line was read.
+/// An input line has at most 65,536 bytes with its newline, a reply line 262,144, and a script at most 1,000,000 input lines. A line beyond
+/// these limits is refused whatever it holds, and before its end is read. In version 2 an input is done once its reply line was read.
 ///
-/// `Head` comes where the input does not begin with a head line, however long that is; nothing was written. `Line`, `Pattern`,
-/// `Truncated`, `Read` and `NoMemory` come after the transcript of all inputs before, and nothing more was written. Behind these inputs
-/// no more than some of one line was read, at `Line` perhaps one byte beyond the limit, at `NoMemory` perhaps all of the line, and at
-/// `Pattern` all of it: it spells an input but for its pattern, which `regex` refuses, and not for want of memory. Behind the last input
-/// that a script may have, one byte was read at `Line`, and none at `Read`. `Write` comes after that transcript and some of the block of
-/// one input more, which was read, and never with all of that block.
+/// `Head` where the input does not begin with a head line, however long the first line is; nothing was written. At `Line`, `Pattern`,
+/// `Truncated`, `Read` and `NoMemory` the transcript of all inputs before was written, and nothing more. After the lines of these inputs no
+/// more than a part of one line was read, which in version 2 may be a reply line behind a whole input line. At `Line` this part may be a
+/// whole line, or end one byte beyond the limit; at `NoMemory` it may be the whole line, and at `Pattern` it is: the line spells an input,
+/// but `regex` refuses its pattern, and not for want of memory. After 1,000,000 inputs, one byte was read at `Line`, and none at `Read`. At
+/// `Write` one more input was read, and after the transcript of the inputs before it some of its block, or none, was written, and never
+/// all.
 pub fn run<A: Allocator + Copy, R: BufRead, W: Write>(
     alloc: A,
     patterns: Global,

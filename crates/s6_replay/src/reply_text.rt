@@ -197,7 +197,7 @@ fn push_deaths<A: Allocator>(text: &mut Vec<u8, A>, deaths: &[(At, Exit)]) -> Re
     Ok(())
 }
 
-// What is said of a permanent failure.
+// The text of the answer to a permanent failure test.
 fn failure_bytes(fails: bool) -> &'static str
     ensures { result.now ≡ failure_text fails }
 {

@@ -14,13 +14,13 @@ use tree_core::Tree;
 // What one turn did.
 #[derive(Clone, Copy, Debug, PartialEq, Eq)]
 pub enum Turn {
-    // An input was answered, with so many events and orders.
+    // An input was answered, with this many events and orders.
     Done { events: usize, orders: usize },
     // The script has ended.
     End,
 }
 
-// Reads the step behind so many others, applies its input, and writes its block.
+// Reads the step after `done` others, applies its input, and writes its block.
 pub fn take_turn<A: Allocator + Copy, R: BufRead, W: Write>(
     alloc: A,
     patterns: Global,

@@ -1,4 +1,4 @@
--- How an entry of a listing is spelled: its name, and the options that its configuration has, or that its directory couldn't be read.
+-- How an entry of a listing is spelled: its name, and then the options of its configuration, or a mark that its directory couldn't be read.
 use Rattle.std.specs.Prelude.{ℕ, ◌≤◌, List, [], ◌∷◌, ◌++◌, map, codes, decimal, Bool, true, not, ◌==◌, ◌||◌}
 use Rattle.std.specs.Prelude.{if◌then◌else◌, IsTrue, Option, Some, None, IfSome}
 use Rattle.std.specs.List.{join_with_byte}
@@ -10,20 +10,20 @@ use Rattle.s6_script.specs.declared.entry_options.Setting.{Setting}
 use Rattle.s6_script.specs.declared.entry_options.Setting.TheVariants.{Down, Finish, Notify, Kill, FinishTime, Tally}
 use Rattle.s6_script.specs.declared.entry_options.Setting.TheVariants.{Signal}
 
--- the setting, where it is so
+-- the setting, if `so`
 abbrev pub where_so : Bool → Setting → List Setting
 where_so so setting = if so then setting ∷ [] else []
 
--- the setting of a descriptor, where there is one
+-- the setting for a descriptor, where there is one
 abbrev pub descriptor_setting : Option ℕ → List Setting
 descriptor_setting None = []
 descriptor_setting (Some descriptor) = Notify descriptor ∷ []
 
--- the setting of a number, where it isn't at its default
+-- the setting for a number, where it isn't at its default
 abbrev pub number_setting : (ℕ → Setting) → ℕ → ℕ → List Setting
 number_setting setting default number = where_so (not (number == default)) (setting number)
 
--- what a configuration sets that isn't at its default, in this order
+-- the settings of a configuration that aren't at their defaults, in this order
 abbrev pub settings : Config → List Setting
 settings c =
     where_so c.down Down ++ where_so c.finish Finish ++ descriptor_setting c.notification_fd
@@ -46,12 +46,12 @@ option_word (Signal signal) = codes "signal=" ++ decimal signal
 abbrev pub option_words : Config → List (List ℕ)
 option_words c = map option_word (settings c)
 
--- what stands behind a name: nothing, or a colon and the options with commas between them
+-- what follows a name: nothing, or a colon and the options with commas between them
 abbrev pub behind_name : List (List ℕ) → List ℕ
 behind_name [] = []
 behind_name (option ∷ options) = 58 ∷ join_with_byte 44 (option ∷ options)
 
--- what stands behind the name of an entry: its options, or `!` where its directory couldn't be read
+-- what follows the name of an entry: its options, or `!` where its directory couldn't be read
 abbrev pub config_text : Option Config → List ℕ
 config_text None = codes "!"
 config_text (Some c) = behind_name (option_words c)
@@ -60,7 +60,7 @@ config_text (Some c) = behind_name (option_words c)
 abbrev pub entry_text : Entry → List ℕ
 entry_text e = e.name ++ config_text e.config
 
--- the configuration with this set
+-- the configuration with this setting
 abbrev pub with_setting : Config → Setting → Config
 with_setting c Down = record c { down = true }
 with_setting c Finish = record c { finish = true }
@@ -80,7 +80,7 @@ IsSetting (FinishTime millis) = millis ≤ 4294967295
 IsSetting (Tally deaths) = deaths ≤ 4096
 IsSetting (Signal signal) = (1 ≤ signal) × (signal ≤ 64)
 
--- what a script can say of a service: the same limits
+-- a configuration that a script can spell, within the same limits
 pub record IsConfig (c : Config) : Type 0 where
   pub descriptor : IfSome c.notification_fd (λ fd. IsTrue (is_served fd))
   pub kill : c.timeout_kill ≤ 4294967295
@@ -88,7 +88,7 @@ pub record IsConfig (c : Config) : Type 0 where
   pub tally : c.max_death_tally ≤ 4096
   pub signal : (1 ≤ c.down_signal) × (c.down_signal ≤ 64)
 
--- what a script can list: a name, and what it can say of the service
+-- an entry that a script can spell
 abbrev pub IsEntry : Entry → Type 0
 IsEntry e = IsTrue (is_name e.name) × IfSome e.config IsConfig
 

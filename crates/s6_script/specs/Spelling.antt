@@ -38,9 +38,9 @@ abbrev pub IsExit : Exit → Type 0
 IsExit (Code n) = n ≤ 255
 IsExit (Killed n) = n ≤ 64
 
--- entries are entries, a name is a name, letters are 1 to 63, bytes are 1 to 64, serials and generations have 64 bits, a process number is positive
--- and has 31 bits, seconds, counts and timeouts have 32 bits, a list is a list, a pattern has the text of one, which may be refused, and
--- a message is a message
+-- the act is within the limits of a script: entries, names, lists of exits and messages are valid; letters are 1 to 63, bytes 1 to 64;
+-- serials and generations have 64 bits; a process number is positive and has 31 bits; seconds, counts and timeouts have 32 bits; a pattern
+-- has a text that one may have, though `regex` may refuse it
 abbrev pub IsAct : {A : Type 0} → Act A → Type 0
 IsAct (Scan listing) = All IsEntry listing
 IsAct (Scanctl order) = Unit {0}
@@ -89,10 +89,10 @@ abbrev pub IsSubscription : {A : Type 0} → Act A → Type 0
 IsSubscription (Subscribe target pattern repeats) = Unit {0}
 IsSubscription act = ⊥
 
--- the text spells an act, a subscription, of whose pattern nothing is said but its text
+-- the text spells a subscription; `regex` may refuse its pattern
 abbrev pub SpellsActButForPattern : (A : Type 0) → List ℕ → Type 0
 SpellsActButForPattern A text = (act : Act A) × SpellsAct text act × IsSubscription act
 
--- the text spells an input, a subscription, of whose pattern nothing is said but its text
+-- the text spells an input that is a subscription; `regex` may refuse its pattern
 abbrev pub SpellsButForPattern : (A : Type 0) → List ℕ → Type 0
 SpellsButForPattern A text = (i : Input A) × Spells text i × IsSubscription i.act

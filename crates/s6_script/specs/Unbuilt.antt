@@ -12,12 +12,13 @@ use Rattle.s6_script.specs.declared.unbuilt.UnbuiltAct.TheVariants as unbuilt
 use Rattle.s6_script.specs.Spelling.{HasExpression, IsAct}
 use Rattle.s6_script.specs.Verb.{target_name}
 
--- the act that was read; a pattern has this text
+-- the act that was read; its pattern has the text that was read
 abbrev pub act_read : {A : Type 0} → UnbuiltAct A → Act A
 act_read (unbuilt.Whole act) = act
 act_read (unbuilt.Subscribe target text repeats) = Subscribe target (string_bytes text) repeats
 
--- the act has a spelling and no pattern that is no expression, or would have a spelling with the text of a pattern
+-- a whole act has a spelling, and a pattern in it is one that `regex` reads; a subscription would have a spelling if its text were one that
+-- a pattern may have
 abbrev pub FitsButText : {A : Type 0} → UnbuiltAct A → Type 0
 FitsButText (unbuilt.Whole act) = IsAct act × HasExpression act
 FitsButText (unbuilt.Subscribe target text repeats) = IsTrue (is_name (target_name target))

@@ -43,7 +43,7 @@ verb_word verbs.Send = codes "send"
 verb_word verbs.Mkdir = codes "mkdir"
 verb_word verbs.Tick = codes "tick"
 
--- the word is as long as this one and ends as it does
+-- the word is as long as the other one, and has the same last byte
 abbrev pub has_form_of : List ℕ → List ℕ → Bool
 has_form_of word other = (length word == length other)
     && (slice_index_or word (length word - 1) 0 == slice_index_or other (length other - 1) 0)
@@ -74,7 +74,7 @@ abbrev pub exit_words : Exit → List (List ℕ)
 exit_words (Code n) = codes "code" ∷ decimal n ∷ []
 exit_words (Killed n) = codes "signal" ∷ decimal n ∷ []
 
--- the letter of what is ordered of all services, as on the command line
+-- the letter of an order to all services, as on the command line
 abbrev pub order_word : ScanOrder → List ℕ
 order_word Nuke = codes "n"
 order_word Terminate = codes "t"
@@ -92,7 +92,7 @@ abbrev pub mode_word : Mode → List ℕ
 mode_word mode.All = codes "a"
 mode_word mode.One = codes "o"
 
--- whose event directory is meant: a service's or a free one, and its name
+-- which event directory is meant: that of a service or a free one, and its name
 abbrev pub target_word : Target → List ℕ
 target_word (target.Service name) = codes "svc"
 target_word (target.Directory name) = codes "dir"
@@ -110,7 +110,7 @@ how_word true = codes "repeat"
 abbrev pub text_words : List ℕ → List (List ℕ)
 text_words text = slice_split (λ b. b == 32) text
 
--- the words of an act behind its verb; a pattern is the rest of the line, spaces and all
+-- the words of an act behind its verb; a pattern is the rest of the line, with its spaces
 abbrev pub details : {A : Type 0} → Act A → List (List ℕ)
 details (Scan listing) = map entry_text listing
 details (Scanctl order) = order_word order ∷ []

@@ -62,7 +62,7 @@ fn is_death_list(items: &[DeathItem]) -> bool
     are_items(items)
 }
 
-// Whether a descriptor is served, if there is one.
+// Whether there is no descriptor, or one that is served.
 fn is_descriptor(descriptor: Option<u8>) -> bool
     ensures { Tells result (IfSome descriptor (λ fd. IsTrue (is_served fd))) }
 {
@@ -72,7 +72,7 @@ fn is_descriptor(descriptor: Option<u8>) -> bool
     }
 }
 
-// Whether milliseconds fit, which those of 32 bits always do.
+// Whether a number has 32 bits; this one always has.
 fn is_time(millis: u32) -> bool
     ensures { Tells result (millis ≤ 4294967295) }
 {
@@ -94,7 +94,7 @@ fn is_config(config: &Config) -> bool
     true
 }
 
-// Whether a name is one, which each is.
+// Whether a name is valid; each `Name` is.
 fn is_named(name: &Name) -> bool
     ensures { Tells result (IsTrue (is_name name.now)) }
 {
@@ -113,7 +113,7 @@ fn are_named(names: &[Name]) -> bool
     true
 }
 
-// Whether a serial or a generation fits, which each does.
+// Whether a serial or a generation has 64 bits; each has.
 fn is_number(number: u64) -> bool
     ensures { Tells result (number < 2 ^ 64) }
 {
@@ -165,7 +165,7 @@ fn is_run(sid: u64, generation: u64) -> bool
     is_number(sid) && is_number(generation)
 }
 
-// Whether so many bytes may be told at once.
+// Whether these are 1 to 64 bytes, as many as one notification has.
 fn is_notice(bytes: &[u8]) -> bool
     ensures { Tells result ((1 ≤ length bytes.now) × (length bytes.now ≤ 64) × IsBytes bytes.now) }
 {
@@ -223,7 +223,7 @@ fn is_within<A: Allocator>(act: &PlainAct<A>) -> bool
     }
 }
 
-// Whether a moment is one, which each is.
+// Whether a moment is valid; each `At` is.
 fn is_moment(at: At) -> bool
     ensures { Tells result (at ≤ last_moment) }
 {
@@ -231,7 +231,7 @@ fn is_moment(at: At) -> bool
     true
 }
 
-// Whether an actor is one, which each is.
+// Whether an actor is valid; each `Actor` is.
 fn is_actor(actor: Actor) -> bool
     ensures { Tells result (actor ≤ 15) }
 {

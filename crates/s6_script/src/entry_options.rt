@@ -1,5 +1,5 @@
-//! The entries of a scan: what a configuration sets that isn't at its default, how an entry is spelled, and how it is read. Another spelling
-//! of the same entry is refused in `parse.rt`, as of every word: the input is spelled again and compared.
+//! The entries of a scan: which settings of a configuration aren't at their defaults, how an entry is spelled, and how it is read.
+//! `parse.rt` refuses any other spelling of an entry, since it spells each input again and compares.
 ghost use Rattle.std.specs.Prelude.{◌≡◌, ◌≢◌, ◌++◌, ◌∷◌, ℕ, ◌+◌, ◌≤◌, List, length, map, codes, decimal, IsTrue, IfOk, OnOk, MatchOption, All};
 ghost use Rattle.std.specs.List.{slice_split, flat_map};
 ghost use Rattle.servicedir.specs.Config.{is_served};
@@ -25,11 +25,11 @@ pub enum Setting {
     Finish,
     // It writes its readiness to this descriptor.
     Notify(u8),
-    // After so many milliseconds a service that was told to go down gets SIGKILL.
+    // How many milliseconds after a service was told to go down it gets SIGKILL.
     Kill(u32),
-    // After so many milliseconds a living finish gets SIGKILL.
+    // How many milliseconds after its start a finish that still lives gets SIGKILL.
     FinishTime(u32),
-    // So many deaths are kept.
+    // How many deaths are kept.
     Tally(u16),
     // This signal tells the service to go down.
     Signal(u8),
@@ -53,7 +53,7 @@ pub fn set(config: &mut Config, setting: Setting)
     }
 }
 
-// Adds the setting, where it is so.
+// Adds the setting if `so`.
 fn add_where(list: &mut Settings, so: bool, setting: Setting)
     requires { length list.old.items ≤ 6 }
     ensures items { list.new.items ≡ list.old.items ++ where_so so setting }
@@ -64,7 +64,7 @@ fn add_where(list: &mut Settings, so: bool, setting: Setting)
     }
 }
 
-// What the configuration sets that isn't at its default.
+// The settings of a configuration that aren't at their defaults.
 pub fn settings_of(config: &Config) -> Settings
     ensures { result.items ≡ settings config.now }
 {
@@ -172,7 +172,7 @@ pub fn push_entries<A: Allocator>(
     Ok(())
 }
 
-// What stands in the word behind the key, where it begins with the key.
+// The word without the key with which it begins; None where it doesn't begin with the key.
 fn value_of<'a>(word: &'a [u8], key: &[u8]) -> Option<&'a [u8]>
     ensures { MatchOption result ((value : List ℕ) → word.now ≢ key.now ++ value)
         (λ value. word.now ≡ key.now ++ value.now) }
@@ -249,7 +249,7 @@ fn parts_of<A: Allocator + Copy>(alloc: A, word: &[u8]) -> Result<Vec<&[u8], A>,
     word.split(|b| *b == b':' || *b == b',').collect(alloc)
 }
 
-// The name of an entry whose directory couldn't be read: what stands before its `!`.
+// The name of an entry whose directory couldn't be read, which ends with `!`; None where the word doesn't.
 fn unread_name(word: &[u8]) -> Option<&[u8]>
     ensures { MatchOption result ((name : List ℕ) → word.now ≢ name ++ codes "!")
         (λ name. word.now ≡ name.now ++ codes "!") }

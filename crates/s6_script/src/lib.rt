@@ -1,4 +1,4 @@
-//! Scripts, which are inputs of the machine as text, and acts as text. Their format is chosen here.
+//! Scripts: inputs of the machine, and acts, as text. The format is this program's own, not one of s6.
 #![tactic(auto)]
 
 mod act_limits;

@@ -1,7 +1,7 @@
-//! Reading an act, and an input line, which is a moment, an actor and an act. Each function that reads a part of an act, here, in
-//! `words.rt` and in `entry_options.rt`, reads what its words spell, and from other words any value of its type. The act that comes of
-//! this is spelled again, and answered only where this gives its words. So what spells no act is refused with no case of its own.
-//! A pattern is built last, so that a line is refused for it only where it spells an act otherwise.
+//! Reads an act, and an input line, which is a moment, an actor and an act. Each function that reads a part of an act, here, in `words.rt`
+//! and in `entry_options.rt`, gives the value that its words spell, and for words that spell none any value of its type. The act that comes
+//! of this is spelled again, and returned only where the spelling equals the words that were read. So no function has to look for words
+//! that spell no act. A pattern is built last, so a line is refused for its pattern only where it spells an act otherwise.
 ghost use Rattle.std.specs.Prelude.{◌≡◌, ℕ, ◌≤◌, ◌<◌, ◌^◌, ◌-◌, ◌∷◌, ◌++◌, [], List, Bool, Err, IfOk, Some, IfSome, decimal, drop, map, length, slice_index_or};
 ghost use Rattle.hex.specs.Hex.{IsBytes, encode_lower};
 ghost use Rattle.s6_script.specs.Spelling.{HasExpression, IsExit, IsAct, SpellsAct, SpellsActButForPattern, act_words};
@@ -33,11 +33,11 @@ pub enum LineFault {
     /// It spells no input.
     #[error("the line spells no input")]
     Line = 1,
-    /// It spells a subscription, but its pattern is refused by `regex`, and not for want of memory. A pattern of none or more than 256 bytes, or
-    /// with a byte that is none from a space to a tilde, is not spelled: this is `Line`.
+    /// It spells a subscription, but `regex` refuses its pattern, and not for want of memory. A pattern of no byte or of more than 256, or
+    /// with a byte that isn't between a space and a tilde, has no spelling: then the fault is `Line`.
     #[error("the pattern of the line does not build")]
     Pattern = 2,
-    /// A growth was refused.
+    /// Memory was refused.
     #[error("out of memory")]
     NoMemory = 3,
 }
@@ -85,7 +85,7 @@ pub enum Verb {
     Tick,
 }
 
-// Reads an exit: its first word is `code` or `signal`, which the length tells.
+// Reads an exit. Its first word is `code` or `signal`; the length of the word says which.
 fn exit_of(words: &mut Words<'_>) -> Exit
     ensures spelled { (e : Exit) → IsExit e → words.old ≡ exit_words e → result ≡ e }
     ensures fits { IsExit result }
@@ -107,15 +107,15 @@ fn last_of(word: &[u8]) -> u8
     }
 }
 
-// Whether a word is as long as this one and ends as it does.
+// Whether a word is as long as the other one, and has the same last byte.
 fn has_form_of(word: &[u8], other: &[u8]) -> bool
     ensures { result ≡ has_form_of word.now other.now }
 {
     word.len() == other.len() && last_of(word) == last_of(other)
 }
 
-// Reads a verb: no two of them have both their length and their last byte in common, and what only looks like one is refused later,
-// since it is spelled in another way. Those that come most often are looked for first.
+// Reads a verb. No two verbs have the same length and the same last byte. A word that has them and is no verb is refused later, since the
+// verb is spelled in another way. Those that come most often are looked for first.
 fn verb_of(word: &[u8]) -> Verb
     ensures { (v : Verb) → word.now ≡ verb_word v → result ≡ v }
 {
@@ -158,7 +158,7 @@ fn verb_of(word: &[u8]) -> Verb
     }
 }
 
-// Reads what is ordered of all services.
+// Reads the letter of an order to all services.
 fn order_of(word: &[u8]) -> ScanOrder
     ensures { (order : ScanOrder) → word.now ≡ order_word order → result ≡ order }
 {
@@ -185,7 +185,7 @@ fn serial_of(word: &[u8]) -> u64
     number(word, u64::MAX)
 }
 
-// Reads a service and its run.
+// Reads the serial of a service and a generation.
 fn run_of(words: &mut Words<'_>) -> (Sid, u64)
     ensures sid { (n : ℕ) → n < 2 ^ 64 → slice_index_or words.old 0 [] ≡ decimal n → result.0 ≡ n }
     ensures generation { (n : ℕ) → n < 2 ^ 64 → slice_index_or words.old 1 [] ≡ decimal n
@@ -197,7 +197,7 @@ fn run_of(words: &mut Words<'_>) -> (Sid, u64)
     (sid, generation)
 }
 
-// Adds the letter of this byte, where there is one; after 63 letters nothing.
+// Adds the letter of this byte, if there is such a letter, and fewer than 63 were added before.
 fn add_letter(letters: &mut Letters, byte: u8)
     requires { length letters.old.items ≤ 63 }
     ensures spelled { (letter : ControlLetter) → length letters.old.items < 63
@@ -212,7 +212,7 @@ fn add_letter(letters: &mut Letters, byte: u8)
     }
 }
 
-// Reads letters; there is always one.
+// Reads letters: 1 to 63, whatever the word is.
 fn letters_of(word: &[u8]) -> Letters
     ensures spelled { (letters : List ControlLetter) → 1 ≤ length letters → length letters ≤ 63
         → word.now ≡ map byte_of letters → result.items ≡ letters }
@@ -229,7 +229,7 @@ fn letters_of(word: &[u8]) -> Letters
     letters
 }
 
-// Reads bytes from their digits; there is always one.
+// Reads bytes from their digits: 1 to 64, whatever the word is.
 fn bytes_of(word: &[u8]) -> ArrayVec<u8, 64>
     ensures spelled { (bytes : List ℕ) → 1 ≤ length bytes → length bytes ≤ 64 → IsBytes bytes
         → word.now ≡ encode_lower bytes → result.items ≡ bytes }
@@ -311,10 +311,10 @@ fn read_act<A: Allocator + Copy>(alloc: A, words: &mut Words<'_>) -> Result<Unbu
     act_of(alloc, verb, words)
 }
 
-/// The act that a text spells, of any length. A pattern takes its memory from `patterns`, and all else from `alloc`; the pattern of an
-/// act is one that the grammar of `regex` reads. `Line` comes where the text spells no act, `Pattern` where it spells a subscription whose
-/// pattern is refused by `regex`, and not for want of memory, and `NoMemory` where a growth was refused; on error nothing is kept.
-/// A pattern is built only where the text spells an act but for it.
+/// The act that a text spells. The text may be of any length. A pattern takes its memory from `patterns`, and all else from `alloc`. The
+/// pattern of an act is one that the grammar of `regex` reads; it is built only where the text spells an act otherwise. `Line` where the
+/// text spells no act. `Pattern` where it spells a subscription, but `regex` refuses its pattern, and not for want of memory. `NoMemory`
+/// where memory is refused. On error nothing is kept.
 pub fn parse_act<A: Allocator + Copy>(
     alloc: A,
     patterns: Global,
@@ -330,7 +330,7 @@ pub fn parse_act<A: Allocator + Copy>(
     parse_act_with(alloc, patterns, words, &mut text)
 }
 
-// `parse_act`, where what the words spell is made in a text of the caller's.
+// `parse_act`, with a text of the caller in which the act is spelled again.
 fn parse_act_with<A: Allocator + Copy>(
     alloc: A,
     patterns: Global,
@@ -352,7 +352,7 @@ fn parse_act_with<A: Allocator + Copy>(
     }
 }
 
-// The moment that a word spells.
+// The moment that a word spells; None where it spells none.
 fn moment_of(word: &[u8]) -> Option<At>
     ensures spelled { (n : ℕ) → n ≤ last_moment → word.now ≡ decimal n → result ≡ Some n }
     ensures only { IfSome result (λ at. (at ≤ last_moment) × (word.now ≡ decimal at)) }
@@ -360,7 +360,7 @@ fn moment_of(word: &[u8]) -> Option<At>
     At::new(exact_number(word, 1_000_000_000_000_000)?)
 }
 
-// The actor that a word spells.
+// The actor that a word spells; None where it spells none.
 fn actor_of(word: &[u8]) -> Option<Actor>
     ensures spelled { (n : ℕ) → n ≤ 15 → word.now ≡ decimal n → result ≡ Some n }
     ensures only { IfSome result (λ actor. (actor ≤ 15) × (word.now ≡ decimal actor)) }
@@ -368,10 +368,10 @@ fn actor_of(word: &[u8]) -> Option<Actor>
     Actor::new(exact_number(word, 15)? as u8)
 }
 
-/// The input that a line spells: a moment, an actor, and an act; the line is given without its newline, and of any length. A pattern takes its
-/// memory from `patterns`, and all else from `alloc`; the pattern of an input is one that the grammar of `regex` reads. `Line` comes where the
-/// line spells no input, `Pattern` where it spells a subscription whose pattern is refused by `regex`, and not for want of memory, and
-/// `NoMemory` where a growth was refused; on error nothing is kept. A pattern is built only where the line spells an input but for it.
+/// The input that a line spells: a moment, an actor, and an act. The line is given without its newline, and may be of any length. A pattern
+/// takes its memory from `patterns`, and all else from `alloc`. The pattern of an input is one that the grammar of `regex` reads; it is
+/// built only where the line spells an input otherwise. `Line` where the line spells no input. `Pattern` where it spells a subscription,
+/// but `regex` refuses its pattern, and not for want of memory. `NoMemory` where memory is refused. On error nothing is kept.
 pub fn parse_line<A: Allocator + Copy>(
     alloc: A,
     patterns: Global,
@@ -387,7 +387,7 @@ pub fn parse_line<A: Allocator + Copy>(
     parse_with(alloc, patterns, line, &mut text)
 }
 
-/// `parse_line`, where what the line spells is made in a text of the caller's, so that its memory is used again. What is in that text before
+/// `parse_line`, with a text of the caller in which the act is spelled again, so that its memory is used again. What is in that text before
 /// and after doesn't matter.
 pub fn parse_with<A: Allocator + Copy>(
     alloc: A,

@@ -61,7 +61,7 @@ pub(crate) fn push_scan<A: Allocator>(
     Ok(())
 }
 
-/// Adds the words of letters for a service. An error where a growth was refused; what was added before stays.
+/// Adds the words of letters for a service. An error where memory is refused; what was added before stays.
 pub fn push_svc<A: Allocator>(
     text: &mut Vec<u8, A>,
     name: &Name,
@@ -92,7 +92,7 @@ pub(crate) fn push_notify<A: Allocator + Copy>(
     push_word(text, digits.as_bytes())
 }
 
-/// Adds the words of a verb and a name. An error where a growth was refused; what was added before stays.
+/// Adds the words of a verb and a name. An error where memory is refused; what was added before stays.
 pub fn push_named<A: Allocator>(
     text: &mut Vec<u8, A>,
     verb: &str,
@@ -146,7 +146,7 @@ pub(crate) fn push_started<A: Allocator>(
     push_spaced(text, u64::from(pid))
 }
 
-// Adds the words of a run that ended so.
+// Adds the words of the end of a `run` or a `finish`.
 pub(crate) fn push_ended<A: Allocator>(
     text: &mut Vec<u8, A>,
     verb: &str,
@@ -163,7 +163,7 @@ pub(crate) fn push_ended<A: Allocator>(
     push_exit(text, exit)
 }
 
-/// Adds the words of an act. An error where a growth was refused; what was added before stays.
+/// Adds the words of an act. An error where memory is refused; what was added before stays.
 pub fn push_act<A: Allocator + Copy>(
     alloc: A,
     text: &mut Vec<u8, A>,

@@ -1,4 +1,4 @@
-//! Event directories, in a script: reading what is asked of them, and its spelling.
+//! Subscriptions and messages for event directories, in a script: reading them, and their spelling.
 ghost use Rattle.std.specs.Prelude.{◌≡◌, ◌++◌, ◌∷◌, [], List, ℕ, Bool, true, IsTrue, codes, drop, slice_index_or, string_bytes, IfOk, OnOk};
 ghost use Rattle.std.specs.List.{join_with_byte};
 ghost use Rattle.event_directory.specs.Message.{is_message};
@@ -18,7 +18,7 @@ use s6_events::{Name, NoMemory};
 use std::alloc::{AllocError, Allocator};
 use tree_core::{Act, Target};
 
-// Reads whose event directory is meant.
+// Reads which event directory is meant.
 fn target_of(words: &mut Words<'_>) -> Target
     ensures spelled { (target : Target) → IsTrue (is_name (target_name target)) →
         slice_index_or words.old 0 [] ≡ target_word target
@@ -42,7 +42,7 @@ fn repeats_of(word: &[u8]) -> bool
     is_word(word, b"repeat")
 }
 
-// Reads the text of a pattern; none where the bytes are no text.
+// Reads the text of a pattern; an empty one where the bytes are no UTF-8.
 fn pattern_text<A: Allocator + Copy>(alloc: A, bytes: &[u8]) -> Result<String<A>, AllocError>
     ensures { IfOk result (λ found. IsTrue (is_pattern_text bytes.now)
         → string_bytes found ≡ bytes.now) }
@@ -53,7 +53,7 @@ fn pattern_text<A: Allocator + Copy>(alloc: A, bytes: &[u8]) -> Result<String<A>
     }
 }
 
-/// Reads a subscription from the words behind its verb. Its pattern is the rest of the line, spaces and all.
+/// Reads a subscription from the words behind its verb. Its pattern is the rest of the line, with its spaces.
 pub fn subscribe_of<A: Allocator + Copy>(
     alloc: A,
     words: &mut Words<'_>,
@@ -68,7 +68,7 @@ pub fn subscribe_of<A: Allocator + Copy>(
     Ok(UnbuiltAct::Subscribe(target, text, repeats))
 }
 
-// Reads a message; there is always one.
+// Reads a message; some message, where the word is none.
 fn message_of(word: &[u8]) -> Message
     ensures spelled { is_message word.now ≡ true → result ≡ word.now }
     ensures fits { is_message result ≡ true }
@@ -79,7 +79,7 @@ fn message_of(word: &[u8]) -> Message
     }
 }
 
-/// Reads a message and whose event directory it is sent to from the words behind its verb.
+/// Reads, from the words behind its verb, a message and the event directory to which it is sent.
 pub fn send_of<A: Allocator + Copy>(words: &mut Words<'_>) -> Act<A>
     ensures spelled { (act : Act A) → IsAct act → Send ≡ verb_of_act act → words.old ≡ details act
         → result ≡ act }

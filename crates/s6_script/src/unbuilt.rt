@@ -9,14 +9,14 @@ use event_directory::{Pattern, PatternFault};
 use std::alloc::{Allocator, Global};
 use tree_core::{Act, Target};
 
-// An act that was read: whole, or a subscription whose pattern is a text, which may be that of no pattern.
+// An act that was read: a whole one, or a subscription whose pattern isn't built yet and has this text, which no pattern may have.
 #[derive(Drop)]
 pub enum UnbuiltAct<A: Allocator> {
     Whole(Act<A>),
     Subscribe(Target, String<A>, bool),
 }
 
-// Builds a pattern. `Line` comes where the text is that of no pattern.
+// Builds a pattern. `Line` where the text is not one of 1 to 256 bytes between a space and a tilde.
 fn build_pattern(patterns: Global, text: &str) -> Result<Pattern, LineFault>
     ensures ok { IfOk result (λ pattern. pattern ≡ text.now) }
     ensures expression { IfOk result (λ _. IsTrue (is_expression text.now)) }
@@ -39,7 +39,7 @@ fn line_fault_of(fault: PatternFault) -> LineFault
     }
 }
 
-// Builds the pattern of an act, where it has one. `Line` comes where its text is that of no pattern.
+// Builds the pattern of an act that has one to be built. `Line` where its text is not one of 1 to 256 bytes between a space and a tilde.
 pub fn build_act<A: Allocator>(patterns: Global, act: UnbuiltAct<A>) -> Result<Act<A>, LineFault>
     ensures ok { IfOk result (λ built. built ≡ act_read act) }
     ensures expression { FitsButText act → IfOk result HasExpression }

@@ -10,8 +10,8 @@ use memchr::memchr;
 use s6_events::Name;
 use std::marker::Model;
 
-// The words of a line that are left to read. They stand between its spaces, so two spaces have a word of no byte between them, and a
-// line of no byte is one such word.
+// The words of a line that are left to read. A word is what is between two spaces, so there is a word of no byte between two spaces side by
+// side, and a line of no byte is one such word.
 #[derive(Drop)]
 pub struct Words<'a> {
     rest: &'a [u8],
@@ -96,7 +96,7 @@ pub fn words_from<'a, 'b>(words: &'b [&'a [u8]], place: usize) -> &'b [&'a [u8]]
     }
 }
 
-// Reads a number of at most so much. Words that spell none are not looked for: what is read of them is some number.
+// Reads a number that is at most `most`. A word that spells no such number is not refused: it gives some number up to `most`.
 pub fn number(word: &[u8], most: u64) -> u64
     ensures spelled { (n : ℕ) → n ≤ most → word.now ≡ decimal n → result ≡ n }
     ensures fits { result ≤ most }
@@ -108,7 +108,7 @@ pub fn number(word: &[u8], most: u64) -> u64
     value.min(most)
 }
 
-// The number with a digit behind it; where the byte is no digit, or the number doesn't fit, some number.
+// The number with this digit added at its end. Some number, where the byte is no digit, or the number doesn't fit into 64 bits.
 fn with_digit(value: u64, byte: u8) -> u64
     ensures { is_digit byte ≡ true → with_digit value byte < 2 ^ 64 → result ≡ with_digit value byte }
 {
@@ -117,7 +117,7 @@ fn with_digit(value: u64, byte: u8) -> u64
         .wrapping_add(u64::from(byte.wrapping_sub(b'0')))
 }
 
-// The number of at most so much that a word spells; None where it spells none.
+// The number, at most `most`, that a word spells; None where it spells none.
 pub fn exact_number(word: &[u8], most: u64) -> Option<u64>
     ensures spelled { (n : ℕ) → n ≤ most → word.now ≡ decimal n → result ≡ Some n }
     ensures only { IfSome result (λ n. (n ≤ most) × (word.now ≡ decimal n)) }

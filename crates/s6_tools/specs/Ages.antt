@@ -5,11 +5,11 @@ use Rattle.std.specs.Prelude.{ℕ, ◌+◌, ◌/◌, ◌%◌, List, [], ◌∷�
 abbrev pub two_digits : ℕ → List ℕ
 two_digits n = (48 + n / 10) ∷ (48 + n % 10) ∷ []
 
--- a number of a unit, and what is left by the next smaller one
+-- a number of a unit, and the rest in the next smaller unit
 abbrev pub in_units : ℕ → ℕ → ℕ → ℕ → List ℕ
 in_units great great_unit small small_unit = decimal great ++ (great_unit ∷ (two_digits small ++ small_unit ∷ []))
 
--- so many seconds: 12s, 3m12s, 5h03m, 2d07h
+-- an age in seconds, told in its two largest units: 12s, 3m12s, 5h03m, 2d07h
 abbrev pub age_text : ℕ → List ℕ
 age_text seconds =
     if nat_lt seconds 60 then decimal seconds ++ 115 ∷ [] else

@@ -9,13 +9,13 @@ use Rattle.s6_tools.specs.declared.answer.Kind.TheVariants as kind
 use Rattle.s6_tools.specs.declared.answer.Outcome.{Outcome}
 use Rattle.s6_tools.specs.declared.answer.Outcome.TheVariants as outcome
 
--- the first words of the answers to requests that are carried out
+-- it is the first word of an answer to a request that was carried out
 abbrev pub is_done : List ℕ → Bool
 is_done word =
     bytes_eq word (codes "done") || (bytes_eq word (codes "scanned") || (bytes_eq word (codes "tally")
     || (bytes_eq word (codes "recorded") || bytes_eq word (codes "clock"))))
 
--- what a line is, by its first word
+-- the kind of a line, by its first word
 abbrev pub kind_of : List ℕ → Kind
 kind_of word =
     if is_done word then kind.Done else
@@ -36,7 +36,7 @@ outcome_of word =
     if bytes_eq word (codes "gone") then Some outcome.Gone else
     if bytes_eq word (codes "timedout") then Some outcome.TimedOut else None
 
--- what a release is to a tool
+-- what a release says to a tool
 abbrev pub released : Option Outcome → Answer
 released (Some o) = answer.Released o
 released None = answer.Strange
@@ -45,7 +45,7 @@ released None = answer.Strange
 abbrev pub release_of : List ℕ → Answer
 release_of word = released (outcome_of word)
 
--- a letter alone is where a subscription matched
+-- one letter alone says at which letter a subscription matched
 abbrev pub matched : List ℕ → Answer
 matched (letter ∷ []) = answer.Matched letter
 matched word = answer.Strange

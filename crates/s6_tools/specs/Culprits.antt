@@ -15,7 +15,7 @@ use Rattle.s6_tools.specs.declared.tool.Tool.TheVariants as tool
 use Rattle.s6_tools.specs.declared.wrong_word.Wrong.{Wrong}
 use Rattle.s6_tools.specs.declared.wrong_word.Wrong.TheVariants as wrong
 
--- the letters that a tool has behind a dash
+-- the letters that a tool takes behind a dash
 abbrev pub letters_of : Tool → List ℕ
 letters_of tool.Svc = codes "abqhkti12pcyudoOrx"
 letters_of tool.Svscanctl = codes "anhtq"
@@ -24,7 +24,7 @@ letters_of tool.Svlisten = codes "uUdDrRaot"
 letters_of tool.Svstat = codes "o"
 letters_of t = []
 
--- the letter of the option that has a value; a space where there is none
+-- the letter of the option that has a value; a space where the tool has no such option
 abbrev pub valued_of : Tool → ℕ
 valued_of tool.Svwait = 116
 valued_of tool.Svlisten = 116
@@ -34,7 +34,7 @@ valued_of t = 32
 abbrev pub is_dashed : List ℕ → Bool
 is_dashed word = nat_le 1 (length word) && (slice_index word 0 == 45)
 
--- a letter behind the dash, before the value, is none of these
+-- a letter behind the dash, and before that of the option with a value, is none of these
 abbrev pub has_strange_letter : List ℕ → ℕ → List ℕ → Bool
 has_strange_letter letters valued word =
     list_any (λ b. not (list_any (λ l. l == b) letters)) (take_while (λ b. not (b == valued)) (drop 1 word))
@@ -76,7 +76,7 @@ is_wrong wrong.Mode word = is_mode word
 is_wrong (wrong.Ended letter) word = is_ended letter word
 is_wrong (wrong.Valued letter) word = is_valued letter word
 
--- the words behind the first that is so; none where there is none
+-- the words behind the first one of this kind; no words where there is no such word
 abbrev pub behind_place : Option ℕ → List (List ℕ) → List (List ℕ)
 behind_place None words = []
 behind_place (Some place) words = drop (place + 1) words
@@ -88,7 +88,7 @@ abbrev pub kept_if : Wrong → Option (List ℕ) → Option (List ℕ)
 kept_if w None = None
 kept_if w (Some word) = if is_wrong w word then Some word else None
 
--- the first, where there is no second
+-- the first one, where there is no second
 abbrev pub alone : Option (List ℕ) → Option (List ℕ) → Option (List ℕ)
 alone (Some second) first = None
 alone None first = first
@@ -108,7 +108,7 @@ strange_of tool.List = wrong.StrangeOption
 strange_of tool.Follow = wrong.StrangeOption
 strange_of t = wrong.Strange t
 
--- what else is not taken: a dash alone, or a word too many
+-- what else a tool doesn't take: a dash alone, or a word too many
 abbrev pub spare_of : Tool → Clue
 spare_of tool.Svc = clue.First wrong.Dash
 spare_of tool.Svscanctl = clue.First wrong.Dash
@@ -162,7 +162,7 @@ before_place (Some place) words = take place words
 abbrev pub before_dashes : List (List ℕ) → List (List ℕ)
 before_dashes words = before_place (position (λ w. bytes_eq w (codes "--")) words) words
 
--- the words of the tool itself
+-- the words of the tool itself: for `svlisten` those before the first `--`, else all
 abbrev pub own_words : Tool → List (List ℕ) → List (List ℕ)
 own_words tool.Svlisten words = before_dashes words
 own_words t words = words
@@ -185,7 +185,7 @@ subject_clues tool.List = (clue.Only wrong.Plain, clue.Nowhere)
 subject_clues tool.Follow = (clue.Only wrong.Plain, clue.Nowhere)
 subject_clues t = (clue.At 0, clue.Nowhere)
 
--- the word that says of what a tool asks, where it is known which
+-- the word that names what a tool asks about, where it is known which
 abbrev pub subject_of : Tool → List (List ℕ) → Option (List ℕ)
 subject_of t words = seen_by_either (subject_clues t) (own_words t words)
 

@@ -11,33 +11,33 @@ use Rattle.s6_tools.specs.declared.tool_fault.ToolFault.TheVariants as fault
 use Rattle.svc_commands.specs.declared.usage_fault.UsageFault.{UsageFault}
 use Rattle.svc_commands.specs.declared.usage_fault.UsageFault.TheVariants as usage
 
--- of a waiter that was released so
+-- for a waiter that was released with this outcome
 abbrev pub status_of_outcome : Outcome → ℕ
 status_of_outcome outcome.Held = 0
 status_of_outcome outcome.Failed = 1
 status_of_outcome outcome.Gone = 2
 status_of_outcome outcome.TimedOut = 99
 
--- of a request that was refused
+-- for a request that was refused
 abbrev pub status_of_refusal : Tool → ℕ
 status_of_refusal tool.Svwait = 111
 status_of_refusal tool.Svlisten = 111
 status_of_refusal t = 1
 
--- of a tool that didn't do what it was asked for
+-- for a tool that didn't do what it was asked for
 abbrev pub status_of_fault : Tool → ToolFault → ℕ
 status_of_fault t (fault.Usage m) = 100
 status_of_fault t (fault.Refused reason) = status_of_refusal t
 status_of_fault t (fault.Unread why) = status_of_refusal t
 status_of_fault t f = 111
 
--- the server had no room, and nothing was done
+-- the server had no room and did nothing
 abbrev pub is_busy : ToolFault → Bool
 is_busy fault.Busy = true
 is_busy (fault.Refused reason) = bytes_eq reason (codes "Busy")
 is_busy f = false
 
--- what a fault of the words is told as
+-- the fault of a tool for this fault of its words
 abbrev pub fault_of_usage : UsageFault → ToolFault
 fault_of_usage usage.Unknown = fault.Usage misuse.Unknown
 fault_of_usage usage.Missing = fault.Usage misuse.Missing

@@ -1,4 +1,4 @@
--- The line on standard error of a tool that didn't do what it was asked for.
+-- The first line on standard error of a tool that didn't do what it was asked for.
 use Rattle.std.specs.Prelude.{ℕ, List, [], ◌∷◌, ◌++◌, codes}
 use Rattle.s6_tools.specs.declared.tool.Tool.{Tool}
 use Rattle.s6_tools.specs.declared.tool.Tool.TheVariants as tool

@@ -27,7 +27,7 @@ abbrev pub number_text : Option ℕ → List ℕ
 number_text None = codes "null"
 number_text (Some n) = decimal n
 
--- a text in quotes: no byte of a name is one that JSON escapes
+-- a text in quotes; a name has no byte that JSON escapes
 abbrev pub quoted : List ℕ → List ℕ
 quoted word = 34 ∷ (word ++ 34 ∷ [])
 
@@ -80,7 +80,7 @@ end_text fault = member (codes "fault") (word_text fault) ++ codes "}\n"
 unfoldable pub service_line : ListedService → List ℕ
 service_line s = (123 ∷ head_text s) ++ truths_text s.row ++ run_text s.row ++ times_text s ++ end_text None
 
--- of a directory that could not be read the members of a service are null
+-- for a directory that could not be read, the members about a service are null
 abbrev pub null_member : List ℕ → List ℕ
 null_member key = number_member key None
 

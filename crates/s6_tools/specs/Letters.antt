@@ -1,4 +1,4 @@
--- A letter that a follower is told, and what is printed of it.
+-- A letter that is told to a follower, and what is printed for it.
 use Rattle.std.specs.Prelude.{ℕ, List, [], ◌∷◌, ◌++◌, Bool, true, false, codes, if◌then◌else◌, ◌==◌}
 use Rattle.s6_tools.specs.declared.followed_letter.FollowedLetter.{FollowedLetter}
 use Rattle.s6_tools.specs.JsonLines.{key_text, member, number_member, quoted}

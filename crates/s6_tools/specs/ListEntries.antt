@@ -1,4 +1,4 @@
--- What a line of the server says of a service, to `list`.
+-- What a line of the server says of a service, as `list` reads it.
 use Rattle.std.specs.Prelude.{◌≡◌, ◌==◌, ◌+◌, ℕ, List, [], Option, Some, None, drop, take, if◌then◌else◌}
 use Rattle.std.specs.List.{position}
 use Rattle.std.specs.Str.{bytes_eq}
@@ -7,7 +7,7 @@ use Rattle.s6_tools.specs.declared.list_entry.ListEntry.TheVariants.{Service, Un
 use Rattle.s6_tools.specs.ServiceRows.{row_of}
 use Rattle.s6_tools.specs.Words.{word_in}
 
--- what stands behind the first word of a line, and the space behind that
+-- a line without its first word and the space behind that
 abbrev pub behind_at : Option ℕ → List ℕ → List ℕ
 behind_at (Some place) line = drop (place + 1) line
 behind_at None line = []
@@ -24,7 +24,7 @@ abbrev pub name_of_entry : ListEntry → List ℕ
 name_of_entry (Service s) = s.row.name
 name_of_entry (Unread name fault) = name
 
--- the fault of what the last scan could not read, where it has this name
+-- why the last scan could not read this entry, if it has this name and is unread
 abbrev pub why_unread : List ℕ → ListEntry → Option (List ℕ)
 why_unread name (Unread unread fault) = if bytes_eq unread name then Some (take 32 fault) else None
 why_unread name (Service s) = None

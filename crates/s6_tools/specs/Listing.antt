@@ -1,4 +1,4 @@
--- Which services are told, and what is printed of them.
+-- Which services are listed, and what is printed for them.
 use Rattle.std.specs.Prelude.{ℕ, List, Bool, true, false, ◌==◌, ◌||◌, length, nat_eq}
 use Rattle.std.specs.List.{flat_map, list_any, list_all}
 use Rattle.std.specs.Cmp.Lexicographic.{pointwise}
@@ -10,7 +10,7 @@ use Rattle.s6_tools.specs.Tables.{table_text}
 abbrev pub is_among : List (List ℕ) → List ℕ → Bool
 is_among names name = list_any (λ known. pointwise nat_eq known name) names
 
--- those of these names; where there is no name, all
+-- it has one of these names; where there are no names, each entry is asked for
 abbrev pub is_asked : List (List ℕ) → ListEntry → Bool
 is_asked names e = (length names == 0) || is_among names (name_of_entry e)
 

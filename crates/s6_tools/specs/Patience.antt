@@ -1,4 +1,4 @@
--- How long a tool tries again where the server is busy. All times are in milliseconds.
+-- How long a tool goes on trying where the server is busy. All times are in milliseconds.
 use Rattle.std.specs.Prelude.{ℕ, zero, suc, ◌-◌, ◌*◌, min, max, Option, Some, None}
 use Rattle.s6_tools.specs.declared.patience.Patience.{Patience}
 
@@ -8,17 +8,17 @@ first_pause = 20
 abbrev pub longest_pause : ℕ
 longest_pause = 500
 
--- how long a wait with this timeout may take, of which 0 is none
+-- how long a wait with this timeout may take; 0 means that it has none
 abbrev pub time_of_wait : ℕ → Option ℕ
 time_of_wait zero = None
 time_of_wait (suc n) = Some (suc n)
 
--- the timeout of a wait for which so much is left: at least 1, since 0 is none
+-- the timeout of a wait for which this time is left: at least 1, since 0 means none
 abbrev pub timeout_within : Option ℕ → ℕ
 timeout_within None = 0
 timeout_within (Some n) = min (max n 1) 4294967295
 
--- a pause, no longer than what is left; none where nothing is left
+-- a pause, no longer than the time that is left; None where no time is left
 abbrev pub pause_within : Option ℕ → ℕ → Option ℕ
 pause_within None pause = Some pause
 pause_within (Some zero) pause = None
@@ -33,7 +33,8 @@ abbrev pub left_after : Option ℕ → ℕ → Option ℕ
 left_after None pause = None
 left_after (Some n) pause = Some (n - pause)
 
--- the patience after a pause: the next one is twice as long, up to the longest, and what was waited is gone; it stays as it is at its end
+-- the patience after a pause: the next pause is twice as long, up to the longest, and the time that was waited is gone; where no time is
+-- left, it stays as it is
 abbrev pub after_this : Option ℕ → Patience → Patience
 after_this None p = p
 after_this (Some pause) p = record { pause = min (p.pause * 2) longest_pause; left = left_after p.left pause }

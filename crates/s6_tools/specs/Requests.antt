@@ -12,17 +12,17 @@ use Rattle.tree_core.specs.declared.input.Act.TheVariants.{Scanctl}
 abbrev pub request_of : Act Global → List ℕ
 request_of act = act_spelling act
 
--- the request of a letter of `svscanctl`: a scan is asked for by its letter, since the server reads the scan directory itself
+-- the request for a letter of `svscanctl`; a scan is asked for by its letter, since the server reads the scan directory itself
 abbrev pub scan_request_of : ScanLetter → List ℕ
 scan_request_of letter.Scan = codes "scanctl a"
 scan_request_of letter.Nuke = request_of (Scanctl Nuke)
 scan_request_of letter.Terminate = request_of (Scanctl Terminate)
 
--- what is sent of a request: its text and a newline
+-- what is sent for a request: its text and a newline
 abbrev pub request_line : List ℕ → List ℕ
 request_line request = request ++ 10 ∷ []
 
--- the letters of one service, by its name, or of all
+-- for one name the letters of its service, else those of all services
 abbrev pub follow_request_of : List (List ℕ) → List ℕ
 follow_request_of (name ∷ []) = codes "follow" ++ (32 ∷ name)
 follow_request_of names = codes "follow"

@@ -18,7 +18,7 @@ abbrev pub misuse_text : Tool → Misuse → Option (List ℕ) → List ℕ
 misuse_text t m word =
     misuse_word m ++ (codes ": " ++ (named (codes "a word") word ++ (complaint_of t m ++ advice_text t m)))
 
--- what a reason says: of the word that the request names, or of the tree
+-- what the reason of a refusal says, about the word that the request names or about the tree
 abbrev pub refusal_by : Option (List ℕ) → List ℕ → Option (List ℕ) → List ℕ
 refusal_by word tree (Some text) = named (codes "a name") word ++ text
 refusal_by word tree None = tree
@@ -26,7 +26,7 @@ refusal_by word tree None = tree
 abbrev pub refusal_text : Option (List ℕ) → List ℕ → List ℕ
 refusal_text word reason = reason ++ (codes ": " ++ refusal_by word (refusal_of_tree reason) (refusal_of_subject reason))
 
--- of a service whose directory the last scan could not read
+-- about a service whose directory the last scan could not read
 abbrev pub unread_text : Option (List ℕ) → List ℕ → List ℕ
 unread_text word why =
     unread_words ++ (named (codes "a name") word ++ (codes " (" ++ (why ++ codes ")")))
@@ -39,7 +39,7 @@ cause_word socket words fault.Socket = escaped 107 socket
 cause_word socket words fault.Program = named (codes "the program") (program_of words)
 cause_word socket words f = []
 
--- what the system or the server was asked for in vain
+-- what the system or the server failed to do
 abbrev pub cause_of : List ℕ → List (List ℕ) → ToolFault → List ℕ
 cause_of socket words f = cause_before f ++ (cause_word socket words f ++ cause_behind f)
 

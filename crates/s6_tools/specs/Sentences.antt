@@ -1,4 +1,4 @@
--- What is said of a fault, and what would be right.
+-- The sentences about a fault, and about what would be right.
 use Rattle.std.specs.Prelude.{ℕ, List, [], Option, Some, None, codes, if◌then◌else◌}
 use Rattle.std.specs.Str.{bytes_eq}
 use Rattle.s6_tools.specs.declared.misuse.Misuse.{Misuse}
@@ -77,7 +77,7 @@ right_of t misuse.BadName = name_form t
 right_of t misuse.BadMessage = codes "1 to 64 printable bytes, none of them a space"
 right_of t misuse.BadPattern = codes "1 to 256 printable bytes, a regular expression of Rust's regex that is not too large"
 
--- what a reason says of the word that the request names; None where it says nothing of a word
+-- what the reason of a refusal says about the word that the request names; None where it is about no word
 abbrev pub refusal_of_subject : List ℕ → Option (List ℕ)
 refusal_of_subject reason =
     if bytes_eq reason (codes "NoService") then Some (codes " is no service of this tree; see s6_tree list SOCKET") else
@@ -87,7 +87,7 @@ refusal_of_subject reason =
     if bytes_eq reason (codes "Ended") then Some (codes " takes no letters now: its supervisor has ended") else
     None
 
--- what any other reason says
+-- what any other reason of a refusal says
 abbrev pub refusal_of_tree : List ℕ → List ℕ
 refusal_of_tree reason =
     if bytes_eq reason (codes "Repeated") then codes "a name stands twice: leave one out" else
@@ -102,18 +102,18 @@ refusal_of_tree reason =
     if bytes_eq reason (codes "NoMemory") then codes "the server has no memory for it; try again later" else
     codes "see docs/SCRIPT.md"
 
--- where to read on: in front of the name of a tool, and behind it
+-- where to read on: the texts before the name of a tool, and behind it
 unfoldable pub see_words : List ℕ
 see_words = codes "; see s6_tree "
 
 unfoldable pub help_words : List ℕ
 help_words = codes " --help"
 
--- in front of the name of a service whose directory could not be read
+-- the text before the name of a service whose directory could not be read
 unfoldable pub unread_words : List ℕ
 unread_words = codes "NoService: the last scan could not read "
 
--- what the system or the server was asked for in vain, up to the word that it is about, and behind it
+-- what the system or the server failed to do: the texts up to the word that it is about, and behind it
 abbrev pub cause_before : ToolFault → List ℕ
 cause_before fault.NoServer = codes "no server at "
 cause_before fault.Forbidden = codes "no permission for "

@@ -18,14 +18,14 @@ truth_of word =
 abbrev pub truth_in : List ℕ → ℕ → Option Bool
 truth_in line place = truth_of (word_in line place)
 
--- a number up to this one; -1 says that there is none
+-- a number up to this one; -1 says that there is no number
 abbrev pub number_of : ℕ → List ℕ → Option (Option ℕ)
 number_of most word = if bytes_eq word (codes "-1") then Some None else option_map (λ n. Some n) (number_up_to most word)
 
 abbrev pub number_in : List ℕ → ℕ → Option (Option ℕ)
 number_in line place = number_of 4294967295 (word_in line place)
 
--- how a run ended, by its code and its signal: one at most is there
+-- how a run ended: its code or its signal, or neither; None where both are there
 abbrev pub exit_with : Option ℕ → Option ℕ → Option (Option Exit)
 exit_with None None = Some None
 exit_with None (Some signal) = Some (Some (Killed signal))
@@ -40,7 +40,7 @@ exit_by (Some code) (Some signal) = exit_with code signal
 abbrev pub exit_in : List ℕ → Option (Option Exit)
 exit_in line = exit_by (number_of 255 (word_in line 9)) (number_of 255 (word_in line 10))
 
--- what is told by true and false: none where one of the words is neither
+-- the fields that are true or false; None where one of the words is neither
 abbrev pub truths_by : Option Bool → Option Bool → Option Bool → Option Bool → Option Bool → Option Truths
 truths_by None wanted_up normally_up ready paused = None
 truths_by (Some up) None normally_up ready paused = None
@@ -52,7 +52,7 @@ truths_by (Some a) (Some b) (Some c) (Some d) (Some e) = Some (record { up = a; 
 abbrev pub truths_in : List ℕ → Option Truths
 truths_in line = truths_by (truth_in line 3) (truth_in line 4) (truth_in line 5) (truth_in line 6) (truth_in line 7)
 
--- what is told by numbers
+-- the fields that are numbers
 abbrev pub numbers_by : Option (Option ℕ) → Option (Option Exit) → Option (Option ℕ) → Option (Option ℕ) → Option Numbers
 numbers_by None exit up_down_for ready_for = None
 numbers_by (Some pid) None up_down_for ready_for = None
@@ -94,6 +94,6 @@ row_by (Some sid) (Some name) None numbers = None
 row_by (Some sid) (Some name) (Some truths) None = None
 row_by (Some sid) (Some name) (Some truths) (Some numbers) = Some (row_with sid name truths numbers)
 
--- the service that a line behind its first word, `row`, tells of
+-- what a line says of a service behind its first word, `row`
 abbrev pub row_of : List ℕ → Option Row
 row_of line = row_by (sid_in line) (name_in line) (truths_in line) (numbers_in line)

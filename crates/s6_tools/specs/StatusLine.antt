@@ -5,7 +5,7 @@ use Rattle.s6_tools.specs.Words.{word_in}
 use Rattle.s6_events.specs.declared.field.Field.{Field}
 use Rattle.s6_events.specs.declared.field.Field.TheVariants as field
 
--- which word of a row a field is: they stand behind `row`, the serial and the name
+-- which word of a row a field is, counted from 0: the fields come after `row`, the serial and the name
 abbrev pub place_of : Field → ℕ
 place_of field.Up = 3
 place_of field.WantedUp = 4

@@ -55,7 +55,7 @@ service_cell s column.Ready = age_cell (if s.row.up then s.row.ready_for else No
 service_cell s column.LastExit = exit_cell s.row.exit
 service_cell s column.Wanted = wanted_cell s.row.wanted_up
 
--- that of a directory that could not be read: its fault stands for the last exit
+-- the cell of a directory that could not be read; its fault is in the column of the last exit
 abbrev pub unread_cell : List ℕ → List ℕ → Column → List ℕ
 unread_cell name fault column.Name = name
 unread_cell name fault column.State = codes "unread"
@@ -66,14 +66,14 @@ abbrev pub cell : ListEntry → Column → List ℕ
 cell (Service s) c = service_cell s c
 cell (Unread name fault) c = unread_cell name fault c
 
--- the bytes of the widest cell of a column, its head among them
+-- how many bytes the widest cell of a column has; its head counts too
 abbrev pub wider : Column → ℕ → ListEntry → ℕ
 wider c width e = max width (length (cell e c))
 
 abbrev pub width_of : List ListEntry → Column → ℕ
 width_of rows c = fold (wider c) (length (heading c)) rows
 
--- all columns but the last have spaces behind them
+-- the columns whose cells have spaces behind them: all but the last
 abbrev pub padded_columns : List Column
 padded_columns = column.Name ∷ column.State ∷ column.Pid ∷ column.Since ∷ column.For ∷ column.Ready ∷ column.LastExit ∷ []
 

@@ -5,11 +5,11 @@ use Rattle.s6_events.specs.Name.{is_name}
 use Rattle.tree_core.specs.declared.input.Target.{Target}
 use Rattle.tree_core.specs.declared.input.Target.TheVariants.{Service, Directory}
 
--- what stands before `/event`, where a word ends so
+-- what comes before `/event` in a word that ends with it; None for any other word
 abbrev pub before_event : List ℕ → Option (List ℕ)
 before_event word = if bytes_eq (drop (length word - 6) word) (codes "/event") then Some (take (length word - 6) word) else None
 
--- that of a service of this name
+-- the event directory of the service of this name
 abbrev pub service_named : Option (List ℕ) → Option Target
 service_named None = None
 service_named (Some name) = if is_name name then Some (Service name) else None

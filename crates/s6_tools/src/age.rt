@@ -20,7 +20,7 @@ fn push_two_digits(text: &mut Vec<u8>, number: u64) -> Result<(), AllocError>
     text.extend_from_slice(&[b'0' + (number / 10) as u8, b'0' + (number % 10) as u8])
 }
 
-// Adds a number of a unit, and what is left by the next smaller one.
+// Adds a number of a unit, and the rest in the next smaller unit, with two digits.
 fn push_units(
     text: &mut Vec<u8>,
     great: u64,

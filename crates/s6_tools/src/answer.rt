@@ -1,4 +1,4 @@
-//! A line of the server, read. What the lines are is chosen here.
+//! Reads a line of the server. The lines are this program's own, not those of s6.
 ghost use Rattle.std.specs.Prelude.{◌≡◌};
 ghost use Rattle.s6_tools.specs.Answers.{is_done, kind_of, outcome_of, release_of, match_of, failure_of, answer_of};
 
@@ -18,8 +18,8 @@ pub enum Outcome {
     TimedOut,
 }
 
-/// What a line of the server says to the tool that reads it. A tool has at most one waiter or subscription on its connection, so
-/// serials are passed over.
+/// What a line of the server says to the tool that reads it. A tool has at most one waiter or subscription on its connection, so it ignores
+/// serials.
 #[derive(Debug, Drop)]
 pub enum Answer {
     /// `done`, `scanned ..`, `tally ..`, `recorded ..` or `clock ..`: the request was carried out.
@@ -28,9 +28,9 @@ pub enum Answer {
     Refused(ToldWord),
     /// `row ..`: a status.
     Row,
-    /// `wait WAIT`: the waiter stands.
+    /// `wait WAIT`: the waiter was made.
     Waiter,
-    /// `sub SUB`: the subscription stands.
+    /// `sub SUB`: the subscription was made.
     Subscription,
     /// `permafail 125` or `permafail 0`: whether the service fails for good.
     PermanentFailure(bool),
@@ -38,15 +38,15 @@ pub enum Answer {
     Released(Outcome),
     /// `m SUB LETTER`: the subscription has matched up to this letter.
     Matched(u8),
-    /// `m SUB overlong`: the subscription has ended.
+    /// `m SUB overlong`: the subscription has ended, because its text grew too long.
     Overlong,
     /// `busy`: the server has no seat for one more connection.
     Busy,
-    /// No line that a server writes.
+    /// A line that no server writes.
     Strange,
 }
 
-// What a line is, by its first word.
+// The kind of a line, by its first word.
 #[derive(Clone, Copy, Debug, PartialEq, Eq)]
 enum Kind {
     Done,
@@ -61,7 +61,7 @@ enum Kind {
     Strange,
 }
 
-// Whether it is the first word of an answer to a request that is carried out.
+// Whether it is the first word of an answer to a request that was carried out.
 fn is_done(word: &[u8]) -> bool
     ensures { result ≡ is_done word.now }
 {
@@ -150,7 +150,7 @@ fn failure_of(word: &[u8]) -> Answer
     }
 }
 
-/// What a line says, without its newline.
+/// What a line says. The line is without its newline.
 pub fn read_answer(line: &[u8]) -> Answer
     ensures { result ≡ answer_of line.now }
 {

@@ -12,7 +12,8 @@ use std::os::unix::net::UnixStream;
 use std::thread;
 use std::time::{Clock, Duration};
 
-/// Asks the server at this path, on a new connection, and reads its reply. Where it is busy it is asked again, for ten seconds at most.
+/// Asks the server at this path, on a new connection, and reads its reply. Where the server is busy, it asks again, for ten seconds at
+/// most.
 pub fn ask_server<R: Net + Clock>(
     rt: &R,
     alloc: Global,
@@ -39,8 +40,8 @@ pub fn ask_within<R: Net + Clock>(
     Err(ToolFault::Busy)
 }
 
-/// Waits before a request is tried again for which the server had no room. Another fault comes back, and that one too once the patience
-/// has ended.
+/// Waits before a request is tried again, where the fault says that the server had no room for it. Returns any other fault at once, and
+/// this one too once no time is left.
 pub fn await_room<R: Clock>(
     rt: &R,
     fault: ToolFault,
@@ -68,16 +69,17 @@ pub fn ask_once<R: Net>(
     Ok((connection, answer))
 }
 
-/// A connection, and what came on it and isn't read yet.
+/// A connection, and the bytes that came on it and aren't read yet.
 #[derive(Drop)]
 pub struct Connection {
     reader: BufReader<UnixStream>,
-    // The line that was read last; while a request is sent, its line.
+    // The line that was read last; while a request is sent, the line of the request.
     line: Vec<u8>,
 }
 
 impl Connection {
-    /// A connection to the socket at this path. `Socket` where there is none.
+    /// Connects to the socket at this path. `NoServer` where there is no socket or nobody listens, `Forbidden` without permission,
+    /// `LongPath` where the path is too long for a socket, `NoMemory` where memory is refused; else `Socket`.
     pub fn open<R: Net>(rt: &R, alloc: Global, path: &str) -> Result<Connection, ToolFault> {
         let stream = UnixStream::connect(rt, path)?;
         Ok(Connection {
@@ -86,8 +88,8 @@ impl Connection {
         })
     }
 
-    /// Sends a request, by one write, and reads its reply. A refusal, and a server without a seat, are faults. At `NoMemory` nothing may
-    /// have been sent.
+    /// Sends a request in one write, and reads its reply. A refusal is a fault, and so is a server without a seat. At `NoMemory` the
+    /// request may have been sent or not.
     pub fn ask(&mut self, request: &[u8]) -> Result<Answer, ToolFault> {
         let sent = self.send(request)?;
         let answer = self.answer();
@@ -102,14 +104,15 @@ impl Connection {
         }
     }
 
-    // Sends a request, by one write. What came of the write is told apart: a server that has no seat may have answered before.
+    // Sends a request in one write. The result of the write is inside the other one: even where the write fails, a server that has no seat
+    // may have answered before.
     fn send(&mut self, request: &[u8]) -> Result<io::Result<()>, ToolFault> {
         set_request_line(&mut self.line, request)?;
         let mut writer = self.reader.get_ref();
         Ok(writer.write_all(self.line.as_slice()))
     }
 
-    /// Asks for the states of all services, and reads them up to the empty line. A refusal, and a server without a seat, are faults.
+    /// Asks for the states of all services, and reads them up to the empty line. A refusal is a fault, and so is a server without a seat.
     pub fn ask_states(&mut self, alloc: Global) -> Result<Vec<ListEntry>, ToolFault> {
         let sent = self.send(b"states")?;
         let entries = self.read_entries(alloc)?;
@@ -145,18 +148,18 @@ impl Connection {
         }
     }
 
-    /// Asks for the clock: the time of day at which that of the tree was 0, in milliseconds since 1970.
+    /// Asks for the clock, and returns the time of day at which the tree's clock was 0, in milliseconds since 1970.
     pub fn ask_clock(&mut self) -> Result<u64, ToolFault> {
         let _clock = self.ask(b"clock")?;
         moment_of(word_or_none(self.line.as_slice(), 1)).ok_or(ToolFault::Socket)
     }
 
-    /// Reads the next line, which may be empty, and stays as `line`. `Socket` where the connection ends before it.
+    /// Reads the next line, which may be empty; `line` gives it afterwards. `Socket` where the connection ends before it.
     pub fn next_line(&mut self) -> Result<(), ToolFault> {
         self.read_line()
     }
 
-    /// The next line that isn't empty. `Socket` where the connection ends before it.
+    /// Reads up to the next line that isn't empty, and returns what it says. `Socket` where the connection ends before it.
     pub fn answer(&mut self) -> Result<Answer, ToolFault> {
         for _ in 0..u64::MAX {
             self.read_line()?;

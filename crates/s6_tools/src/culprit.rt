@@ -1,4 +1,4 @@
-//! Which word of a command line is the wrong one.
+//! Finds the wrong word of a command line.
 ghost use Rattle.std.specs.Prelude.{◌≡◌, ◌<◌, ◌≤◌, IfSome, codes, length, map, option_map, position, slice_get};
 ghost use Rattle.std.specs.List.{find};
 ghost use Rattle.std.specs.Str.{bytes_eq};
@@ -8,22 +8,22 @@ use crate::misuse::Misuse;
 use crate::tool::Tool;
 use crate::wrong_word::{Wrong, is_wrong};
 
-/// Where a wrong word may stand.
+/// Where to look for a word of a command line.
 #[derive(Clone, Copy, Debug, PartialEq, Eq)]
 enum Clue {
     /// Nowhere: no word is wrong, or it isn't known which.
     Nowhere,
-    /// At this place.
+    /// The word at this place.
     At(usize),
-    /// At this place, if it is so.
+    /// The word at this place, if it is of this kind.
     AtIf(usize, Wrong),
-    /// Behind the first that is so.
+    /// The word behind the first one of this kind.
     Behind(Wrong),
-    /// The first that is so.
+    /// The first word of this kind.
     First(Wrong),
-    /// The second that is so.
+    /// The second word of this kind.
     Second(Wrong),
-    /// The only one that is so.
+    /// The only word of this kind; no word where there are more.
     Only(Wrong),
 }
 
@@ -34,7 +34,7 @@ fn word_at<'a>(words: &'a [&'a str], place: usize) -> Option<&'a str>
     words.get(place).copied()
 }
 
-// The first word that is so.
+// The first word of this kind.
 fn first_wrong<'a>(words: &'a [&'a str], wrong: Wrong) -> Option<&'a str>
     ensures { option_map (λ w. w.now) result ≡ find (is_wrong wrong) (map (λ w. w.now) words.entry.now) }
 {
@@ -44,7 +44,7 @@ fn first_wrong<'a>(words: &'a [&'a str], wrong: Wrong) -> Option<&'a str>
         .find(|word| is_wrong(wrong, word.as_bytes()))
 }
 
-// The place of the first word that is so.
+// The place of the first word of this kind.
 fn place_of(words: &[&str], wrong: Wrong) -> Option<usize>
     ensures place { result ≡ position (λ w. is_wrong wrong w.now) words.now }
     ensures bound { IfSome result (λ place. place < length words.now) }
@@ -54,7 +54,7 @@ fn place_of(words: &[&str], wrong: Wrong) -> Option<usize>
         .position(|word| is_wrong(wrong, word.as_bytes()))
 }
 
-// The words behind the first that is so; none where there is none.
+// The words behind the first one of this kind; no words where there is no such word.
 fn words_behind<'a>(words: &'a [&'a str], wrong: Wrong) -> &'a [&'a str]
     ensures { map (λ w. w.now) result.now ≡ behind wrong (map (λ w. w.now) words.entry.now) }
 {
@@ -64,7 +64,7 @@ fn words_behind<'a>(words: &'a [&'a str], wrong: Wrong) -> &'a [&'a str]
     }
 }
 
-// The word at a place, if it is so.
+// The word at a place, if it is of this kind.
 fn word_at_if<'a>(words: &'a [&'a str], place: usize, wrong: Wrong) -> Option<&'a str>
     ensures { option_map (λ w. w.now) result ≡ seen_by (Clue.AtIf place wrong) (map (λ w. w.now) words.entry.now) }
 {
@@ -76,7 +76,7 @@ fn word_at_if<'a>(words: &'a [&'a str], place: usize, wrong: Wrong) -> Option<&'
     }
 }
 
-// The only word that is so.
+// The only word of this kind; None where there is no such word, or more than one.
 fn only_wrong<'a>(words: &'a [&'a str], wrong: Wrong) -> Option<&'a str>
     ensures { option_map (λ w. w.now) result ≡ seen_by (Clue.Only wrong) (map (λ w. w.now) words.entry.now) }
 {
@@ -110,7 +110,7 @@ fn strange_of(tool: Tool) -> Wrong
     }
 }
 
-// What else is not taken: a dash alone, or a word too many.
+// What else a tool doesn't take: a dash alone, or a word too many.
 fn spare_of(tool: Tool) -> Clue
     ensures { result ≡ spare_of tool }
 {
@@ -205,7 +205,7 @@ fn before_dashes<'a>(words: &'a [&'a str]) -> &'a [&'a str]
     }
 }
 
-// The words of the tool itself: of `svlisten` those before the first `--`.
+// The words of the tool itself: for `svlisten` those before the first `--`, else all.
 fn own_words<'a>(tool: Tool, words: &'a [&'a str]) -> &'a [&'a str]
     ensures { map (λ w. w.now) result.now ≡ own_words tool (map (λ w. w.now) words.entry.now) }
 {
@@ -215,7 +215,7 @@ fn own_words<'a>(tool: Tool, words: &'a [&'a str]) -> &'a [&'a str]
     }
 }
 
-// The first of two clues that leads to a word.
+// The word to which the first clue leads, or else the second one.
 fn seen_by_either<'a>(clues: (Clue, Clue), words: &'a [&'a str]) -> Option<&'a str>
     ensures { option_map (λ w. w.now) result ≡ seen_by_either clues (map (λ w. w.now) words.entry.now) }
 {
@@ -246,7 +246,7 @@ fn subject_clues(tool: Tool) -> (Clue, Clue)
     }
 }
 
-/// The word that says of what a tool asks, where it is known which.
+/// The word that names what a tool asks about, where it is known which.
 pub fn subject_of<'a>(tool: Tool, words: &'a [&'a str]) -> Option<&'a str>
     ensures { option_map (λ w. w.now) result ≡ subject_of tool (map (λ w. w.now) words.entry.now) }
 {

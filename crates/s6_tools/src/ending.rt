@@ -1,4 +1,4 @@
-//! The lines and the status for what a tool could not do.
+//! The lines and the exit status of a tool that could not do what it was asked for.
 ghost use Rattle.std.specs.Prelude.{◌≡◌, ◌++◌, IfOk, OnOk, map, option_map};
 ghost use Rattle.s6_tools.specs.Endings.{status_of_fault};
 ghost use Rattle.s6_tools.specs.FaultLines.{fault_line, reason_of};
@@ -20,16 +20,16 @@ use std::io::Write;
 /// The status of a request that was refused.
 const REFUSED_STATUS: u8 = 1;
 
-/// The status of a tool that was not used as it says.
+/// The status of a tool whose words were wrong.
 const USAGE_STATUS: u8 = 100;
 
 /// The status of a tool to which the system refused something.
 const SYSTEM_STATUS: u8 = 111;
 
-/// How many bytes the path of a socket has at most.
+/// The most bytes of a socket's path.
 const PATH_BYTES: usize = 107;
 
-/// Writes what tells of a fault, by one write, and answers the exit status: a line for programs, and a line for people. Takes no memory.
+/// Writes two lines about a fault in one write, one for programs and one for people, and returns the exit status. Takes no memory.
 pub fn tell_fault<E: Write>(
     tool: Tool,
     socket: &str,
@@ -58,7 +58,7 @@ fn status_of(tool: Tool, fault: &ToolFault) -> u8
     }
 }
 
-// Both lines.
+// The two lines.
 fn told_of(
     tool: Tool,
     socket: &str,
@@ -126,7 +126,7 @@ fn add_hint(
     }
 }
 
-// What the system or the server was asked for in vain.
+// What the system or the server failed to do.
 fn add_cause(
     told: &mut Told,
     socket: &str,
@@ -141,7 +141,7 @@ fn add_cause(
     told.try_extend_from_slice(cause_behind(fault).as_bytes())
 }
 
-// The path or the program that it is about.
+// The path or the program that the fault is about.
 fn add_cause_word(
     told: &mut Told,
     socket: &str,
@@ -188,7 +188,7 @@ fn add_advice(told: &mut Told, tool: Tool, misuse: Misuse) -> Result<(), Capacit
     told.try_extend_from_slice(help_words().as_bytes())
 }
 
-// Why the server refused what was asked of this word.
+// Why the server refused a request about this word.
 fn add_refusal(told: &mut Told, word: Option<&str>, reason: &[u8]) -> Result<(), CapacityError>
     ensures { OnOk result (told.new.items
         ≡ told.old.items ++ refusal_text (option_map (λ w. w.now) word.entry) reason.now) }

@@ -18,14 +18,14 @@ use std::net::Net;
 use std::time::Clock;
 use tree_core::{Message, Target};
 
-// What stands before `/event`, where a word ends so.
+// What comes before `/event` in a word that ends with it; None for any other word.
 fn before_event(word: &[u8]) -> Option<&[u8]>
     ensures { option_map (λ w. w.now) result ≡ before_event word.entry.now }
 {
     word.strip_suffix(b"/event")
 }
 
-// The event directory that a word names: NAME a free one, NAME/event that of a service.
+// The event directory that a word names: NAME is a free one, NAME/event that of a service.
 fn target_of(word: &[u8]) -> Option<Target>
     ensures { result ≡ target_of word.now }
 {
@@ -44,7 +44,7 @@ fn name_of(word: &str) -> Result<Name, ToolFault> {
     Name::new(word.as_bytes()).ok_or(ToolFault::Usage(Misuse::BadName))
 }
 
-// A pattern is printable; a newline in it would begin another request.
+// The pattern, whose bytes have to be printable ones or spaces: a newline in it would begin another request.
 fn read_pattern(word: &str) -> Result<&str, ToolFault>
     ensures same { IfOk result (λ pattern. pattern.now ≡ word.now) }
     ensures printable { IfOk result (λ pattern. All IsPrintable pattern.now) }
@@ -57,7 +57,7 @@ fn read_pattern(word: &str) -> Result<&str, ToolFault>
     }
 }
 
-// Whether a pattern is one that the server takes is found out here, before anything is sent.
+// Finds out, before anything is sent, whether the server takes this pattern.
 fn try_pattern(alloc: Global, pattern: &str) -> Result<(), ToolFault>
     ensures { OnOk result (is_expression pattern.now ≡ true) }
 {
@@ -68,7 +68,7 @@ fn try_pattern(alloc: Global, pattern: &str) -> Result<(), ToolFault>
     }
 }
 
-// What is wrong with so many words, where another number is taken.
+// What is wrong with `count` words, where `taken` are taken.
 fn misuse_of(count: usize, taken: usize) -> Misuse
     ensures { result ≡ (if nat_lt count taken then misuse.Missing else misuse.TooMany) }
 {

@@ -12,8 +12,8 @@ use std::io::Write;
 use std::net::Net;
 use std::time::Clock;
 
-/// Prints each letter of each service, or of those of these names, as it comes, until the connection ends. Chosen here; page
-/// `s6-supervise`, "Events", for the letters.
+/// Prints each letter of each service, or of the services named, as it comes, until the connection ends. The tool is this program's own,
+/// not one of s6; for the letters see page `s6-supervise`, "Events".
 pub fn run_follow<R: Net + Clock, W: Write>(
     rt: &R,
     alloc: Global,
@@ -32,7 +32,8 @@ pub fn run_follow<R: Net + Clock, W: Write>(
     Ok(0)
 }
 
-// A connection that is told the letters, and the time of day at which the tree's clock was 0. Where the server is busy it is asked again.
+// A connection that is told the letters, and the time of day at which the tree's clock was 0, in milliseconds since 1970. Where the server
+// is busy, it asks again without end.
 fn follow<R: Net + Clock>(
     rt: &R,
     alloc: Global,
@@ -62,7 +63,7 @@ fn follow_once<R: Net>(
     Ok((connection, start))
 }
 
-// Prints a letter by one write, if it is one of a service that is asked for.
+// Prints a letter in one write, if its service is asked for.
 fn print_letter<W: Write>(
     alloc: Global,
     letter: &FollowedLetter,
@@ -82,7 +83,7 @@ fn print_letter<W: Write>(
     Ok(())
 }
 
-/// Has the run so far recorded, and prints how many steps the record has then. Chosen here.
+/// Has the run so far recorded, and prints how many steps the record has then. The tool is this program's own, not one of s6.
 pub fn run_record<R: Net + Clock, W: Write>(
     rt: &R,
     alloc: Global,

@@ -1,4 +1,4 @@
-//! A letter that a follower is told, read and printed.
+//! A letter that is told to a follower: how it is read, and printed.
 ghost use Rattle.std.specs.Prelude.{◌≡◌, ◌++◌, ◌∷◌, [], IfOk, OnOk};
 ghost use Rattle.s6_tools.specs.JsonLines.{member, quoted};
 ghost use Rattle.s6_tools.specs.Letters.{json_head, json_letter, json_tail, letter_text, letter_word, plain_letter};
@@ -64,7 +64,7 @@ fn push_plain(text: &mut Vec<u8>, day: &[u8], letter: &FollowedLetter) -> Result
     text.extend_from_slice(b"\n")
 }
 
-// A further member: a text.
+// Adds a further member: a text.
 fn push_text(text: &mut Vec<u8>, key: &[u8], word: &[u8]) -> Result<(), AllocError>
     ensures { OnOk result (text.new.items ≡ text.old.items ++ member key.now (quoted word.now)) }
 {
@@ -73,7 +73,7 @@ fn push_text(text: &mut Vec<u8>, key: &[u8], word: &[u8]) -> Result<(), AllocErr
     push_quoted(text, word)
 }
 
-// The first members.
+// Adds the first members of the object.
 fn push_json_head(text: &mut Vec<u8>, day: &[u8], letter: &FollowedLetter) -> Result<(), AllocError>
     ensures { OnOk result (text.new.items ≡ text.old.items ++ json_head day.now letter.now) }
 {
@@ -83,7 +83,7 @@ fn push_json_head(text: &mut Vec<u8>, day: &[u8], letter: &FollowedLetter) -> Re
     push_member(text, b"serial", Some(letter.serial))
 }
 
-// The others.
+// Adds the other members.
 fn push_json_tail(text: &mut Vec<u8>, letter: &FollowedLetter) -> Result<(), AllocError>
     ensures { OnOk result (text.new.items ≡ text.old.items ++ json_tail letter.now) }
 {
@@ -103,7 +103,7 @@ fn push_json(text: &mut Vec<u8>, day: &[u8], letter: &FollowedLetter) -> Result<
     text.extend_from_slice(b"}\n")
 }
 
-/// What is printed of a letter that was told at this time of day.
+/// The line that is printed for a letter. `day` is the time of day at which it was told.
 pub fn letter_line(
     alloc: Global,
     is_json: bool,

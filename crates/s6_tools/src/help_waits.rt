@@ -1,4 +1,4 @@
-//! What `TOOL --help` prints: of the tools that wait, and of those for event directories.
+//! What `TOOL --help` prints, for the tools that wait and those about event directories, and for `permafailon`.
 
 /// What `svwait --help` prints.
 pub const SVWAIT: &str = "usage: s6_tree svwait SOCKET [-u | -U | -d | -D] [-a | -o] [-t MS] NAME..

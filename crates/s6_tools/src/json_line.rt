@@ -34,7 +34,7 @@ fn pid_of(pid: Option<u32>) -> Option<u64>
     pid.map(|pid| u64::from(pid))
 }
 
-/// Adds a text in quotes. None of its bytes is one that JSON escapes.
+/// Adds a text in quotes. It must have no byte that JSON escapes.
 pub fn push_quoted(text: &mut Vec<u8>, word: &[u8]) -> Result<(), AllocError>
     ensures { OnOk result (text.new.items ≡ text.old.items ++ quoted word.now) }
 {
@@ -170,7 +170,7 @@ fn push_unread_head(text: &mut Vec<u8>, name: &Name) -> Result<(), AllocError>
     push_quoted(text, b"unread")
 }
 
-// Adds the members that are true or false of a service.
+// Adds the members that are true or false for a service, as null.
 fn push_no_truths(text: &mut Vec<u8>) -> Result<(), AllocError>
     ensures { OnOk result (text.new.items ≡ text.old.items ++ no_truths_text) }
 {
@@ -181,7 +181,7 @@ fn push_no_truths(text: &mut Vec<u8>) -> Result<(), AllocError>
     push_member(text, b"paused", None)
 }
 
-// Adds the members for the run of a service.
+// Adds the members for the run of a service, as null.
 fn push_no_run(text: &mut Vec<u8>) -> Result<(), AllocError>
     ensures { OnOk result (text.new.items ≡ text.old.items ++ no_run_text) }
 {
@@ -190,7 +190,7 @@ fn push_no_run(text: &mut Vec<u8>) -> Result<(), AllocError>
     push_member(text, b"signal", None)
 }
 
-// Adds the members for the ages of a service.
+// Adds the members for the ages of a service, as null.
 fn push_no_ages(text: &mut Vec<u8>) -> Result<(), AllocError>
     ensures { OnOk result (text.new.items ≡ text.old.items ++ no_ages_text) }
 {
@@ -198,7 +198,7 @@ fn push_no_ages(text: &mut Vec<u8>) -> Result<(), AllocError>
     push_member(text, b"readyfor", None)
 }
 
-// Adds the members for the times of a service.
+// Adds the members for the times of a service, as null.
 fn push_no_times(text: &mut Vec<u8>) -> Result<(), AllocError>
     ensures { OnOk result (text.new.items ≡ text.old.items ++ no_times_text) }
 {
@@ -228,7 +228,7 @@ fn push_json_line(text: &mut Vec<u8>, entry: &ListEntry) -> Result<(), AllocErro
     }
 }
 
-/// The entries, each by a line with one object of JSON.
+/// A line for each entry, with one object of JSON.
 pub fn json_lines(alloc: Global, entries: &[ListEntry]) -> Result<Vec<u8>, AllocError>
     ensures { IfOk result (λ text. text.items ≡ flat_map json_line entries.now) }
 {

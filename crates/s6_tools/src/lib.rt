@@ -1,4 +1,5 @@
-//! The tools of a running tree: each turns its words into requests, sends them over the tree's socket, and ends as the answer says.
+//! The clients of a running tree. Each turns its words into requests, sends them over the tree's socket, and ends with the status that the
+//! answer calls for.
 #![tactic(auto)]
 
 mod age;

@@ -8,14 +8,15 @@ use crate::tool_fault::ToolFault;
 use s6_events::Name;
 use std::alloc::Global;
 
-/// What is asked of `list` or `follow`: services of these names, where no name is all services.
+/// What `list` or `follow` is asked for: the services of these names, or all where there is no name.
 #[derive(Debug, Drop)]
 pub struct ListCommand {
     pub is_json: bool,
     pub names: Vec<Name>,
 }
 
-/// Reads the words behind `list` or `follow`: options and names in any order. A word that begins with `-` is an option, and behind `--` a name.
+/// Reads the words behind `list` or `follow`: options and names in any order. A word that begins with `-` is an option; behind `--` each
+/// word is a name.
 pub fn compile_list(alloc: Global, words: &[&str]) -> Result<ListCommand, ToolFault> {
     let mut command = ListCommand {
         is_json: false,
@@ -66,7 +67,7 @@ fn is_asked(names: &[Name], entry: &ListEntry) -> bool
     names.is_empty() || is_among(names, entry.name())
 }
 
-/// Leaves the entries that are asked for, as they stand.
+/// Keeps the entries that are asked for, in their order.
 pub fn keep_asked(entries: &mut Vec<ListEntry>, names: &[Name])
     ensures { entries.new.items ≡ filter (is_asked names.now) entries.old.items }
 {

@@ -51,7 +51,7 @@ fn space_in(line: &[u8]) -> Option<usize>
     line.iter().position(|byte| *byte == b' ')
 }
 
-// What stands behind the first word of a line.
+// The line without its first word and the space behind that; nothing where it has no space.
 fn behind_word(line: &[u8]) -> &[u8]
     ensures { result.now ≡ behind_word line.now }
 {
@@ -61,7 +61,7 @@ fn behind_word(line: &[u8]) -> &[u8]
     }
 }
 
-/// What a line of the answer to `states` says, without its newline; None for any other line.
+/// What a line of the answer to `states` says; None for any other line. The line is without its newline.
 pub fn entry_of(line: &[u8]) -> Option<ListEntry>
     ensures { IfSome result (λ entry. Tells entry line.now) }
 {
@@ -94,7 +94,7 @@ fn unread_of(line: &[u8]) -> Option<ListEntry>
     Some(ListEntry::Unread(name, ToldWord::new(word_or_none(line, 2))))
 }
 
-/// The moment of a word, in milliseconds; None where it is none, as `-1`.
+/// The moment that a word spells, in milliseconds; None where it spells none, as `-1`.
 pub fn moment_of(word: &[u8]) -> Option<u64> {
     str::from_utf8(word).ok()?.parse::<u64>().ok()
 }

@@ -16,8 +16,9 @@ use std::io::Write;
 use std::net::Net;
 use std::time::Clock;
 
-/// Prints the services of the tree and what the last scan could not read, all or those of these names. Where there is nothing of one of
-/// the names, the others are printed, and then it is refused. Chosen here.
+/// Prints the services of the tree and the directories that the last scan could not read: all, or those of these names. Where one of the
+/// names has neither, the others are printed, and then the fault is `Refused`, for NoService. The tool is this program's own, not one of
+/// s6.
 pub fn run_list<R: Net + Clock, W: Write>(
     rt: &R,
     alloc: Global,
@@ -30,7 +31,7 @@ pub fn run_list<R: Net + Clock, W: Write>(
     print_entries(alloc, entries, &command, output)
 }
 
-// The states of all services. Where the server is busy it is asked again, for ten seconds at most.
+// The states of all services. Where the server is busy, it asks again, for ten seconds at most.
 fn ask_states<R: Net + Clock>(
     rt: &R,
     alloc: Global,
@@ -62,7 +63,7 @@ pub fn ask_states_once<R: Net>(
     Ok(entries)
 }
 
-// The time of day since which a service is up or down, where the tree's clock was 0 at this one.
+// Notes the time of day since which a service is up or down. `start` is that at which the tree's clock was 0, in milliseconds since 1970.
 fn note_since(entry: &mut ListEntry, start: u64) {
     if let ListEntry::Service(service) = entry {
         service.since = day_of(start, service.at);
@@ -74,7 +75,7 @@ fn day_of(start: u64, at: Option<u64>) -> Option<ToldWord> {
     Some(ToldWord::new(text.as_bytes()))
 }
 
-// Prints the entries that are asked for, by one write.
+// Prints the entries that are asked for, in one write.
 fn print_entries<W: Write>(
     alloc: Global,
     mut entries: Vec<ListEntry>,
@@ -94,7 +95,7 @@ fn print_entries<W: Write>(
     }
 }
 
-// What is printed of these entries.
+// What is printed for these entries.
 fn text_of(alloc: Global, entries: &[ListEntry], is_json: bool) -> Result<Vec<u8>, AllocError>
     ensures { IfOk result (λ text. text.items ≡ listed_text is_json entries.now) }
 {

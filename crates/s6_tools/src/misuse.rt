@@ -7,19 +7,19 @@ ghost use Rattle.s6_tools.specs.Sentences.{misuse_word};
 pub enum Misuse {
     /// An option, a letter or a word that the tool doesn't take.
     Unknown,
-    /// A word that the tool can't do without is not there.
+    /// A word that the tool needs is missing.
     Missing,
-    /// There are more letters, names or options than it takes.
+    /// There are more letters, names or options than the tool takes.
     TooMany,
-    /// A word in the place of a number is none.
+    /// The word where a number belongs is no number.
     BadNumber,
-    /// A word in the place of a list is none.
+    /// The word where a list belongs is no list.
     BadList,
-    /// A word in the place of a name is none.
+    /// The word where a name belongs is no name.
     BadName,
-    /// A word in the place of a message is none.
+    /// The word where a message belongs is no message.
     BadMessage,
-    /// A word in the place of a pattern is none.
+    /// The word where a pattern belongs is no pattern.
     BadPattern,
 }
 

@@ -1,4 +1,4 @@
-//! How long a tool tries again where the server has no room for it.
+//! How long a tool goes on trying where the server has no room for it.
 ghost use Rattle.std.specs.Prelude.{◌≡◌, is_none};
 ghost use Rattle.s6_tools.specs.Patience.{first_pause, time_of_wait, timeout_within, pause_of, after_pause};
 
@@ -8,10 +8,11 @@ pub const FIRST_PAUSE: u64 = 20;
 /// How long a tool waits at most before it tries again, in milliseconds.
 pub const LONGEST_PAUSE: u64 = 500;
 
-/// How long a tool tries at most that doesn't wait for anything, in milliseconds.
+/// How long a tool that doesn't wait for services goes on trying, in milliseconds.
 pub const TRY_TIME: u64 = 10_000;
 
-/// How long a tool still tries again where the server is busy: first after 20 milliseconds, then ever later, up to half a second.
+/// How long a tool goes on trying where the server is busy. The first pause is 20 milliseconds; each is twice as long as the one before, up
+/// to half a second.
 #[derive(Clone, Copy, PartialEq, Eq, Debug)]
 pub struct Patience {
     /// The next pause, in milliseconds.
@@ -21,7 +22,7 @@ pub struct Patience {
 }
 
 impl Patience {
-    /// Of a tool that may try for so many milliseconds, or without end.
+    /// The patience of a tool that may try for `left` milliseconds; None means without end.
     pub fn of(left: Option<u64>) -> Patience
         ensures { result ≡ record { pause = first_pause; left = left } }
     {
@@ -31,7 +32,7 @@ impl Patience {
         }
     }
 
-    /// Of a wait with this timeout in milliseconds, where 0 is none.
+    /// The patience of a wait with this timeout in milliseconds; 0 means that it has none.
     pub fn of_wait(timeout: u32) -> Patience
         ensures { result ≡ record { pause = first_pause; left = time_of_wait timeout } }
     {
@@ -42,7 +43,7 @@ impl Patience {
         }
     }
 
-    /// The timeout of a wait that is still to come, in milliseconds, where 0 is none.
+    /// The timeout that a wait gets now, in milliseconds: what is left, but at least 1; 0 means that it has none.
     pub fn timeout_left(&self) -> u32
         ensures { result ≡ timeout_within self.now.left }
     {
@@ -59,7 +60,7 @@ impl Patience {
         self.left == Some(0)
     }
 
-    /// How many milliseconds to wait before the next try, at most those that are left; None where none is left.
+    /// How many milliseconds to wait before the next try, at most those that are left; None where no time is left.
     pub fn next_pause(&mut self) -> Option<u64>
         ensures pause { result ≡ pause_of self.old }
         ensures after { self.new ≡ after_pause self.old }

@@ -1,5 +1,5 @@
-//! The requests of the tools. Each is a line of a script without its moment and its actor, so a request says just the act that it
-//! is in a script.
+//! The requests of the tools. Each is a line of a script without its moment and its actor, so a request asks for the act that the line
+//! spells.
 ghost use Rattle.std.specs.Prelude.{◌≡◌, ◌++◌, ◌∷◌, [], IfOk, OnOk, false};
 ghost use Rattle.std.specs.List.{join_with_byte};
 ghost use Rattle.tree_core.specs.declared.input.Act.TheVariants.{Svc, Status, Permafailon, Wait, Subscribe, Send, MakeDir};
@@ -11,8 +11,8 @@ use std::alloc::{AllocError, Global};
 use svc_commands::{PermafailCommand, ScanLetter, SvcCommand, WaitCommand};
 use tree_core::{Message, Target};
 
-/// Makes a text the line of a request, with its newline: what a tool sends by one write. What the text held is gone. Where memory is
-/// refused nothing may be sent.
+/// Fills `line` with a request and its newline, for a tool to send in one write. What it held is gone. Where memory is refused, the line
+/// isn't whole, and must not be sent.
 pub fn set_request_line(line: &mut Vec<u8>, request: &[u8]) -> Result<(), AllocError>
     ensures { OnOk result (line.new.items ≡ request_line request.now) }
 {
@@ -123,7 +123,7 @@ pub fn subscribe_request(
     Ok(text)
 }
 
-/// The request of `follow` for services of these names: for one alone its letters, else those of all.
+/// The request of `follow` for these names: for one name the letters of its service, else those of all services.
 pub fn follow_request(alloc: Global, names: &[Name]) -> Result<Vec<u8>, AllocError>
     ensures { IfOk result (λ text. text.items ≡ follow_request_of names.now) }
 {

@@ -1,4 +1,4 @@
-//! Why there is no service of a name: what the last scan could not read.
+//! Finds out whether there is no service of a name because the last scan could not read its directory.
 ghost use Rattle.std.specs.Prelude.{◌≡◌, option_map};
 ghost use Rattle.s6_tools.specs.ListEntries.{why_unread};
 
@@ -10,8 +10,8 @@ use crate::words::is_word;
 use std::alloc::Global;
 use std::net::Net;
 
-/// The fault of a tool, more exactly: where the server has no service of this name since the last scan could not read its directory, that
-/// is the fault. The server is asked for that once; where it doesn't answer, the fault stays as it is.
+/// The fault of a tool, more exactly: `Unread` where the server has no service of this name because the last scan could not read its
+/// directory. The server is asked once whether that is so. Where it doesn't answer, the fault stays as it is.
 pub fn with_scan_fault<R: Net>(
     rt: &R,
     alloc: Global,
@@ -52,7 +52,7 @@ fn why_refused<R: Net>(
     None
 }
 
-// The fault of what the last scan could not read, where it has this name.
+// Why the last scan could not read this entry, if it has this name and is unread.
 fn why_unread(entry: &ListEntry, name: &str) -> Option<ToldWord>
     ensures { option_map (λ w. w) result ≡ why_unread name.now entry.now }
 {

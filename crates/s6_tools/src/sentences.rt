@@ -1,4 +1,4 @@
-//! What is said of a fault, and what would be right.
+//! The sentences about a fault, and about what would be right.
 ghost use Rattle.std.specs.Prelude.{◌≡◌, option_map};
 ghost use Rattle.s6_tools.specs.Sentences.{complaint_of, number_complaint, list_complaint, name_complaint, form_of, list_form, name_form, right_of, refusal_of_subject, refusal_of_tree};
 ghost use Rattle.s6_tools.specs.Sentences.{cause_before, cause_behind, help_words, see_words, unread_words};
@@ -111,7 +111,7 @@ pub fn right_of(tool: Tool, misuse: Misuse) -> &'static str
     }
 }
 
-/// What a reason says of the word that the request names; None where it says nothing of a word.
+/// What the reason of a refusal says about the word that the request names; None where it is about no word.
 pub fn refusal_of_subject(reason: &[u8]) -> Option<&'static str>
     ensures { option_map (λ text. text.now) result ≡ refusal_of_subject reason.now }
 {
@@ -130,7 +130,7 @@ pub fn refusal_of_subject(reason: &[u8]) -> Option<&'static str>
     }
 }
 
-/// What any other reason says.
+/// What any other reason of a refusal says.
 pub fn refusal_of_tree(reason: &[u8]) -> &'static str
     ensures { result.now ≡ refusal_of_tree reason.now }
 {
@@ -159,7 +159,7 @@ pub fn refusal_of_tree(reason: &[u8]) -> &'static str
     }
 }
 
-/// Where to read on, in front of the name of a tool.
+/// Where to read on: the text before the name of a tool.
 #[tactic(auto, unfolding(crate::specs::Sentences::see_words))]
 pub fn see_words() -> &'static str
     ensures { result.now ≡ see_words }
@@ -167,7 +167,7 @@ pub fn see_words() -> &'static str
     "; see s6_tree "
 }
 
-/// The same, behind it.
+/// The text behind that name.
 #[tactic(auto, unfolding(crate::specs::Sentences::help_words))]
 pub fn help_words() -> &'static str
     ensures { result.now ≡ help_words }
@@ -175,7 +175,7 @@ pub fn help_words() -> &'static str
     " --help"
 }
 
-/// What stands before the name of a service whose directory could not be read.
+/// The text before the name of a service whose directory could not be read.
 #[tactic(auto, unfolding(crate::specs::Sentences::unread_words))]
 pub fn unread_words() -> &'static str
     ensures { result.now ≡ unread_words }
@@ -183,7 +183,7 @@ pub fn unread_words() -> &'static str
     "NoService: the last scan could not read "
 }
 
-/// What the system or the server was asked for in vain, up to the word that it is about.
+/// What the system or the server failed to do: the text up to the word that it is about.
 pub fn cause_before(fault: &ToolFault) -> &'static str
     ensures { result.now ≡ cause_before fault.now }
 {
@@ -199,7 +199,7 @@ pub fn cause_before(fault: &ToolFault) -> &'static str
     }
 }
 
-/// The same, behind that word.
+/// The text behind that word.
 pub fn cause_behind(fault: &ToolFault) -> &'static str
     ensures { result.now ≡ cause_behind fault.now }
 {

@@ -1,4 +1,4 @@
-//! A `row` line of the server, read.
+//! Reads a `row` line of the server.
 ghost use Rattle.std.specs.Prelude.{◌≡◌, ◌≤◌, IfSome};
 ghost use Rattle.s6_tools.specs.ServiceRows.{truth_of, number_of, number_in, truths_in, numbers_in, row_of, exit_in, sid_in};
 
@@ -13,7 +13,7 @@ const MOST_NUMBER: u32 = 4_294_967_295;
 /// The greatest exit code, and the greatest number of a signal.
 const MOST_END: u32 = 255;
 
-// What a row tells by true and false.
+// The fields of a row that are true or false.
 #[derive(Clone, Copy, Debug, PartialEq, Eq)]
 struct Truths {
     up: bool,
@@ -23,7 +23,7 @@ struct Truths {
     paused: bool,
 }
 
-// What a row tells by numbers.
+// The fields of a row that are numbers.
 #[derive(Clone, Copy, Debug, PartialEq, Eq)]
 struct Numbers {
     pid: Option<u32>,
@@ -44,7 +44,7 @@ fn truth_of(word: &[u8]) -> Option<bool>
     }
 }
 
-// The number of a word, of which -1 is none. None where the word is neither.
+// The number that a word spells, up to `most`; no number where the word is -1. None for any other word.
 fn number_of(word: &[u8], most: u32) -> Option<Option<u32>>
     ensures value { result ≡ number_of most word.now }
     ensures bound { IfSome result (λ number. IfSome number (λ n. n ≤ most)) }
@@ -64,7 +64,7 @@ fn number_in(line: &[u8], place: usize) -> Option<Option<u32>>
     number_of(word_or_none(line, place), MOST_NUMBER)
 }
 
-// How a run ended, by its code and its signal, of which one at most is there.
+// How a run ended: its code or its signal, or neither. None where both are there, or one of them can't be read.
 fn exit_in(line: &[u8]) -> Option<Option<Exit>>
     ensures { result ≡ exit_in line.now }
 {
@@ -110,7 +110,8 @@ fn sid_in(line: &[u8]) -> Option<Sid>
     }
 }
 
-/// What a `row` line says of a service, without its newline; None for any other line. A number over 4294967295 is not read.
+/// What a `row` line says of a service; None for any other line, and for one with a number over 4294967295. The line is without its
+/// newline.
 pub fn row_of(line: &[u8]) -> Option<Row>
     ensures { result ≡ row_of line.now }
 {

@@ -18,7 +18,7 @@ pub enum Column {
     Name,
     /// STATE: the word of its state.
     State,
-    /// PID: the process number of `run`, while it is there.
+    /// PID: the process number of its run, while that is there.
     Pid,
     /// SINCE: the time of day at which it came up, or went down.
     Since,
@@ -32,7 +32,7 @@ pub enum Column {
     Wanted,
 }
 
-// The columns with spaces behind them: all but WANTED.
+// The columns whose cells have spaces behind them: all but WANTED.
 const PADDED_COLUMNS: [Column; 7] = [
     Column::Name,
     Column::State,
@@ -43,7 +43,7 @@ const PADDED_COLUMNS: [Column; 7] = [
     Column::LastExit,
 ];
 
-// A column, and the bytes of its widest cell.
+// A column, and how many bytes its widest cell has.
 #[derive(Clone, Copy, Debug, PartialEq, Eq)]
 struct SizedColumn {
     column: Column,
@@ -146,7 +146,7 @@ fn push_service_cell(
     }
 }
 
-// Adds that of a directory that could not be read.
+// Adds the cell of a directory that could not be read.
 fn push_unread_cell(
     text: &mut Vec<u8>,
     name: &Name,
@@ -181,7 +181,7 @@ fn cell_of(alloc: Global, entry: &ListEntry, column: Column) -> Result<Vec<u8>, 
     Ok(text)
 }
 
-// The bytes of the widest cell of a column, its head among them.
+// How many bytes the widest cell of a column has; its head counts too.
 fn width_of(alloc: Global, entries: &[ListEntry], column: Column) -> Result<usize, AllocError>
     ensures { IfOk result (λ width. width ≡ width_of entries.now column) }
 {
@@ -277,7 +277,7 @@ fn push_entry_lines(
     Ok(())
 }
 
-/// The entries, each by a line, below a line of heads.
+/// A line of heads, and then a line for each entry.
 pub fn table_of(alloc: Global, entries: &[ListEntry]) -> Result<Vec<u8>, AllocError>
     ensures { IfOk result (λ text. text.items ≡ table_text entries.now) }
 {

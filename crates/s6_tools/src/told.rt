@@ -1,17 +1,17 @@
-//! What is told of a fault, and the words in it.
+//! The text about a fault, and the words in it.
 ghost use Rattle.std.specs.Prelude.{◌≡◌, ◌++◌, ◌<◌, OnOk, option_map, take};
 ghost use Rattle.std.specs.List.{flat_map};
 ghost use Rattle.s6_tools.specs.Told.{hex_digit, escaped_byte, escaped, named};
 
 use arrayvec::{ArrayVec, CapacityError};
 
-/// How many bytes of a word are told.
+/// The most bytes of a word that are told.
 const TOLD_BYTES: usize = 64;
 
-/// What is told of a fault, so that it takes no memory. The longest has some 700 bytes.
+/// The text about a fault, in an array of fixed size, so that it takes no memory. The longest has some 700 bytes.
 pub type Told = ArrayVec<u8, 1024>;
 
-/// Adds a word between quotes, or what stands for it.
+/// Adds a word between quotes; `unknown` where there is no word.
 pub fn add_named(told: &mut Told, unknown: &[u8], word: Option<&str>) -> Result<(), CapacityError>
     ensures { OnOk result (told.new.items
         ≡ told.old.items ++ named unknown.now (option_map (λ w. w.now) word.entry)) }
@@ -26,7 +26,7 @@ pub fn add_named(told: &mut Told, unknown: &[u8], word: Option<&str>) -> Result<
     }
 }
 
-// The first bytes of a word, at most so many.
+// The first bytes of a word, at most `most`.
 fn first_bytes(most: usize, bytes: &[u8]) -> &[u8]
     ensures { result.now ≡ take most bytes.entry.now }
 {
@@ -36,7 +36,7 @@ fn first_bytes(most: usize, bytes: &[u8]) -> &[u8]
     }
 }
 
-/// Adds the first bytes of a word, at most so many. What isn't printable is escaped.
+/// Adds the first bytes of a word, at most `most`. Those that aren't printable are escaped.
 pub fn add_escaped(told: &mut Told, most: usize, bytes: &[u8]) -> Result<(), CapacityError>
     ensures { OnOk result (told.new.items ≡ told.old.items ++ escaped most bytes.now) }
 {

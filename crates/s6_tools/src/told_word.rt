@@ -4,7 +4,7 @@ ghost use Rattle.std.specs.Prelude.{◌≡◌, ◌≤◌, length, take};
 use arrayvec::ArrayVec;
 use std::marker::Model;
 
-/// A word that the server told; what is longer than 32 bytes is cut.
+/// A word that the server told. Of a longer one the first 32 bytes are kept.
 #[derive(Debug, Drop)]
 pub struct ToldWord {
     text: ArrayVec<u8, 32>,

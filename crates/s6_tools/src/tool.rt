@@ -1,4 +1,4 @@
-//! Which client is meant, and running it.
+//! The tools that are clients of a running tree, and how one is run.
 ghost use Rattle.std.specs.Prelude.{◌≡◌};
 ghost use Rattle.s6_tools.specs.FaultLines.{name_of};
 
@@ -25,13 +25,13 @@ use std::time::Clock;
 pub enum Tool {
     /// `svc`: letters for a service. Page `s6-svc`.
     Svc,
-    /// `svstat`: fields of its status. Page `s6-svstat`.
+    /// `svstat`: fields of a service's status. Page `s6-svstat`.
     Svstat,
-    /// `list`: the status of all services. Chosen here.
+    /// `list`: the status of all services. Not a tool of s6.
     List,
-    /// `follow`: their letters, as they come. Chosen here.
+    /// `follow`: the letters of services, as they come. Not a tool of s6.
     Follow,
-    /// `record`: has the run so far recorded. Chosen here.
+    /// `record`: has the run so far recorded. Not a tool of s6.
     Record,
     /// `svwait`: waits for services. Page `s6-svwait`.
     Svwait,
@@ -43,7 +43,7 @@ pub enum Tool {
     Mkfifodir,
     /// `ftrig-notify`: sends letters to an event directory. Page `s6-ftrig-notify`.
     FtrigNotify,
-    /// `ftrig-wait`: waits until its letters match. Page `s6-ftrig-wait`.
+    /// `ftrig-wait`: waits until the letters of an event directory match. Page `s6-ftrig-wait`.
     FtrigWait,
     /// `permafailon`: whether a service fails for good. Page `s6-permafailon`.
     Permafailon,
@@ -86,13 +86,13 @@ impl Tool {
     }
 }
 
-/// The tool of this name.
+/// The tool of this name; None where there is no such tool.
 pub fn tool_named(name: &str) -> Option<Tool> {
     ALL.iter().copied().find(|tool| tool.name() == name)
 }
 
-/// Runs a client: the words are those behind its name, the path of the socket first, or they ask for help. Answers its exit status. Where
-/// that isn't one of a result, a line on `errors` says why, and a second one what would be right, in one write.
+/// Runs a client, and returns its exit status. `words` are those behind its name: the path of the socket first, or a word that asks for
+/// help. Where the client could not do what it was asked for, it writes two lines on `errors` in one write: why, and what would be right.
 pub fn run_client<R: Net + Processes + Clock, W: Write, E: Write>(
     rt: &R,
     alloc: Global,

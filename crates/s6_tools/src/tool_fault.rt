@@ -14,11 +14,12 @@ use svc_commands::UsageFault;
 pub enum ToolFault {
     /// Its words are not those of the tool. Status 100.
     Usage(Misuse),
-    /// The server refused the request, for this reason. Status 1; of a wait 111.
+    /// The server refused the request, for this reason. Status 1; for `svwait` and `svlisten` 111.
     Refused(ToldWord),
-    /// The server refused the request, NoService: the last scan could not read the service's directory, for this fault. The status of a refusal.
+    /// The server refused the request as NoService, and the last scan could not read the service's directory, for this fault. The status is
+    /// that of a refusal.
     Unread(ToldWord),
-    /// The server had no seat for one more connection, as often as it was tried. Status 111.
+    /// The server had no seat for one more connection, however often it was tried. Status 111.
     Busy,
     /// There is no server at the path. Status 111.
     NoServer,
@@ -26,18 +27,18 @@ pub enum ToolFault {
     Forbidden,
     /// The path is longer than that of a socket may be. Status 111.
     LongPath,
-    /// The connection failed, or the server ended, or wrote no line of a server. Status 111.
+    /// The connection failed, or the server ended it, or wrote a line that no server writes. Status 111.
     Socket,
     /// The program behind `svlisten` could not be started. Status 111.
     Program,
     /// Standard output took nothing. Status 111.
     Write,
-    /// A growth was refused. Status 111.
+    /// Memory was refused. Status 111.
     NoMemory,
 }
 
 impl ToolFault {
-    /// Whether the server had no room, and nothing was done: the same may be asked again.
+    /// Whether the server had no room and did nothing, so the same may be asked again.
     pub fn is_busy(&self) -> bool
         ensures { result ≡ is_busy self.now }
     {

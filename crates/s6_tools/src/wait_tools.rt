@@ -14,7 +14,7 @@ use std::process::{Command, Processes};
 use std::time::Clock;
 use svc_commands::{WaitCommand, compile_svlisten, compile_svwait};
 
-// The status for a waiter that was released so.
+// The exit status for a waiter that was released with this outcome.
 fn status_of(outcome: Outcome) -> u8
     ensures { result ≡ status_of_outcome outcome }
 {
@@ -26,7 +26,7 @@ fn status_of(outcome: Outcome) -> u8
     }
 }
 
-// Subscribes a waiter. The reply has come when this comes back: None where the time was up before the server had room for it.
+// Makes a waiter, and returns once the reply has come. None where the time was up before the server had room for it.
 fn subscribe<R: Net + Clock>(
     rt: &R,
     alloc: Global,
@@ -55,7 +55,7 @@ fn await_release(connection: &mut Connection) -> Result<u8, ToolFault> {
     }
 }
 
-/// Waits for services; while the server has no room for that, it is asked again, as long as may be waited. Page `s6-svwait`.
+/// Waits for services. While the server has no room for the wait, it asks again until the timeout is over. Page `s6-svwait`.
 pub fn run_svwait<R: Net + Clock>(
     rt: &R,
     alloc: Global,
@@ -69,8 +69,8 @@ pub fn run_svwait<R: Net + Clock>(
     }
 }
 
-/// Subscribes, starts a program, and waits for services. Where the time was up before the server had room, no program is started. Page
-/// `s6-svlisten`.
+/// Makes a waiter, starts a program, and waits for services. Where the time was up before the server had room for the waiter, no program is
+/// started. Page `s6-svlisten`.
 pub fn run_svlisten<R: Net + Processes + Clock>(
     rt: &R,
     alloc: Global,

@@ -11,7 +11,7 @@ pub fn is_word(word: &[u8], text: &[u8]) -> bool
     word == text
 }
 
-/// A word of a line, by its place. Between each two words is one space.
+/// The word of a line at a place, counted from 0; None where the line has no such word. Between each two words is one space.
 pub fn word_at(line: &[u8], place: usize) -> Option<&[u8]>
     ensures { option_map (λ w. w.now) result
         ≡ slice_get (slice_split (λ b. b == 32) line.entry.now) place }
@@ -19,7 +19,7 @@ pub fn word_at(line: &[u8], place: usize) -> Option<&[u8]>
     line.split(|byte| *byte == b' ').nth(place)
 }
 
-/// A word of a line, by its place, or no byte where the line has no such word.
+/// The word of a line at a place, counted from 0; no byte where the line has no such word.
 pub fn word_or_none(line: &[u8], place: usize) -> &[u8]
     ensures { result.now ≡ word_in line.entry.now place }
 {

@@ -1,4 +1,4 @@
-//! What a wrong word of a command line may be.
+//! The kinds of words by which the wrong word of a command line is found.
 ghost use Rattle.std.specs.Prelude.{◌≡◌, ◌==◌};
 ghost use Rattle.std.specs.List.{list_any};
 ghost use Rattle.s6_tools.specs.Culprits.{letters_of, valued_of, is_dashed, has_strange_letter, is_strange, is_list_option, is_no_name, is_condition, is_mode, is_ended, is_valued, is_wrong};
@@ -8,24 +8,24 @@ use crate::words::is_word;
 use s6_events::Name;
 use servicedir::parse_number;
 
-/// What a wrong word may be.
+/// A kind of word.
 #[derive(Clone, Copy, Debug, PartialEq, Eq)]
 pub enum Wrong {
-    /// An option, or a run of letters, with one that the tool hasn't.
+    /// A dash and letters, one of which the tool doesn't have.
     Strange(Tool),
     /// A dash alone.
     Dash,
     /// Two dashes alone.
     Dashes,
-    /// An option that isn't that of `list`.
+    /// An option that `list` and `follow` don't have.
     StrangeOption,
-    /// No option.
+    /// A word that is no option.
     Plain,
-    /// No option, and no name.
+    /// A word that is neither an option nor a name.
     NoName,
-    /// No option, no name, and no list.
+    /// A word that is neither an option nor a name, and has no comma.
     NoSingleName,
-    /// No number.
+    /// A word that is no number.
     NoNumber,
     /// A condition of a wait.
     Condition,
@@ -37,7 +37,7 @@ pub enum Wrong {
     Valued(u8),
 }
 
-// The letters that a tool has behind a dash.
+// The letters that a tool takes behind a dash.
 fn letters_of(tool: Tool) -> &'static [u8]
     ensures { result.now ≡ letters_of tool }
 {
@@ -51,7 +51,7 @@ fn letters_of(tool: Tool) -> &'static [u8]
     }
 }
 
-// The letter of the option that has a value; a space where there is none.
+// The letter of the option that has a value; a space where the tool has no such option.
 fn valued_of(tool: Tool) -> u8
     ensures { result ≡ valued_of tool }
 {
@@ -74,7 +74,7 @@ fn is_letter(letters: &[u8], byte: u8) -> bool
     letters.iter().any(|letter| *letter == byte)
 }
 
-// Whether a letter behind the dash, before the value, is none of the tool.
+// Whether a letter behind the dash, and before that of the option with a value, is none of these.
 fn has_strange_letter(letters: &[u8], valued: u8, word: &[u8]) -> bool
     ensures { result ≡ has_strange_letter letters.now valued word.now }
 {
@@ -130,7 +130,7 @@ fn is_ended(letter: u8, word: &[u8]) -> bool
     is_dashed(word) && word.last() == Some(&letter)
 }
 
-/// Whether a word is so.
+/// Whether a word is of this kind.
 pub fn is_wrong(wrong: Wrong, word: &[u8]) -> bool
     ensures { result ≡ is_wrong wrong word.now }
 {

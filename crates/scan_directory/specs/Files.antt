@@ -18,7 +18,7 @@ found_of files file.TimeoutFinish = files.timeout_finish
 found_of files file.MaxDeathTally = files.max_death_tally
 found_of files file.DownSignal = files.down_signal
 
--- what is read of a file; of one that is there and can't be read no more is known
+-- the content of a file, if it is known to be there; one that can't be read counts as empty
 abbrev pub content_of : Reading → Option (List ℕ)
 content_of reading.Absent = None
 content_of (reading.Text text) = Some text.items

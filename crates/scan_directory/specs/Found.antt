@@ -1,4 +1,4 @@
--- What is not as it should be in a scan directory.
+-- What is wrong in a scan directory.
 use Rattle.std.specs.Prelude.{ℕ, List, [], ◌∷◌, ◌++◌, codes}
 use Rattle.servicedir.specs.declared.dir_fault.DirFault.{DirFault}
 use Rattle.servicedir.specs.declared.dir_fault.DirFault.TheVariants as fault

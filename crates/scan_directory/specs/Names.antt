@@ -13,7 +13,7 @@ use Rattle.svscan_core.specs.declared.entry.Entry.{Entry}
 abbrev pub listed_names : List Entry → List (List ℕ)
 listed_names entries = map (λ e. e.name) entries
 
--- the service that an entry of a directory is, if it is one
+-- the name of the service that an entry of a directory is, if it is one
 abbrev pub service_in : Seen → Option (List ℕ)
 service_in (seen.Service name) = Some name
 service_in seen.Hidden = None
@@ -33,11 +33,11 @@ given_as (n ∷ names) = n ++ 0 ∷ given_as names
 abbrev pub AreNames : List (List ℕ) → Type 0
 AreNames names = All (All (λ b. b ≢ 0)) names
 
--- where it is known what a directory gives, the services among its names are listed, and nothing else
+-- where it is known what a directory gives, the services among its names are listed, in their order, and nothing else
 abbrev pub AreListed : Option (List ℕ) → List (List ℕ) → Type 0
 AreListed given listed = (names : List (List ℕ)) → AreNames names → given ≡ Some (given_as names) → listed ≡ services_among names
 
--- what is told of an entry whose name is none of a service
+-- what is told of an entry whose name is no service's
 abbrev pub bad_name_lines : List ℕ → List ℕ
 bad_name_lines name = codes "svscan: BadName\nsvscan: '" ++ (flat_map escape_ascii name ++ codes "' is no name of a service\n")
 

@@ -1,11 +1,11 @@
--- Which listings are taken: those that a line of a script can say.
+-- Which listings are taken: those that a line of a script can spell.
 use Rattle.std.specs.Prelude.{ℕ, List}
 use Rattle.std.specs.declared.alloc.Global.{Global}
 use Rattle.svscan_core.specs.declared.entry.Entry.{Entry}
 use Rattle.tree_core.specs.declared.input.Act.TheVariants.{Scan}
 use Rattle.tree_core.specs.declared.input.Input.{Input}
 
--- no moment of an input is later, and none takes more bytes
+-- the last moment that an input can have; none takes more bytes
 abbrev pub last_moment : ℕ
 last_moment = 1000000000000000
 

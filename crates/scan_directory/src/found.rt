@@ -1,4 +1,4 @@
-//! What was found in a scan directory.
+//! What a reading of a scan directory found.
 ghost use Rattle.std.specs.Prelude.{◌≡◌, ◌++◌, OnOk};
 ghost use Rattle.std.specs.List.{flat_map};
 ghost use Rattle.scan_directory.specs.Found.{fault_word, unread_line};
@@ -8,16 +8,16 @@ use servicedir::DirFault;
 use std::alloc::{AllocError, Global};
 use tree_core::Listing;
 
-/// What is not as it should be in a service's directory.
+/// What is wrong in a service's directory.
 #[derive(Clone, Copy, Debug, PartialEq, Eq)]
 pub struct Remark {
     pub name: Name,
     pub fault: DirFault,
-    /// Whether the directory can't be used, so that its service is told as unread; else the service runs all the same.
+    /// Whether the directory can't be used, so that the service is told as unread. Else the service runs all the same.
     pub is_unread: bool,
 }
 
-/// What was found in a scan directory: its listing, and what is not as it should be, in the order read.
+/// What was found in a scan directory: its listing, and what is wrong, in the order read.
 #[derive(Drop)]
 pub struct Found {
     pub listing: Listing<Global>,

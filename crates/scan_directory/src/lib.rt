@@ -1,4 +1,4 @@
-//! What a scan directory says: which of its entries are services, what their directories hold, and what is not as it should be.
+//! What is in a scan directory: which of its entries are services, what their directories hold, and what is wrong in them.
 #![tactic(auto)]
 
 mod found;

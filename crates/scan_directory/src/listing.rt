@@ -29,9 +29,10 @@ struct ReadEntries {
 /// The last moment that an input can have, in milliseconds: no other takes more bytes in a script.
 const LAST_MOMENT: u64 = 1_000_000_000_000_000;
 
-/// Reads each entry of the directory whose name is that of a service: it is listed, also where its directory can't be used. Such a fault is
-/// told on `errors`, and so is a name that is none of a service and has no dot before it; each by one write. A listing that a line of a
-/// script can't say, at whatever moment, is told there too, and refused: `InvalidData`. Page `s6-svscan`.
+/// Reads each entry of the directory whose name is that of a service, and lists it, even where its directory can't be used. A fault in a
+/// directory is told on `errors`, and so is a name that is no service's and doesn't begin with a dot, each by one write. A listing that a
+/// line of a script couldn't spell at every moment is told there too, and refused: `InvalidData`. Another error comes where memory is
+/// refused, or the directory can't be read. Page `s6-svscan`.
 pub fn read_listing<R: Files + Copy + Drop, E: Write>(
     rt: &R,
     alloc: Global,
@@ -54,7 +55,7 @@ pub fn read_listing<R: Files + Copy + Drop, E: Write>(
     }
 }
 
-// The listing of these entries, if a line of a script can say it.
+// The listing of these entries. `InvalidData` where a line of a script can't spell it, `OutOfMemory` where memory is refused.
 fn listing_of(alloc: Global, entries: Vec<Entry>) -> io::Result<Listing<Global>>
     ensures fits { IfOk result (λ listing. FitsLine (scan_at last_moment listing)) }
 {
@@ -90,13 +91,13 @@ fn read_entries<R: Files + Copy + Drop, E: Write>(
     directory: &str,
     errors: &mut E,
 ) -> io::Result<ReadEntries> {
-    // Behind a slash a link to a directory is followed.
+    // With the slash at the end, a link to a directory is followed.
     let path = format!(in alloc; "{directory}/")?;
     let names = BufReader::new(alloc, rt.open_dir(path.as_str())?)?;
     read_names(rt, alloc, directory, names, errors)
 }
 
-// The entries of these names, each with a 0 behind it, that are services. A name is bytes: one that isn't UTF-8 is no error.
+// The entries that are services, of these names, each with a 0 behind it. A name is bytes: one that isn't UTF-8 is no error.
 fn read_names<R: Files, N: BufRead + Drop, E: Write>(
     rt: &R,
     alloc: Global,
@@ -118,7 +119,7 @@ fn read_names<R: Files, N: BufRead + Drop, E: Write>(
     Ok(read)
 }
 
-// Reads the entry of this name, and adds it where it is that of a service.
+// Reads the entry of this name, and adds it if it is a service.
 fn read_entry<R: Files, E: Write>(
     rt: &R,
     alloc: Global,
@@ -159,7 +160,7 @@ fn service_of(name: &[u8]) -> Seen
     }
 }
 
-// Two lines in one write, so that nothing comes between them.
+// Tells a bad name by two lines in one write, so that nothing comes between them.
 fn tell_bad_name<E: Write>(alloc: Global, name: &[u8], errors: &mut E) -> Result<(), AllocError>
     ensures { OnOk result
         (IsTold (E.contents errors.old) (E.contents errors.new) (bad_name_lines name.now)) }
@@ -169,14 +170,14 @@ fn tell_bad_name<E: Write>(alloc: Global, name: &[u8], errors: &mut E) -> Result
     Ok(())
 }
 
-// Writes the lines, as far as they can be written.
+// Writes the lines, or as much of them as the writer takes.
 fn tell_whole<E: Write>(lines: &[u8], errors: &mut E)
     ensures { IsTold (E.contents errors.old) (E.contents errors.new) lines.now }
 {
     let _ = write_whole(errors, lines);
 }
 
-// Both lines.
+// The two lines about a bad name.
 fn bad_name_text(alloc: Global, name: &[u8]) -> Result<Vec<u8>, AllocError>
     ensures { IfOk result (λ lines. lines.items ≡ bad_name_lines name.now) }
 {

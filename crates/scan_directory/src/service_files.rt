@@ -10,21 +10,21 @@ use std::io::{ErrorKind, Read};
 use std::rt::Files;
 use std::{fs, io};
 
-/// How much of a file is read: one byte more than a valid text may have.
+/// The most bytes that are read of a file: one more than a valid text may have.
 const READING_LIMIT: usize = 4097;
 
-/// What came of reading a file.
+/// What reading a file gave.
 #[derive(Drop)]
 pub enum Reading {
     /// It is absent.
     Absent,
-    /// Its bytes, of a longer one the first 4097.
+    /// Its bytes; only the first 4,097 where it has more.
     Text(Vec<u8>),
     /// It is there, and could not be read.
     Unread,
-    /// Nothing is known of it.
+    /// It isn't known whether it is there.
     Unknown,
-    /// A growth was refused.
+    /// Memory was refused.
     NoMemory,
 }
 
@@ -80,7 +80,7 @@ impl ServiceFiles {
         }
     }
 
-    // Counts a reading that gave nothing. A counter that is full tells of want of memory in place of the failure.
+    // Counts a reading that failed. Where the counter of failures is full, the fault becomes `NoMemory`.
     fn fail(&mut self, file: ServiceFile, fault: ReadFault) -> ReadFault
         ensures same { (f : _) → found_of self.new f ≡ found_of self.old f }
         ensures count { Counts {V = Unit {0}} (Err result) file
@@ -98,7 +98,7 @@ impl ServiceFiles {
     }
 }
 
-// What is found of a file of the directory of this path.
+// Reads this file of the directory at this path.
 fn look<R: Files>(rt: &R, alloc: Global, directory: &str, file: ServiceFile) -> Reading {
     let name = file.name();
     let Ok(path) = format!(in alloc; "{directory}/{name}") else {
@@ -117,7 +117,8 @@ fn look<R: Files>(rt: &R, alloc: Global, directory: &str, file: ServiceFile) -> 
     }
 }
 
-// The bytes of a regular file, of a longer one the first 4097. Another file is not opened: a pipe would wait there for its writer.
+// The bytes of a regular file; only the first 4,097 where it has more. A file of another kind is not opened: to open a pipe would wait for
+// its writer.
 fn read_file<R: Files>(rt: &R, alloc: Global, path: &str) -> io::Result<Vec<u8>> {
     if !fs::metadata(rt, path)?.is_file() {
         return Err(ErrorKind::InvalidInput.into());

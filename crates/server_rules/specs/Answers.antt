@@ -1,4 +1,4 @@
--- The answers that are the server's own.
+-- The server's own answers, for which no step is made.
 use Rattle.std.specs.Prelude.{ℕ, List, [], ◌∷◌, ◌++◌, codes, decimal}
 use Rattle.server_rules.specs.declared.own_answer.OwnAnswer.{OwnAnswer}
 use Rattle.server_rules.specs.declared.own_answer.OwnAnswer.TheVariants as own

@@ -25,7 +25,7 @@ use Rattle.server_rules.specs.declared.todo.Todo.TheVariants as todo
 use Rattle.server_rules.specs.Standing.{Made, Ended, nothing_made, admission_of, after_release, after_reply, change_of, has_place, has_room_for, is_among, is_followed, let_go, next_end}
 use Rattle.server_rules.specs.StatusAge.{is_recent}
 
--- where it stands, what it asked and what isn't begun, and what it made and stands
+-- its phase, the requests that aren't begun, in the order asked, and its standing
 pub record View : Type 0 where
   pub phase : Phase
   pub asked : List Request
@@ -34,7 +34,7 @@ pub record View : Type 0 where
 abbrev pub new_view : View
 new_view = record { phase = Idle; asked = []; made = nothing_made }
 
--- the connection that is next, and what is to be done
+-- the connection after the event, and what is to be done
 pub record Moved : Type 0 where
   pub next : View
   pub todo : Todo
@@ -42,7 +42,7 @@ pub record Moved : Type 0 where
 abbrev pub stays : View → Moved
 stays c = record { next = c; todo = todo.Nothing }
 
--- ASK: while the client is there its requests are taken, once all before them are begun; else later
+-- ASK: the requests are taken, if the client has not left and all that it asked before are begun; else they stay where they are
 abbrev pub has_begun_all : List Request → Bool
 has_begun_all [] = true
 has_begun_all (r ∷ asked) = false
@@ -63,15 +63,15 @@ ask_next coming c = if takes_requests c then record c { asked = coming } else c
 abbrev pub left_unasked : List Request → View → List Request
 left_unasked coming c = if takes_requests c then [] else coming
 
--- BEGIN: the request that was asked first is handed in, or answered at once; what was put off is handed in; and of a client that left
--- what stands is ended, one after the other
+-- BEGIN: the request that was asked first is handed in, or answered at once; a wait that was put off is handed in; and what a client that
+-- left has made is ended, one after the other
 abbrev pub hands_in : Errand → Act Global → View → Moved
 hands_in e act c = record { next = record c { phase = UnderWay e }; todo = todo.Submit act }
 
 abbrev pub answers_by : Answer → View → Moved
 answers_by a c = record { next = c; todo = todo.Give a }
 
--- steps that change nothing of what stands may be under way together, as many as a ring takes
+-- steps that neither make nor end a waiter or a subscription may be under way together, at most as many as a ring holds
 abbrev pub step_limit : ℕ
 step_limit = 64
 
@@ -79,7 +79,7 @@ abbrev pub steps_in : StandingChange → ℕ → Act Global → View → Moved
 steps_in change.Other n act c = record { next = record c { phase = Stepping (n + 1) }; todo = todo.Submit act }
 steps_in ch n act c = hands_in (errand.Step ch) act c
 
--- a waiter for which there is no place gets that of the one that was released first
+-- a waiter for which there is no place gets the place of the waiter that was released first
 abbrev pub replaces : List ℕ → Act Global → View → Moved
 replaces (id ∷ released) act c =
     hands_in errand.Replacement (Cancel id) (record c { made = record c.made { released = released; put_off = Some act } })
@@ -90,7 +90,7 @@ begin_admitted admission.Admitted act c = steps_in (change_of act) 0 act c
 begin_admitted admission.AfterReleased act c = replaces c.made.released act c
 begin_admitted admission.Refused act c = answers_by (answer.Own own.Busy) c
 
--- a status is told at once while the last step is recent, and else after a tick
+-- a status is told at once where the last step is recent, and else after a tick
 abbrev pub begin_request : Request → (last_step now : ℕ) → View → Moved
 begin_request (request.Step act) last_step now c = begin_admitted (admission_of act c.made) act c
 begin_request (request.Status subject) last_step now c =
@@ -125,7 +125,7 @@ is_step_first asked = false
 abbrev pub begin_beside : ℕ → View → Moved
 begin_beside n c = if nat_lt n step_limit then begin_next c.asked n c else stays c
 
--- an act that was put off is handed in
+-- the wait that was put off is handed in
 abbrev pub begin_put_off : Option (Act Global) → View → Moved
 begin_put_off (Some act) c = hands_in (errand.Step change.MakesWaiter) act (record c { made = record c.made { put_off = None } })
 begin_put_off None c = answers_by (answer.Own own.Busy) (record c { phase = Idle })
@@ -148,7 +148,7 @@ begin_in Gone last_step now c = stays c
 abbrev pub begin_move : (last_step now : ℕ) → View → Moved
 begin_move last_step now c = begin_in c.phase last_step now c
 
--- ANSWERED: the reply to the step, or to the scan, that is under way; no step answers what asked for a record
+-- ANSWERED: the reply to the step, or to the scan, that is under way; a record is not answered by a reply
 abbrev pub noted : Errand → Reply Global → Made → Made
 noted (errand.Step ch) r made = after_reply ch r made
 noted e r made = made
@@ -160,12 +160,12 @@ answered_errand errand.Scan r c = answers_by answer.TheReply (record c { phase =
 answered_errand errand.Record r c = stays c
 answered_errand errand.Replacement r c = stays (record c { phase = PutOff })
 
--- the same of a client that has left
+-- the same for a client that has left
 abbrev pub left_errand : Errand → Reply Global → View → Moved
 left_errand errand.Record r c = stays c
 left_errand e r c = stays (record c { phase = Leaving; made = noted e r c.made })
 
--- the last of several steps that are under way
+-- the phase once one of n steps is answered: `none` where it was the last one
 abbrev pub fewer : (ℕ → Phase) → Phase → ℕ → Phase
 fewer more none n = if nat_lt n 2 then none else more (n - 1)
 
@@ -183,7 +183,7 @@ answered_in Gone r c = stays c
 abbrev pub answered_move : Reply Global → View → Moved
 answered_move r c = answered_in c.phase r c
 
--- RECORDED: the run stands in the record, which has so many steps now
+-- RECORDED: the run is in the record, which has `steps` steps now
 abbrev pub recorded_in : Phase → ℕ → View → Moved
 recorded_in (UnderWay errand.Record) steps c = answers_by (answer.Recorded steps) (record c { phase = Idle })
 recorded_in (Left errand.Record) steps c = stays (record c { phase = Leaving })
@@ -192,7 +192,7 @@ recorded_in phase steps c = stays c
 abbrev pub recorded_move : ℕ → View → Moved
 recorded_move steps c = recorded_in c.phase steps c
 
--- REFUSE ERRAND: the directory could not be read, or the run not be recorded
+-- REFUSE ERRAND: the scan, or the record, that is under way can't be made
 abbrev pub refuse_errand_in : Phase → OwnAnswer → View → Moved
 refuse_errand_in (UnderWay errand.Scan) o c = answers_by (answer.Own o) (record c { phase = Idle })
 refuse_errand_in (UnderWay errand.Record) o c = answers_by (answer.Own o) (record c { phase = Idle })
@@ -215,7 +215,7 @@ refuse_next_in phase o c = stays c
 abbrev pub refuse_next_move : OwnAnswer → View → Moved
 refuse_next_move o c = refuse_next_in c.phase o c
 
--- TOLD: news of what it made are told while it is there, and letters of the services that it follows
+-- TOLD: unless it has left, the connection is told news of its subscriptions and waiters, and letters of the services that it follows
 abbrev pub has_made : News → Made → Bool
 has_made (news.Match m) made = is_among m.subscription made.subscriptions
 has_made (news.Release r) made = is_among r.waiter made.waiters
@@ -232,7 +232,7 @@ after_news (news.Letter l) made = made
 abbrev pub told_move : News → View → Moved
 told_move n c = if is_for n c then record { next = record c { made = after_news n c.made }; todo = todo.Tell } else stays c
 
--- LEAVE: what waits is asked no more, and all that stands is ended once nothing is under way
+-- LEAVE: requests that aren't begun are dropped, and all that the connection made is ended once nothing is under way
 abbrev pub leave_in : Phase → View → View
 leave_in Idle c = record c { phase = Leaving; asked = [] }
 leave_in (Stepping n) c = record c { phase = LeftStepping n; asked = [] }

@@ -1,4 +1,4 @@
--- A letter of a service, as a follower is told.
+-- A letter of a service, as it is told to a follower.
 use Rattle.std.specs.Prelude.{ℕ, List, [], ◌∷◌, ◌++◌, codes, decimal}
 use Rattle.s6_events.specs.Mark.{letter_of}
 use Rattle.svscan_core.specs.declared.event.Event.{Event}

@@ -1,4 +1,4 @@
--- What is wanted of actor 0 at a moment.
+-- What actor 0 is to hand in at a moment.
 use Rattle.std.specs.Prelude.{ℕ, Bool, not, length, ◌==◌, Option, Some, None, nat_le, ◌&&◌, if◌then◌else◌}
 use Rattle.server_rules.specs.declared.plans.Plans.{Plans}
 use Rattle.server_rules.specs.declared.plans.Wanted.{Wanted}
@@ -8,7 +8,7 @@ use Rattle.server_rules.specs.declared.plans.Wanted.TheVariants as wanted
 abbrev pub is_called : Plans → Bool
 is_called plans = not (length plans.askers.items == 0) && not plans.is_scanning
 
--- a tick is wanted once the moment that is due has come
+-- a tick is wanted once the moment has come at which something is due
 abbrev pub wanted_by : Option ℕ → ℕ → Wanted
 wanted_by None now = wanted.Nothing
 wanted_by (Some due) now = if nat_le due now then wanted.Tick else wanted.At due

@@ -1,4 +1,4 @@
--- Who is posted what of a step, and in which order.
+-- What a step posts to whom, and in which order.
 use Rattle.std.specs.Prelude.{ℕ, Bool, true, false, List, [], ◌∷◌, ◌++◌, slice_get, slice_set, Option, Some, None}
 use Rattle.std.specs.List.{position}
 use Rattle.std.specs.declared.alloc.Global.{Global}
@@ -23,7 +23,7 @@ use Rattle.server_rules.specs.declared.todo.Todo.TheVariants as todo
 use Rattle.server_rules.specs.Letters.{letter_line, told_letter}
 use Rattle.server_rules.specs.Connection.{View, Moved, answered_move, is_for, told_move}
 
--- the connections that a step answers: of a scan those that asked for it, of a request the one that made it
+-- the seats of the connections that the reply to a step answers: for a scan those that asked for it, for a request the one that asked
 abbrev pub askers_of : Place → Bool → List ℕ → List ℕ
 askers_of Scanner true served = served
 askers_of (Client seat) is_scan served = seat ∷ []
@@ -37,7 +37,7 @@ pub record Handed : Type 0 where
 abbrev pub untouched : List View → Handed
 untouched cs = record { connections = cs; posts = [] }
 
--- what a connection is posted: an answer, or the news
+-- what is posted to a connection: an answer, or the news
 abbrev pub posts_of : ℕ → Option News → Todo → List Post
 posts_of seat n (todo.Give answer) = record { seat = seat; line = line.Answer answer } ∷ []
 posts_of seat (Some n) todo.Tell = record { seat = seat; line = line.News n } ∷ []
@@ -46,7 +46,7 @@ posts_of seat n t = []
 abbrev pub moved_at : ℕ → Option News → Moved → List View → Handed
 moved_at seat n m cs = record { connections = slice_set cs seat m.next; posts = posts_of seat n m.todo }
 
--- the reply goes to the connection of this seat
+-- the reply goes to the connection on this seat
 abbrev pub answer_in : Option View → Reply Global → ℕ → List View → Handed
 answer_in (Some c) reply seat cs = moved_at seat None (answered_move reply c) cs
 answer_in None reply seat cs = untouched cs
@@ -54,12 +54,12 @@ answer_in None reply seat cs = untouched cs
 abbrev pub answer_at : Reply Global → ℕ → List View → Handed
 answer_at reply seat cs = answer_in (slice_get cs seat) reply seat cs
 
--- news go to the connection that made what they are of, while its client is there
+-- the news go to this connection, if they concern it
 abbrev pub tell_in : Option View → News → ℕ → List View → Handed
 tell_in (Some c) n seat cs = moved_at seat (Some n) (told_move n c) cs
 tell_in None n seat cs = untouched cs
 
--- news go to the connection of this seat, if they are for it
+-- the news go to the connection on this seat, if they concern it
 abbrev pub tell_seat : News → ℕ → List View → Handed
 tell_seat n seat cs = tell_in (slice_get cs seat) n seat cs
 
@@ -97,7 +97,7 @@ all_seats = 0 ∷ 1 ∷ 2 ∷ 3 ∷ 4 ∷ 5 ∷ 6 ∷ 7 ∷ 8 ∷ 9 ∷ 10 ∷ [
 abbrev pub tell_letter : ℕ → List Member → Event → List View → Handed
 tell_letter at roster e cs = hand_all (tell_seat (news.Letter (told_letter at roster e))) all_seats cs
 
--- of a step at this moment: first the reply to those who asked for it, then its letters, then its matches, then its releases
+-- what a step at this moment hands out: first the reply, to those who asked for it, then its letters, then its matches, then its releases
 abbrev pub with_answers : List ℕ → Outcome Global → List View → Handed
 with_answers seats o cs = hand_all (answer_at o.reply) seats cs
 
@@ -113,7 +113,7 @@ with_releases o h = followed_by h (hand_all tell_release o.released h.connection
 abbrev pub handed_out : List ℕ → ℕ → List Member → Outcome Global → List View → Handed
 handed_out seats at roster o cs = with_releases o (with_matches o (with_letters at roster o (with_answers seats o cs)))
 
--- what is posted, each with the empty line behind it
+-- the texts that are posted, each with an empty line behind it
 abbrev pub reply_lines : Reply Global → List ℕ
 reply_lines reply = reply_text reply ++ (10 ∷ 10 ∷ [])
 

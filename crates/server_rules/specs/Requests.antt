@@ -64,7 +64,7 @@ IsOwnAct (FinishEnded sid generation exit) = Unit {0}
 IsOwnAct Tick = Unit {0}
 IsOwnAct act = ⊥
 
--- what an act is that a client asks for: a status comes from the board
+-- the request of an act that a client asks for: a status comes from the board
 abbrev pub request_of : Act Global → Request
 request_of (Scan listing) = request.Refused own.Line
 request_of (Started sid generation pid) = request.Refused own.Line
@@ -95,8 +95,8 @@ last_client = 15
 abbrev pub seated_request : ℕ → Request → Request
 seated_request actor r = if (actor == last_client) && is_lasting r then request.Refused own.Busy else r
 
--- the request that a line of an act is: a status or a step is what the line spells; a line that is refused spells none that clients may
--- ask for, or all but its pattern
+-- the request of a line that asks for none of the server's own. A status or a step is the act that the line spells. A line that is refused
+-- as `Line` spells no act that clients may ask for; one that is refused as `Pattern` spells an act but for its pattern
 abbrev pub AsksFor : Request → List ℕ → Type 0
 AsksFor (request.Status (subject.One name)) line = SpellsAct {A = Global} line (Status name)
 AsksFor (request.Step act) line = SpellsAct line act

@@ -1,4 +1,4 @@
--- Which services there are and have been, by what scans added and by their letters.
+-- The services that scans added, and what their letters and reports say of them.
 use Rattle.std.specs.Prelude.{ℕ, ◌==◌, Bool, true, false, List, [], ◌∷◌, Option, Some, None, fold, length, map, nat_lt, if◌then◌else◌}
 use Rattle.std.specs.List.{find, flat_map, list_any}
 use Rattle.s6_events.specs.declared.mark.Mark.{Mark}
@@ -13,8 +13,8 @@ use Rattle.server_rules.specs.declared.roster.Ending.{Ending}
 use Rattle.server_rules.specs.declared.roster.Ending.TheVariants.{Failed, Gone}
 use Rattle.server_rules.specs.declared.roster.Member.{Member}
 
--- what a letter says of the end of its service: `O` that it failed for good, `x` that its supervisor has ended; `s` and `u` that it
--- began anew
+-- how a service is over after this letter: `O` says that it failed for good, `x` that its supervisor has ended, `s` and `u` that it began
+-- anew
 abbrev pub ending_by : Mark → Option Ending → Option Ending
 ending_by SupervisorStarted ending = None
 ending_by Spawned ending = None
@@ -22,15 +22,14 @@ ending_by PermanentFailure ending = Some Failed
 ending_by SupervisorEnded ending = Some Gone
 ending_by mark ending = ending
 
--- what a letter at this moment says of the moment since which its service is up or down: `s` that it was neither, `u` and `d` that it is
--- since now
+-- since when a service is up or down after this letter at this moment: `s` says that it was neither, `u` and `d` that it is since now
 abbrev pub since_by : ℕ → Mark → Option ℕ → Option ℕ
 since_by at SupervisorStarted since = None
 since_by at Spawned since = Some at
 since_by at Died since = Some at
 since_by at mark since = since
 
--- a service after a letter at this moment, whoever told it
+-- a service after a letter at this moment; a letter of another service changes nothing
 abbrev pub after_letter : ℕ → Member → Event → Member
 after_letter at m e =
     if e.sid == m.sid
@@ -41,7 +40,7 @@ after_letter at m e =
 abbrev pub after_letters : ℕ → List Event → Member → Member
 after_letters at events m = fold (after_letter at) m events
 
--- a service after a report that a start of this one failed
+-- a service after a report that a start of service `sid` failed
 abbrev pub after_failed_start : ℕ → Member → Member
 after_failed_start sid m = if m.sid == sid then record m { start_failed = true } else m
 
@@ -50,7 +49,7 @@ abbrev pub after_report : Report → List Member → List Member
 after_report (report.StartFailed sid run) roster = map (after_failed_start sid) roster
 after_report r roster = roster
 
--- those that are there no more are to be forgotten
+-- the roster is so long that services without a row are to be forgotten
 abbrev pub is_long : List Member → Bool
 is_long roster = nat_lt 512 (length roster)
 
@@ -93,7 +92,7 @@ abbrev pub start_failed_of : Option Member → Bool
 start_failed_of (Some m) = m.start_failed
 start_failed_of None = false
 
--- the last that is known of it is that a start failed
+-- a start of it failed, and no letter of it came since
 abbrev pub start_failed_in : ℕ → List Member → Bool
 start_failed_in sid roster = start_failed_of (member_in sid roster)
 

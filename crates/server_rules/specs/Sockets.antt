@@ -1,4 +1,4 @@
--- When a socket's file may be replaced, and when it may be removed.
+-- When two files are one, and the line that says where clients can connect.
 use Rattle.std.specs.Prelude.{ℕ, List, [], ◌∷◌, ◌++◌, Bool, codes, ◌==◌, ◌&&◌}
 use Rattle.server_rules.specs.declared.socket_rules.FileIdentity.{FileIdentity}
 

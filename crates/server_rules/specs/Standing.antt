@@ -1,4 +1,4 @@
--- What stands of a connection, and what a request of it may make.
+-- The standing of a connection, and what a request of it may make.
 use Rattle.std.specs.Prelude.{ℕ, ◌+◌, ◌==◌, ◌&&◌, ◌||◌, List, [], ◌∷◌, ◌++◌, Bool, true, false, filter, length, not, nat_lt, Option, Some, None, if◌then◌else◌}
 use Rattle.std.specs.List.{list_any}
 use Rattle.std.specs.Str.{bytes_eq}
@@ -14,8 +14,8 @@ use Rattle.server_rules.specs.declared.standing.Admission.TheVariants as admissi
 use Rattle.server_rules.specs.declared.standing.StandingChange.{StandingChange}
 use Rattle.server_rules.specs.declared.standing.StandingChange.TheVariants as change
 
--- what a connection made and stands: the waiters that wait, those whose release was told, and the subscriptions, each in the order
--- made; the services whose letters it follows; and the wait that is put off until a released waiter has ended
+-- the standing of a connection: the waiters that wait and the subscriptions, each in the order made; the waiters whose release was told, in
+-- the order told; the services whose letters it follows; and the wait that is put off until a released waiter has ended
 pub record Made : Type 0 where
   pub waiters : List ℕ
   pub released : List ℕ
@@ -23,7 +23,7 @@ pub record Made : Type 0 where
   pub follows : Following
   pub put_off : Option (Act Global)
 
--- nothing stands
+-- nothing was made, and nothing is followed
 abbrev pub nothing_made : Made
 nothing_made = record { waiters = []; released = []; subscriptions = []; follows = following.Nobody; put_off = None }
 
@@ -42,7 +42,7 @@ follows_any following.Nobody = false
 follows_any following.All = true
 follows_any (following.One followed) = true
 
--- something is still to be told
+-- something may still be told
 abbrev pub is_told_more : Made → Bool
 is_told_more made = not ((length made.waiters == 0) && (length made.subscriptions == 0)) || follows_any made.follows
 
@@ -53,26 +53,26 @@ waiter_limit = 64
 abbrev pub subscription_limit : ℕ
 subscription_limit = 32
 
--- one waiter, or one subscription, more has a place
+-- there is a place for one more waiter, or for one more subscription
 abbrev pub has_place : Made → Bool
 has_place made = nat_lt (length made.waiters + length made.released) waiter_limit
 
 abbrev pub has_subscription_place : Made → Bool
 has_subscription_place made = nat_lt (length made.subscriptions) subscription_limit
 
--- a waiter has a place, or gets that of a released one, or is refused
+-- a waiter gets a free place, or that of a released one, or is refused
 abbrev pub waiter_admission : Made → Admission
 waiter_admission made =
     if has_place made then admission.Admitted else
     if length made.released == 0 then admission.Refused else admission.AfterReleased
 
--- what comes of an act
+-- whether an act is done
 abbrev pub admission_of : Act Global → Made → Admission
 admission_of (Wait condition mode timeout names) made = waiter_admission made
 admission_of (Subscribe target pattern repeats) made = if has_subscription_place made then admission.Admitted else admission.Refused
 admission_of act made = admission.Admitted
 
--- what an act changes of it, once it is done
+-- what an act makes or ends, once it is done
 abbrev pub change_of : Act Global → StandingChange
 change_of (Wait condition mode timeout names) = change.MakesWaiter
 change_of (Subscribe target pattern repeats) = change.MakesSubscription
@@ -84,7 +84,7 @@ change_of act = change.Other
 abbrev pub without : ℕ → List ℕ → List ℕ
 without id ids = filter (λ other. not (other == id)) ids
 
--- what stands once the reply is there to an act that changes so much
+-- the standing after this reply to an act with this change
 abbrev pub after_reply : StandingChange → Reply Global → Made → Made
 after_reply change.MakesWaiter (reply.Waiter id) made = record made { waiters = made.waiters ++ id ∷ [] }
 after_reply change.MakesSubscription (reply.Subscription id) made = record made { subscriptions = made.subscriptions ++ id ∷ [] }
@@ -92,7 +92,7 @@ after_reply (change.EndsWaiter id) reply.Done made = record made { waiters = wit
 after_reply (change.EndsSubscription id) reply.Done made = record made { subscriptions = without id made.subscriptions }
 after_reply a r made = made
 
--- what stands once the release of a waiter was told: it waits no more
+-- the standing once the release of this waiter was told: it waits no more
 abbrev pub after_release : ℕ → Made → Made
 after_release id made = record made { waiters = without id made.waiters; released = made.released ++ id ∷ [] }
 
@@ -100,13 +100,13 @@ after_release id made = record made { waiters = without id made.waiters; release
 abbrev pub is_among : ℕ → List ℕ → Bool
 is_among id ids = list_any (λ other. other == id) ids
 
--- one more may be made of what a step under way makes
+-- there is a place for what an act with this change makes
 abbrev pub has_room_for : StandingChange → Made → Bool
 has_room_for change.MakesWaiter made = has_place made
 has_room_for change.MakesSubscription made = has_subscription_place made
 has_room_for c made = true
 
--- the act that ends what is ended next, and what stands then: the released waiters go first, then the others, then the subscriptions
+-- the act that ends what is ended next, and the standing then: the released waiters go first, then the others, then the subscriptions
 pub record Ended : Type 0 where
   pub act : Act Global
   pub made : Made

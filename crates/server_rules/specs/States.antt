@@ -7,30 +7,30 @@ use Rattle.server_rules.specs.declared.roster.Ending.TheVariants as ending
 use Rattle.server_rules.specs.declared.service_state.ServiceState.{ServiceState}
 use Rattle.server_rules.specs.declared.service_state.ServiceState.TheVariants as state
 
--- it is up: whether it is paused, and whether it has said that it is ready
+-- the state of a service that is up, by whether it is paused and whether it has said that it is ready
 abbrev pub up_state : Bool → Bool → ServiceState
 up_state true ready = state.Paused
 up_state false true = state.Ready
 up_state false false = state.Up
 
--- it stays down: it was told to, or it failed for good
+-- the state of one that stays down: it was told to, or it failed for good
 abbrev pub stays_down : Option Ending → ServiceState
 stays_down (Some ending.Failed) = state.Failed
 stays_down e = state.Down
 
--- it is not up, and has not run yet: whether it is wanted up
+-- the state of one that is not up and has not run yet, by whether it is wanted up
 abbrev pub unborn_state : Option Ending → Bool → ServiceState
 unborn_state e true = state.Starting
 unborn_state e false = stays_down e
 
--- it has died: whether its `finish` is done, and whether it is wanted up
+-- the state of one that has died, by whether its `finish` is done and whether it is wanted up
 abbrev pub dead_state : Option Ending → Bool → Bool → ServiceState
 dead_state e false wanted_up = state.Finishing
 dead_state e true true = state.Restarting
 dead_state e true false = stays_down e
 
--- it is not up: how it died, where it has died; whether its `finish` is done, as `ready` says of it; and whether it is wanted up.
--- One that has not run yet shows `ready` too
+-- the state of one that is not up, by how it died, if it has; by `ready`, which says that its `finish` is done; and by whether it is wanted
+-- up. One that has not run yet shows `ready` too
 abbrev pub down_state : Option Ending → Option Exit → Bool → Bool → ServiceState
 down_state e None ready wanted_up = unborn_state e wanted_up
 down_state e (Some exit) ready wanted_up = dead_state e ready wanted_up
@@ -39,11 +39,11 @@ abbrev pub state_by : Bool → ServiceState → ServiceState → ServiceState
 state_by true when_up when_down = when_up
 state_by false when_up when_down = when_down
 
--- by the row of a service whose supervisor is there
+-- the state of a service whose supervisor is there, by its row
 abbrev pub supervised_state : Option Ending → Row → ServiceState
 supervised_state e row = state_by row.up (up_state row.paused row.ready) (down_state e row.exit row.ready row.wanted_up)
 
--- where its start failed it neither starts nor restarts
+-- the state after a failed start: instead of starting or restarting it is `startfailed`
 abbrev pub state_after_failed_start : ServiceState → ServiceState
 state_after_failed_start state.Starting = state.StartFailed
 state_after_failed_start state.Restarting = state.StartFailed

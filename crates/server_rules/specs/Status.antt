@@ -1,4 +1,4 @@
--- What a client is told of the status of a service.
+-- The status of services, as it is told to a client.
 use Rattle.std.specs.Prelude.{ℕ, Bool, true, List, [], ◌∷◌, ◌++◌, Option, Some, None, codes, decimal}
 use Rattle.std.specs.List.{find, flat_map}
 use Rattle.std.specs.Str.{bytes_eq}
@@ -13,7 +13,7 @@ use Rattle.scan_directory.specs.Found.{unread_line}
 use Rattle.server_rules.specs.Roster.{ending_in, since_in, start_failed_in}
 use Rattle.server_rules.specs.States.{state_of, state_word}
 
--- a row is told, and where there is none that
+-- the row, or `refused NoService` where there is none
 abbrev pub status_line : Option Row → List ℕ
 status_line (Some row) = row_text row
 status_line None = codes "refused NoService"
@@ -54,7 +54,7 @@ told_text (One name) shown = status_text shown.rows name
 told_text All shown = flat_map row_line shown.rows ++ 10 ∷ []
 told_text States shown = flat_map (state_line shown.roster) shown.rows ++ (flat_map unread_line shown.unread ++ 10 ∷ [])
 
--- all is there that a status is told from: what the letters say is told in states alone
+-- all is there from which a status is told: only states need the roster
 abbrev pub is_had : Bool → Subject → Bool
 is_had has_roster States = has_roster
 is_had has_roster subject = true

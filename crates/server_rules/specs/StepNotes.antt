@@ -32,11 +32,11 @@ noted_at number o clock n = record {
   noted = number;
 }
 
--- a step is noted once: the services that it added, and then its letters, at the clock of the tree
+-- a step is noted once: first the services that it added, and then its letters, at the clock of the tree
 abbrev pub with_step : ℕ → ℕ → Outcome Global → StepNotes → StepNotes
 with_step number moment o n = if has_noted number n then n else noted_at number o (later_of n.clock moment) n
 
--- the states are told of a roster that has noted all steps of a board that shows them; a row as the board has it
+-- states are told only where all steps were noted and the board shows them; rows are told always, as the board has them
 abbrev pub tells_of : Subject → ℕ → Bool → StepNotes → Bool
 tells_of subject.States steps is_shown n = has_noted steps n && is_shown
 tells_of s steps is_shown n = true

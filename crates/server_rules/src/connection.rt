@@ -1,4 +1,4 @@
-//! A connection: what it asked, what is under way for it, and what it made. docs/PROTOCOL.md has its rules.
+//! A connection: what it asked, what is under way for it, and its standing (`standing.rt`). docs/PROTOCOL.md has its rules.
 ghost use Rattle.std.specs.Prelude.{◌≡◌, ◌∷◌, [], true, IfSome, IfNone};
 ghost use Rattle.tree_core.specs.declared.input.Act.{Act};
 ghost use Rattle.server_rules.specs.Connection.{View, new_view, answered_move, answered_errand, ask_next, begin_admitted, begin_beside, begin_put_off, begin_first, begin_move, begin_request, ends_by, has_room_on, hands_in, is_for, is_ready, is_step_first, steps_in, leave_next, left_errand, left_unasked, recorded_move, refuse_errand_move, refuse_next_move, told_move};
@@ -20,14 +20,14 @@ use std::marker::Model;
 use std::mem;
 use tree_core::{Act, Reply};
 
-/// How many steps of a connection may be under way together: as many as its ring takes.
+/// How many steps of a connection may be under way together: as many as its ring holds.
 const STEP_LIMIT: usize = 64;
 
-/// A connection. Each of its calls takes one thing that happens, and answers what is to be done.
+/// A connection. Each event is a call, which returns what is to be done.
 #[derive(Drop)]
 pub struct Connection {
     phase: Phase,
-    /// What it asked and what isn't begun, in the order asked.
+    /// The requests that aren't begun, in the order asked.
     asked: VecDeque<Request, Global>,
     standing: Standing,
 }
@@ -48,7 +48,7 @@ impl Model for Connection {
 }
 
 impl Connection {
-    /// One that has asked nothing.
+    /// A connection that has asked nothing.
     pub fn new(alloc: Global) -> Connection
         ensures { result ≡ new_view }
     {
@@ -59,8 +59,8 @@ impl Connection {
         }
     }
 
-    /// Takes the requests that have come, in the order asked, if all that it asked before is begun and the client is there. Else they
-    /// stay where they are.
+    /// Takes the requests that have come, in the order asked, if the client has not left and all that it asked before is begun. Else they
+    /// stay in `coming`.
     pub fn ask(&mut self, coming: &mut Vec<Request>)
         ensures next { self.new ≡ ask_next coming.old.items self.old }
         ensures left { coming.new.items ≡ left_unasked coming.old.items self.old }
@@ -71,7 +71,8 @@ impl Connection {
         }
     }
 
-    /// Begins what comes next, if what is under way allows it. The moments of the last step and of now are in milliseconds.
+    /// Begins what comes next, if what is under way allows it. `last_step` is the moment of the last step; it and `now` are in
+    /// milliseconds.
     pub fn begin(&mut self, last_step: u64, now: u64) -> Todo
         ensures next { self.new ≡ (begin_move last_step now self.old).next }
         ensures todo { result ≡ (begin_move last_step now self.old).todo }
@@ -161,7 +162,8 @@ impl Connection {
         }
     }
 
-    // Begins the next request, if it is a step that changes nothing of what stands, beside so many that are under way.
+    // Begins the next request beside the `count` steps that are under way, if it is a step that neither makes nor ends a waiter or a
+    // subscription, and fewer than 64 are under way.
     fn begin_beside(&mut self, count: usize) -> Todo
         requires { self.old.phase ≡ phase.Stepping count }
         ensures next { self.new ≡ (begin_beside count self.old).next }
@@ -177,7 +179,7 @@ impl Connection {
         Todo::Submit(act)
     }
 
-    // Whether the next request is a step that changes nothing of what stands.
+    // Whether the next request is a step that neither makes nor ends a waiter or a subscription.
     fn is_step_next(&self) -> bool
         ensures { result ≡ is_step_first self.now.asked }
     {
@@ -206,7 +208,7 @@ impl Connection {
         Todo::Submit(act)
     }
 
-    // Ends what it made, one after the other; where nothing stands, it is gone.
+    // Ends the next of the waiters and subscriptions that it made. Where none is left, the connection is gone.
     fn end_next(&mut self) -> Todo
         ensures next { self.new ≡ (ends_by (next_end self.old.made) self.old).next }
         ensures todo { result ≡ (ends_by (next_end self.old.made) self.old).todo }
@@ -224,7 +226,7 @@ impl Connection {
         }
     }
 
-    /// The step, or the scan, that was under way is answered.
+    /// Takes the reply to the step, or to the scan, that was under way.
     pub fn answered(&mut self, reply: &Reply<Global>) -> Todo
         ensures next { self.new ≡ (answered_move reply.now self.old).next }
         ensures todo { result ≡ (answered_move reply.now self.old).todo }
@@ -259,7 +261,7 @@ impl Connection {
         }
     }
 
-    // What was under way by itself is answered. No step answers what asked for a record.
+    // Takes the reply to what was under way by itself. A record is not answered by a reply, but by `recorded`.
     fn finish(&mut self, errand: Errand, reply: &Reply<Global>) -> Todo
         requires room { has_room_on errand self.old.made ≡ true }
         requires under { self.old.phase ≡ phase.UnderWay errand }
@@ -288,7 +290,7 @@ impl Connection {
         }
     }
 
-    // The same of a client that has left.
+    // The same for a client that has left: nothing is posted.
     fn finish_left(&mut self, errand: Errand, reply: &Reply<Global>)
         requires room { has_room_on errand self.old.made ≡ true }
         requires under { self.old.phase ≡ phase.Left errand }
@@ -304,7 +306,7 @@ impl Connection {
         }
     }
 
-    /// The run that was to be recorded stands in the record, which has so many steps now.
+    /// The run that was to be recorded is in the record, which has `steps` steps now.
     pub fn recorded(&mut self, steps: u64) -> Todo
         ensures next { self.new ≡ (recorded_move steps self.old).next }
         ensures todo { result ≡ (recorded_move steps self.old).todo }
@@ -322,7 +324,7 @@ impl Connection {
         }
     }
 
-    /// The scan, or the record, that is under way is not made, for this reason.
+    /// The scan, or the record, that is under way can't be made, for this reason.
     pub fn refuse_errand(&mut self, reason: OwnAnswer) -> Todo
         ensures next { self.new ≡ (refuse_errand_move reason self.old).next }
         ensures todo { result ≡ (refuse_errand_move reason self.old).todo }
@@ -340,7 +342,7 @@ impl Connection {
         }
     }
 
-    /// No step can be made now, for this reason: the request that was asked first is answered by it, unless something is under way.
+    /// No step can be made now. The reason answers the request that was asked first, if there is one and the connection is idle.
     pub fn refuse_next(&mut self, reason: OwnAnswer) -> Todo
         ensures next { self.new ≡ (refuse_next_move reason self.old).next }
         ensures todo { result ≡ (refuse_next_move reason self.old).todo }
@@ -354,7 +356,8 @@ impl Connection {
         }
     }
 
-    /// Whether the news are of what it made, or of a service that it follows, and it is there to be told.
+    /// Whether it is to be told the news: they are of its subscription, of its waiter, or of a service that it follows, and it has not
+    /// left.
     pub fn is_for(&self, news: &News) -> bool
         ensures { result ≡ is_for news.now self.now }
     {
@@ -366,7 +369,7 @@ impl Connection {
             }
     }
 
-    /// There are news, of whatever anybody made. A waiter whose release is told waits no more.
+    /// There are news, perhaps for another connection. A waiter whose release is told waits no more.
     pub fn told(&mut self, news: &News) -> Todo
         ensures next { self.new ≡ (told_move news.now self.old).next }
         ensures todo { result ≡ (told_move news.now self.old).todo }
@@ -380,7 +383,7 @@ impl Connection {
         Todo::Tell
     }
 
-    /// The client leaves. What it asked and what isn't begun is asked no more.
+    /// The client leaves. Its requests that aren't begun are dropped.
     pub fn leave(&mut self)
         ensures { self.new ≡ leave_next self.old }
     {
@@ -406,7 +409,7 @@ impl Connection {
         }
     }
 
-    /// Whether something is still to be told to it, though it asks nothing.
+    /// Whether something may still be told to it, though it asks nothing.
     pub fn is_told_more(&self) -> bool
         ensures { result ≡ is_told_more self.now.made }
     {

@@ -1,10 +1,10 @@
-//! The services for which a scan had no room, so that each is told once as long as that lasts.
+//! The services for which a scan had no room, so that each is told once, and not again as long as that lasts.
 use s6_events::Name;
 use std::alloc::{AllocError, Global};
 use std::{mem, str};
 use tree_core::Listed;
 
-/// The services for which the last scan had no room, past the limit of the tree.
+/// The services for which the last scan had no room, because the tree had as many as it may have.
 #[derive(Drop)]
 pub struct FullServices {
     alloc: Global,
@@ -20,13 +20,13 @@ impl FullServices {
         }
     }
 
-    // Whether the last scan had no room for it either.
+    // Whether the scan before had no room for it either.
     fn was_full(&self, name: &Name) -> bool {
         self.names.as_slice().contains(name)
     }
 
-    /// Takes in what a scan found: a line `svscan: NAME full` for each service for which it had no room, and the scan before had. Where
-    /// memory for them is refused, they are new at the next scan once more.
+    /// Takes in what a scan found. Returns a line `svscan: NAME full` for each service for which it had no room, except those that the scan
+    /// before had no room for either. Where memory is refused, it still remembers the scan before.
     pub fn lines_of(&mut self, listed: &[Listed]) -> Result<Vec<u8>, AllocError> {
         let mut lines = Vec::new(self.alloc);
         let mut names = Vec::new(self.alloc);

@@ -1,28 +1,30 @@
-//! How runs of a tree go on from one another: while which a run takes inputs, and what comes after each round over all that was to be done.
+//! When a run takes inputs, when it ends, and what comes after each round. A round is one pass of the driver, which is the thread that
+//! drives the tree's runs, over all that is to be done.
 ghost use Rattle.std.specs.Prelude.{◌≡◌, [], None, false};
 ghost use Rattle.server_rules.specs.Handover.{after_ending, after_round, after_steps, ends_early, has_carried_all, is_busy_lane, last_step, retry_time, takes_inputs, until_due};
 
 use crate::places::LANE_COUNT;
 use arrayvec::ArrayVec;
 
-/// How many steps more a run may have while a lane that takes no order is waited for at its end. What then is in the rings has room too.
+/// For how many steps past its handover a run takes inputs, while a lane takes no order. The run has room for what is in the rings after
+/// that, too.
 const SPARE_STEPS: u64 = 1_024;
 
-/// How long is waited where a lane or the system refused something, in milliseconds; a lane rings before, if it can.
+/// How long the driver waits after a lane or the system refused something, in milliseconds. A lane rings sooner, if it can.
 pub const RETRY_WAIT: u64 = 100;
 
-/// Why a run is driven no more.
+/// Why the driver stops driving a run.
 #[derive(Clone, Copy, PartialEq, Eq, Debug)]
 pub enum RunEnd {
     /// The tree has ended.
     Ended,
-    /// The run has so many steps that the next one is to begin, and nothing is left to be done in it.
+    /// The run has its last step, and nothing is left to be done in it: the next run is to begin.
     Handover,
     /// The run takes no step more.
     Full,
 }
 
-/// Why no step was made, when all were that could be.
+/// Why no further step was made, after all that could be made.
 #[derive(Clone, Copy, PartialEq, Eq, Debug)]
 pub enum Halt {
     /// No input is left.
@@ -35,18 +37,18 @@ pub enum Halt {
     Full,
 }
 
-/// What comes after a round over all that was to be done.
+/// What comes after a round.
 #[derive(Clone, Copy, PartialEq, Eq, Debug)]
 pub enum After {
     /// There is more to do at once.
     GoOn,
-    /// Nothing, until somebody rings, or until so many milliseconds have passed where a number is given.
+    /// Nothing until somebody rings or, where a number is given, that many milliseconds have passed.
     Wait(Option<u64>),
     /// The run is driven no more.
     Stop(RunEnd),
 }
 
-/// What the lanes did when all of them were asked to carry.
+/// What the lanes did when each of them was asked to carry its orders.
 #[derive(Drop)]
 pub struct Carrying {
     /// Whether some lane has more to carry.
@@ -82,7 +84,7 @@ impl Carrying {
     }
 }
 
-/// What a round over all that was to be done has found.
+/// What a round has found.
 #[derive(Drop)]
 pub struct Round {
     /// The moment at which it began, in milliseconds.
@@ -93,7 +95,7 @@ pub struct Round {
     pub is_full: bool,
     /// Whether a connection has more to begin.
     pub has_more: bool,
-    /// Why no step more was made.
+    /// Why it made no further step.
     pub halt: Halt,
     /// Whether the tree has ended.
     pub has_ended: bool,
@@ -103,7 +105,8 @@ pub struct Round {
 }
 
 impl Round {
-    // For how many milliseconds nothing is due; None for ever. A run that takes no input has no tick.
+    // For how many milliseconds nothing is due; None where nothing will be. In a run that takes no inputs nothing is due, since it makes no
+    // tick.
     fn until_due(&self) -> Option<u64>
         ensures { result ≡ until_due self.now }
     {
@@ -113,7 +116,7 @@ impl Round {
         }
     }
 
-    // For how many milliseconds is waited where something was refused.
+    // How many milliseconds the driver waits after something was refused: 100, or fewer where something is due before.
     fn retry_time(&self) -> u64
         ensures { result ≡ retry_time self.now }
     {
@@ -136,21 +139,21 @@ impl Round {
     }
 }
 
-/// How far a run is, and after how many steps the next one goes on.
+/// How many steps a run has, and after how many it ends.
 #[derive(Clone, Copy, PartialEq, Eq, Debug)]
 pub struct Pace {
-    /// How many steps were handed out.
+    /// How many steps of the run were handed out.
     pub steps: u64,
-    /// After how many steps the next run goes on.
+    /// After how many steps the run ends and the next one goes on.
     pub handover: u64,
-    /// After so many steps the run ends early, since somebody waits for it to be recorded.
+    /// After how many steps the run ends early, because somebody waits for it to be recorded; None where nobody does.
     pub record_from: Option<u64>,
     /// Whether a lane took no order when it was last asked.
     pub is_lane_busy: bool,
 }
 
 impl Pace {
-    /// Of a run in which no step was made.
+    /// The pace of a run in which no step was made.
     pub fn new(handover: u64) -> Pace
         ensures { result ≡ record { steps = 0; handover = handover; record_from = None; is_lane_busy = false } }
     {
@@ -162,7 +165,7 @@ impl Pace {
         }
     }
 
-    /// Somebody waits for the run to be recorded: it ends as soon as nothing is left to be done in it.
+    /// Somebody waits for the run to be recorded: it ends after the steps that it has now, once nothing is left to be done in it.
     pub fn end_early(&mut self)
         ensures { self.new ≡ ends_early self.old }
     {
@@ -181,8 +184,7 @@ impl Pace {
         }
     }
 
-    /// Whether inputs are handed in. Once a run has its steps nothing more is, unless a lane has to be waited for, and then as far as the run
-    /// has room.
+    /// Whether inputs are handed in: until the run has its last step and, while a lane takes no order, up to 1,024 steps past the handover.
     pub fn takes_inputs(&self) -> bool
         ensures { result ≡ takes_inputs self.now }
     {

@@ -1,4 +1,4 @@
-//! A letter of a service, as a follower is told.
+//! A letter of a service, as it is told to a follower.
 ghost use Rattle.std.specs.Prelude.{◌≡◌, ◌++◌, OnOk};
 ghost use Rattle.server_rules.specs.Letters.{letter_line};
 

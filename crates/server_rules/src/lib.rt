@@ -1,6 +1,6 @@
-//! What the server of a tree decides, with no thread of its own: what a line asks for, whose an actor is, when a tick or a scan is wanted,
-//! what is done for a connection at each event, who is posted what of a step, which rows may be told and in which state a service is, when a
-//! run takes inputs and when it ends, which socket is whose, and what is told of a tree that did not run to its end.
+//! What the server of a tree decides, with no thread of its own: what a line asks for, who each actor is, when a tick or a scan is wanted,
+//! what is done for a connection at each event, what a step posts to whom, which rows may be told and in which state a service is, when a
+//! run takes inputs and when it ends, which socket is abandoned, and what is told of a tree that did not run to its end.
 #![tactic(auto)]
 
 mod connection;

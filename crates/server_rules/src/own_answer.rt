@@ -1,4 +1,4 @@
-//! The answers that are the server's own.
+//! The server's own answers, for which no step is made.
 ghost use Rattle.std.specs.Prelude.{◌≡◌};
 ghost use Rattle.server_rules.specs.Answers.{own_text};
 
@@ -7,13 +7,14 @@ ghost use Rattle.server_rules.specs.Answers.{own_text};
 pub enum OwnAnswer {
     /// The line is no request.
     Line,
-    /// The pattern of a subscription is none.
+    /// The pattern of a subscription is not valid.
     Pattern,
     /// The ring of the connection is full.
     Full,
-    /// The connection has the last seat, where nobody may wait, or so much of it stands that there is no place for more.
+    /// The connection has the last seat, where nobody may wait, subscribe or follow; or it has as many waiters or subscriptions as it may
+    /// have.
     Busy,
-    /// A growth was refused.
+    /// Memory was refused.
     NoMemory,
     /// The scan directory could not be read, or a line of a script can't say what is in it.
     Directory,
@@ -22,7 +23,7 @@ pub enum OwnAnswer {
 }
 
 impl OwnAnswer {
-    /// What is posted: its line, and the empty line behind it.
+    /// The text that is posted: its line, and an empty line.
     pub fn text(self) -> &'static [u8]
         ensures { result.now ≡ own_text self }
     {

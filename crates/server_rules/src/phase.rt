@@ -1,4 +1,4 @@
-//! Where a connection stands.
+//! The phases of a connection.
 ghost use Rattle.std.specs.Prelude.{◌≡◌};
 ghost use Rattle.server_rules.specs.Connection.{is_here};
 
@@ -8,7 +8,7 @@ use crate::status::Subject;
 /// What a step, a scan or a handover that is under way for a connection is for.
 #[derive(Clone, Copy, PartialEq, Eq, Debug)]
 pub enum Errand {
-    /// A step that it asked for, which changes so much of what stands: the reply is the answer.
+    /// A step that it asked for, with what the step makes or ends: the reply is the answer.
     Step(StandingChange),
     /// A tick, after which the status of these services is told.
     Status(Subject),
@@ -16,35 +16,35 @@ pub enum Errand {
     Scan,
     /// A handover of the run, after which the record has all steps.
     Record,
-    /// The end of a released waiter, in whose place the connection gets the waiter that it asked for.
+    /// The end of a released waiter, which makes place for the waiter that the connection asked for.
     Replacement,
 }
 
-/// Where a connection stands.
+/// The phase of a connection.
 #[derive(Clone, Copy, PartialEq, Eq, Debug)]
 pub enum Phase {
     /// Nothing of it is under way. What it asked waits its turn.
     Idle,
-    /// So many steps that it asked for are under way, none of which changes what stands.
+    /// This many steps that it asked for are under way. None of them makes or ends a waiter or a subscription.
     Stepping(usize),
-    /// One thing is under way by itself.
+    /// This errand is under way, and nothing beside it.
     UnderWay(Errand),
     /// A released waiter was ended, and the act that was put off is to be handed in.
     PutOff,
-    /// It left while so many steps were under way.
+    /// It left, and this many steps are still under way.
     LeftStepping(usize),
-    /// It left while one thing was under way by itself.
+    /// It left, and this errand is still under way.
     Left(Errand),
     /// It left, and what it made is to be ended.
     Leaving,
-    /// It left, and a step that ends something that it made is under way.
+    /// It left, and a step is under way that ends a waiter or a subscription of it.
     Cancelling,
-    /// It left, and nothing of it stands: its seat is free.
+    /// It left, and all that it made is ended: its seat is free.
     Gone,
 }
 
 impl Phase {
-    /// Whether the client is there.
+    /// Whether the client has not left.
     pub fn is_here(&self) -> bool
         ensures { result ≡ is_here self.now }
     {

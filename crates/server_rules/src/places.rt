@@ -1,4 +1,4 @@
-//! Which actor is whose.
+//! Who each actor is: the scanner, a lane, or the connection on a seat.
 ghost use Rattle.std.specs.Prelude.{◌≡◌};
 ghost use Rattle.server_rules.specs.Places.{place_of, client_actor};
 
@@ -23,18 +23,18 @@ pub const ACTOR_COUNT: usize = FIRST_CLIENT + SEAT_COUNT;
 /// The actor of the connection on the last seat, which is kept for short requests.
 pub const LAST_CLIENT: usize = ACTOR_COUNT - 1;
 
-/// Whose inputs an actor's are.
+/// Who an actor is.
 #[derive(Clone, Copy, PartialEq, Eq, Debug)]
 pub enum Place {
-    /// Ticks, and scans.
+    /// It hands in ticks and scans.
     Scanner,
-    /// The reports of this lane.
+    /// It hands in the reports of this lane.
     Lane(usize),
-    /// The requests of the connection on this seat.
+    /// It hands in the requests of the connection on this seat.
     Client(usize),
 }
 
-/// Whose inputs those of this actor are.
+/// Who this actor is.
 pub fn place_of(actor: Actor) -> Place
     ensures { result ≡ place_of actor }
 {

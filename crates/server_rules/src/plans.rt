@@ -6,10 +6,10 @@ use arrayvec::ArrayVec;
 use line_server::SEAT_COUNT;
 use std::mem;
 
-/// The seats of clients that asked for a scan. Each waits for its own, so it stands there once.
+/// The seats of clients that asked for a scan. A client has one scan under way at most, so a seat is listed once at most.
 pub type Askers = ArrayVec<usize, SEAT_COUNT>;
 
-/// What is wanted of actor 0 at a moment.
+/// What actor 0 is to hand in at a moment.
 #[derive(Clone, Copy, PartialEq, Eq, Debug)]
 pub enum Wanted {
     /// Nothing, until somebody asks.
@@ -26,13 +26,13 @@ pub enum Wanted {
 #[derive(Drop)]
 pub struct Plans {
     /// The moment to which a timer or a deadline is set, in milliseconds. A tick before it changes nothing but the clock
-    /// (`tree_core::laws::sleep`), so nobody wakes earlier.
+    /// (`tree_core::laws::sleep`), so nobody has to wake before it.
     pub due: Option<u64>,
-    /// Who waits for a scan that isn't begun.
+    /// Those who wait for a scan that isn't begun.
     pub askers: Askers,
     /// Whether a scan is under way: the directory is read, or the scan is handed in and not answered.
     pub is_scanning: bool,
-    /// The clients for which it is.
+    /// Those for whom the scan is made.
     pub served: Askers,
 }
 
@@ -68,7 +68,7 @@ impl Plans {
         }
     }
 
-    /// A scan begins, for all who ask.
+    /// A scan begins, for all who asked.
     pub fn begin_scan(&mut self)
         ensures served { self.new.served.items ≡ self.old.askers.items }
         ensures askers { self.new.askers.items ≡ [] }
@@ -79,7 +79,7 @@ impl Plans {
         self.is_scanning = true;
     }
 
-    /// The scan is over: the clients for which it was. The next one may begin.
+    /// The scan is over, and the next one may begin. Returns those for whom it was made.
     pub fn end_scan(&mut self) -> Askers
         ensures served { result.items ≡ self.old.served.items }
         ensures none { self.new.served.items ≡ [] }

@@ -1,4 +1,4 @@
-//! Who is posted what of a step, and in which order.
+//! What a step posts to whom, and in which order.
 ghost use Rattle.std.specs.Prelude.{◌≡◌, ◌++◌, ◌+◌, ◌*◌, ◌≤◌, ◌<◌, length, vec_capacity, OnOk, OnErr};
 ghost use Rattle.std.specs.List.{position};
 ghost use Rattle.tree_core.specs.Effect.{outcome_of};
@@ -28,7 +28,7 @@ pub enum Line {
     News(News),
 }
 
-/// What is posted, and to the connection of which seat.
+/// A line, and the seat of the connection to which it is posted.
 #[derive(Clone, Copy, PartialEq, Eq, Debug)]
 pub struct Post {
     pub seat: usize,
@@ -36,7 +36,7 @@ pub struct Post {
 }
 
 impl Post {
-    /// Whether the states of services are told.
+    /// Whether it tells the states of services.
     pub fn tells_states(&self) -> bool
         ensures { result ≡ tells_states self.now.line }
     {
@@ -44,7 +44,8 @@ impl Post {
     }
 }
 
-/// The connections that a step of this place answers: of a scan those for which it was made, of a request the one that made it.
+/// The seats of the connections that the reply to a step answers: for a scan those for which it was made, for a request the one that asked,
+/// else none. `place` is whose step it is.
 pub fn askers_of(place: Place, is_scan: bool, served: &Askers) -> Askers
     ensures { result.items ≡ askers_of place is_scan served.now.items }
 {
@@ -57,9 +58,9 @@ pub fn askers_of(place: Place, is_scan: bool, served: &Askers) -> Askers
     askers
 }
 
-/// Hands a step's result to the connections, by their seats, and adds what is posted, in order: the reply to the connections of these
-/// seats, which asked for it; then its letters to those that follow their services; then its matches and its releases to those that made
-/// what they are of. At `NoMemory` nothing was handed out.
+/// Hands a step's result to the connections, which are listed by seat, and adds what is posted, in this order: the reply, to the
+/// connections on `seats`; the letters, to the connections that follow their services; the matches, to the connections that made the
+/// subscriptions; the releases, to the connections that made the waiters. At `NoMemory` nothing was handed out, and nothing was added.
 pub fn hand_out(
     seats: &[usize],
     at: At,
@@ -168,7 +169,7 @@ fn tell_letter(
     tell_seats(&ALL_SEATS, &letter, connections, posts);
 }
 
-// News go to each connection of these seats that they are for.
+// The news go to each connection on these seats that they concern.
 fn tell_seats(
     seats: &[usize],
     news: &News,
@@ -188,7 +189,7 @@ fn tell_seats(
     }
 }
 
-// News go to the connection of this seat, if they are for it.
+// The news go to the connection on this seat, if they concern it.
 fn tell_seat(seat: usize, news: &News, connections: &mut Vec<Connection>, posts: &mut Vec<Post>)
     requires { length posts.old.items < vec_capacity posts.old }
     ensures connections { connections.new.items
@@ -230,7 +231,7 @@ fn tell_releases(released: &[Release], connections: &mut Vec<Connection>, posts:
     }
 }
 
-// News go to the connection that made what they are of.
+// The news go to the connection that made the subscription or the waiter.
 fn tell_one(news: News, connections: &mut Vec<Connection>, posts: &mut Vec<Post>)
     requires { length posts.old.items < vec_capacity posts.old }
     ensures connections { connections.new.items ≡ (tell news connections.old.items).connections }
@@ -244,14 +245,14 @@ fn tell_one(news: News, connections: &mut Vec<Connection>, posts: &mut Vec<Post>
     tell_seat(seat, &news, connections, posts);
 }
 
-// The seat of the connection that made what the news are of, while its client is there.
+// The seat of the first connection that the news concern; None where they concern none.
 fn maker_of(connections: &[Connection], news: &News) -> Option<usize>
     ensures { result ≡ position (is_for news.now) connections.now }
 {
     connections.iter().position(|one| one.is_for(news))
 }
 
-// Adds what a connection is posted: an answer, or the news.
+// Adds what is posted to a connection, if anything is: an answer, or the news.
 fn add_post(seat: usize, todo: Todo, news: Option<News>, posts: &mut Vec<Post>)
     requires { length posts.old.items < vec_capacity posts.old }
     ensures posts { posts.new.items ≡ posts.old.items ++ posts_of seat news todo }

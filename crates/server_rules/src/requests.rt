@@ -26,7 +26,7 @@ pub enum Request {
     Clock,
     /// A step with this act.
     Step(Act<Global>),
-    /// Nothing that clients may ask for, or that can be done.
+    /// It is no request of a client, or can't be done: this is the answer.
     Refused(OwnAnswer),
 }
 
@@ -54,7 +54,7 @@ pub fn read_request(alloc: Global, actor: Actor, line: &[u8]) -> Request
     }
 }
 
-// The request, unless it is for another seat.
+// The request; `Busy` where it is one that the last seat doesn't take.
 fn seated(actor: Actor, request: Request) -> Request
     ensures { result ≡ seated_request actor request }
 {
@@ -64,7 +64,7 @@ fn seated(actor: Actor, request: Request) -> Request
     request
 }
 
-// The request of a line that is of the server alone, and of no script.
+// The request of a line that is of the server alone, and in no script; None for any other line.
 fn own_request(line: &[u8]) -> Option<Request>
     ensures { result ≡ own_request line.now }
 {
@@ -83,7 +83,7 @@ fn own_request(line: &[u8]) -> Option<Request>
     }
 }
 
-// The request to be told letters.
+// The request to be told letters; None for any other line.
 fn follow_request(line: &[u8]) -> Option<Request>
     ensures { result ≡ follow_request line.now }
 {

@@ -11,7 +11,7 @@ use supervise_core::Row;
 use svscan_core::Event;
 use tree_core::Listed;
 
-/// How many services a roster has at most before those that are there no more are forgotten.
+/// A roster with more services than this forgets those that have no row any more.
 const MEMBER_LIMIT: usize = 512;
 
 /// How a service is over.
@@ -36,7 +36,7 @@ pub struct Member {
     pub start_failed: bool,
 }
 
-// What a letter makes of how a service is over.
+// How a service is over after this letter.
 fn ending_by(mark: Mark, ending: Option<Ending>) -> Option<Ending>
     ensures { result ≡ ending_by mark ending }
 {
@@ -48,7 +48,7 @@ fn ending_by(mark: Mark, ending: Option<Ending>) -> Option<Ending>
     }
 }
 
-// What a letter at this moment makes of the moment since which a service is up or down.
+// Since when a service is up or down after this letter, which was told at this moment.
 fn since_by(at: At, mark: Mark, since: Option<At>) -> Option<At>
     ensures { result ≡ since_by at mark since }
 {
@@ -60,7 +60,7 @@ fn since_by(at: At, mark: Mark, since: Option<At>) -> Option<At>
 }
 
 impl Member {
-    // The letters of a step at this moment, whoever they are of.
+    // Notes the letters of a step at this moment. Those of other services change nothing.
     fn note(&mut self, at: At, events: &[Event])
         ensures { self.new ≡ after_letters at events.now self.old }
     {
@@ -69,7 +69,7 @@ impl Member {
         }
     }
 
-    // One letter.
+    // Notes one letter.
     fn note_one(&mut self, at: At, event: &Event)
         ensures { self.new ≡ after_letter at self.old event.now }
     {
@@ -115,7 +115,7 @@ impl Roster {
         }
     }
 
-    /// Whether those that are there no more are to be forgotten.
+    /// Whether it is so long that services without a row are to be forgotten.
     pub fn is_long(&self) -> bool
         ensures { result ≡ is_long self.now }
     {
@@ -139,7 +139,7 @@ impl Roster {
         note_all(self.members.as_mut_slice(), at, events);
     }
 
-    /// A lane reported this. That a start failed, which no letter tells, is shown by the state of its service.
+    /// A lane made this report. Only a failed start is noted, since no letter tells it.
     pub fn note_report(&mut self, report: &Report)
         ensures { self.new ≡ after_report report.now self.old }
     {
@@ -195,7 +195,7 @@ impl Roster {
         }
     }
 
-    /// A letter of a step at this moment, as followers are told.
+    /// A letter of a step at this moment, as it is told to followers.
     pub fn letter(&self, at: At, event: &Event) -> ToldLetter
         ensures { result ≡ told_letter at self.now event.now }
     {
@@ -214,7 +214,7 @@ impl Roster {
         self.members.retain(|member| has_row(rows, member));
     }
 
-    /// Becomes the same as the other. At `NoMemory` it has fewer services.
+    /// Becomes a copy of the other. At `NoMemory` services may be missing.
     pub fn copy_from(&mut self, other: &Roster) -> Result<(), NoMemory>
         ensures same { OnOk result (self.new ≡ other.now) }
     {

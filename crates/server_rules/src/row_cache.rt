@@ -14,8 +14,8 @@ use status_board::{BoardReader, Shot};
 use std::alloc::{AllocError, Global};
 use std::sync::{Mutex, Wait};
 
-/// Rows, what the letters said of their services, what the last scan could not read, and the moment of the last step before they were
-/// read, in milliseconds; None where they may not be those of the board.
+/// The rows of a shot, the roster, and what the last scan could not read. `step` is the moment of the last step before the rows were read,
+/// in milliseconds; None where they may not be those of the board any more.
 #[derive(Drop)]
 struct CachedRows {
     shot: Box<Shot>,
@@ -37,7 +37,7 @@ impl CachedRows {
         }
     }
 
-    // Whether all is there that a status of these services is told from.
+    // Whether it has all from which a status of these services is told.
     fn has(&self, subject: &Subject) -> bool
         ensures { result ≡ is_had self.now.has_roster subject.now }
     {
@@ -73,7 +73,7 @@ impl CachedRows {
         self.step = None;
     }
 
-    // Reads the board anew, after a last step at this moment; None where the board doesn't show that step. The moment is kept only
+    // Reads the board anew. `step` is the moment of the last step; None where the board doesn't show that step. The moment is kept only
     // with the shot that was published last.
     fn read<C: Channels>(&mut self, reader: &mut BoardReader<C>, step: Option<u64>)
         ensures kept { IfSome self.new.step
@@ -86,7 +86,7 @@ impl CachedRows {
         }
     }
 
-    // Takes over what the letters said of the services up to the step of the rows.
+    // Copies the roster, which has noted all steps up to that of the rows.
     fn take_roster(&mut self, roster: &Roster) -> Result<(), NoMemory>
         ensures taken { OnOk result (self.new.roster ≡ roster.now) }
         ensures step { self.new.step ≡ self.old.step }
@@ -99,15 +99,15 @@ impl CachedRows {
     }
 }
 
-/// The rows of the board as they were last read. The thread that drives reads them, and forgets them with each step; threads of
-/// connections tell from them, so that a status of a tree at rest wakes nobody.
+/// The rows of the board as they were last read. The driver, which is the thread that drives the tree's runs, reads them, and forgets them
+/// with each step. The threads of connections tell a status from them, so a status of a tree at rest wakes nobody.
 #[derive(Drop)]
 pub struct RowCache {
     rows: Mutex<CachedRows>,
 }
 
 impl RowCache {
-    /// Nothing is read yet. `NoMemory` where a growth was refused.
+    /// Nothing is read yet. `NoMemory` where memory is refused.
     pub fn new(alloc: Global) -> Result<RowCache, NoMemory> {
         let rows = CachedRows {
             shot: Box::new(alloc, Shot::empty())?,
@@ -126,13 +126,13 @@ impl RowCache {
         self.rows.lock(rt).forget();
     }
 
-    /// A scan was made, which could not read these.
+    /// A scan was made, which could not read these directories.
     pub fn set_unread<R: Wait>(&self, rt: &R, unread: Vec<Remark>) {
         self.rows.lock(rt).unread = unread;
     }
 
-    /// The status of these services at this moment, in milliseconds; None where a step was made since the rows were read, or the last one
-    /// is so old that no age can be told from it.
+    /// The status of these services at the moment `now`, in milliseconds. None where the rows may not be those of the board any more, where
+    /// the last step is a second old or older, or where the states are asked for and the roster wasn't copied since the rows were read.
     pub fn status<R: Wait>(
         &self,
         rt: &R,
@@ -147,8 +147,8 @@ impl RowCache {
         Some(rows.status(alloc, subject))
     }
 
-    /// Reads the board anew, after a last step at this moment, in milliseconds; None where the board doesn't show that step yet. The
-    /// status of these services then. The roster has noted that step.
+    /// Reads the board anew, and returns the status of these services. `step` is the moment of the last step, in milliseconds; None where
+    /// the board doesn't show that step yet. The roster has noted that step.
     pub fn read<C: Channels, R: Wait>(
         &self,
         rt: &R,
@@ -165,8 +165,8 @@ impl RowCache {
         }
         rows.status(alloc, subject)
     }
-    /// Reads the board anew, after a last step at this moment, in milliseconds, and has the roster forget the services that have no row;
-    /// not where the board doesn't show that step yet: None. The roster has noted that step.
+    /// Reads the board anew, and has the roster forget the services that have no row. `step` is the moment of the last step, in
+    /// milliseconds; None where the board doesn't show that step yet: then nothing is forgotten. The roster has noted that step.
     pub fn forget_gone<C: Channels, R: Wait>(
         &self,
         rt: &R,

@@ -13,13 +13,13 @@ const SYSTEM_STATUS: u8 = 111;
 /// Why a tree did not run to its end.
 #[derive(Clone, Copy, Debug, PartialEq, Eq)]
 pub enum ServeFault {
-    /// No shell can be run, by which signals are sent.
+    /// The shell that sends signals can't be run.
     Shell,
     /// The socket could not be made, or a server answers there.
     Socket,
     /// The scan directory could not be read, or a line of a script can't say what is in it.
     Directory,
-    /// A growth was refused.
+    /// Memory was refused.
     NoMemory,
     /// A thread could not be started.
     Thread,
@@ -53,8 +53,8 @@ fn text_of(fault: ServeFault) -> &'static [u8]
     }
 }
 
-/// Writes the line of a fault, and answers the exit status, 111. Where the line can't be written whole its front is, and the status is the
-/// same.
+/// Writes the line of a fault, and returns the exit status, 111. Where the line can't be written whole, a front of it is written, and the
+/// status is the same.
 pub fn tell_serve_fault<E: Write>(fault: ServeFault, errors: &mut E) -> u8
     ensures status { result ≡ 111 }
     ensures line { Appends (E.contents errors.old) (E.contents errors.new) (fault_text fault)

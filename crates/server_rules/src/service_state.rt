@@ -5,7 +5,7 @@ ghost use Rattle.server_rules.specs.States.{started_state, state_after_failed_st
 use crate::roster::Ending;
 use supervise_core::Row;
 
-/// The state of a service. The words are chosen here.
+/// The state of a service. The words are this program's own, not those of s6.
 #[derive(Clone, Copy, Debug, PartialEq, Eq)]
 pub enum ServiceState {
     /// `paused`: it is up, and was stopped by SIGSTOP.
@@ -22,7 +22,7 @@ pub enum ServiceState {
     StartFailed,
     /// `restarting`: it has died, its `finish` is done, and it is to be started again.
     Restarting,
-    /// `down`: it was told to be down, or never to start, and stays so.
+    /// `down`: it is down and not wanted up, so it stays down.
     Down,
     /// `failed`: it failed for good, and stays down.
     Failed,
@@ -70,7 +70,7 @@ fn supervised_state(ending: Option<Ending>, row: &Row) -> ServiceState
     }
 }
 
-// Where its start failed a service neither starts nor restarts.
+// The state after a failed start: instead of `starting` or `restarting` it is `startfailed`.
 fn state_after_failed_start(state: ServiceState) -> ServiceState
     ensures { result ≡ state_after_failed_start state }
 {

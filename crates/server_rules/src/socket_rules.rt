@@ -7,7 +7,7 @@ use std::fs::Metadata;
 use std::io::ErrorKind;
 use std::os::unix::fs::MetadataExt;
 
-/// Which file a path names, so that it is known again: no other file has both numbers as long as this one is there.
+/// By what a file is known again: no other file has both numbers as long as this one is there.
 #[derive(Clone, Copy, PartialEq, Eq, Debug)]
 pub struct FileIdentity {
     pub device: u64,
@@ -15,7 +15,7 @@ pub struct FileIdentity {
 }
 
 impl FileIdentity {
-    /// That of the file of which the system told this.
+    /// The identity of the file that has these metadata.
     pub fn of(metadata: &Metadata) -> FileIdentity {
         FileIdentity {
             device: metadata.dev(),
@@ -31,8 +31,8 @@ impl FileIdentity {
     }
 }
 
-/// Whether the failure of a connection says that nobody listens on the socket any more. Any other failure, such as want of a descriptor
-/// or of permission, says nothing of the server.
+/// Whether this failure to connect says that nobody listens on the socket any more. Any other failure, such as want of a descriptor or of
+/// permission, says nothing about the server.
 pub fn says_abandoned(kind: ErrorKind) -> bool
     ensures abandoned { result ≡ true → kind ≡ ConnectionRefused }
     ensures refused { kind ≡ ConnectionRefused → result ≡ true }

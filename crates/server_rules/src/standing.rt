@@ -1,4 +1,4 @@
-//! What stands of a connection: the waiters and the subscriptions that it made, and the services that it follows.
+//! The standing of a connection: the waiters and the subscriptions that it made, and the services that it follows.
 ghost use Rattle.std.specs.Prelude.{◌≡◌, ◌∷◌, [], true, None, OnOk, Some, IfSome, IfNone, option_map, length, filter, not, ◌==◌};
 ghost use Rattle.server_rules.specs.Standing.{admission_of, after_release, after_reply, change_of, has_place, has_room_for, is_among, is_followed, is_told_more, let_go, next_end, nothing_made, waiter_admission, without};
 
@@ -9,13 +9,13 @@ use std::alloc::Global;
 use std::marker::Model;
 use tree_core::{Act, Reply};
 
-/// The most waiters of one connection that stand at one time.
+/// The most waiters of one connection at one time, with those that were released and not yet cancelled.
 pub const WAITER_LIMIT: usize = 64;
 
-/// The most subscriptions of one connection that stand at one time.
+/// The most subscriptions of one connection at one time.
 pub const SUBSCRIPTION_LIMIT: usize = 32;
 
-/// What an act changes of what stands, once it is done.
+/// What an act makes or ends, once it is done.
 #[derive(Clone, Copy, PartialEq, Eq, Debug)]
 pub enum StandingChange {
     Other,
@@ -26,7 +26,7 @@ pub enum StandingChange {
 }
 
 impl StandingChange {
-    /// What this act changes, once it is done.
+    /// What this act makes or ends, once it is done.
     pub fn of(act: &Act<Global>) -> StandingChange
         ensures { result ≡ change_of act.now }
     {
@@ -40,19 +40,20 @@ impl StandingChange {
     }
 }
 
-/// What comes of an act, by what stands of the connection that asks for it.
+/// Whether, and when, an act is done for the connection that asks for it.
 #[derive(Clone, Copy, PartialEq, Eq, Debug)]
 pub enum Admission {
     /// It is done.
     Admitted,
-    /// It is done once a waiter was cancelled that has been released: so many stand that no other one has a place.
+    /// The connection has as many waiters as it may have: the act is done once one of them that was released is cancelled.
     AfterReleased,
-    /// It is refused: so many stand that there is no place for what it makes.
+    /// It is refused: the connection has as many as it may have of what the act makes.
     Refused,
 }
 
-/// The waiters and the subscriptions that a connection made, each in the order made, and the services that it follows. One that is over stands too: it counts for the
-/// limits of the tree until it is cancelled.
+/// What a connection made: its waiters and its subscriptions, in the order made, with the released waiters apart, in the order in which
+/// they were told; and the services that it follows. A waiter or a subscription that is over is listed too: it counts for the limits of the
+/// tree until it is cancelled.
 #[derive(Drop)]
 pub struct Standing {
     /// The serials of the waiters that wait still.
@@ -101,7 +102,7 @@ fn take_first<const CAP: usize>(serials: &mut ArrayVec<u64, CAP>) -> Option<u64>
 }
 
 impl Standing {
-    /// Nothing stands.
+    /// Nothing was made, and nothing is followed.
     pub fn new() -> Standing
         ensures { result ≡ nothing_made }
     {
@@ -114,7 +115,7 @@ impl Standing {
         }
     }
 
-    /// What comes of an act of this connection, by what stands.
+    /// Whether an act is done for this connection.
     pub fn admission(&self, act: &Act<Global>) -> Admission
         ensures { result ≡ admission_of act.now self.now }
     {
@@ -137,14 +138,14 @@ impl Standing {
         }
     }
 
-    /// Whether something is still to be told to the connection: a waiter waits, a subscription stands, or a service is followed.
+    /// Whether something may still be told to the connection: it has a waiter that waits, or a subscription, or follows services.
     pub fn is_told_more(&self) -> bool
         ensures { result ≡ is_told_more self.now }
     {
         !(self.waiters.is_empty() && self.subscriptions.is_empty()) || self.follows.is_any()
     }
 
-    /// Notes what the reply to an act says of what it makes or ends.
+    /// Notes what an act made or ended, by the reply to it.
     pub fn note_reply(&mut self, change: StandingChange, reply: &Reply<Global>)
         requires { has_room_for change self.old ≡ true }
         ensures { self.new ≡ after_reply change reply.now self.old }
@@ -175,7 +176,7 @@ impl Standing {
         }
     }
 
-    /// The release of this waiter of the connection was told: it waits no more.
+    /// The release of this waiter was told: it waits no more.
     pub fn note_release(&mut self, id: WaitId)
         requires { is_among id self.old.waiters ≡ true }
         ensures { self.new ≡ after_release id self.old }
@@ -248,8 +249,8 @@ impl Standing {
         }
     }
 
-    /// The act that ends what is ended next: the released waiters first, then the others, then the subscriptions, each in the order
-    /// made; None where nothing stands.
+    /// Takes out what is ended next, and returns the act that ends it: the released waiters first, then the others, then the subscriptions,
+    /// each in the order listed; None where there is none of them.
     pub fn take_next(&mut self) -> Option<Act<Global>>
         ensures act { result ≡ option_map (λ e. e.act) (next_end self.old) }
         ensures made { IfSome result (λ act. option_map (λ e. e.made) (next_end self.old) ≡ Some self.new) }

@@ -1,4 +1,4 @@
-//! The status of a service, as a client is told.
+//! The status of services, as it is told to a client.
 ghost use Rattle.std.specs.Prelude.{◌≡◌, ◌++◌, ◌∷◌, [], OnOk, option_map};
 ghost use Rattle.std.specs.List.{find, flat_map};
 ghost use Rattle.std.specs.Str.{bytes_eq};
@@ -13,7 +13,7 @@ use scan_directory::{Remark, push_all_unread};
 use std::alloc::AllocError;
 use supervise_core::Row;
 
-/// Of which services a status is told.
+/// Which services a status is about.
 #[derive(Clone, Copy, PartialEq, Eq, Debug)]
 pub enum Subject {
     /// The service of this name.
@@ -32,7 +32,7 @@ fn row_of<'a>(rows: &'a [Row], name: &Name) -> Option<&'a Row>
     rows.iter().find(|row| row.name == *name)
 }
 
-// Adds a row, or that there is none.
+// Adds a row, or `refused NoService` where there is none.
 fn push_line(text: &mut Vec<u8>, row: Option<&Row>) -> Result<(), AllocError>
     ensures { OnOk result (text.new.items
         ≡ text.old.items ++ status_line (option_map (λ r. r.now) row.entry)) }
@@ -127,8 +127,8 @@ fn push_states(text: &mut Vec<u8>, roster: &Roster, rows: &[Row]) -> Result<(), 
     Ok(())
 }
 
-/// Adds what is told of these services: the row of one, or that there is none of its name; the rows of all; or the states of all, and what
-/// the last scan could not read. An empty line stands behind it. Page `s6-svstat`.
+/// Adds the status of these services, and an empty line: the row of one, or that there is none of its name; the rows of all; or the states
+/// and rows of all, and what the last scan could not read. Page `s6-svstat`.
 pub fn push_told(
     text: &mut Vec<u8>,
     rows: &[Row],

@@ -9,7 +9,8 @@ use s6_events::{At, NoMemory};
 use std::alloc::Global;
 use tree_core::{Effect, Reply};
 
-/// The services that steps told of, and up to which step of the run. A step is noted once, even where what it gave is looked at again.
+/// What the steps told of services, and up to which step of the run that is noted. Each step is noted once, even where its effect is looked
+/// at again.
 #[derive(Drop)]
 pub struct StepNotes {
     pub roster: Roster,
@@ -20,7 +21,7 @@ pub struct StepNotes {
 }
 
 impl StepNotes {
-    /// Of a tree that made no step.
+    /// The notes of a tree that made no step.
     pub fn new(alloc: Global) -> StepNotes
         ensures roster { result.roster ≡ [] }
         ensures clock { result.clock ≡ 0 }
@@ -40,8 +41,8 @@ impl StepNotes {
         self.noted = 0;
     }
 
-    /// Notes what the step of this number gave, from 1, unless it was noted before. Its input was handed in at this moment. At `NoMemory` nothing
-    /// was noted.
+    /// Notes what step `number` gave, counted from 1, unless it was noted before. `moment` is when its input was handed in. At `NoMemory`
+    /// nothing was noted.
     pub fn note(&mut self, number: u64, moment: At, effect: &Effect<Global>) -> Result<(), NoMemory>
         ensures noted { OnOk result
             (self.new ≡ with_step number moment (outcome_of effect.now) self.old) }
@@ -61,15 +62,15 @@ impl StepNotes {
         Ok(())
     }
 
-    /// Whether the step of this number, from 1, was noted.
+    /// Whether step `number` was noted, counted from 1.
     pub fn has_noted(&self, number: u64) -> bool
         ensures { result ≡ has_noted number self.now }
     {
         number <= self.noted
     }
 
-    /// Whether the status of these services may be told now, where the run has so many steps and the board shows the last of them or not. The
-    /// states are told of a roster that has noted all steps of a board that shows them.
+    /// Whether the status of these services may be told now. `steps` is how many steps the run has, and `is_shown` whether the board shows
+    /// the last of them. States are told only where all these steps were noted and the board shows them; rows are told always.
     pub fn tells_of(&self, subject: &Subject, steps: u64, is_shown: bool) -> bool
         ensures { result ≡ tells_of subject.now steps is_shown self.now }
     {

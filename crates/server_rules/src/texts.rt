@@ -1,4 +1,4 @@
-//! The lines that connections are posted, and the one that says where clients can come.
+//! The lines that are posted to connections, and the line that says where clients can connect.
 ghost use Rattle.std.specs.Prelude.{◌≡◌, ◌++◌, ◌∷◌, [], OnOk, IfOk};
 ghost use Rattle.s6_replay.specs.Transcript.{match_line, release_line, reply_text};
 ghost use Rattle.server_rules.specs.Answers.{clock_text, following_text, recorded_text};
@@ -68,7 +68,7 @@ pub fn clock_line(alloc: Global, since: u64, now: u64) -> Result<Vec<u8>, AllocE
     Ok(text)
 }
 
-/// What is told on standard error once clients can come: where, and since which time of day.
+/// The line on standard error once clients can connect. It names the socket, and says since which time of day.
 pub fn serving_line(alloc: Global, socket: &str, day: &str) -> Result<Vec<u8>, AllocError>
     ensures { IfOk result (λ text. text.items ≡ serving_text socket.now day.now) }
 {

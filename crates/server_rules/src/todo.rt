@@ -22,7 +22,7 @@ pub enum Answer {
     Own(OwnAnswer),
 }
 
-/// What is told of a step to the connection that made what it is of, or that follows the service.
+/// What a step tells a connection beside its replies: it made the subscription or the waiter, or it follows the service.
 #[derive(Clone, Copy, PartialEq, Eq, Debug)]
 pub enum News {
     /// A message matched a subscription.
@@ -43,7 +43,7 @@ pub enum Todo {
     Scan,
     /// The run is handed over, and recorded.
     Record,
-    /// This is posted: the request that was asked first is answered.
+    /// This is posted, as the answer to the first request that has none yet.
     Give(Answer),
     /// The news are posted.
     Tell,

@@ -27,12 +27,12 @@ plain_config = record {
 abbrev pub text_limit : ℕ
 text_limit = 4096
 
--- the valid number that a file says
+-- the number that a file says; none where the file is absent or its text is not valid
 abbrev pub number_in : Option (List ℕ) → Option ℕ
 number_in None = None
 number_in (Some text) = if nat_le (length text) text_limit then number_of text else None
 
--- the valid signal that a file says
+-- the signal that a file says; none where the file is absent or its text is not valid
 abbrev pub signal_in : Option (List ℕ) → Option ℕ
 signal_in None = None
 signal_in (Some text) = if nat_le (length text) text_limit then signal_of text else None
@@ -78,7 +78,7 @@ config_of directory = record {
   down_signal = down_signal_of (directory DownSignal);
 }
 
--- what is noted beside this descriptor of a notification-fd that is there
+-- the note for a notification-fd that is there, where this is the served descriptor that it names, or it names none
 abbrev pub note_beside : Option ℕ → Option DirFault
 note_beside (Some descriptor) = None
 note_beside None = Some fault.NotifyFd

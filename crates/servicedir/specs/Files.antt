@@ -1,4 +1,4 @@
--- What a service directory gives, how often it failed, and how often a growth was refused.
+-- What a service directory gives, how many readings failed, and how many were refused memory.
 use Rattle.std.specs.Prelude.{◌≡◌, ℕ, ◌+◌, ◌%◌, ◌^◌, List, Option, Some, Result, Ok, Err, codes}
 use Rattle.servicedir.specs.declared.files.ServiceFile.{ServiceFile}
 use Rattle.servicedir.specs.declared.files.ServiceFile.TheVariants.{Run, Kind, Finish, Down, NotificationFd}
@@ -27,17 +27,17 @@ file_name TimeoutFinish = codes "timeout-finish"
 file_name MaxDeathTally = codes "max-death-tally"
 file_name DownSignal = codes "down-signal"
 
--- a reading that failed is counted once, and nothing else is; of one that gave nothing, the file is the last that gave nothing
+-- a reading that failed is counted once, and no other is; where a reading gave nothing, its file is the last one that gave nothing
 abbrev pub Counts : {V : Type 0} → Result V ReadFault → ServiceFile → ℕ → ℕ → Option ServiceFile → Type 0
 Counts (Ok v) file old new last = new ≡ old
 Counts (Err fault.Io) file old new last = (new ≡ old + 1) × (last ≡ Some file)
 Counts (Err fault.NoMemory) file old new last = (new ≡ old) × (last ≡ Some file)
 
--- one refused growth more, modulo 2 ^ 64
+-- one more, modulo 2 ^ 64
 abbrev pub one_more : ℕ → ℕ
 one_more count = (count + 1) % 2 ^ 64
 
--- a growth that was refused is counted once, and nothing else is counted
+-- a reading that was refused memory is counted once, and no other is
 abbrev pub CountsRefusal : {V : Type 0} → Result V ReadFault → ℕ → ℕ → Type 0
 CountsRefusal (Ok v) old new = new ≡ old
 CountsRefusal (Err fault.Io) old new = new ≡ old

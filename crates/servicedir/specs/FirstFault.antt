@@ -10,7 +10,7 @@ use Rattle.servicedir.specs.declared.files.ReadFault.TheVariants as fault
 use Rattle.servicedir.specs.declared.dir_fault.DirFault.{DirFault}
 use Rattle.servicedir.specs.declared.dir_fault.DirFault.TheVariants.{NoRun, NotLongrun, Io, NoMemory}
 
--- what a reading that gave nothing is answered as
+-- the fault that is answered where a reading gave nothing
 abbrev pub fault_of_reading : ReadFault → DirFault
 fault_of_reading fault.Io = Io
 fault_of_reading fault.NoMemory = NoMemory
@@ -52,7 +52,7 @@ Answers directory old new last Io = IsSomeAnd last (λ file. fault_before file d
 Answers directory old new last NoMemory = IsSomeAnd last (λ file. fault_before file directory ≡ None) × (new ≡ old)
 Answers directory old new last other = ⊥
 
--- how many growths were refused once this fault is answered, where so many were refused before
+-- how many readings were refused memory once this fault is answered, where `old` were before
 abbrev pub refused_by : DirFault → ℕ → ℕ
 refused_by NoMemory old = one_more old
 refused_by other old = old

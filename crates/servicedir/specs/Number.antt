@@ -12,7 +12,7 @@ is_digit byte = nat_le 48 byte && nat_le byte 57
 abbrev pub are_digits : List ℕ → Bool
 are_digits text = nat_le 1 (length text) && list_all is_digit text
 
--- a digit written behind a number
+-- the number with one more digit written behind it
 abbrev pub with_digit : ℕ → ℕ → ℕ
 with_digit value digit = 10 * value + (digit - 48)
 
@@ -20,7 +20,7 @@ with_digit value digit = 10 * value + (digit - 48)
 abbrev pub value_of_digits : List ℕ → ℕ
 value_of_digits digits = fold with_digit 0 digits
 
--- the number that a text of digits writes, where it is at most this
+-- the number that a text of digits writes, where it is at most `most`
 unfoldable pub number_up_to : ℕ → List ℕ → Option ℕ
 number_up_to most text = if are_digits text && nat_le (value_of_digits text) most then Some (value_of_digits text)
     else None

@@ -4,10 +4,10 @@ use Rattle.s6_events.specs.Name.{is_name}
 use Rattle.servicedir.specs.declared.service_name.Seen.{Seen}
 use Rattle.servicedir.specs.declared.service_name.Seen.TheVariants.{Service, Hidden, Bad}
 
--- a dot comes first
+-- the text begins with a dot
 abbrev pub is_hidden : List ℕ → Bool
 is_hidden text = nat_le 1 (length text) && (slice_index text 0 == 46)
 
--- hidden behind a dot, or the service of this name, or no name at all
+-- hidden where it begins with a dot; else the service of this name, or bad where it is no name
 abbrev pub seen_of : List ℕ → Seen
 seen_of text = if is_hidden text then Hidden else if is_name text then Service text else Bad

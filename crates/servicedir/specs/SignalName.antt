@@ -29,7 +29,7 @@ without_sig word = if bytes_eq (take 3 word) (codes "SIG") then drop 3 word else
 abbrev pub signal_of_word : List ℕ → Option ℕ
 signal_of_word word = signal_of_name (without_sig word)
 
--- what is from 1 to 64 is the number of a signal
+-- a number that is at least 1 is the number of a signal; the caller sees that it is at most 64
 abbrev pub signal_number : Option ℕ → Option ℕ
 signal_number None = None
 signal_number (Some number) = if nat_le 1 number then Some number else None

@@ -9,12 +9,12 @@ pub struct Config {
     pub down: bool,
     /// There is a `finish`, which runs after each death of `run`.
     pub finish: bool,
-    /// The descriptor on which the daemon writes a newline when it is ready: 1, or 3 to 9. None: it has no readiness. Page
+    /// The descriptor on which the daemon writes a newline when it is ready: 1, or 3 to 9. None: it never tells that it is ready. Page
     /// `notifywhenup`; that 0, 2 and descriptors over 9 are not served is chosen here.
     pub notification_fd: Option<u8>,
-    /// After so many milliseconds a service that was told to go down and is not dead gets SIGKILL; 0: never.
+    /// How many milliseconds after it was told to go down a service that is not dead gets SIGKILL; 0: never.
     pub timeout_kill: u32,
-    /// After so many milliseconds a living `finish` gets SIGKILL; 0: never.
+    /// How many milliseconds after its start a `finish` that has not ended gets SIGKILL; 0: never.
     pub timeout_finish: u32,
     /// The most deaths that are kept, at most 4096; 0 keeps none.
     pub max_death_tally: u16,
@@ -23,9 +23,9 @@ pub struct Config {
 }
 
 impl Config {
-    /// What a directory with nothing but `run` says: the service is started, has no `finish` and no readiness, and may take as
-    /// long as it likes to go down; its `finish` would have 5000 ms, 100 deaths are kept, and SIGTERM takes it down. Takes no
-    /// memory. Page `servicedir`, whose defaults these are.
+    /// What a directory with nothing but `run` says. The service is started, has no `finish`, never tells that it is ready, and may
+    /// take as long as it likes to go down; a `finish` would have 5000 ms. 100 deaths are kept, and SIGTERM takes it down. These are
+    /// the defaults of page `servicedir`. Takes no memory.
     pub fn plain() -> Config
         ensures { result ≡ plain_config }
     {

@@ -4,8 +4,8 @@ ghost use Rattle.std.specs.Prelude.{◌≡◌};
 use crate::files::ReadFault;
 use thiserror::Error;
 
-/// Why a service directory was not read. `NotifyFd` is only ever a note beside a configuration, and `BadName` is for who lists
-/// a scan directory and meets a name that is none. `NotLongrun`, `NotifyFd` and `BadName` are chosen here.
+/// Why a service directory was not read. `NotifyFd` is only ever a note beside a configuration. `BadName` is for a program that
+/// lists a scan directory and finds an entry whose name is no service name. `NotLongrun`, `NotifyFd` and `BadName` are chosen here.
 #[derive(Clone, Copy, Debug, PartialEq, Eq, Error)]
 pub enum DirFault {
     /// There is no `run`. Page `servicedir`.
@@ -23,7 +23,7 @@ pub enum DirFault {
     /// The directory's name is no name of a service.
     #[error("the name is no name of a service")]
     BadName = 5,
-    /// A growth was refused.
+    /// Memory was refused.
     #[error("out of memory")]
     NoMemory = 6,
 }

@@ -1,4 +1,4 @@
-//! The files of a service directory, and whoever reads them.
+//! The files of a service directory, and the trait by which they are read.
 ghost use Rattle.std.specs.Prelude.{◌≡◌, ◌≤◌, ℕ, List, Option, IfOk, IfSome, is_some, option_map, length};
 ghost use Rattle.servicedir.specs.Files.{Directory, reading_limit, file_name, Counts, CountsRefusal};
 
@@ -18,7 +18,7 @@ pub enum ServiceFile {
     Down,
     /// `notification-fd`: where the daemon says that it is ready.
     NotificationFd,
-    /// `timeout-kill`: how long a death may take.
+    /// `timeout-kill`: how long the service may take to die once it was told to go down.
     TimeoutKill,
     /// `timeout-finish`: how long `finish` may take.
     TimeoutFinish,
@@ -52,27 +52,27 @@ impl ServiceFile {
 pub enum ReadFault {
     /// It failed; the directory counts it. That a file is absent is no failure.
     Io,
-    /// A growth was refused; the directory counts it.
+    /// Memory was refused; the directory counts it.
     NoMemory,
 }
 
-/// Service directories as they are read. What they give stays the same while they are read: over a real directory that may
-/// change meanwhile, an implementation takes its files first. A reading is bounded: of a file of over 4096 bytes it gives the
-/// first 4097, which tells that no text in it is valid.
+/// Service directories as they are read. What they give stays the same while they are read: a real directory may change
+/// meanwhile, so an implementation takes its files first. A reading is bounded: of a file of over 4096 bytes it gives the
+/// first 4097, and so the reader knows that the text is too long to be valid.
 pub trait Files {
     ghost use Rattle.servicedir.specs.declared.files.ServiceFile.{ServiceFile};
 
-    /// What is read of each file of the service of this name: nothing where it is absent, else its bytes, and of a file of over
-    /// 4096 bytes the first 4097.
+    /// What a reading gives of each file of the service of this name: None where the file is absent, else its bytes, or the first
+    /// 4097 where there are more than 4096.
     ghost gives: { Self → List ℕ → Directory };
 
     /// How many readings failed so far.
     ghost failures: { Self → ℕ };
 
-    /// The file whose reading gave nothing last: it failed, or a growth was refused in it.
+    /// The file of the last reading that gave nothing: it failed, or memory was refused.
     ghost failed: { Self → Option ServiceFile };
 
-    /// How many growths were refused so far, modulo 2^64, so that a counter can keep it.
+    /// How many readings were refused memory so far, modulo 2^64, so that a counter can keep it.
     ghost refused: { Self → ℕ };
 
     /// Whether the file is there; it need not be readable for that.
@@ -83,7 +83,7 @@ pub trait Files {
             (failed self.new) }
         ensures memory { CountsRefusal result (refused self.old) (refused self.new) };
 
-    /// The bytes of the file, of a longer one the first 4097; None where it is absent.
+    /// The bytes of the file, or the first 4097 where there are more than 4096; None where it is absent.
     fn text<A: Allocator + Copy>(
         &mut self,
         alloc: A,

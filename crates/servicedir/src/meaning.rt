@@ -15,7 +15,7 @@ const TEXT_LIMIT: usize = 4096;
 /// The most deaths that are kept.
 const DEATH_LIMIT: u32 = 4096;
 
-// The valid number that the text of a file says.
+// The number that the text of a file says; None where the text is not valid.
 pub(crate) fn number_in_text(text: &[u8]) -> Option<u32>
     ensures { result ≡ number_in (Some text.now) }
 {
@@ -25,7 +25,7 @@ pub(crate) fn number_in_text(text: &[u8]) -> Option<u32>
     parse_number(text)
 }
 
-// The valid signal that the text of a file says.
+// The signal that the text of a file says; None where the text is not valid.
 pub(crate) fn signal_in_text(text: &[u8]) -> Option<u8>
     ensures { result ≡ signal_in (Some text.now) }
 {
@@ -35,14 +35,14 @@ pub(crate) fn signal_in_text(text: &[u8]) -> Option<u8>
     parse_signal(text)
 }
 
-// Whether the text of `type` says that a supervisor is wanted.
+// Whether the text of `type` is `longrun`, with at most one newline behind it.
 pub(crate) fn is_longrun_text(text: &[u8]) -> bool
     ensures { result ≡ is_longrun text.now }
 {
     without_newline(text) == b"longrun".as_slice()
 }
 
-// The descriptor of this number, where it is served.
+// This number as a descriptor; None where there is no number, or its descriptor is not served.
 pub(crate) fn served_descriptor(number: Option<u32>) -> Option<u8>
     ensures { result ≡ served_number number }
 {
@@ -52,7 +52,7 @@ pub(crate) fn served_descriptor(number: Option<u32>) -> Option<u8>
     }
 }
 
-// What is noted of a notification-fd that is there.
+// The note for a notification-fd that is there, where this is the served descriptor that it names, or it names none.
 pub(crate) fn note_of_descriptor(descriptor: Option<u8>) -> Option<DirFault>
     ensures { result ≡ note_beside descriptor }
 {
@@ -62,7 +62,7 @@ pub(crate) fn note_of_descriptor(descriptor: Option<u8>) -> Option<DirFault>
     }
 }
 
-// How many deaths are kept, where max-death-tally says this number.
+// How many deaths are kept, where max-death-tally says this number: at most 4096, and 100 where it says none.
 pub(crate) fn death_tally(number: Option<u32>) -> u16
     ensures { result ≡ min (unwrap_or number 100) 4096 }
 {

@@ -18,15 +18,16 @@ use std::alloc::Allocator;
 pub struct Found {
     /// The configuration.
     pub config: Config,
-    /// `NotifyFd` where there is a notification-fd that names no descriptor that is served: the service has no readiness then.
+    /// `NotifyFd` where a notification-fd is there and names no descriptor that is served. The service then never tells that it is ready.
     pub note: Option<DirFault>,
 }
 
 /// Reads the directory of the service of this name. The files are looked at in this order: `run`, `type`, `finish`, `down`,
 /// `notification-fd`, `timeout-kill`, `timeout-finish`, `max-death-tally`, `down-signal`. Of `run`, `finish` and `down` only
-/// the presence counts; an invalid text in a file after `type` gives what its absence gives. The first fault is answered, and
-/// no file after it is looked at: `NoRun` and `NotLongrun` as the files say, `Io` where a reading failed, `NoMemory` where a
-/// growth was refused. Page `servicedir`; the order, `NotLongrun` and what invalid texts give are chosen here.
+/// the presence counts. With an invalid text in a file after `type`, the configuration is as if the file were absent. The first
+/// fault is answered, and no file after it is looked at: `NoRun` where there is no `run`, `NotLongrun` where `type` says something
+/// else than `longrun`, `Io` where a reading failed, `NoMemory` where memory was refused. Page `servicedir`; the order,
+/// `NotLongrun` and what invalid texts give are chosen here.
 pub fn read<A: Allocator + Copy, F: Files>(
     alloc: A,
     files: &mut F,
@@ -157,7 +158,7 @@ fn readiness<A: Allocator + Copy, F: Files>(
     }
 }
 
-// The valid number of a file.
+// The number that a file says; None where the file is absent or its text is not valid.
 fn number<A: Allocator + Copy, F: Files>(
     alloc: A,
     files: &mut F,
@@ -181,7 +182,7 @@ fn number<A: Allocator + Copy, F: Files>(
     }
 }
 
-// The valid signal of down-signal.
+// The signal that down-signal says; None where the file is absent or its text is not valid.
 fn signal<A: Allocator + Copy, F: Files>(
     alloc: A,
     files: &mut F,

@@ -6,7 +6,7 @@ ghost use Rattle.servicedir.specs.Number.{number_up_to};
 
 use crate::number::{parse_digits, without_newline};
 
-/// The names of the signals from 1 to 31, in this order: Linux on x86-64.
+/// The names of the signals 1 to 31, in order, on Linux for x86-64.
 const SIGNAL_NAMES: [&str; 31] = [
     "HUP", "INT", "QUIT", "ILL", "TRAP", "ABRT", "BUS", "FPE", "KILL", "USR1", "SEGV", "USR2",
     "PIPE", "ALRM", "TERM", "STKFLT", "CHLD", "CONT", "STOP", "TSTP", "TTIN", "TTOU", "URG",
@@ -29,15 +29,15 @@ pub fn parse_signal(text: &[u8]) -> Option<u8>
     }
 }
 
-/// The signal of this name in capitals, with or without `SIG`, or None. No newline may follow.
+/// The number of the signal with this name, in capitals, with or without `SIG`; None where no signal has it. No newline may follow.
 pub fn signal_named(word: &[u8]) -> Option<u8>
     ensures { result ≡ signal_of_word word.now }
 {
     number_of_name(without_prefix(word))
 }
 
-/// The name of the signal of this number, without `SIG`; None for 0 and for every number over 31, which have none here. Takes no
-/// memory. Linux on x86-64.
+/// The name of the signal of this number, without `SIG`, on Linux for x86-64; None for 0 and for every number over 31, which have no
+/// name here. Takes no memory.
 #[tactic(auto, unfolding(crate::specs::SignalName::signal_names))]
 pub fn signal_name(number: u8) -> Option<&'static str>
     ensures { option_map (λ name. name.now) result ≡ name_of_signal number }
@@ -78,7 +78,7 @@ fn place_in(table: &[&str], name: &[u8]) -> Option<usize>
     table.iter().position(|known| known.as_bytes() == name)
 }
 
-// The signal of this number, from 1 to 64.
+// The signal whose number these digits say, from 1 to 64; None for any other text.
 fn signal_numbered(digits: &[u8]) -> Option<u8>
     ensures { result ≡ signal_number (number_up_to 64 digits.now) }
 {

@@ -10,12 +10,12 @@ last_or other (shot ∷ shots) = last_or (Some shot) shots
 abbrev pub last_shot : List Shot → Option Shot
 last_shot shots = last_or None shots
 
--- a shot that is there
+-- the shot, if it is there
 abbrev pub shown_shot : Bool → Shot → Option Shot
 shown_shot true shot = Some shot
 shown_shot false shot = None
 
--- what a reader that knows these gets from what is shown: the last shot of it, unless it has fewer shots than are known
+-- what a reader that knows some shots gets where others are shown: the last one shown, unless fewer are shown than it knows
 abbrev pub shot_unless_older : List Shot → List Shot → Option Shot
 shot_unless_older known shown = if nat_le (length known) (length shown) then last_shot shown else None
 
@@ -23,7 +23,7 @@ abbrev pub steps_or : ℕ → List Shot → ℕ
 steps_or other [] = other
 steps_or other (shot ∷ shots) = steps_or shot.at shots
 
--- after how many steps the last one was taken; 0 where there is none
+-- after how many steps the last shot was taken; 0 where there is none
 abbrev pub last_steps : List Shot → ℕ
 last_steps shots = steps_or 0 shots
 

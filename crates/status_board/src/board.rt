@@ -1,4 +1,4 @@
-//! Where shots are published.
+//! The board on which shots are published.
 ghost use Rattle.std.specs.Prelude.{◌≡◌, List, [], ◌∷◌, ◌++◌, OnErr, OnOk};
 ghost use Rattle.status_board.specs.declared.shot.Shot.{Shot as Published};
 
@@ -10,18 +10,18 @@ use s6_events::NoMemory;
 use std::alloc::Global;
 use std::sync::Wait;
 
-/// A board, as whoever publishes on it holds it. `BoardWriter` is one; who keeps a board under a lock is generic in it. It stands for
+/// The end of a board that publishes. `BoardWriter` is one; code that keeps a board under a lock is generic over it. Contracts see it as
 /// all shots that were published, oldest first.
 pub trait Board<C: Channels>: Drop {
     /// All shots that were published.
     ghost shots: { Self → List Published };
 
-    /// Shows this shot from now on. `NoMemory` where a growth was refused: the board is then as it was.
+    /// Publishes this shot: readers see it from now on. `NoMemory` where memory is refused: nothing was published.
     fn publish(&mut self, shot: &Shot) -> Result<(), NoMemory>
         ensures added { OnOk result (shots self.new ≡ shots self.old ++ shot.now ∷ []) }
         ensures same { OnErr result (shots self.new ≡ shots self.old) };
 
-    /// Names all that was published so far, for a reader to learn.
+    /// All shots that were published so far, for a reader to learn.
     fn tell(&self) -> Told<C>
         ensures { result ≡ shots self.now };
 }

@@ -9,7 +9,7 @@ use std::alloc::{AllocError, Allocator};
 use std::marker::Model;
 use supervise_core::Row;
 
-/// The rows of a shot that stand, in memory of their own.
+/// A shot whose rows are in memory of their own.
 #[derive(Drop)]
 pub struct StandingRows<A: Allocator> {
     at: u64,
@@ -28,7 +28,7 @@ impl<A: Allocator> Model for StandingRows<A> {
 }
 
 impl<A: Allocator + Copy> StandingRows<A> {
-    // Those of this shot.
+    // A copy of this shot.
     pub(crate) fn of(alloc: A, shot: &Shot) -> Result<StandingRows<A>, AllocError>
         ensures { IfOk result (λ rows. rows ≡ shot.now) }
     {
@@ -39,7 +39,7 @@ impl<A: Allocator + Copy> StandingRows<A> {
 }
 
 impl<A: Allocator> StandingRows<A> {
-    // A shot becomes these.
+    // Copies the rows and the number of steps into a shot.
     fn fill(&self, shot: &mut Shot)
         ensures { shot.new ≡ self.now }
     {
@@ -55,7 +55,7 @@ impl<A: Allocator> StandingRows<A> {
     }
 }
 
-/// A shot that was published, and all that were published with it: contracts see these.
+/// A shot that was published, and all shots that were published up to it. Contracts see all of them.
 #[derive(Drop)]
 pub struct Change<C: Channels, A: Allocator> {
     rows: StandingRows<A>,
@@ -75,7 +75,7 @@ impl<C: Channels, A: Allocator> Model for Change<C, A> {
 }
 
 impl<C: Channels, A: Allocator> Change<C, A> {
-    // The shot that was published last, with all that were.
+    // The shot that was published last, with all that were published.
     pub(crate) fn new(rows: StandingRows<A>, published: Published<C>) -> Change<C, A>
         requires { last_shot published ≡ Some rows }
         ensures { result ≡ published }
@@ -83,7 +83,7 @@ impl<C: Channels, A: Allocator> Change<C, A> {
         Change { rows, published }
     }
 
-    // A shot becomes the one that was published last.
+    // Copies the one that was published last into a shot.
     pub(crate) fn fill(&self, shot: &mut Shot)
         ensures { last_shot self.now ≡ Some shot.new }
     {

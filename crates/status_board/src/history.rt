@@ -1,4 +1,4 @@
-//! The history of what was published. It takes no bytes but for its length, and stands in proofs alone.
+//! The history of what was published. It exists in proofs alone, but for its length, which takes the bytes of a number.
 ghost use Rattle.std.specs.Prelude.{◌≡◌, ◌+◌, ◌==◌, ◌<◌, ◌≤◌, ◌^◌, ◌++◌, ◌∷◌, [], length, nat_le, MatchBool, IsTrue, IsFalse};
 ghost use mathlib.Core.List.{IsPrefix};
 ghost use Rattle.status_board.specs.History.{count_of};
@@ -29,7 +29,7 @@ impl Rule<Shot, u64> for CountedShots {
     ghost moves = { λ ask before after answer. Unit {0} };
 }
 
-/// Whoever publishes gets nothing in return.
+/// The rule of what a step gives in return: nothing.
 pub struct NothingGained;
 
 impl Gain<Shot, u64> for NothingGained {
@@ -55,7 +55,7 @@ impl Plain<Shot, Shot, u64> for AddsShot {
     ghost state = { λ shot. None };
 }
 
-/// The word that counts what was published.
+/// The word that counts the shots that were published.
 pub type Count = Word<Shot, u64, CountedShots>;
 
 /// What is known of the history.
@@ -105,7 +105,7 @@ impl<C: Channels> Published<C> {
         log
     }
 
-    /// The same shots once more.
+    /// A copy: the same shots.
     pub fn copied(&self) -> Published<C>
         ensures { result ≡ self.now }
     {
@@ -116,7 +116,8 @@ impl<C: Channels> Published<C> {
         }
     }
 
-    /// Becomes the other, where that has no fewer shots: of two beginnings of one history the shorter begins the longer.
+    /// Becomes the other, if that has no fewer shots, and returns whether it did. Of two beginnings of one history the shorter is a
+    /// beginning of the longer.
     pub fn follow(&mut self, other: &Published<C>) -> bool
         ensures whether { result ≡ nat_le (length self.old) (length other.now) }
         ensures yes { IsTrue result → (self.new ≡ other.now) × IsPrefix self.old self.new }
@@ -131,7 +132,7 @@ impl<C: Channels> Published<C> {
         true
     }
 
-    // Adds a shot to the history, unless that has more shots than these.
+    // Adds a shot to the history, and returns whether it did: not where the history has more shots than these, or these are 2^64 - 1.
     pub(crate) fn add(&mut self, word: &Count, shot: &Shot) -> bool
         requires word { word.now ≡ count_of C.board }
         ensures yes { IsTrue result → self.new ≡ self.old ++ shot.now ∷ [] }

@@ -12,8 +12,8 @@ use left_right::ReadHandle;
 use std::alloc::{Allocator, Global};
 use std::marker::Model;
 
-/// The end of the board that reads. Contracts see it as the published shots that it has seen or was told of. It may move to a thread
-/// of its own.
+/// The end of the board that reads. Contracts see it as the published shots that it has seen or was told. It may move to a thread of its
+/// own.
 #[derive(Drop)]
 pub struct BoardReader<C: Channels, A: Allocator = Global> {
     handle: ReadHandle<Shown<C>, A>,
@@ -30,16 +30,17 @@ impl<C: Channels, A: Allocator> Model for BoardReader<C, A> {
 }
 
 impl<C: Channels, A: Allocator> BoardReader<C, A> {
-    // The reader of a handle, that knows of these.
+    // The reader with this handle, which knows these shots.
     pub(crate) fn over(handle: ReadHandle<Shown<C>, A>, known: Published<C>) -> BoardReader<C, A>
         ensures { result ≡ known }
     {
         BoardReader { handle, known }
     }
 
-    /// The shot that was published last; None where the board gives none, as once its writer is gone. What a reader saw or was told
-    /// of is never taken back. It takes no lock and no memory, and waits for nobody. A shot has [`ROW_LIMIT`](crate::ROW_LIMIT) places, which
-    /// are filled and moved here: who reads often keeps one, for `read_into`.
+    /// The shot that was published last; None where the board gives none, as once its writer is gone, or shows an older one than the reader
+    /// knows. So a reader never gets an older shot than one that it saw or was told. It takes no lock and no memory, and waits for nobody.
+    /// The shot is returned with its [`ROW_LIMIT`](crate::ROW_LIMIT) places, which costs time: to read often, keep a shot and call
+    /// `read_into`.
     pub fn read(&mut self) -> Option<Shot>
         ensures later { IsPrefix self.old self.new }
         ensures last { IfSome result (λ shot. last_shot self.new ≡ Some shot) }
@@ -55,8 +56,8 @@ impl<C: Channels, A: Allocator> BoardReader<C, A> {
     }
 
     #[tactic(auto, using(crate::proofs::Lasts::never_falls))]
-    /// Reads as `read` does, into a shot that the caller keeps: it becomes the shot that was published last, of which only the rows that
-    /// stand are copied. Where the board gives none the answer is no, and the shot stays.
+    /// Reads as `read` does, into a shot of the caller: copies the one that was published last into it, of which only the rows that it has
+    /// are copied. False where `read` would give None; then the shot stays as it was.
     pub fn read_into(&mut self, shot: &mut Shot) -> bool
         ensures later { IsPrefix self.old self.new }
         ensures last { IsTrue result → last_shot self.new ≡ Some shot.new }
@@ -70,7 +71,7 @@ impl<C: Channels, A: Allocator> BoardReader<C, A> {
         take_shot(&mut self.known, shown, shot)
     }
 
-    /// From now on it knows of all that was told too, so that no read gives an older shot than the last of these.
+    /// From now on the reader knows all shots that were told too, so that no read gives an older one than the last of them.
     pub fn learn(&mut self, told: Told<C>)
         ensures later { IsPrefix self.old self.new }
         ensures told { IsPrefix told self.new }
@@ -79,7 +80,8 @@ impl<C: Channels, A: Allocator> BoardReader<C, A> {
     }
 }
 
-// Copies the shot of what is shown, unless more is known than was published up to it. What is shown is known from then on.
+// Copies the shot that is shown, unless more shots are known than were published up to it. What is shown is known from then on. Returns
+// whether a shot was copied.
 fn take_shot<C: Channels>(known: &mut Published<C>, shown: &Shown<C>, shot: &mut Shot) -> bool
     ensures answer { IsTrue result → shot_unless_older known.old shown.now ≡ Some shot.new }
     ensures older { IsFalse result → shot_unless_older known.old shown.now ≡ None }

@@ -4,11 +4,11 @@ ghost use Rattle.std.specs.Prelude.{◌≡◌, []};
 use arrayvec::ArrayVec;
 use supervise_core::Row;
 
-/// The most rows of a shot: as many as services stand.
+/// The most rows of a shot: as many as a tree has services at most.
 pub const ROW_LIMIT: usize = 256;
 
 /// The status rows of all services, at most [`ROW_LIMIT`], in rising serial, and the number of steps that the tree had made when they were
-/// taken. Page `s6-svstat` for the rows; that they are published together, and the number, are chosen here.
+/// taken. Page `s6-svstat` for the rows; that they are published together, and with this number, is this program's own.
 #[derive(Drop)]
 pub struct Shot {
     pub at: u64,
@@ -27,7 +27,7 @@ impl Shot {
         }
     }
 
-    /// The same shot once more.
+    /// A copy of the shot.
     pub fn copied(&self) -> Shot
         ensures { result ≡ self.now }
     {
@@ -36,7 +36,7 @@ impl Shot {
         shot
     }
 
-    /// Becomes the same as the other. Only rows that stand are written, in this one or in the other.
+    /// Becomes a copy of the other. Only the rows that the other has are copied.
     pub fn copy_from(&mut self, other: &Shot)
         ensures { self.new ≡ other.now }
     {

@@ -1,4 +1,4 @@
-//! What `left_right` keeps two copies of, and how they change.
+//! What readers are shown: `left_right` keeps two copies of it.
 ghost use Rattle.std.specs.Prelude.{◌≡◌, [], option_map};
 ghost use Rattle.status_board.specs.Board.{last_shot};
 
@@ -11,8 +11,8 @@ use std::alloc::{AllocError, Allocator};
 use std::marker::Model;
 use std::sync::{Arc, OnceLock};
 
-/// The shot that was published last, if there is one, and all that were published with it: contracts see these. A shot is taken over in its
-/// place, of which only the rows that stand are written.
+/// The shot that was published last, if there is one, and all shots that were published up to it. Contracts see all of them. A new shot is
+/// copied over the one before, and only the rows that it has are copied.
 #[derive(Drop)]
 pub struct Shown<C: Channels> {
     shot: Shot,
@@ -33,7 +33,7 @@ impl<C: Channels> Model for Shown<C> {
 }
 
 impl<C: Channels> Shown<C> {
-    // Nothing, where nothing was published.
+    // What is shown before anything was published: no shot.
     pub(crate) fn nothing(published: Published<C>) -> Shown<C>
         requires { published ≡ [] }
         ensures { result ≡ [] }
@@ -45,7 +45,7 @@ impl<C: Channels> Shown<C> {
         }
     }
 
-    // The shot that was published last.
+    // The shot that was published last; None where there is none.
     pub(crate) fn shot(&self) -> Option<&Shot>
         ensures { option_map (λ s. s.now) result ≡ last_shot self.now }
     {
@@ -63,7 +63,7 @@ impl<C: Channels> Shown<C> {
         &self.published
     }
 
-    // Shows what was published with a change.
+    // Shows the shot of a change.
     fn follow<A: Allocator>(&mut self, change: &Change<C, A>)
         ensures { self.new ≡ change.now }
     {
@@ -73,7 +73,7 @@ impl<C: Channels> Shown<C> {
     }
 }
 
-/// A place for what is to be shown next. It is filled once memory was found for all of the change.
+/// A place for the change that is to be shown next. It is filled once all memory for the change is there.
 pub type Next<C, A> = Arc<OnceLock<Change<C, A>>, A>;
 
 impl<C: Channels, A: Allocator> Absorb<Next<C, A>> for Shown<C> {

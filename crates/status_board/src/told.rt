@@ -1,11 +1,11 @@
-//! Which shots a reader was told of.
+//! The shots that a reader is told.
 ghost use Rattle.std.specs.Prelude.{◌≡◌};
 
 use crate::history::Published;
 use channel_names::Channels;
 use std::marker::Model;
 
-/// All that was published up to the moment at which it was told.
+/// All shots that were published up to the moment at which this was told.
 #[derive(Drop)]
 pub struct Told<C: Channels> {
     pub(crate) published: Published<C>,

@@ -17,12 +17,12 @@ use std::marker::Model;
 use std::sync::{Arc, OnceLock, Wait};
 use thiserror::Error;
 
-/// The board gave no reader: each of its places for one is in use, or a growth was refused. Nothing has changed.
+/// The board gave no reader: each of its places for one is in use, or memory was refused. Nothing has changed.
 #[derive(Clone, Copy, PartialEq, Eq, Debug, Error)]
 #[error("the board has no place for a reader")]
 pub struct NoReader;
 
-/// A history in which nothing was published, and which no run has named yet. Contracts see it as the name that it is to get.
+/// A history in which nothing was published, and which no run has named yet. Contracts see it as its name.
 #[derive(Drop)]
 pub struct NewBoard {
     word: Count,
@@ -51,8 +51,8 @@ impl NewBoard {
         }
     }
 
-    /// A board on which this shot was published, with places for so many readers at a time, in a run whose board it is.
-    /// `NoMemory` where a growth was refused: the history then comes back, as it was.
+    /// A board on which this shot is published, with places for `readers` readers at a time. `C` names its history. `NoMemory` where memory
+    /// is refused: the history comes back as it was.
     pub fn open<C: Channels, R: Wait + Drop, A: Allocator + Copy>(
         self,
         alloc: A,
@@ -84,7 +84,7 @@ impl NewBoard {
         }
     }
 
-    // A history in which nothing was published, that comes back.
+    // Puts a history together again in which nothing was published.
     fn again<C: Channels>(word: Count, published: Published<C>) -> NewBoard
         requires word { word ≡ count_of C.board }
         requires published { published ≡ [] }
@@ -139,9 +139,9 @@ impl<C: Channels, R: Wait + Drop, A: Allocator + Copy> BoardWriter<C, R, A> {
         NewBoard::again(word, published)
     }
 
-    /// Shows this shot from now on. `NoMemory` where a growth was refused: the board is then as it was. Of the shot only the rows that stand
-    /// are copied, once into memory of their own, and from there into each of the two copies that readers see. It may wait for readers that
-    /// are reading, and is the only call of the board that waits.
+    /// Publishes this shot: readers see it from now on. `NoMemory` where memory is refused: nothing was published. Only the rows that the
+    /// shot has are copied, once into memory of their own, and from there into each of the two copies that readers see. It may wait for
+    /// readers that are reading, and is the only call of the board that waits.
     #[tactic(auto, using(crate::proofs::Lasts::last_or_snoc))]
     pub fn publish(&mut self, shot: &Shot) -> Result<(), NoMemory>
         ensures added { OnOk result (self.new ≡ self.old ++ shot.now ∷ []) }
@@ -153,7 +153,7 @@ impl<C: Channels, R: Wait + Drop, A: Allocator + Copy> BoardWriter<C, R, A> {
         if self.handle.append(theirs).is_err() {
             return Err(NoMemory);
         }
-        // All memory is there. One writer publishes, so the history has no more than it knows.
+        // All memory is there. There is one writer, so the history has no shot that it doesn't know.
         let mut published = self.published.copied();
         if !published.add(&self.word, shot) {
             return Err(NoMemory);
@@ -164,7 +164,7 @@ impl<C: Channels, R: Wait + Drop, A: Allocator + Copy> BoardWriter<C, R, A> {
         Ok(())
     }
 
-    /// Names all that was published so far, for a reader to learn.
+    /// All shots that were published so far, for a reader to learn.
     pub fn tell(&self) -> Told<C>
         ensures { result ≡ self.now }
     {
@@ -173,7 +173,8 @@ impl<C: Channels, R: Wait + Drop, A: Allocator + Copy> BoardWriter<C, R, A> {
         }
     }
 
-    /// A reader that knows of all that was published so far; `NoReader` where the board has no place for one more.
+    /// A reader that knows all shots that were published so far. `NoReader` where the board has no place for one more, or memory is
+    /// refused.
     pub fn reader(&self) -> Result<BoardReader<C, A>, NoReader>
         ensures { IfOk result (λ reader. reader ≡ self.now) }
     {

@@ -11,7 +11,7 @@ use Rattle.supervise_core.specs.declared.change.Change.TheVariants.{Report, Cont
 use Rattle.supervise_core.specs.declared.chart.ChartState.{ChartState}
 use Rattle.supervise_core.specs.ChartState.{Moved, no_move}
 
--- the five reports, whose generation tells whether they are stale, letters, the timer, and what a look at the directory tells
+-- the five reports, of which the phase and the generation tell whether they are stale; letters; the timer; a look at the directory
 abbrev pub changed_by : Change → ℕ → ChartState → Moved
 changed_by (Report (Started sid generation pid)) now c = started_move generation pid now c
 changed_by (Report (StartFailed sid generation)) now c = start_failed_move generation now c

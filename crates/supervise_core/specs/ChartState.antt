@@ -8,7 +8,7 @@ use Rattle.supervise_core.specs.declared.chart.ChartState.{ChartState}
 use Rattle.supervise_core.specs.declared.phase.Phase.{Phase}
 use Rattle.supervise_core.specs.declared.phase.Phase.TheVariants.{Down, Starting, Up, Finish, Gone}
 
--- an active service that no supervisor has begun yet
+-- an active service whose supervisor has not started yet
 abbrev pub new_service : ℕ → List ℕ → Config → ChartState
 new_service sid name config = record {
   sid = sid;
@@ -37,7 +37,7 @@ pub record Moved : Type 0 where
   pub deaths : List (ℕ × Exit)
   pub stale : Bool
 
--- the state alone
+-- a move that leaves this state and gives nothing
 abbrev pub no_move : ChartState → Moved
 no_move c = record { chart = c; marks = []; orders = []; deaths = []; stale = false }
 

@@ -1,4 +1,4 @@
--- The control letters: what each of them does in each phase. control_letter.Once the supervisor has ended no letter does anything.
+-- The control letters: what each of them does in each phase. Once the supervisor has ended, no letter does anything.
 use Rattle.std.specs.Prelude.{ℕ, List, ◌++◌, Bool, true, false, fold, Option, None, Some, if◌then◌else◌}
 use Rattle.s6_events.specs.declared.order.Order.TheVariants.{Signal}
 use Rattle.control_letters.specs.declared.control_letter.ControlLetter.{ControlLetter}
@@ -17,14 +17,14 @@ up_move c =
     else if is_down c.phase then run_move (record c { wanted_up = true })
     else no_move (record c { wanted_up = true })
 
--- d: where it is up it gets its down signal, where its start is under way it will get it then
+-- d: where it is up, it gets its down signal; where its start is under way, it gets it once it is up; where it is down, it has no timer
 abbrev pub down_move : Phase → ℕ → ChartState → Moved
 down_move Down now c = no_move (record c { timer = None })
 down_move Starting now c = no_move (record c { down_pending = true })
 down_move Up now c = down_signal_move now c
 down_move _ now c = no_move c
 
--- O: its run is left alone
+-- O: where it is down, it has no timer; its run is left alone
 abbrev pub once_move : ChartState → Moved
 once_move c = no_move (record c { timer = if is_down c.phase then None else c.timer })
 

@@ -37,7 +37,7 @@ pub record BeginsWord (marks : List Mark) : Type 0 where
   pub supervisors : List (List Ran)
   pub spelled : marks ++ rest ≡ spell supervisors
 
--- which mark may come next at a place, and the place after it: places are the marks that lead there, and s leads where D does
+-- which mark may come next at a place, and the place after it. A place is named by the mark that leads there, D where that is s
 abbrev pub next_place : Mark → Mark → Option Mark
 next_place SupervisorEnded SupervisorStarted = Some FinishDone
 next_place FinishDone Spawned = Some Spawned
@@ -54,7 +54,7 @@ abbrev pub step_on : Option Mark → Mark → Option Mark
 step_on None mark = None
 step_on (Some place) mark = next_place place mark
 
--- the place after marks from a place on, where each of them may come
+-- the place after these marks, which begin at this place, where each of them may come in its turn
 abbrev pub walk : Mark → List Mark → Option Mark
 walk place marks = fold step_on (Some place) marks
 

@@ -4,7 +4,7 @@ use Rattle.servicedir.specs.declared.config.Config.{Config}
 use Rattle.supervise_core.specs.declared.chart.ChartState.{ChartState}
 use Rattle.supervise_core.specs.ChartState.{is_gone}
 
--- the directory is listed, or no longer listed: an ended supervisor starts again a second after it came back, and not while away
+-- whether the directory is listed: where the supervisor has ended, a new one starts a second after it came back, and none while away
 abbrev pub with_activity : Bool → ℕ → ChartState → ChartState
 with_activity active now c =
     if is_gone c.phase then

@@ -7,7 +7,7 @@ use Rattle.supervise_core.specs.declared.chart.ChartState.{ChartState}
 use Rattle.supervise_core.specs.declared.out.Out.{Out}
 use Rattle.supervise_core.specs.ChartState.{Moved}
 
--- the state and the answer are those of the move
+-- the state, the marks, the orders and whether it was stale are those of the move
 pub record MatchesMove (moved : Moved) (after : ChartState) (out : Out) : Type 0 where
   pub chart : after ≡ moved.chart
   pub marks : out.events.items ≡ moved.marks

@@ -40,12 +40,12 @@ abbrev pub begin_move : ChartState → Moved
 begin_move c = with_mark SupervisorStarted
     (if c.config.down then no_move (at_beginning c) else run_move (at_beginning c))
 
--- an armed timer is kept; none is armed where timeout-kill is 0
+-- a timer that is set is kept; none is set where timeout-kill is 0
 abbrev pub kill_timer : ℕ → ℕ → Option ℕ → Option ℕ
 kill_timer now timeout (Some due) = Some due
 kill_timer now timeout None = if timeout == 0 then None else Some (now + timeout)
 
--- the run gets its down signal and SIGCONT, and a SIGKILL later
+-- the run gets its down signal and SIGCONT, and a SIGKILL when the timer goes off, if there is one
 abbrev pub down_signal_move : ℕ → ChartState → Moved
 down_signal_move now c = record {
   chart = record c { paused = false; timer = kill_timer now c.config.timeout_kill c.timer };

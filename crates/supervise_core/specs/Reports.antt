@@ -36,7 +36,7 @@ started_move generation pid now c =
     else no_move (with_run pid c))
     else stale_move c
 
--- the run could not be spawned: the supervisor ends where it was told to, and another spawn is tried after a minute
+-- the run could not be spawned: the supervisor ends where it was told to; else another spawn is tried after a minute, if it is wanted up
 abbrev pub failed_spawn_move : ℕ → ChartState → Moved
 failed_spawn_move now c =
     if c.exit_requested then end_move now (record c { phase = Down; down_pending = false })
@@ -65,7 +65,7 @@ notify_move generation bytes now c =
     (if says_ready bytes c then with_mark Ready (no_move (record c { ready_since = Some now })) else no_move c)
     else stale_move c
 
--- the run has died so
+-- the state once the run died with this exit
 abbrev pub with_last_exit : Exit → ℕ → ChartState → ChartState
 with_last_exit exit now c = record c { died_at = now; last_exit = Some exit; paused = false; timer = None }
 

@@ -18,7 +18,7 @@ pub record Supervised : Type 0 where
   pub status : Status
   pub tally : Deaths
 
--- what stands of it beside its tally
+-- a service without its tally
 pub record ServiceView : Type 0 where
   pub chart : ChartState
   pub status : Status
@@ -26,7 +26,7 @@ pub record ServiceView : Type 0 where
 abbrev pub service_view : Supervised → ServiceView
 service_view s = record { chart = s.chart; status = s.status }
 
--- a death that was reported at this moment, unless the report was stale
+-- the death that was reported at this moment, unless the report was stale
 abbrev pub death_unless : Bool → ℕ → Exit → Option (ℕ × Exit)
 death_unless false now exit = Some (now, exit)
 death_unless true now exit = None

@@ -19,7 +19,7 @@ abbrev pub seconds_since : ℕ → Option ℕ → Option ℕ
 seconds_since now None = None
 seconds_since now (Some since) = Some ((now - since) / 1000)
 
--- the row of a service whose current letter is this one, and which was told u or d, and U or D, at these moments
+-- the row of a service whose current letter is this one; u or d was told last at the first moment, U or D at the second one
 abbrev pub row_of : Mark → Option ℕ → Option ℕ → ℕ → ChartState → Row
 row_of letter up_or_down ready_or_done now c = record {
   sid = c.sid;

@@ -20,6 +20,6 @@ timer_rule Up c = with_order (Signal c.sid c.generation 9) (record c { timer = N
 timer_rule Finish c = with_order (KillFinish c.sid c.generation) (record c { timer = None })
 timer_rule Gone c = begin_move c
 
--- a service whose timer is due takes its rule, and another one stays
+-- a service whose timer is due takes the timer's rule, and any other one stays as it is
 abbrev pub fire_move : ℕ → ChartState → Moved
 fire_move now c = if is_due now c.timer then timer_rule c.phase c else no_move c

@@ -8,8 +8,8 @@ use super::phase::Phase;
 use s6_events::At;
 
 impl ChartState {
-    /// Its directory is listed, or no longer listed. That matters to an ended supervisor: it starts again 1000 ms after its
-    /// directory came back, and never while the directory is away. Page `s6-svscan`; the 1000 ms are chosen here.
+    /// Tells the service whether its directory is listed. Where its supervisor has ended, a new one starts 1000 ms after the directory
+    /// came back, and none while the directory is away. Page `s6-svscan`; the 1000 ms are chosen here.
     pub fn set_active(&mut self, active: bool, now: At)
         ensures { self.new ≡ with_activity active now self.old }
     {

@@ -9,8 +9,8 @@ use servicedir::Config;
 /// What may happen to a service: a report of the outside, letters of a user, its timer, or a look at its directory.
 #[derive(Clone, Debug, PartialEq, Eq, Drop)]
 pub enum Change {
-    /// A report of its `run` or its `finish`. Whether it is stale is told by the generation in it, never by the serial: a report is
-    /// handed to the service that it names.
+    /// A report of its `run` or its `finish`. The phase and the generation in the report tell whether it is stale, never the serial: a
+    /// report is handed to the service that it names.
     Report(Report),
     /// A user sent these letters.
     Control(Letters),
@@ -23,7 +23,8 @@ pub enum Change {
 }
 
 impl Change {
-    /// The death that joins the tally of a service by this change, at this moment: that of a report that was not stale.
+    /// The death that this change, at this moment, adds to the tally of a service: that of a death report that was not stale. None for any
+    /// other change.
     pub fn death(&self, stale: bool, now: At) -> Option<(At, Exit)>
         ensures { result ≡ death_by self.now stale now }
     {

@@ -25,7 +25,7 @@ pub struct ChartState {
     pub exit_requested: bool,
     /// It was told to go down while its start was under way; the down signal follows when it is spawned.
     pub down_pending: bool,
-    /// Since when this run has been ready.
+    /// Since when the present run, or in Finish the dead one, has been ready; None where it hasn't said so.
     pub ready_since: Option<At>,
     /// It was told to stop by SIGSTOP.
     pub paused: bool,
@@ -54,7 +54,7 @@ impl Default for ChartState {
 }
 
 impl ChartState {
-    // An active service that no supervisor has begun yet.
+    // An active service whose supervisor has not started yet.
     fn new(sid: Sid, name: Name, config: Config) -> ChartState
         ensures { result ≡ new_service sid name config }
     {
@@ -102,8 +102,8 @@ impl ChartState {
         out
     }
 
-    /// `change`, whose marks and orders are added to what is in `out`. For letters `out` has to hold no order, whatever their
-    /// number.
+    /// As `change`, but it adds the marks and orders to what is in `out`. For letters `out` must hold no order, even where they are
+    /// few.
     pub fn change_onto(&mut self, change: &Change, now: At, out: &mut Out)
         requires marks { length out.old.events.items + most_marks change.now ≤ 4 }
         requires room { length out.old.orders.items + most_orders change.now ≤ 126 }

@@ -25,8 +25,7 @@ impl ChartState {
         out
     }
 
-    /// `control`, whose mark, one at most, and whose orders, two for each letter at most, are added to what is in `out`. This
-    /// project's own.
+    /// As `control`, but it adds its mark, at most one, and its orders, at most two for each letter, to what is in `out`.
     pub fn control_onto(&mut self, letters: &Letters, now: At, out: &mut Out)
         requires marks { length out.old.events.items < 4 }
         requires room { length out.old.orders.items + 2 * length letters.now.items ≤ 126 }
@@ -40,7 +39,7 @@ impl ChartState {
         self.take_letters(letters.as_slice(), now, out);
     }
 
-    // These letters, one after the other.
+    // Takes these letters, one after the other.
     pub(crate) fn take_letters(&mut self, letters: &[ControlLetter], now: At, out: &mut Out)
         requires marks { length out.old.events.items < 4 }
         requires room { length out.old.orders.items + 2 * length letters.now ≤ 126 }
@@ -56,7 +55,7 @@ impl ChartState {
         }
     }
 
-    // One letter.
+    // Takes one letter.
     fn take_letter(&mut self, letter: ControlLetter, now: At, out: &mut Out)
         requires marks { length out.old.events.items + marks_left self.old.phase ≤ 4 }
         requires room { length out.old.orders.items + 2 ≤ 126 }

@@ -17,7 +17,7 @@ pub const SUPERVISOR_PAUSE: u32 = 1000;
 
 // The moves that reports and timers are made of. Each adds its marks and orders to those of its change.
 impl ChartState {
-    // The next generation of `run` is ordered.
+    // Orders the next generation of `run`.
     pub(crate) fn start_run(&mut self, out: &mut Out)
         requires room { length out.old.orders.items < 126 }
         requires next { self.old.generation + 1 < 2 ^ 64 }
@@ -64,7 +64,7 @@ impl ChartState {
         self.timer = self.kill_timer(now);
     }
 
-    // The timer of a run that was told to go down: an armed one is kept.
+    // The timer of a run that was told to go down: where one is set, it is kept.
     fn kill_timer(&self, now: At) -> Option<u64>
         ensures { result ≡ kill_timer now self.now.config.timeout_kill self.now.timer }
     {
@@ -75,7 +75,7 @@ impl ChartState {
         }
     }
 
-    // `finish` is ordered for a run that ended so.
+    // Orders `finish` for a run that ended with this exit.
     pub(crate) fn start_finish(&mut self, exit: Exit, now: At, out: &mut Out)
         requires { length out.old.orders.items < 126 }
         ensures { AppendsMove (finish_move exit now self.old) self.new out.old out.new }

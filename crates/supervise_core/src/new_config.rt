@@ -6,8 +6,8 @@ use super::chart::ChartState;
 use servicedir::Config;
 
 impl ChartState {
-    /// Its directory was read again, and says this now. The number of deaths that are kept stays that of the scan that opened
-    /// the service. Page `servicedir`.
+    /// Takes the configuration that was now read of its directory. How many deaths are kept stays as it was when the service was
+    /// added. Page `servicedir`.
     pub fn set_config(&mut self, config: Config)
         ensures { self.new ≡ with_config config self.old }
     {

@@ -1,5 +1,5 @@
 //! The five phases of a service.
-/// Where a service stands. Page `s6-supervise`, "Detailed operation".
+/// The phase of a service. Page `s6-supervise`, "Detailed operation".
 #[derive(Clone, Copy, Debug, PartialEq, Eq)]
 pub enum Phase {
     /// Neither `run` nor `finish` is there.

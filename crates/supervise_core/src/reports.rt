@@ -15,28 +15,28 @@ const SPAWN_PAUSE: u32 = 60000;
 
 // The reports of the outside. A report of another generation, or in a phase to which it does not belong, is stale.
 impl ChartState {
-    // The run of this generation was ordered, and nothing is known of it yet.
+    // Whether the run of this generation was ordered, and nothing is known of it yet.
     fn is_awaiting(&self, generation: u64) -> bool
         ensures { result ≡ is_awaiting generation self.now }
     {
         self.phase == Phase::Starting && self.generation == generation
     }
 
-    // The run of this generation is there.
+    // Whether the run of this generation is there.
     fn is_running(&self, generation: u64) -> bool
         ensures { result ≡ is_running generation self.now }
     {
         self.phase == Phase::Up && self.generation == generation
     }
 
-    // The finish of this generation is there.
+    // Whether the finish of this generation is there.
     fn is_in_finish(&self, generation: u64) -> bool
         ensures { result ≡ is_in_finish generation self.now }
     {
         self.phase == Phase::Finish && self.generation == generation
     }
 
-    // These bytes of the run say, for the first time, that it is ready.
+    // Whether these bytes, which the run wrote, say for the first time that it is ready.
     fn says_ready(&self, bytes: &[u8]) -> bool
         ensures { result ≡ says_ready bytes.now self.now }
     {
@@ -55,7 +55,7 @@ impl ChartState {
         out
     }
 
-    /// `started`, whose mark and whose orders, two at most, are added to what is in `out`.
+    /// As `started`, but it adds its mark and its orders, at most two, to what is in `out`.
     pub fn started_onto(&mut self, generation: u64, pid: u32, now: At, out: &mut Out)
         requires marks { length out.old.events.items < 4 }
         requires room { length out.old.orders.items + 2 ≤ 126 }
@@ -79,10 +79,10 @@ impl ChartState {
         }
     }
 
-    /// A spawn failed. Of `run`: it is tried again after 60000 ms, unless it is no longer wanted up; where its supervisor was
-    /// told to end, it ends. Of `finish`: it counts as done, mark `D` and what comes next. Stale unless that spawn was under
-    /// way or `finish` was there. Page `s6-supervise`, "Detailed operation"; that a `finish` that can't be spawned counts as
-    /// none is chosen here.
+    /// A spawn failed. That of `run`: the supervisor ends, if it was told to; else `run` is tried again after 60000 ms, if it is
+    /// wanted up. That of `finish`: `finish` counts as done, mark `D` and what comes next. Stale unless the start of `run` was under
+    /// way, or `finish` was there. Page `s6-supervise`, "Detailed operation"; that a `finish` that can't be spawned counts as none is
+    /// chosen here.
     pub fn start_failed(&mut self, generation: u64, now: At) -> Out
         requires { self.old.generation + 1 < 2 ^ 64 }
         ensures gives { MatchesMove (start_failed_move generation now self.old) self.new result }
@@ -94,7 +94,7 @@ impl ChartState {
         out
     }
 
-    /// `start_failed`, whose marks, two at most, and whose order are added to what is in `out`.
+    /// As `start_failed`, but it adds its marks, at most two, and its order to what is in `out`.
     pub fn start_failed_onto(&mut self, generation: u64, now: At, out: &mut Out)
         requires marks { length out.old.events.items + 2 ≤ 4 }
         requires room { length out.old.orders.items < 126 }
@@ -142,7 +142,7 @@ impl ChartState {
         out
     }
 
-    /// `notify`, whose mark is added to what is in `out`. It gives no order.
+    /// As `notify`, but it adds its mark to what is in `out`. It gives no order.
     pub fn notify_onto(&mut self, generation: u64, bytes: &[u8], now: At, out: &mut Out)
         requires { length out.old.events.items < 4 }
         ensures gives { AppendsMove
@@ -160,8 +160,8 @@ impl ChartState {
         }
     }
 
-    /// `run` died: mark `d`, and `finish` is ordered where there is one. Else mark `D` and what comes next: the end of the
-    /// supervisor, rest, a start at once after more than 1000 ms of readiness, else 1000 ms after the death. Stale unless it was
+    /// `run` died: mark `d`, and `finish` is ordered where there is one. Else mark `D` and what comes next: the supervisor ends, or the
+    /// service rests, or it is started, at once after more than 1000 ms of readiness, else 1000 ms after the death. Stale unless it was
     /// up. Pages `s6-supervise`, "Detailed operation", and `servicedir`, "finish"; the length of the pause is chosen here.
     pub fn death(&mut self, generation: u64, exit: Exit, now: At) -> Out
         requires { self.old.generation + 1 < 2 ^ 64 }
@@ -174,7 +174,7 @@ impl ChartState {
         out
     }
 
-    /// `death`, whose marks, three at most, and whose order are added to what is in `out`.
+    /// As `death`, but it adds its marks, at most three, and its order to what is in `out`.
     pub fn death_onto(&mut self, generation: u64, exit: Exit, now: At, out: &mut Out)
         requires marks { length out.old.events.items + 3 ≤ 4 }
         requires room { length out.old.orders.items < 126 }
@@ -202,8 +202,8 @@ impl ChartState {
     }
 
     /// `finish` ended: mark `D` and what comes next, as after a death without `finish`. With the exit code 125 the service has
-    /// failed for good: mark `O` before, and it is no longer wanted up. Stale unless `finish` was there. Pages `servicedir`,
-    /// "finish", and `s6-supervise`, "Events".
+    /// failed for good: mark `O` comes before the `D`, and it is no longer wanted up. Stale unless `finish` was there. Pages
+    /// `servicedir`, "finish", and `s6-supervise`, "Events".
     pub fn finish_ended(&mut self, generation: u64, exit: Exit, now: At) -> Out
         requires { self.old.generation + 1 < 2 ^ 64 }
         ensures gives { MatchesMove
@@ -216,7 +216,7 @@ impl ChartState {
         out
     }
 
-    /// `finish_ended`, whose marks, three at most, and whose order are added to what is in `out`.
+    /// As `finish_ended`, but it adds its marks, at most three, and its order to what is in `out`.
     pub fn finish_ended_onto(&mut self, generation: u64, exit: Exit, now: At, out: &mut Out)
         requires marks { length out.old.events.items + 3 ≤ 4 }
         requires room { length out.old.orders.items < 126 }

@@ -1,4 +1,4 @@
-//! A service with its tally, as whoever embeds it drives it.
+//! A service with its tally, and the calls by which it is driven.
 ghost use Rattle.std.specs.Prelude.{◌≡◌, ◌+◌, ◌<◌, ◌^◌, ◌++◌, List, IfOk};
 ghost use Rattle.s6_events.specs.declared.moment.Moment.{Moment};
 ghost use Rattle.supervise_core.specs.ChartState.{new_service, no_move};
@@ -73,7 +73,7 @@ impl<A: Allocator + Copy> Service<A> {
         ))
     }
 
-    /// Its state without its deaths, which takes the same changes.
+    /// A copy of its state without its deaths. The copy takes the same changes.
     pub fn chart(&self) -> ChartState
         ensures { result ≡ self.now.chart }
     {
@@ -103,14 +103,14 @@ impl<A: Allocator + Copy> Service<A> {
         *status
     }
 
-    /// Its last deaths, as many as it keeps at most. Page `servicedir`, `max-death-tally`.
+    /// Its tally: its last deaths, and how many it keeps at most. Page `servicedir`, `max-death-tally`.
     pub fn tally(&self) -> &Tally<A>
         ensures { result.now ≡ self.now.tally }
     {
         &self.tally
     }
 
-    /// All of it as plain data. `NoMemory` where a growth was refused.
+    /// All of it as plain data. `NoMemory` where memory is refused.
     pub fn image(&self, alloc: A) -> Result<ServiceImage<A>, NoMemory>
         ensures { IfOk result (λ image. image ≡ self.now) }
     {
@@ -122,14 +122,14 @@ impl<A: Allocator + Copy> Service<A> {
         })
     }
 
-    /// Its state and what it stores of its marks, in a copy that takes the same changes.
+    /// A copy of its state and of what it stores of its marks. The copy takes the same changes.
     pub fn standing(&self) -> ServiceState
         ensures { result ≡ service_view self.now }
     {
         ServiceState::new(self.chart, self.status)
     }
 
-    // A death joins the tally, where there is one.
+    // Adds the death to the tally, if there is one.
     fn join(&mut self, death: Option<(At, Exit)>)
         ensures { self.new ≡ record self.old { tally = tally_with self.old.tally death } }
     {
@@ -138,7 +138,8 @@ impl<A: Allocator + Copy> Service<A> {
         }
     }
 
-    /// Takes this state and this status, which were made from its own by changes, and the death that these reported, if they did.
+    /// Takes over the state and the status of `standing`, a copy of its own that took changes, and adds to its tally the death that these
+    /// reported, if they did.
     pub fn adopt(&mut self, standing: ServiceState, death: Option<(At, Exit)>)
         ensures { self.new ≡ with_view standing death self.old }
     {
@@ -147,7 +148,7 @@ impl<A: Allocator + Copy> Service<A> {
         self.join(death);
     }
 
-    /// Its status row: that of each history which agrees with what it stores. Page `s6-svstat`.
+    /// Its status row, which is that of every history that agrees with what it stores. Page `s6-svstat`.
     pub fn row(&self, now: At) -> Row
         ensures { (history : List Moment) → AgreesWith self.now history
             → result ≡ status_row history now self.now.chart }
@@ -168,9 +169,9 @@ impl<A: Allocator + Copy> Service<A> {
         out
     }
 
-    /// `run` or `finish` of this generation could not be spawned: `run` is tried again after 60000 ms, and `finish` counts as done.
-    /// Stale unless one of them was being spawned. Page `s6-supervise`, "Detailed operation"; what a failed spawn of `finish` means
-    /// is chosen here.
+    /// `run` or `finish` of this generation could not be spawned. The supervisor ends, if it was told to; else `run` is tried again after
+    /// 60000 ms, if it is wanted up. `finish` counts as done. Stale unless the start of `run` was under way, or `finish` was there. Page
+    /// `s6-supervise`, "Detailed operation"; what a failed spawn of `finish` means is chosen here.
     pub fn start_failed(&mut self, generation: u64, now: At) -> Out
         requires { self.old.chart.generation + 1 < 2 ^ 64 }
         ensures gives { MatchesMove
@@ -215,7 +216,7 @@ impl<A: Allocator + Copy> Service<A> {
         out
     }
 
-    /// `finish` of this generation ended: mark `D` and what comes next, after the exit code 125 mark `O` first. Stale unless it was
+    /// `finish` of this generation ended: mark `D` and what comes next; with the exit code 125, mark `O` first. Stale unless it was
     /// there. Pages `servicedir`, "finish", and `s6-supervise`, "Events".
     pub fn finish_ended(&mut self, generation: u64, exit: Exit, now: At) -> Out
         requires { self.old.chart.generation + 1 < 2 ^ 64 }
@@ -245,7 +246,7 @@ impl<A: Allocator + Copy> Service<A> {
         out
     }
 
-    /// Its timer goes off where its moment has come: a start, a SIGKILL or a new supervisor. Page `s6-supervise`.
+    /// Its timer goes off, where it is due: a start, a SIGKILL or a new supervisor. Else nothing happens. Page `s6-supervise`.
     pub fn fire(&mut self, now: At) -> Out
         requires { self.old.chart.generation + 1 < 2 ^ 64 }
         ensures gives { MatchesMove (fire_move now self.old.chart) self.new.chart result }
@@ -258,8 +259,8 @@ impl<A: Allocator + Copy> Service<A> {
         out
     }
 
-    /// Takes any of the changes. Whatever marks led to where it stood, they lead to where it stands with those of the change: they
-    /// are the beginning of a word of (`s` (`u` `U`? `d` `O`? `D`)* `x`)*. Page `s6-supervise`, "Events".
+    /// Takes any of the changes. All its marks together begin a word of (`s` (`u` `U`? `d` `O`? `D`)* `x`)*: where some marks led to its
+    /// state before, these and the marks of the change lead to its state after. Page `s6-supervise`, "Events".
     pub fn change(&mut self, change: &Change, now: At) -> Out
         requires { self.old.chart.generation + 1 < 2 ^ 64 }
         ensures gives { MatchesMove
@@ -277,7 +278,7 @@ impl<A: Allocator + Copy> Service<A> {
         out
     }
 
-    /// Its directory is listed, or no longer listed. Page `s6-svscan`.
+    /// Tells it whether its directory is listed. Page `s6-svscan`.
     pub fn set_active(&mut self, active: bool, now: At) -> Out
         ensures gives { MatchesMove
             (no_move (with_activity active now self.old.chart)) self.new.chart result }
@@ -289,7 +290,7 @@ impl<A: Allocator + Copy> Service<A> {
         Out::new()
     }
 
-    /// Its directory was read again, and says this now; the number of deaths that are kept stays as it was. Page `servicedir`.
+    /// Takes the configuration that was now read of its directory; how many deaths are kept stays as it was. Page `servicedir`.
     pub fn set_config(&mut self, config: Config) -> Out
         ensures gives { MatchesMove
             (no_move (with_config config self.old.chart)) self.new.chart result }

@@ -14,8 +14,8 @@ use s6_events::{At, Sid};
 use servicedir::Config;
 use std::marker::Model;
 
-/// What stands of a service beside its deaths: its state, and what it stores of its marks. It is copyable and takes each change as
-/// its service does, so that a change is known before it is made. No change takes memory.
+/// A service without its tally: its chart state, and what it stores of its marks. It is copyable and takes each change as its service
+/// does, so that a change is known before it is made. No change takes memory.
 #[derive(Clone, Copy)]
 pub struct ServiceState {
     chart: ChartState,
@@ -33,7 +33,7 @@ impl Model for ServiceState {
 }
 
 impl ServiceState {
-    // This state, and this status.
+    // A service with this state and this status.
     pub(crate) fn new(chart: ChartState, status: Status) -> ServiceState
         ensures chart { result.chart ≡ chart }
         ensures status { result.status ≡ status }
@@ -86,9 +86,9 @@ impl ServiceState {
         out
     }
 
-    /// `change`, whose marks and orders are added to what is in `out`. For letters `out` has to hold no order, whatever their
-    /// number. Whatever marks led to where the service stood, they lead to where it stands with those of the change: they are the
-    /// beginning of a word of (`s` (`u` `U`? `d` `O`? `D`)* `x`)*. Page `s6-supervise`, "Events".
+    /// As `change`, but it adds the marks and orders to what is in `out`. For letters `out` must hold no order, even where they are few.
+    /// All marks of the service together begin a word of (`s` (`u` `U`? `d` `O`? `D`)* `x`)*: where some marks led to its state before,
+    /// these and the marks of the change lead to its state after. Page `s6-supervise`, "Events".
     pub fn change_onto(&mut self, change: &Change, now: At, out: &mut Out)
         requires marks { length out.old.events.items + most_marks change.now ≤ 4 }
         requires room { length out.old.orders.items + most_orders change.now ≤ 126 }
@@ -110,14 +110,14 @@ impl ServiceState {
             .record_marks(&out.events.as_slice()[before..], now);
     }
 
-    /// Its directory is listed, or no longer listed. Page `s6-svscan`.
+    /// Tells it whether its directory is listed. Page `s6-svscan`.
     pub fn set_active(&mut self, active: bool, now: At)
         ensures { self.new ≡ record self.old { chart = with_activity active now self.old.chart } }
     {
         self.chart.set_active(active, now);
     }
 
-    /// Its directory was read again, and says this now; the number of deaths that are kept stays as it was. Page `servicedir`.
+    /// Takes the configuration that was now read of its directory; how many deaths are kept stays as it was. Page `servicedir`.
     pub fn set_config(&mut self, config: Config)
         ensures { self.new ≡ record self.old { chart = with_config config self.old.chart } }
     {

@@ -10,15 +10,15 @@ use s6_events::{At, Order, SIGKILL};
 
 // The timer.
 impl ChartState {
-    /// Whether its timer goes off.
+    /// Whether its timer is due: it is set to a moment that is not after `now`.
     pub fn is_due(&self, now: At) -> bool
         ensures { result ≡ is_due now self.now.timer }
     {
         self.timer.is_some_and(|due| due <= now.millis())
     }
 
-    /// Its timer goes off where its moment has come, and else nothing happens: a start, a SIGKILL for `run` or `finish`, or a new
-    /// supervisor. Pages `s6-supervise` and `servicedir`, "timeout-kill" and "timeout-finish".
+    /// Its timer goes off, where it is due: a start, a SIGKILL for `run` or `finish`, or a new supervisor, by the phase. Else nothing
+    /// happens. Pages `s6-supervise` and `servicedir`, "timeout-kill" and "timeout-finish".
     pub fn fire(&mut self, now: At) -> Out
         requires { self.old.generation + 1 < 2 ^ 64 }
         ensures gives { MatchesMove (fire_move now self.old) self.new result }
@@ -31,7 +31,7 @@ impl ChartState {
         out
     }
 
-    /// `fire`, whose mark and whose order are added to what is in `out`.
+    /// As `fire`, but it adds its mark and its order to what is in `out`.
     pub fn fire_onto(&mut self, now: At, out: &mut Out)
         requires marks { length out.old.events.items < 4 }
         requires room { length out.old.orders.items < 126 }

@@ -5,7 +5,7 @@ use Rattle.s6_events.specs.declared.field.Field.{Field}
 use Rattle.s6_events.specs.declared.field.Field.TheVariants.{Up, WantedUp, NormallyUp, Ready, Paused, Pid, ExitCode}
 use Rattle.s6_events.specs.declared.field.Field.TheVariants.{Signal, UpDownFor, ReadyFor}
 
--- the name that a field is asked for by
+-- the name by which a field is asked for
 abbrev pub field_name : Field → List ℕ
 field_name Up = codes "up"
 field_name WantedUp = codes "wantedup"
@@ -18,7 +18,7 @@ field_name Signal = codes "signum"
 field_name UpDownFor = codes "updownfor"
 field_name ReadyFor = codes "readyfor"
 
--- all of them
+-- all fields
 abbrev pub fields : List Field
 fields = Up ∷ WantedUp ∷ NormallyUp ∷ Ready ∷ Paused ∷ Pid ∷ ExitCode ∷ Signal ∷ UpDownFor ∷ ReadyFor ∷ []
 

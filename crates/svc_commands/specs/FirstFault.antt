@@ -21,7 +21,7 @@ abbrev pub names_fault : List (List ℕ) → Option UsageFault
 names_fault names = first_that_holds
     ((not (list_all is_name names), BadName) ∷ (nat_lt 16 (length names), TooMany) ∷ [])
 
--- the fault of what svwait or svlisten was told, where clap took it; a program may be missing
+-- the fault of the words of svwait or svlisten, where clap takes them; `lacks_program`: svlisten was given no program
 abbrev pub wait_fault : Bool → List Row → Option UsageFault
 wait_fault lacks_program rows = first_that_holds (
     (nat_lt 1 (condition_count rows) || nat_lt 1 (mode_count rows), TooMany)
@@ -31,7 +31,7 @@ wait_fault lacks_program rows = first_that_holds (
     ∷ (nat_lt 16 (length (names_of rows)), TooMany)
     ∷ [])
 
--- the fault of what svstat was told, where clap took it
+-- the fault of the words of svstat, where clap takes them
 abbrev pub stat_fault : List Row → Option UsageFault
 stat_fault rows = first_that_holds (
     (is_bad_list (list_given rows), BadList)
@@ -39,7 +39,7 @@ stat_fault rows = first_that_holds (
     ∷ (not (list_all is_name (option_to_list (name_given rows))), BadName)
     ∷ [])
 
--- the fault of what permafailon was told, where clap took it
+-- the fault of the words of permafailon, where clap takes them
 abbrev pub permafail_fault : List Row → Option UsageFault
 permafail_fault rows = first_that_holds (
     (is_bad_number (secs_given rows) || is_bad_number (count_given rows), BadNumber)
@@ -56,7 +56,7 @@ permafail_fault rows = first_that_holds (
 abbrev pub IsTaken : Kinds → Option UsageFault → Type 0
 IsTaken kinds told = (kinds ≡ []) × (told ≡ None)
 
--- a growth was refused; or clap refuses the words; or it takes them, and this is told
+-- memory was refused; or clap refuses the words; or it takes them, and their fault is this one
 abbrev pub IsRefusal : Kinds → Option UsageFault → UsageFault → Type 0
 IsRefusal kinds told fault =
     (fault ≡ NoMemory) ⊎ ((fault ≡ Unknown) × (kinds ≢ [])) ⊎ ((kinds ≡ []) × (told ≡ Some fault))

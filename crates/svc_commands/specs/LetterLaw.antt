@@ -1,4 +1,4 @@
--- What the words of svc and svscanctl have to be, in whatever order they are read.
+-- Which words svc and svscanctl take, whatever the order in which faults are looked for.
 use Rattle.std.specs.Prelude.{◌≡◌, ◌≤◌, ◌↔◌, ◌&&◌, ℕ, List, [], ◌∷◌, Bool, true, false, None, length, drop, filter}
 use Rattle.std.specs.List.{list_all}
 use Rattle.s6_events.specs.Name.{is_name}
@@ -20,7 +20,7 @@ pub record HasLetters {L : Type 0} (meaning : ℕ → List L) (words : List (Lis
   pub some : 1 ≤ length (letters_in meaning words)
   pub few : length (letters_in meaning words) ≤ 63
 
--- one of the words is no run, and it is a name
+-- just one of the words is no run, and it is a name
 pub record HasOneName (words : List (List ℕ)) : Type 0 where
   pub one : length (names_in words) ≡ 1
   pub name : list_all is_name (names_in words) ≡ true

@@ -15,7 +15,7 @@ use Rattle.svc_commands.specs.declared.usage_fault.UsageFault.TheVariants.{Unkno
 abbrev pub is_run : List ℕ → Bool
 is_run word = nat_le 1 (length word) && (slice_index word 0 == 45)
 
--- the letters of the runs among the words, in the order written; a byte has a meaning of some letters
+-- the letters of the runs among the words, in the order written; `meaning` gives the letters that a byte means
 abbrev pub letters_in : {L : Type 0} → (ℕ → List L) → List (List ℕ) → List L
 letters_in meaning words = flat_map (λ word. flat_map meaning (drop 1 word)) (filter is_run words)
 
@@ -23,17 +23,17 @@ letters_in meaning words = flat_map (λ word. flat_map meaning (drop 1 word)) (f
 abbrev pub names_in : List (List ℕ) → List (List ℕ)
 names_in words = filter (λ word. not (is_run word)) words
 
--- the first where there is one, else the later
+-- the first fault where there is one, else the later one
 abbrev pub first_told : Option UsageFault → Option UsageFault → Option UsageFault
 first_told (Some fault) later = Some fault
 first_told None later = later
 
--- n letters stand before a byte: one with no meaning is unknown, and a 64th letter is too much
+-- the fault of a byte that means these letters, after n letters: Unknown where it means none, TooMany where there is a 64th letter
 abbrev pub letter_fault : {L : Type 0} → ℕ → List L → Option UsageFault
 letter_fault n [] = Some Unknown
 letter_fault n (l ∷ ls) = if nat_lt 63 (n + length (l ∷ ls)) then Some TooMany else None
 
--- the first fault of some bytes
+-- the first fault of some bytes, after n letters
 abbrev pub letters_fault : {L : Type 0} → (ℕ → List L) → ℕ → List ℕ → Option UsageFault
 letters_fault meaning n [] = None
 letters_fault meaning n (b ∷ bs) =
@@ -57,7 +57,7 @@ words_fault meaning other n named (w ∷ ws) =
 unfoldable pub svc_letters : ℕ → List ControlLetter
 svc_letters b = if b == 111 then Up ∷ Once ∷ [] else option_to_list (letter_of_byte b)
 
--- svc takes one name
+-- the fault of a word that is no run, for svc: BadName where it is no name, TooMany where a name came before
 abbrev pub name_fault : Bool → List ℕ → Option UsageFault
 name_fault named word = if not (is_name word) then Some BadName else if named then Some TooMany else None
 

@@ -108,7 +108,7 @@ mode_of rows = if is_given (codes "o") rows then mode.One else mode.All
 abbrev pub timeout_given : List Row → Option Text
 timeout_given rows = first_of (codes "t") rows
 
--- a number that was given is none
+-- what was given as a number is none
 abbrev pub is_bad_number : Option Text → Bool
 is_bad_number None = false
 is_bad_number (Some text) = is_none (number_of text)
@@ -151,16 +151,16 @@ count_given rows = first_of (codes "count") rows
 abbrev pub exits_given : List Row → Option Text
 exits_given rows = first_of (codes "list") rows
 
--- a list of exits that was given is none
+-- what was given as a list of exits is none
 abbrev pub are_bad_exits : Option Text → Bool
 are_bad_exits None = false
 are_bad_exits (Some text) = is_none (death_list text)
 
--- the place of the first two dashes, or the end
+-- the place of the first word `--`, or the end
 abbrev pub cut_of : List Text → ℕ
 cut_of words = unwrap_or (position (λ word. bytes_eq word (codes "--")) words) (length words)
 
--- the words before it, and those after it
+-- the words before that place, and those after it
 abbrev pub own_words : List Text → List Text
 own_words words = take (cut_of words) words
 

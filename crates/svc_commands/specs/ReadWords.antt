@@ -1,4 +1,4 @@
--- What one word more does to what svc or svscanctl has read.
+-- What one more word adds to what svc or svscanctl has read.
 use Rattle.std.specs.Prelude.{◌≡◌, ℕ, List, [], ◌∷◌, ◌++◌, Bool, Option, Some, length, option_to_list}
 use Rattle.svc_commands.specs.LetterWords.{letters_in, names_in, words_fault}
 use Rattle.svc_commands.specs.declared.usage_fault.UsageFault.{UsageFault}

@@ -2,7 +2,7 @@
 ghost use Rattle.std.specs.Prelude.{◌≡◌, true, false, drop, MatchOption};
 ghost use Rattle.svc_commands.specs.LetterWords.{is_run};
 
-// The letters behind the dash of a run, or None where the word is no run.
+// What is behind the dash of a run; None where the word is no run, which begins with a dash.
 pub fn run_of(word: &[u8]) -> Option<&[u8]>
     ensures { MatchOption result (is_run word.now ≡ false)
         (λ run. (is_run word.now ≡ true) × (run.now ≡ drop 1 word.now)) }

@@ -20,7 +20,7 @@ pub fn plain<'a>(alloc: Global, name: &'a str) -> Command<'a>
         .disable_help_flag(true)
 }
 
-// The command with a letter that is counted.
+// The command with one more option: a letter, of which `clap` counts how often it is given.
 pub fn with_flag<'a>(
     alloc: Global,
     command: Command<'a>,
@@ -34,7 +34,7 @@ pub fn with_flag<'a>(
     command.arg(flag)
 }
 
-// The command with a letter that has a value.
+// The command with one more option: a letter with a value.
 pub fn with_option<'a>(
     alloc: Global,
     command: Command<'a>,
@@ -56,7 +56,7 @@ pub fn with_names<'a>(alloc: Global, command: Command<'a>) -> Result<Command<'a>
     command.arg(names)
 }
 
-// The command with one more word.
+// The command with one more word, told by its place.
 pub fn with_word<'a>(
     alloc: Global,
     command: Command<'a>,
@@ -82,7 +82,7 @@ pub fn with_wait_options<'a>(alloc: Global, command: Command<'a>) -> Result<Comm
     with_option(alloc, command, "t", 't')
 }
 
-// What an error of `clap` is here.
+// The fault for an error of `clap`: NoMemory where memory was refused, else Unknown.
 fn usage(kind: ErrorKind) -> UsageFault
     ensures { result ≡ usage_of kind }
 {
@@ -109,14 +109,14 @@ pub fn matches_in<'a>(
     }
 }
 
-// The text behind an option, or a word by its place.
+// The value of an option, or a word told by its place.
 pub fn text_of<'a>(matches: &ArgMatches<'a>, id: &str) -> Option<&'a str>
     ensures { option_map (λ s. s.now) result ≡ first_of id.now (rows_of (found_of matches.now)) }
 {
     matches.get_str(id)
 }
 
-// The number behind an option, or of a word by its place, where it was given.
+// The value of an option, or a word told by its place, as a number, if it was given. BadNumber where it was given and is no number.
 pub fn number_in(matches: &ArgMatches<'_>, id: &str) -> Result<Option<u32>, UsageFault>
     ensures { let given = first_of id.now (rows_of (found_of matches.now)) in
         MatchResult result (λ number. (is_bad_number given ≡ false) × (number ≡ option_and_then number_of given))
@@ -135,7 +135,7 @@ fn number_written(text: &[u8]) -> Result<u32, UsageFault>
     parse_number(text).ok_or(UsageFault::BadNumber)
 }
 
-// The names.
+// The names that were given.
 pub fn name_words<'m, 'a>(matches: &'m ArgMatches<'a>) -> Option<&'m [&'a str]>
     ensures { option_map (λ s. map (λ v. v.now) s.now) result
         ≡ all_of (codes "names") (rows_of (found_of matches.entry.now)) }

@@ -11,7 +11,7 @@ use s6_events::Name;
 /// The names of one wait: at most 16.
 pub type Names = ArrayVec<Name, 16>;
 
-// The name that a word is.
+// The word as a name. BadName where it is none.
 pub(crate) fn name_of(word: &[u8]) -> Result<Name, UsageFault>
     ensures { MatchResult result (λ name. (name ≡ word.now) × (is_name word.now ≡ true))
         (λ fault. (is_name word.now ≡ false) × (fault ≡ UsageFault.BadName)) }
@@ -19,7 +19,7 @@ pub(crate) fn name_of(word: &[u8]) -> Result<Name, UsageFault>
     Name::new(word).ok_or(UsageFault::BadName)
 }
 
-// The words as names, of which there are at most 16.
+// The words as names. BadName where one of them is none; else TooMany where they are more than 16.
 pub(crate) fn names_in(words: &[&str]) -> Result<Names, UsageFault>
     ensures { let texts = map (λ w. w.now) words.now in
         MatchResult result (λ names. (names.items ≡ texts) × (names_fault texts ≡ None)) (λ fault. names_fault texts ≡ Some fault) }

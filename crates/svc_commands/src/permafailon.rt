@@ -24,10 +24,10 @@ pub struct PermafailCommand {
     pub list: DeathList,
 }
 
-/// Reads the words behind `permafailon`: a name, seconds, a count and a list of exits, each told by its place. Unknown where `clap`
-/// refuses the words, as it does a fifth one. Then the first of these is told: BadNumber for seconds or a count that are no
-/// number, BadList for a list that `DeathList::parse` does not take, Missing for fewer than four words, and BadName. NoMemory
-/// where a growth was refused. Page `s6-permafailon`; the name in front and the order of the faults are chosen here.
+/// Reads the words after `permafailon`: a name, seconds, a count and a list of exits, in this order. Unknown where `clap` refuses the
+/// words, as it does a fifth one. Else the fault is the first of these: BadNumber where the seconds or the count are no number,
+/// BadList where `DeathList::parse` does not take the list, Missing where there are fewer than four words, BadName where the name is
+/// none. NoMemory where memory is refused. Page `s6-permafailon`; the name in front and the order of the faults are chosen here.
 #[tactic(auto, using(crate::proofs::Parses::permafail_is_simple))]
 pub fn compile_permafailon<'a>(
     alloc: Global,

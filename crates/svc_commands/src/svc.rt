@@ -17,9 +17,9 @@ pub struct SvcCommand {
     pub letters: Letters,
 }
 
-/// Reads the words behind `svc`: runs of letters, each behind a dash, and one name, in any order; `o` is `u` and `O`. The first
-/// fault in the order of writing is told: Unknown for a dash alone or a letter that is none, TooMany for a 64th letter or a
-/// second name, BadName for another word that is no name; after all words Missing, where no letter or no name was there. Page
+/// Reads the words after `svc`: runs of letters, each behind a dash, and one name, in any order; `o` is `u` and `O`. The fault is the
+/// first one, in the order of the words: Unknown for a dash alone or an unknown letter, TooMany for a 64th letter or a second name,
+/// BadName for a word that is neither a run nor a name. After all words it is Missing, where there was no letter or no name. Page
 /// `s6-svc`; the limit and the faults are chosen here.
 pub fn compile_svc(words: &[&str]) -> Result<SvcCommand, UsageFault>
     ensures { MatchResult result (IsSvcCommand (map (λ w. w.now) words.now))
@@ -50,7 +50,7 @@ fn read_word(letters: &mut Letters, name: &mut Option<Name>, word: &[u8]) -> Res
     Ok(())
 }
 
-// The name that a word is, where none came before it.
+// The word as a name. BadName where it is none, TooMany where a name came before it.
 fn only_name(before: Option<Name>, word: &[u8]) -> Result<Name, UsageFault>
     ensures { MatchResult result (λ name. (name ≡ word.now) × (name_fault (is_some before) word.now ≡ None))
         (λ fault. name_fault (is_some before) word.now ≡ Some fault) }

@@ -19,9 +19,9 @@ pub struct ListenCommand<'a> {
     pub program: &'a [&'a str],
 }
 
-/// Reads the words behind `svlisten`, which are cut at the first `--`: those before it as `compile_svwait` does, with `-r` and
-/// `-R` too, and those after it as a program. The faults are those of `compile_svwait`, in its order; Missing too where there is
-/// no program. Page `s6-svlisten`; the cut, `-r` and `-R` are chosen here.
+/// Reads the words after `svlisten`. Those before the first `--` are read as `compile_svwait` reads them, and may have `-r` or `-R`
+/// too; those after it are the program. The faults are those of `compile_svwait`, in its order; Missing also where there is no
+/// program. Page `s6-svlisten`; the cut, `-r` and `-R` are chosen here.
 #[tactic(auto, using(crate::proofs::Parses::listen_is_simple))]
 pub fn compile_svlisten<'a>(
     alloc: Global,

@@ -14,7 +14,7 @@ pub enum ScanLetter {
     /// `a`: it scans its directory.
     #[default]
     Scan,
-    /// `n`: it drops the services that are no longer there.
+    /// `n`: it tells each service that is no longer listed to go down, and its supervisor to end.
     Nuke,
     /// `t`: it brings all services down and ends.
     Terminate,
@@ -29,9 +29,9 @@ pub struct ScanCommand {
     pub letters: ScanLetters,
 }
 
-/// Reads the words behind `svscanctl`: runs of the letters a n h t q, each behind a dash; `h` is `a` and `n`, and `q` is `t`.
-/// The first fault in the order of writing is told: Unknown for a dash alone or another letter, TooMany for a 64th letter or a
-/// word that is no run; after all words Missing, where no letter was there. Page `s6-svscanctl`; the limit, the faults
+/// Reads the words after `svscanctl`: runs of the letters a n h t q, each behind a dash; `h` is `a` and `n`, and `q` is `t`.
+/// The fault is the first one, in the order of the words: Unknown for a dash alone or another letter, TooMany for a 64th letter or a
+/// word that is no run. After all words it is Missing, where there was no letter. Page `s6-svscanctl`; the limit, the faults
 /// and what `h` and `q` become are chosen here.
 pub fn compile_svscanctl(words: &[&str]) -> Result<ScanCommand, UsageFault>
     ensures { MatchResult result (IsScanCommand (map (λ w. w.now) words.now))

@@ -35,10 +35,10 @@ pub struct StatCommand {
     pub fields: Vec<Field>,
 }
 
-/// Reads the words behind `svstat`: `-o` with a list of fields, one comma between two, and one name. Unknown where `clap`
-/// refuses the words, as it does a second name. Then the first of these is told: BadList for an item that is no field, Missing
-/// for no list or no name, and BadName. NoMemory where a growth was refused. Page `s6-svstat`; the ten fields and the order of
-/// the faults are chosen here.
+/// Reads the words after `svstat`: `-o` with a list of fields, a comma between two of them, and one name. Unknown where `clap`
+/// refuses the words, as it does a second name. Else the fault is the first of these: BadList where an item is no field, Missing
+/// where there is no list or no name, BadName where the name is none. NoMemory where memory is refused. Page `s6-svstat`; the ten
+/// fields and the order of the faults are chosen here.
 #[tactic(auto, using(crate::proofs::Parses::stat_is_simple))]
 pub fn compile_svstat<'a>(alloc: Global, words: &'a [&'a str]) -> Result<StatCommand, UsageFault>
     ensures { let texts = map (λ w. w.now) words.entry.now in
@@ -81,7 +81,7 @@ fn stat_command(alloc: Global, matches: &ArgMatches<'_>) -> Result<StatCommand, 
     Ok(StatCommand { name, fields })
 }
 
-// The fields of a list.
+// The fields of a list. BadList where an item is no field.
 fn fields_of(alloc: Global, list: &[u8]) -> Result<Vec<Field>, UsageFault>
     ensures { MatchResult result (λ fields. (is_bad_list (Some list.now) ≡ false) × (fields.items ≡ fields_in list.now))
         (λ fault. (fault ≡ UsageFault.NoMemory) ⊎ ((is_bad_list (Some list.now) ≡ true) × (fault ≡ UsageFault.BadList))) }
@@ -97,7 +97,7 @@ fn fields_of(alloc: Global, list: &[u8]) -> Result<Vec<Field>, UsageFault>
     Ok(fields)
 }
 
-// The field that an item of a list is.
+// An item of a list as a field. BadList where it is none.
 fn listed(item: &[u8]) -> Result<Field, UsageFault>
     ensures { MatchResult result (λ field. field_named item.now ≡ Some field)
         (λ fault. (field_named item.now ≡ None) × (fault ≡ UsageFault.BadList)) }
@@ -127,7 +127,7 @@ fn field_of(word: &[u8]) -> Option<Field>
     among(FIELDS.as_slice(), word)
 }
 
-// The first of some fields that is asked for by this name.
+// The first of these fields that is asked for by this name.
 fn among(fields: &[Field], word: &[u8]) -> Option<Field>
     ensures { result ≡ find (λ field. bytes_eq (field_name field) word.now) fields.now }
 {
@@ -137,7 +137,7 @@ fn among(fields: &[Field], word: &[u8]) -> Option<Field>
         .find(|field| name_of_field(*field).as_bytes() == word)
 }
 
-// The name that a field is asked for by.
+// The name by which a field is asked for.
 fn name_of_field(field: Field) -> &'static str
     ensures { result.now ≡ field_name field }
 {

@@ -13,7 +13,7 @@ use clap::{ArgMatches, Command};
 use s6_events::{Condition, Mode};
 use std::alloc::{AllocError, Global};
 
-/// What is waited for. `timeout` is in milliseconds, and 0 is none. Page `s6-svwait`.
+/// What is waited for. `timeout` is in milliseconds; 0 means no timeout. Page `s6-svwait`.
 #[derive(Debug, Drop)]
 pub struct WaitCommand {
     pub condition: Condition,
@@ -22,10 +22,10 @@ pub struct WaitCommand {
     pub names: Names,
 }
 
-/// Reads the words behind `svwait`: `-u`, `-U`, `-d` or `-D`, `-a` or `-o`, `-t` with milliseconds, and 1 to 16 names; by default
-/// up, all and no timeout. Unknown where `clap` refuses the words. Then the first of these is told: TooMany for two conditions
-/// or two modes, BadNumber, Missing for no name, BadName, and TooMany for a 17th name. NoMemory where a growth was refused.
-/// Page `s6-svwait`; the order of the faults is chosen here.
+/// Reads the words after `svwait`: `-u`, `-U`, `-d` or `-D`, `-a` or `-o`, `-t` with milliseconds, and 1 to 16 names; by default
+/// up, all and no timeout. Unknown where `clap` refuses the words. Else the fault is the first of these: TooMany where there are two
+/// conditions or two modes, BadNumber where the timeout is no number, Missing where there is no name, BadName where a name is none,
+/// TooMany where there is a 17th name. NoMemory where memory is refused. Page `s6-svwait`; the order of the faults is chosen here.
 #[tactic(auto, using(crate::proofs::Parses::wait_is_simple))]
 pub fn compile_svwait<'a>(alloc: Global, words: &'a [&'a str]) -> Result<WaitCommand, UsageFault>
     ensures { let texts = map (λ w. w.now) words.entry.now in
@@ -51,7 +51,7 @@ fn svwait_command<'a>(alloc: Global) -> Result<Command<'a>, AllocError>
     with_names(alloc, command)
 }
 
-// The command that the matches of svwait or svlisten say, or the first fault; for svlisten a program may be missing.
+// The command that the matches of svwait or svlisten say, or the first fault. `lacks_program`: svlisten was given no program.
 pub(crate) fn wait_command(
     matches: &ArgMatches<'_>,
     lacks_program: bool,

@@ -1,15 +1,15 @@
 //! Why words make no command.
 use thiserror::Error;
 
-/// Why the words of a command were not read, the first cause that is met. What a command was told then does not happen at all.
-/// The seven and their order are chosen here.
+/// Why the words of a command were not taken: the first cause that is met. Nothing of what they ask is done then. The seven and their
+/// order are chosen here.
 #[derive(Clone, Copy, Debug, PartialEq, Eq, Error)]
 pub enum UsageFault {
-    /// An option or a letter that the command has not, an option without its value or given twice, a dash with no letter, or a
-    /// word where none is taken.
+    /// An option or a letter that the command does not have, an option without its value or given twice, a dash with no letter, or
+    /// a word where none is taken.
     #[error("an option or a word is not known here: leave it out, or spell it as the command's page does")]
     Unknown = 1,
-    /// What the command cannot do without is not there: a letter, a name, a number, the fields, the exits, or the program.
+    /// Something that the command needs is not there: a letter, a name, a number, the fields, the exits, or the program.
     #[error("a letter, a name, a number, a list or the program is missing: add it")]
     Missing = 2,
     /// More than 63 letters, a second name where one is taken, more than 16 names, two conditions or two modes.
@@ -24,7 +24,7 @@ pub enum UsageFault {
     /// A word in the place of a name is no `Name`.
     #[error("a name is no name of a service: write 1 to 64 of A-Z a-z 0-9 . _ - @, with no dot in front")]
     BadName = 6,
-    /// A growth was refused.
+    /// Memory was refused.
     #[error("out of memory: try again when there is more")]
     NoMemory = 7,
 }

@@ -11,7 +11,7 @@ use Rattle.scan_directory.specs.declared.found.Remark.{Remark}
 use Rattle.scan_directory.specs.Found.{fault_word}
 use Rattle.svcheck.specs.Sentences.{fault_sentence, finish_words, start_words}
 
--- what is said of the service of this name
+-- the first fault that was found of the service of this name
 abbrev pub fault_of : List Remark → List ℕ → Option DirFault
 fault_of remarks name = option_map (λ r. r.fault) (find (λ r. pointwise nat_eq r.name name) remarks)
 
@@ -30,7 +30,7 @@ supervised_line name config note =
 abbrev pub refused_line : List ℕ → DirFault → List ℕ
 refused_line name f = name ++ (codes ": refused " ++ (fault_word f ++ (codes ": " ++ (fault_sentence f ++ 10 ∷ []))))
 
--- the line of an entry: it has a configuration where it can be used
+-- the line of an entry, which has a configuration where its directory can be used
 abbrev pub line_by : List ℕ → Option DirFault → Option Config → List ℕ
 line_by name note (Some config) = supervised_line name config note
 line_by name note None = refused_line name (unwrap_or note fault.Io)
@@ -49,10 +49,10 @@ full_line count =
 abbrev pub checked_text : List Remark → List Entry → List ℕ
 checked_text remarks entries = flat_map (entry_line remarks) entries ++ full_line (count_by is_usable entries)
 
--- a program of a service that nobody may execute
+-- the line of a program of a service that nobody may execute
 abbrev pub unexecutable_line : List ℕ → List ℕ → List ℕ
 unexecutable_line name file = name ++ (codes ": its " ++ (file ++ codes " can't be started: nobody may execute it\n"))
 
--- one at least would not be supervised
+-- at least one of them would not be supervised
 abbrev pub is_refused : List Entry → Bool
 is_refused entries = list_any (λ e. is_none e.config) entries || nat_lt 256 (count_by is_usable entries)

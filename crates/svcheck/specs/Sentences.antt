@@ -1,4 +1,4 @@
--- What is said of a service.
+-- The sentences about a service.
 use Rattle.std.specs.Prelude.{ℕ, List, Bool, true, false, codes}
 use Rattle.servicedir.specs.declared.dir_fault.DirFault.{DirFault}
 use Rattle.servicedir.specs.declared.dir_fault.DirFault.TheVariants as fault

@@ -14,16 +14,16 @@ use svscan_core::Entry;
 /// The most services that a tree supervises.
 const MOST_SERVICES: usize = 256;
 
-/// What came of the entries of a scan directory.
+/// What svscan would do with the entries of a scan directory.
 #[derive(Drop)]
 pub struct Checked {
     /// A line for each of them.
     pub text: Vec<u8>,
-    /// One at least would not be supervised.
+    /// Whether at least one of them would not be supervised.
     pub is_refused: bool,
 }
 
-// What is said of the service of this name.
+// The first fault that was found of the service of this name; None where there is no such fault.
 fn fault_of(remarks: &[Remark], name: Name) -> Option<DirFault>
     ensures { result ≡ fault_of remarks.now name }
 {
@@ -45,7 +45,7 @@ fn push_readiness(text: &mut Vec<u8>, descriptor: Option<u8>) -> Result<(), Allo
     }
 }
 
-// What becomes of a service that is supervised: whether there is a note.
+// Adds that a service is supervised, or the fault that is noted of it.
 fn push_kind(text: &mut Vec<u8>, note: Option<DirFault>) -> Result<(), AllocError>
     ensures { OnOk result (text.new.items ≡ text.old.items ++ kind_words note) }
 {
@@ -87,7 +87,7 @@ fn push_refused(text: &mut Vec<u8>, name: &[u8], fault: DirFault) -> Result<(), 
     text.extend_from_slice(b"\n")
 }
 
-// The line of an entry.
+// Adds the line of an entry.
 fn push_entry(text: &mut Vec<u8>, remarks: &[Remark], entry: &Entry) -> Result<(), AllocError>
     ensures { OnOk result (text.new.items ≡ text.old.items ++ entry_line remarks.now entry.now) }
 {
@@ -117,7 +117,7 @@ fn usable_count(entries: &[Entry]) -> usize
         .count()
 }
 
-// A line where there are more services than a tree supervises.
+// Adds a line where there are more services than a tree supervises.
 fn push_full(text: &mut Vec<u8>, count: usize) -> Result<(), AllocError>
     ensures { OnOk result (text.new.items ≡ text.old.items ++ full_line count) }
 {
@@ -168,13 +168,13 @@ pub fn push_unexecutable(text: &mut Vec<u8>, name: Name, file: &str) -> Result<(
     text.extend_from_slice(b" can't be started: nobody may execute it\n")
 }
 
-// The name that a line of svscan tells as none of a service, with its quotes.
+// The name, with its quotes, of which a line of svscan tells that it is no name of a service; None for any other line.
 fn bad_name_in(line: &[u8]) -> Option<&[u8]> {
     line.strip_prefix(b"svscan: ".as_slice())?
         .strip_suffix(b" is no name of a service".as_slice())
 }
 
-/// Adds a line for each entry of which these lines of svscan tell that its name is none of a service. Whether there was one.
+/// Adds a line for each name of which these lines of svscan tell that it is no name of a service. Returns whether there was one.
 pub fn push_bad_names(text: &mut Vec<u8>, told: &[u8]) -> Result<bool, AllocError> {
     let mut is_there = false;
     for line in told.split(|byte| *byte == b'\n') {

@@ -1,10 +1,10 @@
-//! What is said of a service.
+//! The sentences about a service.
 ghost use Rattle.std.specs.Prelude.{◌≡◌};
 ghost use Rattle.svcheck.specs.Sentences.{fault_sentence, start_words, finish_words};
 
 use servicedir::DirFault;
 
-/// What a fault says.
+/// The sentence for a fault.
 pub fn fault_sentence(fault: DirFault) -> &'static str
     ensures { result.now ≡ fault_sentence fault }
 {
@@ -18,7 +18,7 @@ pub fn fault_sentence(fault: DirFault) -> &'static str
     }
 }
 
-/// Whether a service starts.
+/// The words that say whether a service starts at once.
 pub fn start_words(down: bool) -> &'static str
     ensures { result.now ≡ start_words down }
 {
@@ -29,7 +29,7 @@ pub fn start_words(down: bool) -> &'static str
     }
 }
 
-/// Whether there is a `finish`.
+/// The words that say whether there is a `finish`.
 pub fn finish_words(finish: bool) -> &'static str
     ensures { result.now ≡ finish_words finish }
 {

@@ -34,7 +34,7 @@ adding_of scan moves =
       orders = moves.orders.items;
     }
 
--- the state of the scan, where these services stay
+-- the state of the scan, where these services stay and the new ones come behind them
 abbrev pub state_behind : List ChartState → Adding → ScanState
 state_behind retained a =
     record {
@@ -46,8 +46,8 @@ state_behind retained a =
       orders = a.orders;
     }
 
--- behind these services the serials are in order, a history that agreed agrees again, once the events have joined it, and each
--- service has the last of its deaths
+-- with these services in front: the serials are in order; a history that agreed with all services agrees again, once the new events have
+-- joined it; the next serial didn't fall; and each service has the last of its deaths
 pub record GoesOn (services : List Supervised) (old new : Adding) : Type 0 where
   pub order : IsNumbered new.next_sid (charts_of (services ++ new.added))
   pub agrees : (history : List Moment) → AllAgree (services ++ old.added) (history ++ map moment_of old.events)
@@ -56,7 +56,7 @@ pub record GoesOn (services : List Supervised) (old new : Adding) : Type 0 where
   pub tallies : (deaths : List DeathOf) → AllBefore old.next_sid deaths → AllTallied (services ++ old.added) deaths
       → AllTallied (services ++ new.added) deaths
 
--- the limit holds, and each new service has a serial and at most one order
+-- the limit holds, and each new service took one serial and gave at most one order
 pub record Grows (retained : ℕ) (old new : Adding) : Type 0 where
   pub few : retained + length new.added ≤ service_limit
   pub next : new.next_sid + length old.added ≡ old.next_sid + length new.added

@@ -15,7 +15,7 @@ work_asked (Change sid change) = change_one sid change.now
 work_asked (Listing listing) = apply_listing listing.now
 work_asked (Command order) = command order
 
--- a listing has no name twice, and there is a serial for each service that may be new
+-- a listing has no name twice, and there are serials left for all services that may be new
 abbrev pub IsOrderly : ℕ → Work → Type 0
 IsOrderly next_sid (apply_listing listing) = (repeats_name (names_in listing) ≡ false) × (next_sid + (service_limit + 1) < 2 ^ 64)
 IsOrderly next_sid work = Unit {0}

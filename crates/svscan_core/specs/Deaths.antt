@@ -36,7 +36,7 @@ pub record IsTallied (s : Supervised) (deaths : List DeathOf) : Type 0 where
   pub most : s.tally.most ≡ s.chart.config.max_death_tally
   pub kept : Tallies s.tally (deaths_of s.chart.sid deaths)
 
--- so has each service
+-- each service has the last of its deaths
 abbrev pub AllTallied : List Supervised → List DeathOf → Type 0
 AllTallied services deaths = All (λ s. IsTallied s deaths) services
 
@@ -44,7 +44,7 @@ AllTallied services deaths = All (λ s. IsTallied s deaths) services
 abbrev pub AllBefore : ℕ → List DeathOf → Type 0
 AllBefore next deaths = All (λ d. d.sid < next) deaths
 
--- whatever deaths before the next serial the services had the last of, they have the last of them and of these
+-- where the old services had the last of some deaths, all of serials below `next`, the new ones have the last of those deaths and these
 abbrev pub KeepTallied : ℕ → List Supervised → List Supervised → List DeathOf → Type 0
 KeepTallied next old new more = (deaths : List DeathOf) → AllBefore next deaths → AllTallied old deaths
     → AllTallied new (deaths ++ more)

@@ -1,4 +1,4 @@
--- How many there are at most.
+-- The most services of a table, and the most orders of a step.
 use Rattle.std.specs.Prelude.{ℕ}
 
 -- the most services that stand

@@ -19,7 +19,7 @@ use Rattle.svscan_core.specs.Sound.{AllAgree}
 use Rattle.svscan_core.specs.Table.{charts_of}
 use Rattle.svscan_core.specs.Timers.{timer_change_of, TimersAgree}
 
--- the service that was found at a place takes over what it became
+-- the service that was found at a place becomes what the change makes of it
 abbrev pub with_view_at : ChangedService → Option Supervised → List Supervised → List Supervised
 with_view_at t None services = services
 with_view_at t (Some s) services = slice_set services t.place (with_view t.standing t.death s)
@@ -27,15 +27,15 @@ with_view_at t (Some s) services = slice_set services t.place (with_view t.stand
 abbrev pub with_change : List Supervised → ChangedService → List Supervised
 with_change services t = with_view_at t (slice_get services t.place) services
 
--- one after the other
+-- the services after all changes, one after the other
 abbrev pub with_changes : List Supervised → List ChangedService → List Supervised
 with_changes services touched = fold with_change services touched
 
--- how they stand so far
+-- the states of the services as the step has them so far
 abbrev pub services_so_far : List Supervised → List ChangedService → List ChartState
 services_so_far services touched = charts_of (with_changes services touched)
 
--- each of them keeps the name at its place
+-- each change keeps the name of the service at its place
 abbrev pub KeepNames : List Supervised → List ChangedService → Type 0
 KeepNames services [] = Unit {0}
 KeepNames services (t ∷ touched) = IsSomeAnd (slice_get services t.place) (λ s. s.chart.name ≡ t.standing.chart.name)
@@ -60,24 +60,24 @@ step_so_far services m = record {
   timers = timers_of m.touched.items;
 }
 
--- a history that agreed at this moment agrees again, once the events have joined it
+-- a history that agreed at this moment, with the old events, agrees again with the new ones
 abbrev pub GoOnAgreeing : ℕ → StepSoFar → StepSoFar → Type 0
 GoOnAgreeing now old new =
     (history : List Moment) → clock_of history ≡ now → AllAgree old.services (history ++ map moment_of old.events)
     → AllAgree new.services (history ++ map moment_of new.events)
 
--- timers that agreed agree again, once the changes are made
+-- timers that agreed, with the old changes made, agree again with the new ones made
 abbrev pub TimersGoOn : StepSoFar → StepSoFar → Type 0
 TimersGoOn old new =
     (timers : List Timer) → TimersAgree (with_timer_changes old.timers timers) (charts_of old.services)
     → TimersAgree (with_timer_changes new.timers timers) (charts_of new.services)
 
--- whatever deaths the services had the last of, they have the last of them and of these
+-- where the old services had the last of some deaths, the new ones have the last of those deaths and these
 abbrev pub TalliesGoOn : StepSoFar → StepSoFar → List DeathOf → Type 0
 TalliesGoOn old new more = (deaths : List DeathOf) → AllTallied old.services deaths
     → AllTallied new.services (deaths ++ more)
 
--- the service at a place, which stood so, took a move
+-- the service at a place, whose state was c, took a move
 pub record TakesAt (now place : ℕ) (c : ChartState) (moved : Moved) (old new : StepSoFar) : Type 0 where
   pub services : charts_of new.services ≡ slice_set (charts_of old.services) place moved.chart
   pub events : new.events ≡ old.events ++ events_of_move c.sid moved
@@ -86,7 +86,7 @@ pub record TakesAt (now place : ℕ) (c : ChartState) (moved : Moved) (old new :
   pub timers : TimersGoOn old new
   pub tallies : TalliesGoOn old new (map (death_of c.sid) moved.deaths)
 
--- each of the first services took the move
+-- each service before this place took the move
 pub record TakesUpTo (now : ℕ) (move : ChartState → Moved) (place : ℕ) (old new : StepSoFar) : Type 0 where
   pub services : charts_of new.services
       ≡ services_after move (take place (charts_of old.services)) ++ drop place (charts_of old.services)

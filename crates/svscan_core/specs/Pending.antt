@@ -10,7 +10,7 @@ use Rattle.svscan_core.specs.Table.{charts_of}
 use Rattle.svscan_core.specs.Timers.{timer_change_of}
 use Rattle.svscan_core.specs.Registry.{PlannedStep}
 
--- what it changes and gives
+-- what the step changes and gives
 abbrev pub planned_of : {A : Type 0} → Pending A → PlannedStep
 planned_of p = record {
   touched = p.moves.touched.items;
@@ -25,12 +25,12 @@ planned_of p = record {
   timers = p.timers.items;
 }
 
--- what it does to the timers: of the services that it gives something, of those that leave, and of those that come
+-- what the step does to the timers: first those of the services that it changes, then of those that leave and of those that come
 abbrev pub step_timers : {A : Type 0} → Moves A → Scanning A → List TimerChange
 step_timers moves scan = timers_of moves.touched.items
     ++ (map (λ sid. Clear sid) scan.dropped_sids.items ++ map timer_change_of (charts_of scan.added.items))
 
--- nothing is worked out yet, where this is the next serial
+-- nothing is worked out yet, and this is the next serial
 pub record IsBlank {A : Type 0} (next : ℕ) (p : Pending A) : Type 0 where
   pub touched : p.moves.touched.items ≡ []
   pub events : p.moves.events.items ≡ []

@@ -8,6 +8,6 @@ use Rattle.svscan_core.specs.Registry.{PlannedStep}
 abbrev pub plan_view : {A : Type 0} → Inside A → PlannedStep
 plan_view p = planned_of p.pending
 
--- it gives few orders
+-- it gives at most `order_limit` orders
 abbrev pub HasFewOrders : {A : Type 0} → Inside A → Type 0
 HasFewOrders p = length p.pending.moves.orders.items ≤ order_limit

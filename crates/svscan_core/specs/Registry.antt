@@ -12,7 +12,7 @@ use Rattle.svscan_core.specs.Sound.{IsSound}
 use Rattle.svscan_core.specs.Table.{Table, charts_of}
 use Rattle.svscan_core.specs.Work.{WorkResult}
 
--- what it shows, and how many more services can be added with no memory
+-- what it shows, and how many more services can be added without more memory
 pub record RegistryView : Type 0 where
   pub shown : Table
   pub room : ℕ
@@ -41,7 +41,7 @@ pub record RegistryPrepared : Type 0 where
   pub listed : List Listed
   pub timers : List TimerChange
 
--- the step, made on these services
+-- what the step would leave and give, made on these services
 abbrev pub registry_prepared : List Supervised → PlannedStep → RegistryPrepared
 registry_prepared services plan = record {
   services = prepared_services services plan.touched plan.dropped_names plan.added;
@@ -58,7 +58,7 @@ registry_prepared services plan = record {
 abbrev pub table_of : RegistryPrepared → Table
 table_of p = record { services = p.services; next_sid = p.next_sid }
 
--- the states of it, and what is answered
+-- the states of the services that a commit would leave, and what is answered
 abbrev pub result_of : RegistryPrepared → WorkResult
 result_of p = record {
   services = charts_of p.services;
@@ -83,12 +83,12 @@ idle_of t = record {
   timers = [];
 }
 
--- a table that the limits and the order hold for
+-- the table that a commit would leave is sound
 abbrev pub IsSoundTable : RegistryPrepared → Type 0
 IsSoundTable p = IsSound p.next_sid (charts_of p.services)
 
--- the step can be made on the services that stand: each that it changes keeps its name, those that it adds have room, and what it
--- leaves is sound
+-- the step can be made on the services that stand: each that it changes keeps its name, there is room for those that it adds, and what
+-- it leaves is sound
 pub record Fits (r : RegistryView) (plan : PlannedStep) : Type 0 where
   pub names : KeepNames r.shown.services plan.touched
   pub room : length plan.added ≤ r.room

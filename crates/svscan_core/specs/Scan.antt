@@ -37,7 +37,7 @@ stays c = c.active || not (is_gone c.phase)
 abbrev pub leaves : ChartState → Bool
 leaves c = not (stays c)
 
--- additions: the services while new names get theirs, the next serial, what became of the names, and what was given
+-- additions under way: the services so far, the next serial, what became of the names so far, and the events and orders given so far
 pub record ScanState : Type 0 where
   pub services : List ChartState
   pub next_sid : ℕ
@@ -59,14 +59,14 @@ with_service config g name = record {
   orders = g.orders ++ (begin_move (new_service g.next_sid name config)).orders;
 }
 
--- a name for which no service stands gets none where its directory couldn't be read, and none where the limit is reached
+-- a name for which no service stands gets one, unless its directory couldn't be read or the limit is reached
 abbrev pub with_new_name : Option Config → ScanState → List ℕ → ScanState
 with_new_name None g name = record g { listed = g.listed ++ Unread name ∷ [] }
 with_new_name (Some config) g name =
     if nat_lt (length g.services) service_limit then with_service config g name
     else record g { listed = g.listed ++ Full name ∷ [] }
 
--- a name that stands is passed over
+-- a name for which a service stands is passed over
 abbrev pub with_name : List Entry → ScanState → List ℕ → ScanState
 with_name listing g name = if stands name g.services then g else with_new_name (listed_config listing name) g name
 
@@ -74,7 +74,7 @@ with_name listing g name = if stands name g.services then g else with_new_name (
 abbrev pub with_names : List Entry → ScanState → List (List ℕ) → ScanState
 with_names listing g names = fold (with_name listing) g names
 
--- from the services that stayed on
+-- where additions begin, with the services that stayed
 abbrev pub scan_state_from : List ChartState → ℕ → ScanState
 scan_state_from services next_sid =
     record { services = services; next_sid = next_sid; listed = []; events = []; orders = [] }

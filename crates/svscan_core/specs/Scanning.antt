@@ -9,6 +9,6 @@ use Rattle.svscan_core.specs.Table.{without_name}
 abbrev pub without_names : List Supervised → List (List ℕ) → List Supervised
 without_names services names = fold without_name services names
 
--- the services once they are changed, dropped and added
+-- the services after the changes, without those that are dropped, and with those that are added behind them
 abbrev pub prepared_services : List Supervised → List ChangedService → List (List ℕ) → List Supervised → List Supervised
 prepared_services services touched dropped added = without_names (with_changes services touched) dropped ++ added

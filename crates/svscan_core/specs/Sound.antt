@@ -12,7 +12,7 @@ use Rattle.svscan_core.specs.Table.{names_of, serials_of}
 abbrev pub IsNumbered : ℕ → List ChartState → Type 0
 IsNumbered next services = is_rising (serials_of services ++ next ∷ []) ≡ true
 
--- few services, no name twice, and the serials in order
+-- at most `service_limit` services, no name twice, and the serials in order
 pub record IsSound (next : ℕ) (services : List ChartState) : Type 0 where
   pub few : length services ≤ service_limit
   pub names : repeats_name (names_of services) ≡ false

@@ -7,7 +7,7 @@ use Rattle.deadlines.specs.declared.timer.TimerChange.TheVariants.{Set, Clear}
 use Rattle.deadlines.specs.Timers.{rises}
 use Rattle.supervise_core.specs.declared.chart.ChartState.{ChartState}
 
--- the moment of a timer, where it can come: no clock passes the greatest moment
+-- the moment of a timer, unless it is past the greatest moment: no clock ever reaches it then
 abbrev pub in_reach : Option ℕ → Option ℕ
 in_reach None = None
 in_reach (Some due) = if nat_le due last_moment then Some due else None
@@ -27,11 +27,11 @@ pub record TimersAgree (timers : List Timer) (services : List ChartState) : Type
   pub order : rises timers ≡ true
   pub moments : (sid : ℕ) → set_in sid timers ≡ timer_in sid services
 
--- the timer of a service becomes this one
+-- the change that sets the timer of a service to this moment, or clears it
 abbrev pub change_to : ℕ → Option ℕ → TimerChange
 change_to sid None = Clear sid
 change_to sid (Some at) = Set sid at
 
--- the timer of a service becomes what its state says
+-- the change that sets the timer of a service to what its state says
 abbrev pub timer_change_of : ChartState → TimerChange
 timer_change_of c = change_to c.sid (in_reach c.timer)

@@ -8,7 +8,7 @@ use Rattle.svscan_core.specs.declared.visit.Visit.TheVariants.{Fire, Command, Lo
 use Rattle.svscan_core.specs.Scan.{after_look}
 use Rattle.svscan_core.specs.Work.{command_move}
 
--- its timer rule, an order of all services, or a look at its directory
+-- the rule of its timer, a command to all services, or a look at its directory
 abbrev pub visit_move : {A : Type 0} → Visit A → ℕ → ChartState → Moved
 visit_move Fire now c = fire_move now c
 visit_move (Command order) now c = command_move order now c

@@ -59,7 +59,7 @@ abbrev pub closing_after : Work → Bool → Bool
 closing_after (command Terminate) closing = true
 closing_after work closing = closing
 
--- every service stays
+-- every service stays as it is, and nothing is given
 abbrev pub no_work_result : List ChartState → ℕ → WorkResult
 no_work_result services next_sid =
     record {
@@ -102,7 +102,7 @@ work_result (apply_listing listing) now services next_sid = record {
   listed = (after_scan listing now services next_sid).listed;
 }
 
--- what was given before comes first
+-- the same, with the events and orders that were given before in front
 abbrev pub with_earlier : List Event → List Order → WorkResult → WorkResult
 with_earlier events orders w = record w { events = events ++ w.events; orders = orders ++ w.orders }
 
@@ -112,6 +112,6 @@ step_result work now services next_sid =
     with_earlier (events_after (fire_move now) services) (orders_after (fire_move now) services)
     (work_result work now (services_after (fire_move now) services) next_sid)
 
--- these are the serials of the services whose timers are due
+-- `due` has the serials of just those services whose timers are due
 abbrev pub AreDue : List ℕ → ℕ → List ChartState → Type 0
 AreDue due now services = All (λ c. list_any (λ sid. sid == c.sid) due ≡ is_due now c.timer) services

@@ -11,7 +11,7 @@ use s6_events::Name;
 use std::alloc::Allocator;
 use supervise_core::Service;
 
-// Each of these places gets its state and status.
+// Gives the service at each of these places its new state and status, and the death that it reported, if any.
 fn adopt_all<A: Allocator + Copy>(slots: &mut Slots<A>, touched: &[ChangedService])
     requires { KeepNames slots.old.services touched.now }
     ensures services { slots.new.services ≡ with_changes slots.old.services touched.now }
@@ -22,7 +22,7 @@ fn adopt_all<A: Allocator + Copy>(slots: &mut Slots<A>, touched: &[ChangedServic
     }
 }
 
-// Those of these names leave.
+// Takes out the services of these names.
 fn remove_all<A: Allocator + Copy>(slots: &mut Slots<A>, names: &[Name])
     ensures services { slots.new.services ≡ without_names slots.old.services names.now }
     ensures room { slots.old.room ≤ slots.new.room }
@@ -32,8 +32,8 @@ fn remove_all<A: Allocator + Copy>(slots: &mut Slots<A>, names: &[Name])
     }
 }
 
-/// What a step worked out is made: the touched services become what they are to be, the dropped ones leave, and the added ones go last.
-/// No memory is taken, for room was made before. `added` is empty then, and keeps its memory.
+/// Makes the step that was worked out: the touched services become what they are to be, the dropped ones leave, and the added ones go
+/// last. No memory is taken, for room was made before. `added` is empty then, and keeps its memory.
 pub fn commit_changes<A: Allocator + Copy>(
     slots: &mut Slots<A>,
     touched: &[ChangedService],

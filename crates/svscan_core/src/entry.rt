@@ -1,4 +1,4 @@
-//! An entry of the scan directory, what becomes of it, and the orders to all services.
+//! An entry of the scan directory, what becomes of it, and the commands to all services.
 use s6_events::{Name, Sid};
 use servicedir::Config;
 
@@ -21,7 +21,7 @@ pub enum Listed {
     Unread(Name),
 }
 
-/// What a user orders of all services at once. Page `s6-svscanctl`.
+/// A command of a user to all services at once. Page `s6-svscanctl`.
 #[derive(Clone, Copy, Debug, PartialEq, Eq)]
 pub enum ScanOrder {
     /// `-n`: each inactive service is told to end and to go down.

@@ -1,4 +1,4 @@
-//! The services of a scan directory: what a listing, a report, letters and an order for all of them make of the table.
+//! The services of a scan directory: what a listing, a report, letters and a command to all of them make of the table.
 #![tactic(auto)]
 
 mod commit;

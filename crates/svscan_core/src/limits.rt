@@ -1,4 +1,4 @@
-//! How many there are at most.
+//! The most services of a table, and the most orders of a step.
 
 /// The most services that stand.
 pub const SERVICE_LIMIT: usize = 256;

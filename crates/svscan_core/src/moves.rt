@@ -21,7 +21,7 @@ use s6_events::{At, Exit, Mark, NoMemory, Order, Sid};
 use std::alloc::Allocator;
 use supervise_core::{Change, Out, ServiceState};
 
-/// What a step gives the service at a place.
+/// How a step changes the service at a place.
 #[derive(Clone, Copy)]
 pub struct ChangedService {
     pub place: usize,
@@ -31,7 +31,7 @@ pub struct ChangedService {
 }
 
 /// The services that a step changes, and what it gives. The lists keep their memory from step to step. What a change of one service
-/// gives is handed in where it is to lie (`out`): it is large, and a step is moved.
+/// gives is written into an `Out` that the caller hands in, since it is large and a step is moved about.
 #[derive(Drop)]
 pub struct Moves<A: Allocator> {
     pub touched: Vec<ChangedService, A>,
@@ -73,7 +73,7 @@ fn add_events<A: Allocator>(
 }
 
 impl<A: Allocator + Copy> Moves<A> {
-    /// Nothing yet.
+    /// No service is changed yet, and nothing is given.
     pub fn new(alloc: A) -> Moves<A>
         ensures touched { result.touched.items ≡ [] }
         ensures events { result.events.items ≡ [] }
@@ -86,7 +86,7 @@ impl<A: Allocator + Copy> Moves<A> {
         }
     }
 
-    /// Nothing again, in the same memory.
+    /// Empties the lists, and keeps their memory.
     pub fn clear(&mut self)
         ensures touched { self.new.touched.items ≡ [] }
         ensures events { self.new.events.items ≡ [] }
@@ -110,7 +110,7 @@ impl<A: Allocator + Copy> Moves<A> {
         add_events(&mut self.events, sid, out.events.as_slice())
     }
 
-    // The service at a place becomes this, with the marks, the orders and the death that led to it.
+    // Notes that the service at this place becomes `standing`, and adds the marks, the orders and the death that led to it.
     fn touch(
         &mut self,
         place: usize,
@@ -137,7 +137,7 @@ impl<A: Allocator + Copy> Moves<A> {
         Ok(())
     }
 
-    // The service at a place takes it, unless it leaves the service as it stands.
+    // Applies the visit to the service at this place, unless it would change nothing.
     fn visit_at<'a>(
         &mut self,
         slots: &'a Slots<A>,
@@ -176,7 +176,7 @@ impl<A: Allocator + Copy> Moves<A> {
         Ok(())
     }
 
-    /// Each service in turn takes it.
+    /// Applies the visit to each service in turn.
     pub fn visit_all<'a>(
         &mut self,
         slots: &'a Slots<A>,
@@ -205,7 +205,8 @@ impl<A: Allocator + Copy> Moves<A> {
         Ok(())
     }
 
-    /// The service of the serial takes the change, and no other one is looked at; answers whether that was a stale report.
+    /// The service of this serial takes the change, and no other one is looked at. Returns whether the change was a stale report; false
+    /// where no service has the serial.
     pub fn change_one(
         &mut self,
         slots: &Slots<A>,

@@ -1,4 +1,4 @@
-//! The two orders of all services: nuke, by which an inactive service leaves, and terminate, by which each one does.
+//! The two commands to all services: nuke tells each inactive one to leave, terminate tells every one.
 ghost use Rattle.std.specs.Prelude.{◌≡◌, ◌+◌, ◌<◌, ◌≤◌, ◌^◌, length};
 ghost use Rattle.supervise_core.specs.Chart.{control_move};
 ghost use Rattle.supervise_core.specs.MatchesMove.{MatchesMove};
@@ -13,7 +13,7 @@ use control_letters::{ControlLetter, Letters};
 use s6_events::At;
 use supervise_core::{Change, Out, ServiceState};
 
-// The letters of a service that leaves.
+// The letters for a service that is told to leave: `x` and `d`.
 fn leaving_letters() -> Letters
     ensures { result.items ≡ leave_letters }
 {
@@ -23,7 +23,7 @@ fn leaving_letters() -> Letters
     letters
 }
 
-// Its supervisor is told to end, and it is told to go down.
+// Tells the service to go down, and its supervisor to end.
 fn leave(standing: &mut ServiceState, now: At, out: &mut Out)
     requires { standing.old.chart.generation + 1 < 2 ^ 64 }
     ensures gives { MatchesMove (control_move leave_letters now standing.old.chart)
@@ -36,7 +36,7 @@ fn leave(standing: &mut ServiceState, now: At, out: &mut Out)
     take(standing, &Change::Control(leaving_letters()), now, out);
 }
 
-/// An inactive service leaves. Page `s6-svscanctl`, `-n`.
+/// Tells the service to leave, if it is inactive. Page `s6-svscanctl`, `-n`.
 pub fn nuke(standing: &mut ServiceState, now: At, out: &mut Out)
     requires { standing.old.chart.generation + 1 < 2 ^ 64 }
     ensures gives { MatchesMove (nuke_move now standing.old.chart) standing.new.chart out.new }
@@ -52,7 +52,7 @@ pub fn nuke(standing: &mut ServiceState, now: At, out: &mut Out)
     }
 }
 
-/// Whether the tree is closing once this order is done: terminate closes it, for good. Page `s6-svscanctl`, `-t`.
+/// Whether the tree is closing once this command is done: terminate closes it, for good. Page `s6-svscanctl`, `-t`.
 pub fn closing_after(order: ScanOrder, closing: bool) -> bool
     ensures { result ≡ closing_after (command order) closing }
 {
@@ -62,7 +62,7 @@ pub fn closing_after(order: ScanOrder, closing: bool) -> bool
     }
 }
 
-/// The service becomes inactive, and leaves. Page `s6-svscanctl`, `-t`.
+/// Makes the service inactive, and tells it to leave. Page `s6-svscanctl`, `-t`.
 pub fn terminate(standing: &mut ServiceState, now: At, out: &mut Out)
     requires { standing.old.chart.generation + 1 < 2 ^ 64 }
     ensures gives { MatchesMove (terminate_move now standing.old.chart) standing.new.chart out.new }

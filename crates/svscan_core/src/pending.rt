@@ -32,7 +32,7 @@ use s6_events::{At, NoMemory, Sid};
 use std::alloc::Allocator;
 use supervise_core::{ChartState, Out};
 
-/// A step that is worked out, before anything is changed: what the services get, which leave and which come, and what is answered.
+/// A step that is worked out before anything is changed: how services change, which leave and which come, and what is answered.
 /// The lists keep their memory from step to step.
 #[derive(Drop)]
 pub struct Pending<A: Allocator> {
@@ -43,7 +43,7 @@ pub struct Pending<A: Allocator> {
     pub timers: Vec<TimerChange, A>,
 }
 
-// The moment of a timer, where it can come.
+// The moment of a timer; None where there is no timer, or its moment is past the greatest one and never comes.
 fn reachable(timer: Option<u64>) -> Option<At>
     ensures { result ≡ in_reach timer }
 {
@@ -53,7 +53,7 @@ fn reachable(timer: Option<u64>) -> Option<At>
     }
 }
 
-// The timer of a service becomes what its state says.
+// The change that sets the timer of a service to what its state says.
 fn timer_change(chart: &ChartState) -> TimerChange
     ensures { result ≡ timer_change_of chart.now }
 {
@@ -63,7 +63,7 @@ fn timer_change(chart: &ChartState) -> TimerChange
     }
 }
 
-// Whether no service is given anything, leaves or comes.
+// Whether no service changes, leaves or comes.
 fn is_blank<A: Allocator + Copy>(moves: &Moves<A>, scan: &Scanning<A>) -> bool
     ensures touched { result ≡ true → moves.now.touched.items ≡ [] }
     ensures dropped { result ≡ true → scan.now.dropped_sids.items ≡ [] }
@@ -74,7 +74,7 @@ fn is_blank<A: Allocator + Copy>(moves: &Moves<A>, scan: &Scanning<A>) -> bool
     moves.touched.is_empty() && scan.dropped_sids.is_empty() && scan.added.is_empty()
 }
 
-// Lists what the step does to the timers: of the services that it gives something, of those that leave, and of those that come.
+// Lists what the step does to the timers: first those of the services that it changes, then of those that leave and of those that come.
 fn list_timers<A: Allocator + Copy>(
     moves: &Moves<A>,
     scan: &Scanning<A>,
@@ -101,7 +101,7 @@ fn list_timers<A: Allocator + Copy>(
 }
 
 impl<A: Allocator + Copy> Pending<A> {
-    /// Nothing yet.
+    /// Nothing is worked out yet, and this is the next serial.
     pub fn new(alloc: A, next_sid: u64) -> Pending<A>
         ensures { IsBlank next_sid result }
     {
@@ -113,7 +113,7 @@ impl<A: Allocator + Copy> Pending<A> {
         }
     }
 
-    /// Nothing again, in the same memory.
+    /// Empties the lists, and keeps their memory; this is the next serial.
     pub fn clear(&mut self, next_sid: u64)
         ensures { IsBlank next_sid self.new }
     {
@@ -123,7 +123,7 @@ impl<A: Allocator + Copy> Pending<A> {
         self.timers.clear();
     }
 
-    // The work is done on the services as the step has them so far.
+    // Does the work on the services as the step has them so far.
     fn do_work(
         &mut self,
         slots: &Slots<A>,
@@ -190,7 +190,7 @@ impl<A: Allocator + Copy> Pending<A> {
         }
     }
 
-    /// The work alone, with no timers.
+    /// Works out the work alone: no timer goes off.
     pub fn work_alone(
         &mut self,
         slots: &Slots<A>,
@@ -228,7 +228,7 @@ impl<A: Allocator + Copy> Pending<A> {
         Ok(())
     }
 
-    /// The whole step: the due timers first, and then the work.
+    /// Works out the whole step: the due timers first, and then the work.
     pub fn work_out(
         &mut self,
         slots: &Slots<A>,

@@ -8,7 +8,7 @@ use super::slots::Slots;
 use s6_events::Sid;
 use std::alloc::Allocator;
 
-/// The place of the service of this serial, and None where none has it. Serials rise with the places, so that a search by halves
+/// The place of the service of this serial; None where no service has it. Serials rise with the places, so that a search by halves
 /// finds it.
 pub fn place_of<A: Allocator + Copy>(slots: &Slots<A>, sid: Sid) -> Option<usize>
     requires order { is_rising (serials_of (charts_of slots.now.services)) ≡ true }

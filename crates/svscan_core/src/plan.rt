@@ -12,7 +12,7 @@ use std::alloc::Allocator;
 use std::marker::Model;
 
 /// A step that a registry worked out: what it gives, and what `Registry::commit` changes. It borrows nothing, and its memory goes
-/// back to the registry with the commit. Dropped, it leaves the registry as it stands.
+/// back to the registry with the commit. Where it is dropped, the registry stays as it is.
 #[derive(Drop)]
 pub struct RegistryPlan<A: Allocator> {
     pending: Pending<A>,
@@ -30,7 +30,7 @@ impl<A: Allocator> Model for RegistryPlan<A> {
     ghost invariant = { HasFewOrders };
 }
 
-/// What a scan, or an order of all services, gives: the marks and orders of each service in the order made, the serials that were
+/// What a scan, or a command to all services, gives: the marks and orders of each service in the order made, the serials that were
 /// dropped, and what became of each listed name for which no service stood.
 #[derive(Drop)]
 pub struct Answer<A: Allocator> {
@@ -41,7 +41,7 @@ pub struct Answer<A: Allocator> {
 }
 
 impl<A: Allocator + Copy> RegistryPlan<A> {
-    /// The step that lies here.
+    /// The plan of this step.
     pub fn of(pending: Pending<A>) -> RegistryPlan<A>
         requires { length pending.moves.orders.items ≤ order_limit }
         ensures { result ≡ planned_of pending }
@@ -49,7 +49,7 @@ impl<A: Allocator + Copy> RegistryPlan<A> {
         RegistryPlan { pending }
     }
 
-    /// Where the step lies.
+    /// The step of this plan.
     pub fn into_pending(self) -> Pending<A>
         ensures { planned_of result ≡ self }
     {
@@ -92,7 +92,8 @@ impl<A: Allocator + Copy> RegistryPlan<A> {
         self.pending.scan.listed.as_slice()
     }
 
-    /// What a commit does to the timers: deadlines that agree with the services agree with them after it, once these changes are made.
+    /// What a commit does to the timers: deadlines that agree with the services before it agree with those after it, once these changes
+    /// are made.
     pub fn timers(&self) -> &[TimerChange]
         ensures { result.now ≡ self.now.timers }
     {

@@ -35,14 +35,14 @@ use std::alloc::Allocator;
 use std::marker::Model;
 use supervise_core::{Change, Out, Service, ServiceState};
 
-/// The services of a scan directory, at most `SERVICE_LIMIT`, in rising serial. A step is worked out first (`prepare`), which changes nothing
-/// that is shown, and then made (`commit`), which takes no memory; or one thing alone is done at once (`scan`, `control`,
+/// The services of a scan directory, at most `SERVICE_LIMIT`, in rising serial. A step is worked out first (`prepare`), which changes
+/// nothing that is shown, and then made (`commit`), which takes no memory; or one thing alone is done at once (`scan`, `control`,
 /// `change`). The memory in which a step is worked out is kept from step to step. Page `s6-svscan`.
 #[derive(Drop)]
 pub struct Registry<A: Allocator> {
     slots: Slots<A>,
     next_sid: u64,
-    // The memory for the next step, and for what a change of one service gives.
+    // Kept for their memory: the next step is worked out in the one, and a change of one service gives its marks and orders in the other.
     spare: Pending<A>,
     out: Out,
 }
@@ -59,7 +59,8 @@ impl<A: Allocator> Model for Registry<A> {
     ghost invariant = { IsSoundRegistry };
 }
 
-// What was worked out gets its places, and is a plan with its memory; where any memory was refused, nothing is left of it.
+// Makes room for the services that the step in `spare` adds, and takes that step out as a plan. Where memory was refused, in `attempt`
+// or for that room, `spare` is emptied.
 fn settle<A: Allocator + Copy>(
     slots: &mut Slots<A>,
     spare: &mut Pending<A>,
@@ -86,7 +87,7 @@ fn settle<A: Allocator + Copy>(
 }
 
 impl<A: Allocator + Copy> Registry<A> {
-    /// No service; the first one gets the serial 1.
+    /// A registry with no service; the first one gets the serial 1.
     pub fn new(alloc: A) -> Registry<A>
         ensures shown { result.shown ≡ new_table }
     {
@@ -98,7 +99,8 @@ impl<A: Allocator + Copy> Registry<A> {
         }
     }
 
-    /// How many services stand: at most `SERVICE_LIMIT`. No two of them have one name, and their serials rise, below that of the next one.
+    /// How many services stand: at most `SERVICE_LIMIT`. No two of them have the same name, and their serials rise and are below the next
+    /// one.
     pub fn len(&self) -> usize
         ensures count { result ≡ length self.now.shown.services }
         ensures sound { IsSound self.now.shown.next_sid (charts_of self.now.shown.services) }
@@ -106,7 +108,7 @@ impl<A: Allocator + Copy> Registry<A> {
         self.slots.len()
     }
 
-    /// The serial of the next service that is added: what `prepare` and `scan` ask of it can be tested by this.
+    /// The serial of the next service that is added. A caller can test by it what `prepare` and `scan` require of that serial.
     pub fn next_sid(&self) -> Sid
         ensures { result ≡ self.now.shown.next_sid }
     {
@@ -157,7 +159,7 @@ impl<A: Allocator + Copy> Registry<A> {
         self.slots.find(&name)
     }
 
-    /// All services as plain data, and the serial of the next one. `NoMemory` where a growth was refused.
+    /// All services as plain data, and the serial of the next one. `NoMemory` where memory is refused.
     pub fn image(&self, alloc: A) -> Result<RegistryImage<A>, NoMemory>
         ensures { IfOk result (λ image. image ≡ self.now.shown) }
     {
@@ -168,8 +170,8 @@ impl<A: Allocator + Copy> Registry<A> {
         })
     }
 
-    /// What the service of this name is once all due timers went off, where that is not done yet; None where none has the name. Every
-    /// history that agrees with all services agrees with it once the marks of all these timers have joined.
+    /// What the service of this name would be if all due timers went off now; None where no service has the name. Nothing is changed. Each
+    /// history that agrees with all services agrees with this one too, once the marks of all these timers have joined it.
     pub fn after_timers(&self, name: Name, now: At) -> Option<ServiceState>
         requires { All (λ c. c.generation + 1 < 2 ^ 64) (charts_of self.now.shown.services) }
         ensures chart { option_map (λ s. s.chart) result
@@ -183,8 +185,8 @@ impl<A: Allocator + Copy> Registry<A> {
         table::after_timers(&self.slots, &name, now)
     }
 
-    /// The service of this serial takes a change, at once, and no other one does; None where none has the serial, and then nothing
-    /// changes.
+    /// The service of this serial takes a change at once, and no other one does. None where no service has the serial: nothing changes
+    /// then.
     pub fn change(&mut self, sid: Sid, change: &Change, now: At) -> Option<Out>
         requires { All (λ c. c.generation + 1 < 2 ^ 64) (charts_of self.old.shown.services) }
         ensures services { charts_of self.new.shown.services
@@ -214,9 +216,9 @@ impl<A: Allocator + Copy> Registry<A> {
         table::change(&mut self.slots, sid, change, now)
     }
 
-    /// Works out a step: each service whose timer is due takes its rule, and then the work is done. These are the serials of the
-    /// services whose timers are due. Nothing that is shown changes, and the plan fits what is shown until something does. `NoMemory`
-    /// where a growth was refused.
+    /// Works out a step: each service whose timer is due takes its rule, and then the work is done. `due` has the serials of the
+    /// services whose timers are due. Nothing that is shown changes, and the plan fits the registry until something shown does.
+    /// `NoMemory` where memory is refused; never where no timer is due and no work is asked.
     pub fn prepare(
         &mut self,
         due: &[Sid],
@@ -258,7 +260,7 @@ impl<A: Allocator + Copy> Registry<A> {
         Ok(plan)
     }
 
-    /// Makes a step that this registry worked out, where nothing that is shown has changed since. It takes no memory, and keeps that of
+    /// Makes a step that this registry worked out; nothing that is shown has changed since. It takes no memory, and keeps that of
     /// the plan for the next step.
     pub fn commit(&mut self, plan: RegistryPlan<A>)
         requires { Fits self.old plan }
@@ -276,7 +278,7 @@ impl<A: Allocator + Copy> Registry<A> {
         self.keep(pending);
     }
 
-    // The memory of a step serves the next one.
+    // Keeps the memory of this step for the next one.
     fn keep(&mut self, pending: Pending<A>)
         ensures { self.new ≡ self.old }
     {
@@ -284,7 +286,7 @@ impl<A: Allocator + Copy> Registry<A> {
         self.spare.clear(self.next_sid);
     }
 
-    // Works out the work alone, with no timers.
+    // Works out the work alone: no timer goes off.
     fn prepare_alone(&mut self, work: &ServiceWork, now: At) -> Result<RegistryPlan<A>, NoMemory>
         requires listing { IsOrderly self.old.shown.next_sid (work_asked work.now) }
         requires generations { All (λ c. c.generation + 1 < 2 ^ 64)
@@ -311,7 +313,7 @@ impl<A: Allocator + Copy> Registry<A> {
         Ok(plan)
     }
 
-    // The work is done at once.
+    // Does the work at once.
     fn make(&mut self, work: &ServiceWork, now: At) -> Result<Answer<A>, NoMemory>
         requires listing { IsOrderly self.old.shown.next_sid (work_asked work.now) }
         requires generations { All (λ c. c.generation + 1 < 2 ^ 64)
@@ -361,10 +363,11 @@ impl<A: Allocator + Copy> Registry<A> {
         }
     }
 
-    /// Takes a listing of the scan directory, at once: each service whose name is listed becomes active and takes the configuration
-    /// that was read, each other one becomes inactive; an inactive one whose supervisor has ended is dropped; and each name for which
-    /// no service stands gets one, in the order of the names' bytes. No name stands in the listing twice. `NoMemory` where a growth was
-    /// refused; then nothing that is shown changes. Page `s6-svscan`.
+    /// Takes a listing of the scan directory, at once. Each service whose name is listed becomes active and takes the configuration
+    /// that was read; each other one becomes inactive. An inactive one whose supervisor has ended is dropped. Each name for which no
+    /// service stands gets one, in the order of the names' bytes, unless its directory couldn't be read or `SERVICE_LIMIT` services
+    /// stand. No name stands in the listing twice. `NoMemory` where memory is refused: nothing that is shown changes then. Page
+    /// `s6-svscan`.
     pub fn scan(&mut self, listing: &[Entry], now: At) -> Result<Answer<A>, NoMemory>
         requires listing { repeats_name (names_in listing.now) ≡ false }
         requires generations { All (λ c. c.generation + 1 < 2 ^ 64)
@@ -405,8 +408,8 @@ impl<A: Allocator + Copy> Registry<A> {
         self.make(&work, now)
     }
 
-    /// Takes an order of all services, at once: nuke gives each inactive service the letters `x` and `d`; terminate makes each
-    /// service inactive and gives it both. `NoMemory` where a growth was refused; then nothing that is shown changes. Page
+    /// Takes a command to all services, at once: nuke gives each inactive service the letters `x` and `d`; terminate makes each
+    /// service inactive and gives it both. `NoMemory` where memory is refused: nothing that is shown changes then. Page
     /// `s6-svscanctl`; which letters they get is chosen here.
     pub fn control(&mut self, order: ScanOrder, now: At) -> Result<Answer<A>, NoMemory>
         requires generations { All (λ c. c.generation + 1 < 2 ^ 64)

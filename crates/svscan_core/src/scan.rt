@@ -1,4 +1,4 @@
-//! A scan before anything is changed: what the listing makes of each service, which are dropped, which names are added.
+//! A scan, worked out before anything is changed: what the listing makes of each service, which are dropped, which names are added.
 ghost use Rattle.std.specs.Prelude.{◌≡◌, ℕ, ◌+◌, ◌*◌, ◌<◌, ◌≤◌, ◌^◌, ◌++◌, ◌∷◌, [], List, map, filter, length, bytes_eq, All, IfOk, OnOk, true, false};
 ghost use Rattle.std.specs.List.{list_any};
 ghost use Rattle.s6_events.specs.Clock.{clock_of};
@@ -44,7 +44,8 @@ pub struct Scanning<A: Allocator> {
     pub next_sid: u64,
 }
 
-/// A service becomes active or inactive by the listing, and takes the configuration that was read. Page `s6-svscan`.
+/// Makes a service active or inactive, as the listing has its name or not, and gives it the configuration that was read, if any. Page
+/// `s6-svscan`.
 pub fn look_at<A: Allocator + Copy>(
     standing: &mut ServiceState,
     listing: &SortedListing<A>,
@@ -60,14 +61,14 @@ pub fn look_at<A: Allocator + Copy>(
     }
 }
 
-// A service stays unless its directory and its supervisor are both gone.
+// Whether a service stays: it leaves where its directory and its supervisor are both gone.
 fn is_retained(chart: &ChartState) -> bool
     ensures { result ≡ stays chart.now }
 {
     chart.active || chart.phase != Phase::Gone
 }
 
-/// Notes the services that leave, and says how many stay. Page `s6-svscan`.
+/// Notes the services that leave, and returns how many stay. Page `s6-svscan`.
 pub fn plan_drops<A: Allocator + Copy>(
     slots: &Slots<A>,
     touched: &[ChangedService],
@@ -102,7 +103,7 @@ pub fn plan_drops<A: Allocator + Copy>(
 }
 
 impl<A: Allocator + Copy> Scanning<A> {
-    /// Nothing yet, where this is the next serial.
+    /// Nothing is dropped or added yet, and this is the next serial.
     pub fn new(alloc: A, next_sid: u64) -> Scanning<A>
         ensures dropped { result.dropped.items ≡ [] }
         ensures dropped_sids { result.dropped_sids.items ≡ [] }
@@ -119,7 +120,7 @@ impl<A: Allocator + Copy> Scanning<A> {
         }
     }
 
-    /// Nothing again, in the same memory, where this is the next serial.
+    /// Empties the lists, and keeps their memory; this is the next serial.
     pub fn clear(&mut self, next_sid: u64)
         ensures dropped { self.new.dropped.items ≡ [] }
         ensures dropped_sids { self.new.dropped_sids.items ≡ [] }
@@ -134,7 +135,7 @@ impl<A: Allocator + Copy> Scanning<A> {
         self.next_sid = next_sid;
     }
 
-    // The service leaves.
+    // Notes that this service leaves.
     fn drop_service(&mut self, chart: &ChartState) -> Result<(), NoMemory>
         ensures dropped { OnOk result
             (self.new.dropped.items ≡ self.old.dropped.items ++ chart.now.name ∷ []) }
@@ -149,7 +150,7 @@ impl<A: Allocator + Copy> Scanning<A> {
         Ok(())
     }
 
-    // The name gets a service of the next serial, whose supervisor starts with this configuration.
+    // Gives the name a service of the next serial, whose supervisor starts with this configuration.
     fn add_service(
         &mut self,
         alloc: A,
@@ -185,7 +186,7 @@ impl<A: Allocator + Copy> Scanning<A> {
         Ok(())
     }
 
-    // A name for which no service stands gets one, unless its directory couldn't be read or the limit is reached.
+    // Adds a service for a name for which none stands, unless its directory couldn't be read or the limit is reached.
     fn add_new_name(
         &mut self,
         alloc: A,
@@ -222,7 +223,7 @@ impl<A: Allocator + Copy> Scanning<A> {
         self.add_service(alloc, moves, name, config, now)
     }
 
-    // A name for which a service stands is passed over.
+    // As `add_new_name`, but it passes over a name for which a service stands.
     fn add_name(
         &mut self,
         slots: &Slots<A>,
@@ -257,7 +258,7 @@ impl<A: Allocator + Copy> Scanning<A> {
         self.add_new_name(slots.allocator(), moves, retained, name, found, now)
     }
 
-    // Additions: one name after the other, behind so many services that stay. Page `s6-svscan`.
+    // Adds a service for one name after the other, as `add_name` does; `retained` services stay. Page `s6-svscan`.
     fn add_names(
         &mut self,
         slots: &Slots<A>,
@@ -294,9 +295,10 @@ impl<A: Allocator + Copy> Scanning<A> {
     }
 }
 
-/// What the listing does to the services as the step has them: each is looked at, those of which directory and supervisor are both
-/// gone leave, and each listed name for which none stands gets a new one, in the order of the names' bytes, while fewer than `SERVICE_LIMIT` stand.
-/// Nothing of it is done yet. `NoMemory` where memory for the plan is refused. Page `s6-svscan`.
+/// Works out what the listing does to the services as the step has them so far. Each is looked at; those whose directory and supervisor
+/// are both gone leave; and each listed name for which none stands gets a new one, in the order of the names' bytes, unless its
+/// directory couldn't be read, while fewer than `SERVICE_LIMIT` stand. Nothing of it is done yet. `NoMemory` where memory for the plan
+/// is refused. Page `s6-svscan`.
 pub fn plan_scan<A: Allocator + Copy>(
     slots: &Slots<A>,
     moves: &mut Moves<A>,

@@ -34,7 +34,7 @@ impl<A: Allocator> Model for Slots<A> {
     ghost invariant = { IsHeld };
 }
 
-// The service in this slot takes this state and this status, and a death where there is one.
+// Gives the service in this slot this state and status, and adds the death to its tally, if there is one.
 fn adopt_in<A: Allocator + Copy>(
     slots: &mut Slab<Service<A>, A>,
     slot: usize,
@@ -51,7 +51,7 @@ fn adopt_in<A: Allocator + Copy>(
     }
 }
 
-// The service in this slot leaves it, if one stands there.
+// Takes the service out of this slot, if there is one.
 fn empty_slot<A: Allocator + Copy>(slots: &mut Slab<Service<A>, A>, slot: usize)
     ensures updates { Updates slots.old slots.new slot None }
     ensures count { slab_len slots.new ≤ slab_len slots.old }
@@ -61,7 +61,7 @@ fn empty_slot<A: Allocator + Copy>(slots: &mut Slab<Service<A>, A>, slot: usize)
 }
 
 impl<A: Allocator + Copy> Slots<A> {
-    /// None stands.
+    /// Slots with no service.
     pub fn new(alloc: A) -> Slots<A>
         ensures services { result.services ≡ [] }
     {
@@ -71,7 +71,7 @@ impl<A: Allocator + Copy> Slots<A> {
         }
     }
 
-    /// How many stand.
+    /// How many services stand. No two of them have the same name.
     pub fn len(&self) -> usize
         ensures count { result ≡ length self.now.services }
         ensures names { repeats_name (names_of (charts_of self.now.services)) ≡ false }
@@ -79,7 +79,7 @@ impl<A: Allocator + Copy> Slots<A> {
         self.index.len()
     }
 
-    /// The one at this place, in the order in which they were added.
+    /// The service at this place, in the order in which they were added.
     pub fn nth(&self, place: usize) -> Option<&Service<A>>
         ensures { option_map (λ s. s.now) result ≡ slice_get self.now.services place }
     {
@@ -87,7 +87,7 @@ impl<A: Allocator + Copy> Slots<A> {
         self.slots.get(*slot)
     }
 
-    /// The one of this name.
+    /// The service of this name.
     pub fn find(&self, name: &Name) -> Option<&Service<A>>
         ensures { option_map (λ s. s.now) result
             ≡ find (λ s. bytes_eq name.now s.chart.name) self.now.services }
@@ -96,14 +96,14 @@ impl<A: Allocator + Copy> Slots<A> {
         self.slots.get(*slot)
     }
 
-    /// Whether one of this name stands.
+    /// Whether a service of this name stands.
     pub fn has(&self, name: &Name) -> bool
         ensures { result ≡ list_any (λ s. bytes_eq name.now s.chart.name) self.now.services }
     {
         self.index.contains_key(name)
     }
 
-    /// The one at this place takes this state and this status, and a death joins its tally where there is one; its name stays.
+    /// Gives the service at this place this state and status, and adds the death to its tally, if there is one. Its name stays.
     pub fn adopt(&mut self, place: usize, standing: ServiceState, death: Option<(At, Exit)>)
         requires name { IsSomeAnd (slice_get self.old.services place)
             (λ s. s.chart.name ≡ standing.chart.name) }
@@ -118,7 +118,7 @@ impl<A: Allocator + Copy> Slots<A> {
         }
     }
 
-    /// Takes out the one of this name, if one stands; the others keep their order.
+    /// Takes out the service of this name, if there is one; the others keep their order.
     pub fn remove(&mut self, name: Name)
         ensures services { self.new.services ≡ without_name self.old.services name }
         ensures room { self.old.room ≤ self.new.room }
@@ -130,7 +130,7 @@ impl<A: Allocator + Copy> Slots<A> {
         }
     }
 
-    /// Makes room for this many more. `NoMemory` where the memory for them is refused; those that stand stay as they are.
+    /// Makes room for `count` more services. `NoMemory` where memory is refused; the services that stand stay as they are.
     pub fn reserve(&mut self, count: usize) -> Result<(), NoMemory>
         ensures services { self.new.services ≡ self.old.services }
         ensures room { OnOk result (count ≤ self.new.room) }
@@ -144,7 +144,7 @@ impl<A: Allocator + Copy> Slots<A> {
         Ok(())
     }
 
-    /// One more under a new name goes last; there is room for it.
+    /// Adds a service of a new name, as the last one; there is room for it.
     pub fn add(&mut self, service: Service<A>)
         requires room { 0 < self.old.room }
         requires absent { list_any (λ s. bytes_eq service.chart.name s.chart.name) self.old.services
@@ -157,7 +157,7 @@ impl<A: Allocator + Copy> Slots<A> {
         let _old = self.index.insert(name, slot).unwrap();
     }
 
-    /// All of these go last, in their order; there is room for them. `added` is empty then, and keeps its memory.
+    /// Adds all of these as the last ones, in their order; there is room for them. `added` is empty then, and keeps its memory.
     pub fn add_all(&mut self, added: &mut Vec<Service<A>, A>)
         requires room { length added.old.items ≤ self.old.room }
         requires names { repeats_name (names_of (charts_of (self.old.services ++ added.old.items)))
@@ -171,7 +171,7 @@ impl<A: Allocator + Copy> Slots<A> {
         }
     }
 
-    /// Where its memory comes from.
+    /// The allocator that it was made with.
     pub fn allocator(&self) -> A {
         *self.index.allocator()
     }

@@ -1,4 +1,4 @@
-//! Questions and single changes of the table.
+//! Questions to the table, and a change of one service in it.
 ghost use Rattle.std.specs.Prelude.{◌≡◌, ◌+◌, ◌<◌, ◌^◌, ◌++◌, ◌==◌, List, All, true, map, find, bytes_eq, is_some, option_map, slice_get, IfSome, IfNone};
 ghost use Rattle.std.specs.List.{list_any};
 ghost use Rattle.deadlines.specs.Timers.{is_rising};
@@ -18,7 +18,7 @@ use s6_events::{At, Name, Sid};
 use std::alloc::Allocator;
 use supervise_core::{Change, Out, Service, ServiceState};
 
-/// The serial of the service of this name, and None where none has it.
+/// The serial of the service of this name; None where no service has it.
 pub fn find_sid<A: Allocator + Copy>(slots: &Slots<A>, name: &Name) -> Option<Sid>
     ensures { result ≡ option_map (λ c. c.sid)
         (find (λ c. bytes_eq name.now c.name) (charts_of slots.now.services)) }
@@ -26,14 +26,14 @@ pub fn find_sid<A: Allocator + Copy>(slots: &Slots<A>, name: &Name) -> Option<Si
     Some(slots.find(name)?.sid())
 }
 
-/// The serial of the service at this place, of those in the order in which they were added; None past the last one.
+/// The serial of the service at this place, in the order in which they were added; None past the last one.
 pub fn nth_sid<A: Allocator + Copy>(slots: &Slots<A>, place: usize) -> Option<Sid>
     ensures { result ≡ option_map (λ c. c.sid) (slice_get (charts_of slots.now.services) place) }
 {
     Some(slots.nth(place)?.sid())
 }
 
-/// The service of this serial, and None where none has it.
+/// The service of this serial; None where no service has it.
 pub fn get<A: Allocator + Copy>(slots: &Slots<A>, sid: Sid) -> Option<&Service<A>>
     requires { is_rising (serials_of (charts_of slots.now.services)) ≡ true }
     ensures { option_map (λ s. s.now) result ≡ find (λ s. s.chart.sid == sid) slots.now.services }
@@ -41,8 +41,8 @@ pub fn get<A: Allocator + Copy>(slots: &Slots<A>, sid: Sid) -> Option<&Service<A
     slots.nth(place_of(slots, sid)?)
 }
 
-/// The service of this serial takes a change, and what it gives is the answer; None where none has the serial, and then every service
-/// stays as it stands. No memory is taken. The changes are those of page `s6-supervise`.
+/// The service of this serial takes a change. Returns what that gives; None where no service has the serial, and then every service
+/// stays as it is. No memory is taken. The changes are those of page `s6-supervise`.
 pub fn change<A: Allocator + Copy>(
     slots: &mut Slots<A>,
     sid: Sid,
@@ -80,7 +80,7 @@ pub fn change<A: Allocator + Copy>(
     Some(out)
 }
 
-// Its timer goes off.
+// The state once its timer went off.
 fn fire_timer(standing: ServiceState, now: At) -> ServiceState
     requires { standing.chart.generation + 1 < 2 ^ 64 }
     ensures chart { result.chart ≡ (fire_move now standing.chart).chart }
@@ -91,7 +91,7 @@ fn fire_timer(standing: ServiceState, now: At) -> ServiceState
     fired
 }
 
-// What a service is once its timer went off, where its moment has come.
+// The state once its timer went off, if it is due.
 fn after_timer(standing: ServiceState, now: At) -> ServiceState
     requires { standing.chart.generation + 1 < 2 ^ 64 }
     ensures chart { result.chart ≡ (fire_move now standing.chart).chart }
@@ -104,7 +104,7 @@ fn after_timer(standing: ServiceState, now: At) -> ServiceState
     }
 }
 
-/// What the service of this name is once all due timers went off; None where none has the name. No memory is taken.
+/// What the service of this name would be if all due timers went off now; None where no service has the name. No memory is taken.
 pub fn after_timers<A: Allocator + Copy>(
     slots: &Slots<A>,
     name: &Name,

@@ -1,4 +1,4 @@
-//! What each service in turn takes: its timer, an order to all, or a look at its directory.
+//! What each service in turn takes: its timer, a command to all, or a look at its directory.
 ghost use Rattle.std.specs.Prelude.{◌≡◌, ◌+◌, ◌<◌, ◌≤◌, ◌^◌, length, true};
 ghost use Rattle.supervise_core.specs.ChartState.{no_move};
 ghost use Rattle.supervise_core.specs.Chart.{fire_move, changed_by};
@@ -15,7 +15,7 @@ use s6_events::At;
 use std::alloc::Allocator;
 use supervise_core::{Change, Out, ServiceState};
 
-/// What each service in turn takes: its timer rule, an order of all services, or a look at its directory.
+/// What each service in turn takes: the rule of its timer, a command to all services, or a look at its directory.
 #[derive(Clone, Copy)]
 pub enum Visit<'a, A: Allocator> {
     Fire,
@@ -37,7 +37,7 @@ pub fn take(standing: &mut ServiceState, change: &Change, now: At, out: &mut Out
     standing.change_onto(change, now, out);
 }
 
-// Its timer goes off where its moment has come.
+// Its timer goes off, if it is due.
 fn fire_timer(standing: &mut ServiceState, now: At, out: &mut Out)
     requires { standing.old.chart.generation + 1 < 2 ^ 64 }
     ensures gives { MatchesMove (fire_move now standing.old.chart) standing.new.chart out.new }
@@ -50,7 +50,7 @@ fn fire_timer(standing: &mut ServiceState, now: At, out: &mut Out)
 }
 
 impl<A: Allocator + Copy> Visit<'_, A> {
-    /// Whether it leaves the service as it stands.
+    /// Whether the visit is known to change nothing in this service and to give nothing.
     pub fn passes(self, standing: &ServiceState, now: At) -> bool
         ensures { result ≡ true → visit_move self.entry now standing.now.chart
             ≡ no_move standing.now.chart }
@@ -62,7 +62,7 @@ impl<A: Allocator + Copy> Visit<'_, A> {
         }
     }
 
-    /// The service takes it; `out` has the marks and orders of that, and nothing else.
+    /// The service takes the visit; `out` has the marks and orders of that, and nothing else.
     pub fn make(self, standing: &mut ServiceState, now: At, out: &mut Out)
         requires next { standing.old.chart.generation + 1 < 2 ^ 64 }
         ensures gives { MatchesMove

@@ -12,6 +12,6 @@ pub enum ServiceWork<'a> {
     Change(Sid, &'a Change),
     /// The scan directory was listed; no name stands in the listing twice. Page `s6-svscanctl`, `-a`.
     Listing(&'a [Entry]),
-    /// All services are told to leave. Page `s6-svscanctl`, `-n` and `-t`.
+    /// All services get this command: nuke, which is for the inactive ones, or terminate. Page `s6-svscanctl`, `-n` and `-t`.
     Command(ScanOrder),
 }

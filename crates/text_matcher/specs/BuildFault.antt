@@ -1,4 +1,4 @@
--- Which fault of a matcher a fault of its parts is.
+-- Which fault of a matcher each error of its parts becomes.
 use Rattle.regex_compile.specs.declared.error.Error.{Error}
 use Rattle.regex_compile.specs.declared.error.Error.TheVariants as compiler
 use Rattle.regex_syntax.specs.declared.error.ErrorKind.{ErrorKind}
@@ -6,7 +6,7 @@ use Rattle.regex_syntax.specs.declared.error.ErrorKind.TheVariants.{OutOfMemory}
 use Rattle.text_matcher.specs.declared.build_fault.BuildFault.{BuildFault}
 use Rattle.text_matcher.specs.declared.build_fault.BuildFault.TheVariants.{Refused, NoMemory}
 
--- a growth that was refused is a fault of memory, and each other fault refuses the text
+-- where memory was refused, the fault is NoMemory; for each other error the text is refused
 abbrev pub of_parser : ErrorKind → BuildFault
 of_parser OutOfMemory = NoMemory
 of_parser _ = Refused

@@ -1,4 +1,4 @@
--- How an automaton stands to the text of an expression.
+-- When an automaton is that of an expression's text.
 use Rattle.std.specs.Prelude.{◌≡◌, ℕ, ◌<◌, List, All, length, is_some}
 use Rattle.regex_hir.specs.Re.{accept, attempt}
 use Rattle.regex_nfa.specs.Run.{run}

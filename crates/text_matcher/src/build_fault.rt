@@ -11,12 +11,12 @@ use std::alloc::AllocError;
 pub enum BuildFault {
     /// The text is no expression, nests too deep, or makes tables past the limit.
     Refused = 1,
-    /// A growth was refused.
+    /// Memory was refused.
     NoMemory = 2,
 }
 
 impl BuildFault {
-    // The fault of a text that isn't read.
+    // The fault for an error of the parser.
     pub(crate) fn of_parser(kind: ErrorKind) -> BuildFault
         ensures { result ≡ of_parser kind }
     {
@@ -26,7 +26,7 @@ impl BuildFault {
         }
     }
 
-    // The fault of an expression that isn't compiled.
+    // The fault for an error of the compiler.
     pub(crate) fn of_compiler(error: regex_compile::Error) -> BuildFault
         ensures { result ≡ of_compiler error }
     {

@@ -1,4 +1,4 @@
-//! A regular expression with all that searching for it takes, in one value that owns it.
+//! A regular expression with all that a search for it needs, in one value that owns it.
 #![tactic(auto)]
 
 mod build_fault;

@@ -16,43 +16,43 @@ use regex_vm::PikeVm;
 use std::alloc::Global;
 use std::marker::Model;
 
-// So many bytes the rows of the automaton that is built while it runs take at most.
+// The most bytes that the rows of the automaton take, which are made while it runs.
 const ROW_BYTES: usize = 0x8000;
 
-// So long the rows may have taken to make, in eighths of a nanosecond, before the sets of states are asked first: 0.1 ms in all.
+// How long the making of rows may have taken in all, in eighths of a nanosecond, before a search asks the sets of states first: 0.1 ms.
 const ROW_TIME: u64 = 800_000;
 
-// The sets of states of a larger automaton would take too much memory.
+// The most states of an automaton for which sets of states are made. For a larger one they would take too much memory.
 const BITS_STATES: usize = 256;
 
 /// How large the automaton of an expression may be.
 #[derive(Clone, Copy, Debug, PartialEq, Eq)]
 pub struct Limits {
-    /// The bytes of its tables, which the compiler may pass by 24.
+    /// The most bytes of its tables, which the compiler may exceed by 24.
     pub bytes: usize,
-    /// The states that read a byte below 128. Among such bytes no others are ever reached, however many there are.
+    /// The most states that read a byte below 128. A search of such bytes never reaches the other ones, however many there are.
     pub states: usize,
 }
 
-/// A regular expression of the crate `regex`, with all that searching for it takes: it owns its automaton and the engines that run
-/// it, so it can be kept for as long as somebody searches. What one search worked out of the automaton the next one finds.
+/// A regular expression of the crate `regex`, with all that a search for it needs. It owns its automaton and the engines that run
+/// it, so it can be kept as long as searches are made. The rows that one search makes are there for the next one.
 ///
-/// A clause sees its text.
+/// A clause sees it as its text.
 pub struct TextMatcher {
     source: String,
     dfa: Dfa,
-    // Runs the automaton by rows that it makes as it goes, and gives up where they find no room.
+    // Runs the automaton by rows that it makes as it goes, and gives up where there is no room for them.
     forward: Forward,
-    // Where making rows takes long, tells sooner that there is no match. Where it can't, there may be one or none.
+    // Where making rows takes long, this may tell sooner that there is no match. Where it doesn't tell so, there may be a match or none.
     bits: Option<Bits>,
-    // Whether it was made, or can't be.
+    // Whether `bits` was made, or could not be made.
     is_strained: bool,
     alloc: Global,
-    // Runs it state by state where that gives up: it takes no memory, and never fails.
+    // Runs the automaton state by state where `forward` gives up. It takes no memory, and never fails.
     pikevm: PikeVm,
 }
 
-// Written out, so that whoever holds one drops it by one call.
+// Written out, so that its holder drops it by one call.
 impl Drop for TextMatcher {
     fn drop(self) {
         let TextMatcher {
@@ -81,7 +81,7 @@ impl Model for TextMatcher {
 
 impl TextMatcher {
     /// The matcher of this text, with the default options of `regex`. Refused: the text is no expression, nests too deep, or its
-    /// automaton is larger than the limits say. NoMemory: a growth was refused.
+    /// automaton is larger than the limits say. NoMemory: memory was refused.
     pub fn build(alloc: Global, text: &str, limits: Limits) -> Result<TextMatcher, BuildFault>
         ensures text { IfOk result (λ m. m ≡ text.now) }
         ensures expression { IfOk result (λ _. is_expression text.now ≡ true) }
@@ -199,7 +199,7 @@ fn finds_by_states(pikevm: &mut PikeVm, dfa: &Dfa, bytes: &[u8]) -> bool
     pikevm.is_match(&dfa.nfa, bytes, 0, end, end)
 }
 
-// How many states read a byte below 128, but for the one that passes over what comes before a match.
+// How many states read a byte below 128, not counting the one that passes over what comes before a match.
 fn ascii_states(nfa: &Nfa) -> usize {
     let all = nfa
         .states
@@ -219,7 +219,7 @@ fn reads_ascii(nfa: &Nfa, state: State) -> bool {
     first.is_some_and(|transition| transition.start < 128)
 }
 
-// The automaton of the expression that this text is.
+// The automaton of the expression in this text.
 fn automaton_of(alloc: Global, text: &str, size_limit: usize) -> Result<Nfa, BuildFault>
     ensures matches { IfOk result (λ nfa. Matches nfa text.now) }
     ensures expression { IfOk result (λ _. is_expression text.now ≡ true) }

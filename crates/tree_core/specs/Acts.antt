@@ -50,7 +50,7 @@ pub record ActResult (A : Type 0) : Type 0 where
 abbrev pub service_named : List ℕ → List ChartState → Option ChartState
 service_named name services = find (λ c. bytes_eq name c.name) services
 
--- a serial that no service has
+-- an act that names a service by its serial is refused where no service has it
 abbrev pub serial_refusal : ℕ → List ChartState → Option Refusal
 serial_refusal sid services = if list_any (λ c. c.sid == sid) services then None else Some NoService
 
@@ -75,7 +75,8 @@ abbrev pub listing_refusal : List Entry → Machine → Option Refusal
 listing_refusal listing m = if m.closing then Some Closing else if repeats_name (names_in listing) then Some Repeated
     else None
 
--- a wait is refused where it names nothing, a name twice, over 16 names, a name that no service has, and where waiter_limit waiters stand
+-- a wait is refused where it names nothing, a name twice, over 16 names, a name that no service has, or where waiter_limit waiters stand:
+-- the first of these
 abbrev pub wait_refusal : List (List ℕ) → Machine → Option Refusal
 wait_refusal names m =
     if length names == 0 then Some Empty
@@ -126,7 +127,7 @@ act_refusal (Send target message) m = message_refusal target message m
 act_refusal (MakeDir name) m = directories_refusal (make_directory name) m
 act_refusal act m = None
 
--- the service that was found takes a change
+-- the service that was found takes a change, if one was found
 abbrev pub change_found : Option ChartState → Change → Work
 change_found None change = do_nothing
 change_found (Some c) change = change_one c.sid change
@@ -163,7 +164,7 @@ ask_of (Wait condition mode timeout names) m =
 ask_of (Cancel id) m = ask_unless (cancel_refusal id m) (cancel_waiter id)
 ask_of act m = same
 
--- what each act asks of the event directories, which refuse it by themselves; a pattern is offered beside it
+-- what each act asks of the event directories, which may refuse it themselves; and the pattern that it offers with that
 abbrev pub directory_ask_of : {A : Type 0} → Act A → Machine → DirectoryRequest
 directory_ask_of (Subscribe target pattern repeats_name) m = subscribe_found (source_named target m.services)
 directory_ask_of (Unsubscribe id) m = unsubscribe id
@@ -184,12 +185,12 @@ reply_unless (Some why) reply = answers.Refused why
 abbrev pub report_reply : {A : Type 0} → WorkResult → Reply A
 report_reply w = if w.stale then answers.Refused Stale else answers.Done
 
--- a row is shown, and where no service has the name that is refused
+-- the reply with a row; NoService where no service has the name
 abbrev pub row_reply : {A : Type 0} → Option Row → Reply A
 row_reply None = answers.Refused NoService
 row_reply (Some row) = answers.Row row
 
--- so are the last deaths of a service, and whether they are a permanent failure
+-- the same with the last deaths of a service, and with whether they are a permanent failure
 abbrev pub tally_reply : {A : Type 0} → Option (List (ℕ × Exit)) → Reply A
 tally_reply None = answers.Refused NoService
 tally_reply (Some deaths) = answers.Tally deaths

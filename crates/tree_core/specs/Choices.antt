@@ -46,7 +46,7 @@ pub data Chosen : Type 0 where
   cancel : ℕ → Chosen
   ask_directories : DirectoryRequest → Chosen
 
--- as the code has it
+-- the same, by the choice that the code makes
 abbrev pub chosen_of : Choice → Chosen
 chosen_of (Refuse why) = refuse why
 chosen_of Nothing = nothing
@@ -70,7 +70,7 @@ lists_more (listing entries) = true
 lists_more (tally name) = true
 lists_more chosen = false
 
--- what that asks of the services
+-- what the choice asks of the services
 abbrev pub chosen_work : Chosen → Work
 chosen_work (report sid change) = change_one sid change
 chosen_work (letters sid change) = change_one sid change
@@ -78,19 +78,19 @@ chosen_work (listing entries) = apply_listing entries
 chosen_work (order which) = command which
 chosen_work chosen = do_nothing
 
--- what that asks of the waiters, at this moment
+-- what the choice asks of the waiters, at this moment
 abbrev pub chosen_change : ℕ → Chosen → WaitRequest
 chosen_change now (wait condition mode timeout sids) =
     add_one (wait_terms condition mode sids (deadline_of timeout now))
 chosen_change now (cancel id) = cancel_one id
 chosen_change now chosen = no_wait_request
 
--- what that asks of the event directories
+-- what the choice asks of the event directories
 abbrev pub chosen_ask : Chosen → DirectoryRequest
 chosen_ask (ask_directories ask) = ask
 chosen_ask chosen = no_directory_request
 
--- nothing is asked of anybody, and the answer has no list
+-- the choice asks nothing of any part, and the answer has no list
 pub record AsksNothing (now : ℕ) (chosen : Chosen) : Type 0 where
   pub work : chosen_work chosen ≡ do_nothing
   pub waiters : chosen_change now chosen ≡ no_wait_request
@@ -112,7 +112,7 @@ abbrev pub row_choice : Option Row → Chosen
 row_choice None = refuse NoService
 row_choice (Some row) = show row
 
--- deaths that were found, and whether they are a permanent failure
+-- whether the deaths of the service, if that was found, are a permanent failure
 abbrev pub failure_choice : Option Bool → Chosen
 failure_choice None = refuse NoService
 failure_choice (Some fails) = failure fails

@@ -24,6 +24,6 @@ pub record IsTerminated {A : Type 0} (m : Machine) (input : Input A) : Type 0 wh
   pub asked : input.act ≡ Scanctl Terminate
   pub done : (outcome m input).reply ≡ Done
 
--- what comes after a step whose terminate was done starts no run
+-- after a step in which a terminate was done, no later step starts a run
 abbrev pub StaysClosed : {A : Type 0} → Machine → Input A → List (Input A) → Type 0
 StaysClosed m input later = IsTerminated m input → list_any starts_run (outcomes (after m input) later) ≡ false

@@ -28,7 +28,7 @@ abbrev pub ask_unless : Option Refusal → Ask → Ask
 ask_unless None ask = ask
 ask_unless (Some why) ask = same
 
--- the waiters after it
+-- the waiters once that is done
 abbrev pub watch_after : Ask → Watch → Watch
 watch_after same w = w
 watch_after (add_waiter asked) w = after_add w asked
@@ -38,7 +38,7 @@ watch_after (cancel_waiter id) w = after_cancel w id
 abbrev pub release_of_new : ℕ → Option Verdict → List (ℕ × Verdict)
 release_of_new id verdict = option_to_list (option_map (λ v. (id, v)) verdict)
 
--- the waiter that is made, where its verdict over no moment is no longer waiting
+-- the release of the waiter that is made, where its verdict over no moment is no longer waiting
 abbrev pub released_at_once : Ask → Watch → List (ℕ × Verdict)
 released_at_once (add_waiter asked) w =
     release_of_new w.next (new_release Waiting (waiter_state w.history (new_waiter w asked)))
@@ -48,7 +48,7 @@ released_at_once ask w = []
 abbrev pub as_release : ℕ × Verdict → Release
 as_release r = record { waiter = r.0; verdict = r.1 }
 
--- a subscription to what was found
+-- a subscription to the source that was found, if one was found
 abbrev pub subscribe_found : Option Source → DirectoryRequest
 subscribe_found None = no_directory_request
 subscribe_found (Some source) = subscribe source

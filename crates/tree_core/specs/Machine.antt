@@ -45,14 +45,14 @@ new_machine = record {
   next_subscription = 1;
 }
 
--- its waiters beside these moments, and beside its own
+-- its waiters with these moments as the history, and with its own history
 abbrev pub watch_at : List Moment → Machine → Watch
 watch_at history m = record { history = history; waiters = m.waiters; next = m.next_waiter }
 
 abbrev pub watch_of : Machine → Watch
 watch_of m = watch_at m.history m
 
--- its event directories beside these moments, and beside its own
+-- its event directories with these moments as the history, and with its own history
 abbrev pub directories_at : List Moment → Machine → WrittenDirectories
 directories_at history m = record {
   history = history;

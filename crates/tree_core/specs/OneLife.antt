@@ -30,7 +30,7 @@ abbrev pub up_to : ℕ → List ℕ
 up_to zero = []
 up_to (suc n) = up_to n ++ suc n ∷ []
 
--- what the service is told ends the run before this generation: its death, or that it could not be started
+-- the service is told that the run before this generation is over: that it died, or could not be started
 abbrev pub ends_before : ℕ → Option Change → Bool
 ends_before generation (Some (Report (Death sid of exit))) = of + 1 == generation
 ends_before generation (Some (Report (StartFailed sid of))) = of + 1 == generation
@@ -40,7 +40,7 @@ ends_before generation told = false
 abbrev pub may_come : {A : Type 0} → ℕ → List (StepTaken A) → ℕ → Bool
 may_come sid steps generation = generation == 1 || list_any (λ t. ends_before generation (change_in_step sid t)) steps
 
--- so far the runs of the service had the generations 1, 2, 3 and so on, and those of the next step come only after the one before
+-- so far the runs of the service had the generations 1, 2, 3 and so on, and one of the next step comes only once the one before it is over
 pub record HasOneLife {A : Type 0} (inputs : List (Input A)) (input : Input A) (sid : ℕ) : Type 0 where
   pub counted : generations_given sid (steps_taken inputs) ≡ up_to (length (generations_given sid (steps_taken inputs)))
   pub after_another : list_all (may_come sid (steps_taken inputs ++ next_step inputs input ∷ []))

@@ -22,14 +22,14 @@ pub record Past : Type 0 where
 abbrev pub no_past : Past
 no_past = record { ready_since = None; last_death = None }
 
--- one mark more, told at a moment
+-- the same after one more mark, told at this moment
 abbrev pub past_with : ℕ → Past → Mark → Past
 past_with now past Spawned = record past { ready_since = None }
 past_with now past Ready = record past { ready_since = Some now }
 past_with now past Died = record past { last_death = Some (record { at = now; ready_since = past.ready_since }) }
 past_with now past mark = past
 
--- the marks of a step more, and those of all steps
+-- the same after the marks of one more step, and after those of all steps
 abbrev pub past_with_step : {A : Type 0} → ℕ → Past → StepTaken A → Past
 past_with_step sid past t = fold (past_with (clock_in t)) past (marks_in sid t)
 

@@ -33,14 +33,14 @@ wants_up told = false
 abbrev pub frees : {A : Type 0} → ℕ → StepTaken A → Bool
 frees sid t = wants_up (change_in_step sid t) || list_any tells_start (marks_in sid t)
 
--- after one step more: an O came, and since then no step with a letter u for it or an s of it
+-- after one more step: an O came, and since then no step with a letter u for the service or an s of it
 abbrev pub fails_on : {A : Type 0} → ℕ → Bool → StepTaken A → Bool
 fails_on sid failed t = if frees sid t then false else failed || list_any is_failure_mark (marks_in sid t)
 
 abbrev pub has_failed_for_good : {A : Type 0} → ℕ → List (StepTaken A) → Bool
 has_failed_for_good sid steps = fold (fails_on sid) false steps
 
--- where the service has failed so by the end of the next step, that step starts no run of it
+-- where the service has failed for good by the end of the next step, that step starts no run of it
 abbrev pub RestsAfterFailure : {A : Type 0} → List (Input A) → Input A → ℕ → Type 0
 RestsAfterFailure inputs input sid =
     has_failed_for_good sid (steps_taken inputs ++ next_step inputs input ∷ []) ≡ true

@@ -29,7 +29,7 @@ use Rattle.tree_core.specs.Step.{step}
 use Rattle.tree_core.specs.Choices.{Chosen, chosen_work, chosen_change, chosen_ask}
 use Rattle.tree_core.specs.Replies.{ListenersAnswer, is_subscribed, released_by_answer, chosen_reply}
 
--- a machine whose timers went off at this moment, of these services
+-- a machine after the due timers of these services went off at this moment
 pub record HasFired (closing : Bool) (now : ℕ) (services : List Supervised) (history : List Moment)
     (m : Machine) : Type 0 where
   pub clock : m.clock ≡ now
@@ -47,14 +47,14 @@ pub record DoesAsk (ask : Ask) (change : WaitRequest) (m : Machine) : Type 0 whe
   pub at_once : (h : List Moment) → released_by_answer (wait_answer (watch_at h m) change)
       ≡ released_at_once ask (watch_at h m)
 
--- what both answer to it, whatever moments have joined by then
+-- what the waiters and the event directories answer to what was chosen, whatever moments have joined by then
 abbrev pub answers_at : List Moment → Machine → Chosen → ListenersAnswer
 answers_at h m chosen = record {
   waiters = wait_answer (watch_at h m) (chosen_change m.clock chosen);
   directories = directory_answer (chosen_ask chosen) (directories_at h m);
 }
 
--- what was chosen is what the act does on the machine, whose timers went off on these services
+-- what was chosen is what the act does on the machine, in which the due timers of these services went off
 pub record Chooses {A : Type 0} (act : Act A) (m : Machine) (services : List Supervised)
     (chosen : Chosen) : Type 0 where
   pub work : work_of act m ≡ chosen_work chosen
@@ -86,8 +86,8 @@ present_state clock steps closing services next_sid waits directories =
       directories = directories;
     }
 
--- the machine has this now, a history that agrees with what the services store of their marks, deaths of which their tallies
--- have the last, waiters that are kept so, and subscriptions that have heard this
+-- the present state of the machine is this: its history agrees with what the services store of their marks, their tallies have the last
+-- of its deaths, and what is kept of waiters and subscriptions stands for those of the machine
 pub record IsNow (p : PresentState) (m : Machine) : Type 0 where
   pub clock : m.clock ≡ p.clock
   pub steps : m.steps ≡ p.steps
@@ -108,7 +108,7 @@ is_reading (Permafailon name seconds count items) = true
 is_reading Tick = true
 is_reading act = false
 
--- an act that does nothing, at a moment that moves no clock, while no timer is due
+-- an act that only reads, at a moment that isn't later than the clock, while no timer is due
 pub record IsQuiet {A : Type 0} (input : Input A) (clock : ℕ) (services : List ChartState) : Type 0 where
   pub reading : is_reading input.act ≡ true
   pub early : input.at ≤ clock

@@ -25,14 +25,14 @@ pub record ListenersAnswer : Type 0 where
 abbrev pub tally_in : List ℕ → List Supervised → Option (List (ℕ × Exit))
 tally_in name services = option_map (λ s. s.tally.kept) (find (λ s. bytes_eq name s.chart.name) services)
 
--- a waiter that is asked for: what else may refuse one is looked for before
+-- the reply about a waiter that is to be made or to end; a refusal is TooMany here, since the others were looked for before
 abbrev pub waiter_reply : {A : Type 0} → WaitAnswer → Reply A
 waiter_reply (waiter.Added id verdict) = answers.Waiter id
 waiter_reply (waiter.Refused fault) = answers.Refused TooMany
 waiter_reply (waiter.Cancelled stood) = if stood then answers.Done else answers.Refused NoSuch
 waiter_reply waiter.Nothing = answers.Done
 
--- what was asked of the event directories
+-- the reply about what was asked of the event directories
 abbrev pub directory_reply : {A : Type 0} → DirectoryAnswer → Reply A
 directory_reply directories.Done = answers.Done
 directory_reply (directories.Subscribed id) = answers.Subscription id
@@ -43,12 +43,12 @@ abbrev pub is_subscribed : DirectoryAnswer → Bool
 is_subscribed (directories.Subscribed id) = true
 is_subscribed told = false
 
--- a waiter that is released as it is made
+-- the release of a waiter that is released as it is made
 abbrev pub released_by_answer : WaitAnswer → List (ℕ × Verdict)
 released_by_answer (waiter.Added id verdict) = release_of_new id verdict
 released_by_answer told = []
 
--- how what was chosen is answered, once it was done; the tallies are those of the services before the step
+-- the reply to what was chosen, once it was done; the tallies are those of the services before the step
 abbrev pub chosen_reply : {A : Type 0} → Chosen → List Supervised → WorkResult → ListenersAnswer → Reply A
 chosen_reply (refuse why) services w told = answers.Refused why
 chosen_reply (report sid change) services w told = report_reply w

@@ -4,7 +4,7 @@ use Rattle.supervise_core.specs.declared.row.Row.{Row}
 use Rattle.supervise_core.specs.StatusRow.{status_row}
 use Rattle.tree_core.specs.Machine.{Machine}
 
--- the row of the service of the name
+-- the row of the service of this name
 abbrev pub row_named : List ℕ → Machine → Option Row
 row_named name m = option_map (status_row m.history m.clock) (find (λ c. bytes_eq name c.name) m.services)
 

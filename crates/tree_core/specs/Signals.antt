@@ -9,7 +9,7 @@ use Rattle.supervise_core.specs.declared.change.Change.TheVariants.{Report}
 use Rattle.tree_core.specs.declared.input.Input.{Input}
 use Rattle.tree_core.specs.Taken.{StepTaken, steps_taken, next_step, orders_in, change_in_step}
 
--- the generations of the runs that orders signal
+-- the generations of the runs to which orders send a signal
 abbrev pub signal_generations : Order → List ℕ
 signal_generations (Signal sid generation number) = generation ∷ []
 signal_generations order = []
@@ -17,7 +17,7 @@ signal_generations order = []
 abbrev pub signals_in : {A : Type 0} → ℕ → StepTaken A → List ℕ
 signals_in sid t = flat_map signal_generations (orders_in sid t)
 
--- what the service is told is the start, or the death, of the run of this generation
+-- the service is told of the start, or the death, of the run of this generation
 abbrev pub is_start_of : ℕ → Option Change → Bool
 is_start_of generation (Some (Report (Started sid of pid))) = of == generation
 is_start_of generation told = false
@@ -26,14 +26,14 @@ abbrev pub is_death_of : ℕ → Option Change → Bool
 is_death_of generation (Some (Report (Death sid of exit))) = of == generation
 is_death_of generation told = false
 
--- in one of these steps its start, or its death, was reported
+-- the start, or the death, of this run was reported in one of these steps
 abbrev pub has_started : {A : Type 0} → ℕ → List (StepTaken A) → ℕ → Bool
 has_started sid steps generation = list_any (λ t. is_start_of generation (change_in_step sid t)) steps
 
 abbrev pub has_died : {A : Type 0} → ℕ → List (StepTaken A) → ℕ → Bool
 has_died sid steps generation = list_any (λ t. is_death_of generation (change_in_step sid t)) steps
 
--- its start was reported in this step or before, and its death not before it
+-- the start of this run was reported in this step or before, and its death not before this step
 abbrev pub is_run_there : {A : Type 0} → ℕ → List (StepTaken A) → StepTaken A → ℕ → Bool
 is_run_there sid earlier t generation =
     has_started sid (earlier ++ t ∷ []) generation && not (has_died sid earlier generation)

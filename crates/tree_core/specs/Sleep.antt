@@ -18,7 +18,7 @@ pub record GivesNothing {A : Type 0} (o : Outcome A) : Type 0 where
 abbrev pub beside_the_clock : Machine → Machine
 beside_the_clock m = record m { clock = 0; steps = 0; history = [] }
 
--- a step gives nothing, and changes nothing but the clock
+-- a step gives nothing, and changes nothing but the clock, the clock's readings and the count of the steps
 pub record ChangesTheClockAlone {A : Type 0} (m : Machine) (input : Input A) : Type 0 where
   pub gives : GivesNothing (outcome m input)
   pub changes : beside_the_clock (after m input) ≡ beside_the_clock m

@@ -5,7 +5,7 @@ use Rattle.supervise_core.specs.declared.chart.ChartState.{ChartState}
 use Rattle.tree_core.specs.Limits.{service_limit, moment_limit}
 use Rattle.tree_core.specs.Step.{step_limit}
 
--- no serial, of a service, a waiter or a subscription, and no generation outruns the steps
+-- the number of steps limits the serials of services, waiters and subscriptions, and the generations
 pub record IsCounted (taken next next_waiter next_subscription : ℕ) (services : List ChartState) : Type 0 where
   pub steps : taken ≤ step_limit
   pub serials : next ≤ service_limit * taken + 1
@@ -13,6 +13,6 @@ pub record IsCounted (taken next next_waiter next_subscription : ℕ) (services 
   pub subscriptions : next_subscription ≤ taken + 1
   pub generations : All (λ c. c.generation ≤ 2 * taken) services
 
--- no step has more moments than its limit
+-- the history has at most `moment_limit` moments for each step
 pub record IsRecorded (taken forgotten : ℕ) (kept : List Moment) : Type 0 where
   pub few : forgotten + length kept ≤ moment_limit * taken

@@ -24,9 +24,9 @@ pub record StoredTree : Type 0 where
   pub waits : WaitsShown
   pub directories : DirectoriesShown
 
--- a tree stands for each machine with which it agrees in all that it stores, whatever it has forgotten: whose clock is the last
--- clock reading of its history, whose deaths are those of serials given so far, of which each tally has the last, whose waiters stand
--- as they are kept, and whose subscriptions have heard what is remembered of them
+-- a tree stands for each machine with which it agrees in all that it stores, whatever it has forgotten. The machine's clock is the last
+-- clock reading of its history; its deaths are of serials given so far, and each tally has the last of them; its waiters are those for
+-- which the kept ones stand; and its subscriptions have heard what is remembered of them
 pub record StandsFor (t : StoredTree) (m : Machine) : Type 0 where
   pub clock : m.clock ≡ t.clock
   pub steps : m.steps ≡ t.steps

@@ -31,7 +31,7 @@ pub record StepResult (A : Type 0) : Type 0 where
   pub machine : Machine
   pub outcome : Outcome A
 
--- the clock reading of a later moment
+-- the clock reading of a moment, if it is later than the clock
 abbrev pub clock_moments : ℕ → ℕ → List Moment
 clock_moments clock at = if nat_lt clock at then Clock at ∷ [] else []
 

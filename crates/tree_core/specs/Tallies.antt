@@ -12,11 +12,11 @@ use Rattle.tree_core.specs.Machine.{Machine}
 abbrev pub tally_of : Machine → ChartState → List (ℕ × Exit)
 tally_of m c = last_deaths c.config.max_death_tally (deaths_of c.sid m.deaths)
 
--- those of the service of the name
+-- those of the service of this name
 abbrev pub tally_named : List ℕ → Machine → Option (List (ℕ × Exit))
 tally_named name m = option_map (tally_of m) (find (λ c. bytes_eq name c.name) m.services)
 
--- whether at least so many of them, no longer ago than so many seconds, are named by a list
+-- whether at least `count` of them are at most `seconds` seconds ago and named by the list
 abbrev pub failure_named : List ℕ → ℕ → ℕ → List DeathItem → Machine → Option Bool
 failure_named name seconds count items m =
     option_map (are_permanent_failure m.clock seconds count items) (tally_named name m)

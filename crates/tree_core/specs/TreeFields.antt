@@ -22,8 +22,8 @@ tree_view t = record {
   directories = t.directories.shown;
 }
 
--- its numbers don't outrun its steps, its deadlines agree with its services, there is a machine for which it stands, its history is
--- cut, and what its waiters know is tied to that history
+-- the number of its steps limits its other numbers, its deadlines agree with its services, there is a machine for which it stands, its
+-- history is cut, and what its waiters know is tied to that history
 abbrev pub TreeInvariant : {A : Type 0} → Inside A → Type 0
 TreeInvariant t =
     IsCounted t.steps t.registry.shown.next_sid t.waits.next t.directories.shown.next

@@ -1,4 +1,4 @@
-//! What is ahead of a tree: the next moment at which something is due, and whether nothing is to come any more.
+//! What is ahead of a tree: the next moment to which a timer is set, and whether all its supervisors have ended.
 ghost use Rattle.std.specs.Prelude.{◌≡◌, ◌<◌, Some, length, map, slice_get, option_map};
 ghost use Rattle.std.specs.List.{list_all};
 ghost use Rattle.supervise_core.specs.ChartState.{is_gone};
@@ -21,7 +21,7 @@ fn service_at<A: Allocator + Copy>(registry: &Registry<A>, place: usize) -> &Ser
     }
 }
 
-/// The earliest moment to which the timer of a service is set.
+/// The earliest moment to which the timer of a service is set; None where no timer is set.
 pub fn next_timer<A: Allocator + Copy>(registry: &Registry<A>) -> Option<u64>
     ensures { result ≡ next_timer (charts_of registry.now.shown.services) }
 {

@@ -53,7 +53,7 @@ pub struct Requests<'a> {
 }
 
 impl Choice<'_> {
-    /// What is asked of each part at this moment, of a tree that is closing or not.
+    /// What the choice asks of each part at this moment, where the tree is closing or not.
     pub fn requests(&self, now: At, closing: bool) -> Requests<'_>
         ensures services { work_asked result.services ≡ chosen_work (chosen_of self.now) }
         ensures waiters { wait_request_of result.waiters ≡ chosen_change now (chosen_of self.now) }
@@ -92,7 +92,7 @@ impl Choice<'_> {
     }
 }
 
-/// What the act does, on services whose timers are still to go off at this moment.
+/// What a step does for this act. The due timers of these services have not gone off yet; the act is done as if they had.
 #[inline(always)]
 pub fn choose<'a, A: Allocator + Copy>(
     alloc: A,

@@ -1,4 +1,4 @@
-//! A reply once more.
+//! Copies of replies.
 ghost use Rattle.std.specs.Prelude.{◌≡◌, IfOk};
 
 use super::reply::{Reply, ScanReport, TallyReport};
@@ -6,7 +6,7 @@ use s6_events::NoMemory;
 use std::alloc::Allocator;
 
 impl<A: Allocator + Copy> Reply<A> {
-    /// The same reply once more. `NoMemory` where a growth was refused.
+    /// A copy of this reply. `NoMemory` where memory is refused.
     pub fn copied(&self, alloc: A) -> Result<Reply<A>, NoMemory>
         ensures { IfOk result (λ copy. copy ≡ self.now) }
     {
@@ -24,7 +24,7 @@ impl<A: Allocator + Copy> Reply<A> {
 }
 
 impl<A: Allocator + Copy> ScanReport<A> {
-    /// The same report once more. `NoMemory` where a growth was refused.
+    /// A copy of this report. `NoMemory` where memory is refused.
     pub fn copied(&self, alloc: A) -> Result<ScanReport<A>, NoMemory>
         ensures { IfOk result (λ copy. copy ≡ self.now) }
     {
@@ -35,7 +35,7 @@ impl<A: Allocator + Copy> ScanReport<A> {
 }
 
 impl<A: Allocator + Copy> TallyReport<A> {
-    /// The same report once more. `NoMemory` where a growth was refused.
+    /// A copy of this report. `NoMemory` where memory is refused.
     pub fn copied(&self, alloc: A) -> Result<TallyReport<A>, NoMemory>
         ensures { IfOk result (λ copy. copy ≡ self.now) }
     {

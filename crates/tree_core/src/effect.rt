@@ -28,8 +28,8 @@ pub struct Release {
     pub verdict: Verdict,
 }
 
-/// All that one step gives: the reply to the input, the marks and orders in the order made, and who was told of what: the matches
-/// by event and then in rising serial, the releases by moment and then in rising serial.
+/// All that one step gives: the reply to the input; the marks and orders, in the order made; the matches, by event or sent letter and
+/// then in rising serial; and the releases, by moment and then in rising serial.
 #[derive(Drop)]
 pub struct Effect<A: Allocator> {
     pub reply: Reply<A>,
@@ -40,7 +40,7 @@ pub struct Effect<A: Allocator> {
 }
 
 impl<A: Allocator + Copy> Effect<A> {
-    /// Nothing yet.
+    /// An effect that gives nothing yet: its reply is Done, and its lists are empty.
     pub fn new(alloc: A) -> Effect<A>
         ensures reply { result.reply ≡ Done }
         ensures events { result.events.items ≡ [] }
@@ -57,7 +57,7 @@ impl<A: Allocator + Copy> Effect<A> {
         }
     }
 
-    // Nothing again, in the same memory.
+    // Empties it, and keeps its memory.
     pub(crate) fn clear(&mut self)
         ensures reply { self.new.reply ≡ Done }
         ensures events { self.new.events.items ≡ [] }
@@ -72,7 +72,7 @@ impl<A: Allocator + Copy> Effect<A> {
         self.released.clear();
     }
 
-    // The marks and the orders of a step.
+    // Adds the marks and the orders of a step.
     pub(crate) fn tell(&mut self, events: &[Event], orders: &[Order]) -> Result<(), NoMemory>
         requires { length self.old.orders.items + length orders.now ≤ order_limit }
         ensures reply { self.new.reply ≡ self.old.reply }
@@ -89,7 +89,7 @@ impl<A: Allocator + Copy> Effect<A> {
         Ok(())
     }
 
-    // The matches of a step.
+    // Adds the matches of a step.
     pub(crate) fn match_all(&mut self, plan: &DirectoriesPlan<A>) -> Result<(), NoMemory>
         ensures reply { self.new.reply ≡ self.old.reply }
         ensures events { self.new.events.items ≡ self.old.events.items }
@@ -109,7 +109,7 @@ impl<A: Allocator + Copy> Effect<A> {
         Ok(())
     }
 
-    // One more release.
+    // Adds a release.
     fn release(&mut self, waiter: WaitId, verdict: Verdict) -> Result<(), NoMemory>
         ensures reply { self.new.reply ≡ self.old.reply }
         ensures events { self.new.events.items ≡ self.old.events.items }
@@ -123,7 +123,7 @@ impl<A: Allocator + Copy> Effect<A> {
         Ok(())
     }
 
-    // The waiters that a step releases: those of its moments, and then the one that it makes, where that is released at once.
+    // Adds the releases of a step: those by its moments, and then that of the waiter that it makes, if that is released at once.
     pub(crate) fn release_all(&mut self, plan: &WaitsPlan<A>) -> Result<(), NoMemory>
         ensures reply { self.new.reply ≡ self.old.reply }
         ensures events { self.new.events.items ≡ self.old.events.items }

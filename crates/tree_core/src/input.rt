@@ -42,7 +42,7 @@ impl<A: Allocator> Listing<A> {
     }
 }
 
-/// Whose event directory is meant, by its name. A free directory may have the name of a service. Pages `s6-supervise`, "Events", and
+/// An event directory, by a name. A free directory may have the name of a service. Pages `s6-supervise`, "Events", and
 /// `fifodir`.
 #[derive(Clone, Copy, PartialEq, Eq, Debug)]
 pub enum Target {
@@ -58,7 +58,7 @@ pub enum Target {
 pub enum Act<A: Allocator> {
     /// The scan directory was listed. Page `s6-svscanctl`, `-a`.
     Scan(Listing<A>),
-    /// A user ordered all services to leave. Page `s6-svscanctl`, `-n` and `-t`.
+    /// A user gave all services this command: nuke, which is for the inactive ones, or terminate. Page `s6-svscanctl`, `-n` and `-t`.
     Scanctl(ScanOrder),
     /// A user sent the service of this name these letters, 1 to 63. Page `s6-svc`.
     Svc(Name, Letters),
@@ -76,11 +76,11 @@ pub enum Act<A: Allocator> {
     Status(Name),
     /// A user asked for the last deaths of the service of this name. Page `servicedir`, `max-death-tally`.
     Tally(Name),
-    /// A user asked whether the service of this name fails for good: whether at least so many of its last deaths are named by this
-    /// list and came no longer ago than so many seconds. In this order: the name, the seconds, how many, and the list. Page
+    /// A user asked whether the service of this name fails for good. The fields are the name, a number of seconds, a count, and a list of
+    /// exits: whether at least `count` of its last deaths are at most that many seconds ago and have an exit in the list. Page
     /// `s6-permafailon`.
     Permafailon(Name, u32, u32, DeathList),
-    /// A user waits for services: for a condition of all or of one of them, at most so many milliseconds (0 for ever), and the
+    /// A user waits for services: for a condition, of all or of one of them, with a timeout in milliseconds (0: none), and the
     /// names of the services, 1 to 16. Pages `s6-svwait` and `s6-svlisten`.
     Wait(Condition, Mode, u32, Names<A>),
     /// The waiter of this serial ends, released or not.
@@ -94,7 +94,7 @@ pub enum Act<A: Allocator> {
     Send(Target, Message),
     /// A user makes a free directory of this name. Page `s6-mkfifodir`.
     MakeDir(Name),
-    /// Nothing but the clock.
+    /// Nothing but the input's moment, for the clock.
     Tick,
 }
 

@@ -37,7 +37,7 @@ impl<A: Allocator> Names<A> {
     }
 }
 
-/// Whether a name stands twice among these. `NoMemory` where a growth was refused.
+/// Whether a name is among these twice. `NoMemory` where memory is refused.
 pub fn has_repeated_name<A: Allocator + Copy>(alloc: A, names: &[Name]) -> Result<bool, NoMemory>
     ensures { IfOk result (λ repeats. repeats ≡ repeats_name names.now) }
 {

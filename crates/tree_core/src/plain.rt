@@ -51,7 +51,7 @@ impl<A: Allocator> Model for PlainInput<A> {
     ghost view = { λ p. record { actor = p.actor; at = p.at; act = act_of p.act } };
 }
 
-// The same items once more.
+// A copy of these items.
 fn copy_of<T: Copy, A: Allocator + Copy>(alloc: A, items: &[T]) -> Result<Vec<T, A>, AllocError>
     ensures { IfOk result (λ copy. copy.items ≡ items.now) }
 {
@@ -59,7 +59,7 @@ fn copy_of<T: Copy, A: Allocator + Copy>(alloc: A, items: &[T]) -> Result<Vec<T,
 }
 
 impl<A: Allocator + Copy> Input<A> {
-    /// The same input as plain data. `NoMemory` where a growth was refused.
+    /// The same input as plain data. `NoMemory` where memory is refused.
     pub fn plain(&self, alloc: A) -> Result<PlainInput<A>, NoMemory>
         ensures { IfOk result (λ plain. plain ≡ self.now) }
     {

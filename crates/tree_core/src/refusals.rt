@@ -1,6 +1,6 @@
-//! Why an act is refused before a part is asked, and the order in which that is looked for. What else may refuse it is the part that is
-//! asked: a report that is stale (`reports.rt` of supervise_core), a full list (`waiter_limits.rt` of wait_conditions, `refusing.rt` of
-//! event_directory).
+//! Why an act is refused before a part is asked, and the order in which that is looked for. Else the part that is asked may refuse it: a
+//! stale report in `reports.rt` of supervise_core; a full list in `waiter_limits.rt` of wait_conditions and `refusing.rt` of
+//! event_directory.
 ghost use Rattle.std.specs.Prelude.{◌≡◌, ◌==◌, ◌+◌, ◌<◌, ◌≤◌, ◌^◌, ◌++◌, List, map, find, bytes_eq, length, option_map, All, IfOk, None, Some, if◌then◌else◌};
 ghost use Rattle.std.specs.List.{list_any};
 ghost use Rattle.death_tally.specs.PermanentFailure.{are_permanent_failure};
@@ -31,7 +31,7 @@ use std::alloc::Allocator;
 use supervise_core::{Change, Phase};
 use svscan_core::{Entry, Registry, has_repeats};
 
-/// The same list.
+/// A copy of this list.
 pub fn copy_of<T: Copy + Default, const N: usize>(list: &ArrayVec<T, N>) -> ArrayVec<T, N>
     ensures { result ≡ list.now }
 {
@@ -42,7 +42,7 @@ pub fn copy_of<T: Copy + Default, const N: usize>(list: &ArrayVec<T, N>) -> Arra
     copy
 }
 
-/// A report for the service of a serial.
+/// The choice for a report to the service of this serial. NoService where no service has it.
 pub fn report<'a, A: Allocator + Copy>(
     registry: &Registry<A>,
     sid: Sid,
@@ -57,7 +57,8 @@ pub fn report<'a, A: Allocator + Copy>(
     Choice::Report(sid, change)
 }
 
-/// Letters for the service of a name.
+/// The choice for letters to the service of this name. NoService where no service has it, Ended where its supervisor has ended once the
+/// due timers went off.
 pub fn letters<'a, A: Allocator + Copy>(
     registry: &Registry<A>,
     name: Name,
@@ -79,7 +80,8 @@ pub fn letters<'a, A: Allocator + Copy>(
     Choice::Letters(standing.sid(), Change::Control(copy_of(letters)))
 }
 
-/// The status row of the service of a name.
+/// The choice that shows the status row of the service of this name, as it is once the due timers went off. NoService where no service
+/// has the name.
 pub fn show<'a, A: Allocator + Copy>(registry: &Registry<A>, name: Name, now: At) -> Choice<'a>
     requires { All (λ c. c.generation + 1 < 2 ^ 64) (charts_of registry.now.shown.services) }
     ensures idle { AsksNothing now (chosen_of result) }
@@ -98,7 +100,8 @@ pub fn show<'a, A: Allocator + Copy>(registry: &Registry<A>, name: Name, now: At
     }
 }
 
-/// Whether the last deaths of the service of a name are a permanent failure.
+/// The choice that tells whether the last deaths of the service of this name are a permanent failure. NoService where no service has
+/// the name.
 pub fn judge<'a, A: Allocator + Copy>(
     registry: &Registry<A>,
     name: Name,
@@ -118,7 +121,8 @@ pub fn judge<'a, A: Allocator + Copy>(
     }
 }
 
-/// A listing is refused while the tree is closing, and where a name stands in it twice.
+/// The choice for a listing. Closing while the tree is closing; else Repeated where a name is in it twice. `NoMemory` where memory is
+/// refused.
 pub fn scan<A: Allocator + Copy>(
     alloc: A,
     listing: &[Entry],
@@ -135,7 +139,7 @@ pub fn scan<A: Allocator + Copy>(
     Ok(Choice::Listing(listing))
 }
 
-// The serials of the services of these names, at most the limit, where each name is that of one.
+// The serials of the services of these names, which are at most `NAME_LIMIT`. None where a name is that of no service.
 fn serials_of<A: Allocator + Copy>(
     registry: &Registry<A>,
     names: &[Name],
@@ -155,7 +159,8 @@ fn serials_of<A: Allocator + Copy>(
     Some(sids)
 }
 
-/// A wait for the services of these names. Where 1,024 waiters stand it is refused last, by `refusal_for` of wait_conditions.
+/// The choice for a wait for the services of these names. Empty, Repeated, TooMany (over 16 names), NoService: the first of these that
+/// applies. Where 1,024 waiters stand, it is refused last, by `refusal_for` of wait_conditions. `NoMemory` where memory is refused.
 pub fn wait<'a, A: Allocator + Copy>(
     alloc: A,
     registry: &Registry<A>,
@@ -182,7 +187,7 @@ pub fn wait<'a, A: Allocator + Copy>(
     })
 }
 
-/// A subscription to the event directory of a service or to a free one.
+/// The choice for a subscription to the event directory of a service or to a free one. NoService where no service has the name.
 pub fn subscribe<'a, A: Allocator + Copy>(registry: &Registry<A>, target: Target) -> Choice<'a>
     ensures { chosen_of result ≡ subscribe_choice
         (source_named target (charts_of registry.now.shown.services)) }
@@ -197,7 +202,7 @@ pub fn subscribe<'a, A: Allocator + Copy>(registry: &Registry<A>, target: Target
     Choice::Subscribe(source)
 }
 
-/// A message; the event directory of a service takes none from outside.
+/// The choice for a message. Reserved for the event directory of a service, which takes none from outside.
 pub fn send<'a>(target: Target, message: &'a Message) -> Choice<'a>
     ensures { chosen_of result ≡ send_choice target message.now }
 {

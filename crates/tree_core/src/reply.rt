@@ -23,9 +23,9 @@ pub enum Refusal {
     NoSuch = 5,
     /// The tree is closing.
     Closing = 6,
-    /// A name stands twice.
+    /// A name was given twice.
     Repeated = 7,
-    /// Nothing was named.
+    /// No name was given.
     Empty = 8,
     /// A free directory has this name.
     Exists = 9,

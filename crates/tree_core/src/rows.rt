@@ -12,7 +12,7 @@ use std::alloc::Allocator;
 use supervise_core::Row;
 use svscan_core::Registry;
 
-/// The status row of the service of the name.
+/// The status row of the service of this name; None where no service has it.
 pub fn row_of<A: Allocator + Copy>(registry: &Registry<A>, name: Name, now: At) -> Option<Row>
     ensures { (history : List Moment) → AllAgree registry.now.shown.services history
         → result ≡ option_map (status_row history now)

@@ -1,6 +1,6 @@
-//! A step, in its order: clock, due timers, act, who looks at its moments, reply. It is known before anything is changed; `apply_into` of
-//! `tree.rt` makes it, or hands the input back where memory was refused. The due timers, in rising serial, and then the act's work are
-//! done in `work_out` of svscan_core (`pending.rt`).
+//! A step, in its order: clock, due timers, act, who looks at its moments, reply. It is worked out before anything is changed; `apply_into`
+//! of `tree.rt` makes it, or hands the input back where memory was refused. `work_out` of svscan_core (`pending.rt`) does the due timers,
+//! in rising serial, and then the act's work.
 ghost use Rattle.std.specs.Prelude.{ℕ, false, ◌≡◌, ◌+◌, ◌++◌, ◌*◌, ◌<◌, ◌≤◌, ◌^◌, List, [], length, map, All, IfOk, IsOk, OnOk};
 ghost use Rattle.deadlines.specs.declared.timer.Timer.{Timer};
 ghost use Rattle.deadlines.specs.Timers.{with_timer_changes};
@@ -31,7 +31,7 @@ use std::alloc::Allocator;
 use svscan_core::{Registry, RegistryPlan};
 use wait_conditions::{WaitAnswer, Waits, WaitsPlan};
 
-/// A step that is known before anything is changed: the clock and whether the tree is closing after it, and the plan of each part.
+/// A step that is worked out before anything is changed: the clock after it, whether the tree is closing then, and the plan of each part.
 #[derive(Drop)]
 pub struct StepPlan<A: Allocator> {
     pub now: At,
@@ -43,7 +43,7 @@ pub struct StepPlan<A: Allocator> {
     pub letters: DirectoriesPlan<A>,
 }
 
-// The last deaths of the service of a name are answered.
+// The reply with the last deaths of the service of this name. NoService where no service has it.
 fn tally_of<A: Allocator + Copy>(
     alloc: A,
     registry: &Registry<A>,
@@ -58,7 +58,7 @@ fn tally_of<A: Allocator + Copy>(
     }
 }
 
-// What is answered of a waiter that is asked for, or that is to end.
+// The reply about a waiter that is to be made or to end, by the answer of the waiters.
 fn waiter_reply<A: Allocator>(told: &WaitAnswer) -> Reply<A>
     ensures { result ≡ waiter_reply told.now }
 {
@@ -70,7 +70,7 @@ fn waiter_reply<A: Allocator>(told: &WaitAnswer) -> Reply<A>
     }
 }
 
-// What is answered of what was asked of the event directories.
+// The reply about what was asked of the event directories, by their answer.
 fn directory_reply<A: Allocator>(told: &DirectoryAnswer) -> Reply<A>
     ensures { result ≡ directory_reply told.now }
 {
@@ -83,8 +83,8 @@ fn directory_reply<A: Allocator>(told: &DirectoryAnswer) -> Reply<A>
     }
 }
 
-// What is answered, once the work of the choice was prepared, and what it asks of the waiters and of the event directories was
-// answered so.
+// The reply to a choice, whose work is prepared in `plan`. `waiters` and `directories` are the answers to what it asks of the waiters
+// and of the event directories.
 #[inline(always)]
 fn reply_to<A: Allocator + Copy>(
     alloc: A,
@@ -121,7 +121,7 @@ fn reply_to<A: Allocator + Copy>(
     })
 }
 
-// Fills an empty effect with what the parts prepared: the reply, the marks and orders, and who was told of what.
+// Fills an empty effect with what the parts prepared: the reply, the marks and orders, the matches and the releases.
 #[inline(always)]
 fn fill_effect<A: Allocator + Copy>(
     registry: &Registry<A>,
@@ -159,8 +159,8 @@ fn fill_effect<A: Allocator + Copy>(
     Ok(())
 }
 
-/// The step of an input, at this clock: each part prepares its own, and the effect is filled. The clock after the step is worked out
-/// here alone, and so is which services are due. It is called once, and its plan is large: inlined, that isn't moved.
+/// Works out the step of an input, at this clock: each part prepares its share, and the effect is filled. Only here is worked out what
+/// the clock is after the step, and which services are due. It is called at one place, and its plan is large: inlined, that isn't moved.
 #[inline(always)]
 pub fn plan_step<A: Allocator + Copy>(
     registry: &mut Registry<A>,
@@ -218,6 +218,7 @@ pub fn plan_step<A: Allocator + Copy>(
     ensures quiet { IsQuiet input.now clock (charts_of registry.old.shown.services) → IsOk result }
 {
     let alloc = registry.allocator();
+    // For the proof: its clause says that the table is sound.
     let _count = registry.len();
     let now = later(clock, input.at);
     let due = deadlines.due(alloc, now)?;

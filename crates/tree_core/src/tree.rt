@@ -1,4 +1,5 @@
-//! The tree: one input is one step, worked out by `step.rt` and then made here, or is handed back whole for want of memory.
+//! The tree: one input is one step, which `step.rt` works out and which is then made here. Where memory is refused, the whole input is
+//! handed back.
 ghost use Rattle.std.specs.Prelude.{◌≡◌, IfOk, OnOk, IfErr, IsOk, true, option_map};
 ghost use Rattle.tree_core.specs.Acts.{offer_of};
 ghost use Rattle.tree_core.specs.Effect.{outcome_of};
@@ -34,8 +35,8 @@ use supervise_core::Row;
 use svscan_core::Registry;
 use wait_conditions::{WaitState, Waits, earlier_of};
 
-/// All services, waiters and event directories, their clock and their history: the written machine, as far as it is remembered. A tree keeps the allocator
-/// that it was made with.
+/// All services, waiters and event directories, their clock and their history: the written machine, as far as it is remembered. A tree
+/// keeps the allocator that it was made with.
 #[derive(Drop)]
 pub struct Tree<A: Allocator> {
     clock: At,
@@ -78,8 +79,8 @@ impl<A: Allocator + Copy> Tree<A> {
     }
 
     /// Takes one input, whole: the clock first, then the due timers, then the act; and fills the effect with all that the step gives.
-    /// What was in the effect is gone, but its memory is used again: who steps often keeps one effect, and a step then costs what it
-    /// gives. Where a growth was refused the same input comes back with `NoMemory`, and nothing has changed at all but the effect.
+    /// What was in the effect is gone, but its memory is used again: a caller that makes many steps keeps one effect, and a step then
+    /// costs only what it gives. Where memory is refused the same input comes back with `NoMemory`, and only the effect has changed.
     pub fn apply_into(
         &mut self,
         mut input: Input<A>,
@@ -124,9 +125,9 @@ impl<A: Allocator + Copy> Tree<A> {
         Ok(())
     }
 
-    /// Takes one input as `apply_into` does, with an effect of its own. A refused act is a step like any other. Where a growth was
-    /// refused the same input comes back with `NoMemory`, and nothing has changed at all. A spent tree asks for no memory, nor does a
-    /// tick, a status or a permafailon at a moment that moves no clock while no timer is due.
+    /// Takes one input as `apply_into` does, and returns a new effect. A refused act is a step like any other. Where memory is refused the
+    /// same input comes back with `NoMemory`, and nothing has changed at all. That never comes from a spent tree, nor for a tick, a status
+    /// or a permafailon at a moment that isn't later than the clock, while no timer is due.
     pub fn apply(&mut self, input: Input<A>) -> Result<Effect<A>, (Input<A>, NoMemory)>
         ensures step { IfOk result (λ effect. (m : Machine) → StandsFor self.old m →
             (outcome_of effect ≡ outcome m input) × StandsFor self.new (after m input)) }
@@ -139,7 +140,7 @@ impl<A: Allocator + Copy> Tree<A> {
         Ok(effect)
     }
 
-    /// The clock: the greatest moment of all inputs so far, or 0.
+    /// The clock: the greatest moment of all inputs so far, without those that a spent tree refused; or 0.
     pub fn now(&self) -> At
         ensures clock { (m : Machine) → StandsFor self.now m → result ≡ m.clock }
         ensures there { (m : Machine) × StandsFor self.now m }
@@ -147,7 +148,7 @@ impl<A: Allocator + Copy> Tree<A> {
         self.clock
     }
 
-    /// The status row of the service of the name; None where there is none. Page `s6-svstat`.
+    /// The status row of the service of this name; None where there is none. Page `s6-svstat`.
     pub fn row(&self, name: Name) -> Option<Row>
         ensures { (m : Machine) → StandsFor self.now m → result ≡ row_named name m }
     {
@@ -161,7 +162,7 @@ impl<A: Allocator + Copy> Tree<A> {
         rows_of(&self.registry, self.clock)
     }
 
-    /// Where the waiter of this serial stands, or None where there is none. Page `s6-svwait`.
+    /// The state of the waiter of this serial; None where there is none. Page `s6-svwait`.
     pub fn result(&self, id: WaitId) -> Option<WaitState>
         ensures { (m : Machine) → StandsFor self.now m → result ≡ state_named (watch_of m) id }
     {
@@ -177,8 +178,8 @@ impl<A: Allocator + Copy> Tree<A> {
         self.directories.list(id)
     }
 
-    /// The next moment, in milliseconds, to which the timer of a service is set or the deadline of a waiter that waits still; None
-    /// where there is none. So long nothing happens by itself.
+    /// The next moment, in milliseconds, to which the timer of a service is set, or at which a waiter that waits still has its deadline;
+    /// None where there is none. Until then nothing happens by itself.
     pub fn next_due(&self) -> Option<u64>
         ensures { (m : Machine) → StandsFor self.now m → result ≡ next_due m }
     {
@@ -192,7 +193,7 @@ impl<A: Allocator + Copy> Tree<A> {
         self.closing && are_gone(&self.registry)
     }
 
-    /// All that it stores as plain data: an image stands for just what its tree stands for. `NoMemory` where a growth was refused.
+    /// All that it stores as plain data: an image stands for just what its tree stands for. `NoMemory` where memory is refused.
     pub fn image(&self) -> Result<Image<A>, NoMemory>
         ensures { IfOk result (λ image. image ≡ self.now) }
     {
@@ -222,7 +223,7 @@ impl<A: Allocator + Copy> Tree<A> {
     }
 }
 
-// The moments that a history keeps, which are those from this place on.
+// The moments that the history keeps: those from this place on, since the ones before it are forgotten.
 fn kept_of<A: Allocator + Copy>(history: &History<A>, forgotten: u64) -> &[Moment]
     requires { history.now.forgotten ≡ forgotten }
     ensures { result.now ≡ history.now.kept }
@@ -233,8 +234,8 @@ fn kept_of<A: Allocator + Copy>(history: &History<A>, forgotten: u64) -> &[Momen
     }
 }
 
-// The pattern that an act offers, and whether it is to repeat, where the event directories answered with a new subscription. An act is
-// large, and no other one is moved.
+// Takes the pattern that the act offers out of it, and whether it is to repeat, if the event directories answered with a new
+// subscription. Else the act, which is large, is not moved.
 fn take_offer<A: Allocator>(act: &mut Act<A>, told: &DirectoryAnswer) -> Option<(Pattern, bool)>
     ensures { is_subscribed told.now ≡ true
         → option_map (λ o. (o.0, o.1)) result ≡ offer_of act.old }

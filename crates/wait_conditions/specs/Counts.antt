@@ -9,7 +9,7 @@ use Rattle.wait_conditions.specs.declared.verdict.WaitState.TheVariants.{Waiting
 use Rattle.wait_conditions.specs.declared.watched_service.WatchedService.{WatchedService}
 use Rattle.wait_conditions.specs.Verdict.{is_failure_for_good}
 
--- how many of the services hold, how many fail, and how many of these for good
+-- of how many services the condition holds, of how many it fails, and of how many of these for good
 abbrev pub counts_of : List WatchedService → Counts
 counts_of ws = record {
   holding = count_by (λ w. w.holds) ws;
@@ -17,17 +17,17 @@ counts_of ws = record {
   permanent = count_by (λ w. is_failure_for_good w.failure) ws;
 }
 
--- of so many services, enough hold
+-- the condition holds of enough of the services
 abbrev pub count_is_enough : Mode → ℕ → ℕ → Bool
 count_is_enough mode.All services holding = holding == services
 count_is_enough mode.One services holding = nat_lt 0 holding
 
--- of so many services, too many fail
+-- the condition fails of too many of the services
 abbrev pub count_is_hopeless : Mode → ℕ → ℕ → Bool
 count_is_hopeless mode.All services failing = nat_lt 0 failing
 count_is_hopeless mode.One services failing = failing == services
 
--- the verdict of the counters of so many services, late or not
+-- the verdict by the counters of the services, where the deadline has come or not
 abbrev pub verdict_by : Mode → ℕ → Counts → Bool → WaitState
 verdict_by mode services counts late =
     if count_is_enough mode services counts.holding then Released Held
@@ -36,11 +36,11 @@ verdict_by mode services counts late =
     else if late then Released TimedOut
     else Waiting
 
--- a counter, where what it counts of one service was so and is now so
+-- a counter once one service has changed: whether it was counted before, and whether it is now
 abbrev pub recounted : ℕ → Bool → Bool → ℕ
 recounted count was now = (count + (if now then 1 else 0)) - (if was then 1 else 0)
 
--- the counters, where one service has changed
+-- the counters once one service has changed
 abbrev pub counts_after : Counts → WatchedService → WatchedService → Counts
 counts_after counts was now = record {
   holding = recounted counts.holding was.holds now.holds;

@@ -16,13 +16,13 @@ asks_up condition.Down = false
 asks_up condition.Finished = false
 asks_up _ = true
 
--- an O fails, and a u makes it good
+-- O, which is a failure, and u, which makes it good
 abbrev pub tells_failure : Mark → Bool
 tells_failure mark.Spawned = true
 tells_failure mark.PermanentFailure = true
 tells_failure _ = false
 
--- it is an O
+-- the mark is an O
 abbrev pub is_failed : Option Dated → Bool
 is_failed (Some (_, mark.PermanentFailure)) = true
 is_failed _ = false
@@ -31,13 +31,13 @@ is_failed _ = false
 abbrev pub has_failed : ℕ → List Moment → Bool
 has_failed sid since = is_failed (newest tells_failure sid since)
 
--- s and x begin and end a supervisor
+-- s and x, which begin and end a supervisor
 abbrev pub tells_supervisor : Mark → Bool
 tells_supervisor mark.SupervisorStarted = true
 tells_supervisor mark.SupervisorEnded = true
 tells_supervisor _ = false
 
--- it is an x
+-- the mark is an x
 abbrev pub is_ended : Option Dated → Bool
 is_ended (Some (_, mark.SupervisorEnded)) = true
 is_ended _ = false

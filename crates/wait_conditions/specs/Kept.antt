@@ -18,7 +18,7 @@ use Rattle.wait_conditions.specs.Watch.{new_release}
 use Rattle.wait_conditions.specs.Watched.{watched_after}
 
 -- a stored waiter: what it was made with, how many moments had come by then, what it knows of its services while it waits, and
--- where it stands
+-- its state
 pub record StoredWaiter : Type 0 where
   pub id : ℕ
   pub condition : Condition
@@ -66,14 +66,14 @@ concerns (Event sid mark) k = list_any (λ w. w.sid == sid) k.watched
 abbrev pub watched_then : Moment → StoredWaiter → List WatchedService
 watched_then m k = map (λ w. watched_after k.condition (mark_of w.sid m) w) k.watched
 
--- it takes the verdict of what it knows, late or not
+-- the waiter in this state; and in that of its verdict by what it knows, where the deadline has come or not
 abbrev pub judged_as : WaitState → StoredWaiter → StoredWaiter
 judged_as s k = record k { standing = s; watched = watched_while s k.watched }
 
 abbrev pub judged : Bool → StoredWaiter → StoredWaiter
 judged late k = judged_as (verdict_by k.mode (length k.watched) (counts_of k.watched) late) k
 
--- after one more moment: one that waits takes it in, where it concerns it
+-- the waiter after one more moment: it takes the moment in, if it waits and the moment concerns it
 abbrev pub with_moment_while : WaitState → Moment → StoredWaiter → StoredWaiter
 with_moment_while Waiting m k = if concerns m k
     then judged (late_at k.deadline m) (record k { watched = watched_then m k }) else k
@@ -96,7 +96,7 @@ abbrev pub releases_seen : List Moment → List StoredWaiter → List (ℕ × Ve
 releases_seen [] ks = []
 releases_seen (m ∷ ms) ks = filter_map (release_seen m) ks ++ releases_seen ms (map (with_moment m) ks)
 
--- where the stored waiter of that serial stands, if there is one
+-- the state of the stored waiter of that serial, if there is one
 abbrev pub standing_stored : ℕ → List Waiter → Option WaitState
 standing_stored id [] = None
 standing_stored id (w ∷ ws) = if w.id == id then Some w.standing else standing_stored id ws

@@ -17,27 +17,27 @@ ReleasedAtTheLeast =
     (a : WaitTerms) (past since : List Moment) (v : Verdict) → release_state a past since ≡ Released v
     → (k : ℕ) × IsLeast (verdict a past) since v k
 
--- a waiter that waits has waited at each number of moments since its place
+-- a waiter that waits still: its verdict is waiting over each number of moments since its place
 abbrev pub WaitsThroughout : Type 0
 WaitsThroughout =
     (a : WaitTerms) (past since : List Moment) → release_state a past since ≡ Waiting
     → (k : ℕ) → k ≤ length since → verdict a past (take k since) ≡ Waiting
 
--- one moment more: a waiter that waits takes the verdict over all of them, and a released one keeps its own
+-- with one more moment, a waiter that waits takes its verdict over all moments, and a released one keeps its own
 abbrev pub GrowsByMoments : Type 0
 GrowsByMoments =
     (a : WaitTerms) (past since : List Moment) (m : Moment)
     → release_state a past (since ++ m ∷ [])
     ≡ first_release_of (release_state a past since) (verdict a past (since ++ m ∷ []))
 
--- a waiter that one moment more releases is released at the least number of moments since its place, and that number counts this one
+-- a waiter that one more moment releases is released at the least number of moments at which it isn't waiting, this one the last of them
 abbrev pub ReleasedByTheLastMoment : Type 0
 ReleasedByTheLastMoment =
     (a : WaitTerms) (past since : List Moment) (m : Moment) (v : Verdict)
     → release_state a past since ≡ Waiting → release_state a past (since ++ m ∷ []) ≡ Released v
     → IsLeast (verdict a past) (since ++ m ∷ []) v (length since + 1)
 
--- whatever stored waiters stand for, a moment's releases come in rising serial
+-- of all waiters for which stored ones stand, the releases of a moment come in rising serial
 abbrev pub ReleasesRise : Type 0
 ReleasesRise = (s : WaitsShown) (w : Watch) (m : Moment) → WaitsStandFor s w
     → AreRising (map (λ (r : ℕ × Verdict). r.0) (releases w m))

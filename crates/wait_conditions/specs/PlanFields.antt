@@ -25,7 +25,7 @@ plan_view p = record {
   next = p.next;
 }
 
--- the counters of a waiter that is to join count, and it watches each of its services once
+-- a waiter that is to join: its counters count its services, and none of its services is there twice
 abbrev pub JoinsCounted : {A : Type 0} → PlannedChange A → Type 0
 JoinsCounted (Join waiter) = IsCounted waiter.value × (repeats_serial (map (λ w. w.sid) waiter.value.watched.items) ≡ false)
 JoinsCounted change = ⊤

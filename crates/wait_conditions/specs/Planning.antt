@@ -1,4 +1,4 @@
--- Waiters that are left out of the working out of a step.
+-- Waiters that can be left out when a step is worked out.
 use Rattle.std.specs.Prelude.{◌≡◌, List, [], ◌∷◌, ⊤, map}
 use Rattle.std.specs.List.{filter_map}
 use Rattle.s6_events.specs.declared.moment.Moment.{Moment}

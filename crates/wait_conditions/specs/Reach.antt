@@ -12,7 +12,7 @@ with_service sid Nobody = WatchersOf sid
 with_service sid (WatchersOf other) = if other == sid then WatchersOf other else Anybody
 with_service sid Anybody = Anybody
 
--- these moments touch a waiter just where it is in reach
+-- what a reach says of a waiter: these moments don't touch it, or they touch it just where it watches this service, or nothing
 abbrev pub IsTouchedWithin : Reach → List Moment → StoredWaiter → Type 0
 IsTouchedWithin Nobody ms k = touched_by ms k ≡ false
 IsTouchedWithin (WatchersOf sid) ms k = touched_by ms k ≡ watches sid k

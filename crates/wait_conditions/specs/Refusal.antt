@@ -1,4 +1,4 @@
--- Which waiters are not made, and what deadline one has that is made.
+-- Which waiters are not made, and the deadline of one that is made.
 use Rattle.std.specs.Prelude.{◌+◌, ◌==◌, [], ◌∷◌, ◌||◌, if◌then◌else◌}
 use Rattle.std.specs.Prelude.{ℕ, List, length, Bool, false, Option, Some, None, nat_lt, nat_le}
 use Rattle.std.specs.List.{list_any}
@@ -31,7 +31,7 @@ add_refusal standing sids =
 abbrev pub deadline_of : ℕ → ℕ → Option ℕ
 deadline_of timeout start = if timeout == 0 then None else Some (start + timeout)
 
--- what is told of a waiter that is not made: what was found, else that a growth was refused
+-- the fault of a waiter that is not made: the one that was found, else that memory was refused
 abbrev pub fault_told : Option AddFault → AddFault
 fault_told None = fault.NoMemory
 fault_told (Some found) = found

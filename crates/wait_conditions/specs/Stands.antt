@@ -26,7 +26,7 @@ pub record WaitsShown : Type 0 where
   pub waiters : List StoredWaiter
   pub next : ℕ
 
--- the same, and how many more waiters and runs fit with no growth
+-- the same, and how many more waiters and runs fit without more memory
 pub record StoredWaits : Type 0 where
   pub count : ℕ
   pub states : List StateRun
@@ -35,12 +35,12 @@ pub record StoredWaits : Type 0 where
   pub spare_waiters : ℕ
   pub spare_runs : ℕ
 
--- the list of waiters, and how many more fit with no growth
+-- the list of waiters, and how many more fit without more memory
 pub record StoredList : Type 0 where
   pub waiters : List StoredWaiter
   pub spare : ℕ
 
--- without the room
+-- all but the room
 abbrev pub waits_shown : StoredWaits → WaitsShown
 waits_shown s = record { count = s.count; states = s.states; waiters = s.waiters; next = s.next }
 
@@ -52,7 +52,7 @@ place_or_end (Some place) count = place
 abbrev pub needed_from : WaitsShown → ℕ
 needed_from s = place_or_end (oldest_place s.waiters) s.count
 
--- what is to be stored of a waiter, where it stands so
+-- what is to be stored of a waiter in this state
 abbrev pub stored_as : WaitState → List Moment → WrittenWaiter → StoredWaiter
 stored_as standing history p = record {
   id = p.id;
@@ -69,8 +69,8 @@ stored_as standing history p = record {
 abbrev pub stored_waiter : List Moment → WrittenWaiter → StoredWaiter
 stored_waiter history p = stored_as (waiter_state history p) history p
 
--- so many moments came, of each service is known what they say, of each waiter is stored what they say, and the serials rise, up to
--- the next one
+-- what is shown stands for these waiters: it counts their moments, it has of each service and of each waiter what these moments say,
+-- each waiter began by now, and their serials rise and are below the next one
 pub record WaitsStandFor (s : WaitsShown) (w : Watch) : Type 0 where
   pub count : length w.history ≡ s.count
   pub states : (sid : ℕ) → state_in s.states sid ≡ state_of sid w.history
@@ -157,7 +157,7 @@ pub record FitsWaits (p : PlannedWaits) (s : StoredWaits) : Type 0 where
   pub serial : JoinsNext s.next p.change p.next
   pub touched : p.touched ≡ serials_where (touched_by p.moments) s.waiters
 
--- after these moments, that is the change which is asked for, and so it is answered
+-- after these moments, this change of the list and this next serial are what the request asks for, and this is the answer to it
 pub record PlansChange (old : WaitsShown) (ms : List Moment) (request : WaitRequest) (told : WaitAnswer)
     (change : ListChange) (next : ℕ) : Type 0 where
   pub answer : (w : Watch) → WaitsStandFor old w → told ≡ wait_answer (waits_after_moments w ms) request
@@ -165,7 +165,7 @@ pub record PlansChange (old : WaitsShown) (ms : List Moment) (request : WaitRequ
       → WaitsStandFor new (waits_after_change (waits_after_moments w ms) request)
   pub serial : next ≤ old.next + 1
 
--- a waiter that is made, as it is stored
+-- what is stored once a waiter is made, and what is given for it
 pub record AddsWaiter (old new : WaitsShown) (asked : WaitTerms) (id : ℕ) (given : Option Verdict) : Type 0 where
   pub count : new.count ≡ old.count
   pub states : new.states ≡ old.states
@@ -176,7 +176,7 @@ pub record AddsWaiter (old new : WaitsShown) (asked : WaitTerms) (id : ℕ) (giv
   pub verdict : given ≡ new_release Waiting
       (new_stored_waiter old.next old.count asked (state_in old.states)).standing
 
--- a waiter that is cancelled, as it is stored
+-- what is stored once a waiter is cancelled
 pub record CancelsWaiter (old new : WaitsShown) (id : ℕ) : Type 0 where
   pub count : new.count ≡ old.count
   pub states : new.states ≡ old.states

@@ -6,7 +6,7 @@ use Rattle.wait_conditions.specs.declared.service_states.StateRun.{StateRun}
 use Rattle.wait_conditions.specs.declared.supervisor_state.SupervisorState.{SupervisorState}
 use Rattle.wait_conditions.specs.SupervisorState.{state_of, state_after}
 
--- of a service: what the first run that reaches up to its serial says, or that it has no mark
+-- what is known of a service: what the first run that reaches up to its serial says, or that it has no mark
 abbrev pub state_in : List StateRun → ℕ → SupervisorState
 state_in [] sid = state_of 0 []
 state_in (r ∷ runs) sid = if nat_le sid r.last then r.state else state_in runs sid
@@ -16,7 +16,7 @@ abbrev pub state_over : ℕ → List Moment → SupervisorState → SupervisorSt
 state_over sid [] state = state
 state_over sid (m ∷ ms) state = state_over sid ms (state_after (mark_of sid m) state)
 
--- the runs, and how many more fit with no growth
+-- the runs, and how many more fit without more memory
 pub record RunList : Type 0 where
   pub runs : List StateRun
   pub spare_capacity : ℕ

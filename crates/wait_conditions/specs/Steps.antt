@@ -48,12 +48,12 @@ waits_after_change w (WaitRequest.add_one asked) =
     with_waiter_unless (add_refusal (length w.waiters) asked.sids) w asked
 waits_after_change w (WaitRequest.cancel_one id) = after_cancel w id
 
--- its serial, and its verdict where it is released at once; or why it is not made
+-- the answer to a wait: the serial of the waiter, and its verdict where it is released at once; or why it is not made
 abbrev pub answer_to_add : Option AddFault → Watch → WaitTerms → WaitAnswer
 answer_to_add None w asked = answer.Added w.next (new_release Waiting (waiter_state w.history (new_waiter w asked)))
 answer_to_add (Some fault) w asked = answer.Refused fault
 
--- what the change is answered
+-- the answer to the change
 abbrev pub wait_answer : Watch → WaitRequest → WaitAnswer
 wait_answer w WaitRequest.no_wait_request = answer.Nothing
 wait_answer w (WaitRequest.add_one asked) = answer_to_add (add_refusal (length w.waiters) asked.sids) w asked

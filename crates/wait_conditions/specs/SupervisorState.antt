@@ -17,7 +17,7 @@ state_of sid moments = record { letter = current_letter sid moments; ended = has
 abbrev pub since_of : ℕ → List Moment → SinceState
 since_of sid since = record { spawned = has_spawned sid since; failed = has_failed sid since }
 
--- after one more mark, if there is one
+-- what is known after one more mark, if there is one
 abbrev pub state_after : Option Mark → SupervisorState → SupervisorState
 state_after mark state = record { letter = letter_after mark state.letter; ended = ended_after mark state.ended }
 

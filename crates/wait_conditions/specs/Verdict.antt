@@ -26,7 +26,7 @@ abbrev pub reaches : ℕ → Moment → Bool
 reaches deadline (Clock at) = nat_le deadline at
 reaches deadline (Event sid mark) = false
 
--- the moments have one
+-- the moments have such a clock reading, if there is a deadline
 abbrev pub is_late : Option ℕ → List Moment → Bool
 is_late None since = false
 is_late (Some deadline) since = list_any (reaches deadline) since
@@ -36,12 +36,12 @@ abbrev pub is_failure_for_good : Option Failure → Bool
 is_failure_for_good (Some Permanent) = true
 is_failure_for_good _ = false
 
--- every one of the services holds, or one
+-- all the services pass the test, or one of them
 abbrev pub is_enough : Mode → (ℕ → Bool) → List ℕ → Bool
 is_enough mode.All test sids = list_all test sids
 is_enough mode.One test sids = list_any test sids
 
--- one of the services fails where every one is to hold; every one fails where one is enough
+-- one of the services fails where all are to pass; all fail where one is enough
 abbrev pub is_hopeless : Mode → (ℕ → Bool) → List ℕ → Bool
 is_hopeless mode.All test sids = list_any test sids
 is_hopeless mode.One test sids = list_all test sids

@@ -34,8 +34,8 @@ waits_view w = record {
 abbrev pub IsCounted : Waiter → Type 0
 IsCounted w = w.counts ≡ counts_of w.watched.items
 
--- the counters of each waiter count; the waiters stand in the order in which they were made; it is told who watches which service;
--- and no deadline that is waited for comes before the one that is noted
+-- the counters of each waiter count; the waiters stand in the order in which they were made; the watchers are those that watch; and no
+-- waiter that waits has a deadline before `due`
 pub record IsSoundList {A : Type 0} (l : list.Inside A) : Type 0 where
   pub counted : All IsCounted l.waiters.items
   pub rising : AreRising (map (λ k. k.id) (waiters_view l.waiters.items))

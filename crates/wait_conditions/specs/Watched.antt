@@ -10,7 +10,7 @@ use Rattle.wait_conditions.specs.Holds.{holds_at}
 use Rattle.wait_conditions.specs.Fails.{failure_at}
 use Rattle.wait_conditions.specs.SupervisorState.{state_of, since_of, state_after, since_after}
 
--- a service of which this is known, and this since the waiter began: whether the condition holds of it, and why it fails
+-- a service of which this is known, and this since the waiter began; whether the condition holds of it, or else why it fails, if it does
 abbrev pub watched_as : Condition → ℕ → SupervisorState → SinceState → WatchedService
 watched_as c sid state since = record {
   sid = sid;

@@ -6,12 +6,12 @@ use Rattle.s6_events.specs.declared.moment.Moment.{Moment}
 use Rattle.wait_conditions.specs.declared.watchers.Watcher.{Watcher}
 use Rattle.wait_conditions.specs.Kept.{StoredWaiter, still_waits, concerns}
 
--- the watchers, and how many more fit with no growth
+-- the watchers, and how many more fit without more memory
 pub record WatcherList : Type 0 where
   pub watchers : List Watcher
   pub spare_capacity : ℕ
 
--- the serials of those that watch a service, as they are listed
+-- the serials of the waiters that watch a service, in the order of the list
 abbrev pub serials_of : ℕ → List Watcher → List ℕ
 serials_of sid ws = map (λ w. w.waiter) (filter (λ w. w.sid == sid) ws)
 
@@ -23,15 +23,15 @@ watches sid k = still_waits k && list_any (λ w. w.sid == sid) k.watched
 abbrev pub touches : Moment → StoredWaiter → Bool
 touches m k = still_waits k && concerns m k
 
--- one of these moments does
+-- one of these moments touches a waiter
 abbrev pub touched_by : List Moment → StoredWaiter → Bool
 touched_by ms k = list_any (λ m. touches m k) ms
 
--- the serials of the waiters that pass
+-- the serials of the waiters that pass a test
 abbrev pub serials_where : (StoredWaiter → Bool) → List StoredWaiter → List ℕ
 serials_where p ks = map (λ k. k.id) (filter p ks)
 
--- at this place stands the first of the waiters that pass, and these are the serials of the others
+-- at this place is the first of the waiters that pass a test, and `rest` has the serials of the others that pass
 pub record IsFirst (p : StoredWaiter → Bool) (ks : List StoredWaiter) (rest : List ℕ) (place : ℕ) : Type 0 where
   pub within : place < length ks
   pub none_before : filter p (take place ks) ≡ []
@@ -42,7 +42,7 @@ pub record IsFirst (p : StoredWaiter → Bool) (ks : List StoredWaiter) (rest : 
 abbrev pub AreIndexed : List Watcher → List StoredWaiter → Type 0
 AreIndexed ws ks = (sid : ℕ) → serials_of sid ws ≡ serials_where (watches sid) ks
 
--- where it waits, its deadline is not before this moment
+-- a waiter that waits has no deadline before this moment
 abbrev pub IsDueFrom : ℕ → StoredWaiter → Type 0
 IsDueFrom due k = still_waits k ≡ true → IfSome k.deadline (λ deadline. due ≤ deadline)
 

@@ -17,10 +17,10 @@ pub enum AddFault {
     /// More than 16 services are named.
     #[error("over 16 services")]
     TooManyServices = 3,
-    /// As many waiters stand as may.
+    /// 1,024 waiters stand already.
     #[error("as many waiters stand as may")]
     TooMany = 4,
-    /// A growth was refused.
+    /// Memory was refused.
     #[error("out of memory")]
     NoMemory = 5,
 }

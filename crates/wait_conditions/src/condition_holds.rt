@@ -15,7 +15,7 @@ fn letter_suits(condition: Condition, letter: Mark) -> bool
     }
 }
 
-/// Whether a condition holds at this letter, after a start or without one.
+/// Whether a condition holds of a service with this current letter. `spawned`: it was started since the waiter began.
 pub fn condition_holds(condition: Condition, letter: Mark, spawned: bool) -> bool
     ensures { result ≡ holds_at condition letter spawned }
 {

@@ -10,7 +10,7 @@ use crate::supervisor_state::mark_in;
 use crate::watched_service::WatchedService;
 use s6_events::{Condition, Moment};
 
-/// How many of a waiter's services hold, how many fail, and how many of these for good.
+/// Of how many of a waiter's services the condition holds, of how many it fails, and of how many of these for good.
 #[derive(Clone, Copy, Debug)]
 pub struct Counts {
     pub holding: usize,
@@ -18,7 +18,7 @@ pub struct Counts {
     pub permanent: usize,
 }
 
-// A counter, where what it counts of one service was so and is now so.
+// A counter once one service has changed: whether it was counted before, and whether it is now.
 fn recount(count: usize, was: bool, now: bool) -> usize
     requires { count ≤ 16 }
     ensures { result ≡ recounted count was now }
@@ -34,7 +34,7 @@ fn is_permanent_failure(failure: Option<Failure>) -> bool
 }
 
 impl Counts {
-    /// Of no service.
+    /// The counters of no service.
     pub fn none() -> Counts
         ensures { result ≡ counts_of [] }
     {
@@ -45,7 +45,7 @@ impl Counts {
         }
     }
 
-    // Where one of the services has changed.
+    // The counters once one of the services has changed.
     fn after(self, was: &WatchedService, now: &WatchedService) -> Counts
         requires holding { self.holding ≤ 16 }
         requires failing { self.failing ≤ 16 }
@@ -63,7 +63,7 @@ impl Counts {
         }
     }
 
-    // Where one more service has joined.
+    // The counters once one more service has joined.
     fn with(self, joining: &WatchedService) -> Counts
         requires holding { self.holding ≤ 16 }
         requires failing { self.failing ≤ 16 }
@@ -94,7 +94,7 @@ pub fn count_all(watched: &[WatchedService]) -> Counts
     counts
 }
 
-/// Each service takes in a moment; the counters after it.
+/// Each service takes in the moment. Returns the counters after it.
 pub fn watch_all(
     watched: &mut [WatchedService],
     counts: Counts,

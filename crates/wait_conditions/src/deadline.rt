@@ -5,7 +5,7 @@ ghost use Rattle.wait_conditions.specs.Verdict.{reaches};
 
 use s6_events::{At, Moment};
 
-/// The moment so many milliseconds after the start, and none for no milliseconds.
+/// The moment `timeout` milliseconds after `start`; None where `timeout` is 0.
 pub fn deadline_for(timeout: u32, start: At) -> Option<u64>
     ensures { result ≡ deadline_of timeout start }
 {

@@ -1,12 +1,12 @@
-//! Why a condition that does not hold fails, if it does: for good, where the newest of u and O is an O, or since the newest of s and x is an
-//! x. Both are kept with each mark, in `supervisor_state.rt`.
+//! Why a condition that does not hold fails, if it does: for good, where it asks for up and the newest of u and O is an O; else where the
+//! newest of s and x is an x. Both are brought up to date with each mark, in `supervisor_state.rt`.
 ghost use Rattle.std.specs.Prelude.{◌≡◌};
 ghost use Rattle.wait_conditions.specs.Fails.{failure_at};
 ghost use Rattle.wait_conditions.specs.OneMore.{ended_after, failed_after};
 
 use s6_events::{Condition, Mark};
 
-/// Why a condition of a service, which doesn't hold, is given up.
+/// Why a condition that doesn't hold of a service is given up.
 #[derive(Clone, Copy, Debug, PartialEq, Eq)]
 pub enum Failure {
     /// It asks for up, and the service failed for good since the waiter was made.
@@ -15,7 +15,7 @@ pub enum Failure {
     Unsupervised,
 }
 
-/// Whether the newest of s and x of a service is an x, once it has one more mark, if it has.
+/// Whether the newest of a service's s and x is an x, after one more mark, if there is one.
 pub fn next_ended(mark: Option<Mark>, ended: bool) -> bool
     ensures { result ≡ ended_after mark ended }
 {
@@ -26,7 +26,7 @@ pub fn next_ended(mark: Option<Mark>, ended: bool) -> bool
     }
 }
 
-/// Whether the newest of u and O of a service is an O, once it has one more mark, if it has.
+/// Whether the newest of a service's u and O is an O, after one more mark, if there is one.
 pub fn next_failed(mark: Option<Mark>, failed: bool) -> bool
     ensures { result ≡ failed_after mark failed }
 {

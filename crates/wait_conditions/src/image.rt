@@ -12,7 +12,7 @@ use std::alloc::Allocator;
 use std::marker::Model;
 
 /// A waiter as plain data: what it was made with, how many moments had come by then, what it knows of its services while it waits, and
-/// where it stands.
+/// its state.
 #[derive(Drop)]
 pub struct WaiterImage<A: Allocator> {
     pub id: WaitId,

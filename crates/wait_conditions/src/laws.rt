@@ -7,19 +7,18 @@ pub fn released_at_the_least()
     ensures { ReleasedAtTheLeast }
 {}
 
-/// A waiter that waits has waited at each number of moments since its place.
+/// A waiter that waits still: its verdict is waiting over each number of moments since its place.
 pub fn waits_throughout()
     ensures { WaitsThroughout }
 {}
 
-/// With one moment more a waiter that waits takes its verdict over all of them, and a released one keeps its own. This project's
-/// own.
+/// With one more moment, a waiter that waits takes its verdict over all moments, and a released one keeps its own.
 pub fn one_moment_more()
     ensures { GrowsByMoments }
 {}
 
-/// A waiter that one moment more releases is released at the least number of moments since its place, and that number counts this
-/// moment.
+/// A waiter that one more moment releases is released at the least number of moments since its place at which its verdict isn't
+/// waiting, and this moment is the last of them.
 pub fn released_by_the_last_moment()
     ensures { ReleasedByTheLastMoment }
 {}

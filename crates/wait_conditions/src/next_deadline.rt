@@ -6,7 +6,7 @@ ghost use Rattle.wait_conditions.specs.WaitsFields.{waiters_view};
 
 use crate::waiter::{Waiter, waits_still};
 
-/// The earlier of two moments, where there are any.
+/// The earlier of two moments, or the one that there is; None where there is none.
 pub fn earlier_of(one: Option<u64>, other: Option<u64>) -> Option<u64>
     ensures { result ≡ earlier_of one other }
 {
@@ -30,7 +30,7 @@ fn awaited_until(waiter: &Waiter) -> Option<u64>
     }
 }
 
-/// The earliest deadline of those of these waiters that wait still.
+/// The earliest deadline of those waiters that wait still; None where none of them has one.
 pub fn earliest_deadline(waiters: &[Waiter]) -> Option<u64>
     ensures { result ≡ earliest (map stored_until (waiters_view waiters.now)) }
 {

@@ -13,7 +13,7 @@ use crate::watchers::{Watcher, Watchers};
 use s6_events::{Moment, NoMemory, Sid, WaitId};
 use std::alloc::Allocator;
 
-// A waiter joins the copies. It stands apart: inlined, a step that copies none would fill a place for one in its frame.
+// Adds a copy of this waiter. It is a function of its own: inlined, a step that copies none would fill a place for one in its frame.
 #[inline(never)]
 fn push_copy<A: Allocator>(copies: &mut Vec<Waiter, A>, waiter: &Waiter) -> Result<(), NoMemory>
     requires waiter { IsCounted waiter.now }
@@ -26,7 +26,7 @@ fn push_copy<A: Allocator>(copies: &mut Vec<Waiter, A>, waiter: &Waiter) -> Resu
     Ok(())
 }
 
-// A waiter joins the copies, where one of the moments touches it.
+// Adds a copy of this waiter, if one of the moments touches it.
 fn copy_if_touched<A: Allocator>(
     copies: &mut Vec<Waiter, A>,
     waiter: &Waiter,
@@ -45,7 +45,7 @@ fn copy_if_touched<A: Allocator>(
     Ok(())
 }
 
-// Of all waiters, those that these moments touch.
+// Copies of those waiters that these moments touch, found by a look at each.
 fn copy_among_all<A: Allocator>(
     alloc: A,
     waiters: &[Waiter],
@@ -63,7 +63,7 @@ fn copy_among_all<A: Allocator>(
     Ok(copies)
 }
 
-// The waiters that watch a service, of which these are the watchers.
+// Copies of the waiters that watch this service, whose watchers these are.
 fn copy_watching<A: Allocator>(
     alloc: A,
     waiters: &[Waiter],
@@ -88,7 +88,7 @@ fn copy_watching<A: Allocator>(
     Ok(copies)
 }
 
-/// The waiters that these moments touch, once more. No waiter that waits has a deadline before `due`.
+/// Copies of the waiters that these moments touch. No waiter that waits has a deadline before `due`.
 pub fn copy_touched<A: Allocator>(
     alloc: A,
     waiters: &[Waiter],
@@ -125,7 +125,7 @@ pub fn list_serials<A: Allocator>(alloc: A, waiters: &[Waiter]) -> Result<Vec<Wa
     Ok(serials)
 }
 
-/// The releases of these waiters as they take in the moments.
+/// These waiters take in the moments. Returns the releases that these bring, by moment and then in the order of the waiters.
 pub fn release_all<A: Allocator + Copy>(
     alloc: A,
     waiters: &mut [Waiter],

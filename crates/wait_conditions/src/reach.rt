@@ -14,7 +14,7 @@ pub enum Reach {
 }
 
 impl Reach {
-    // After a mark of a service.
+    // The reach with one more mark, of this service.
     fn with_service(self, sid: Sid) -> Reach
         ensures { result ≡ with_service sid self }
     {

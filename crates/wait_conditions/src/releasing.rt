@@ -13,7 +13,7 @@ use crate::watchers::Watchers;
 use s6_events::{Moment, WaitId};
 use std::alloc::Allocator;
 
-// The verdict of one that waited before.
+// The verdict of a waiter that waited before and is released after; None for any other one.
 fn new_verdict(before: WaitState, after: WaitState) -> Option<Verdict>
     ensures { result ≡ new_release before after }
 {
@@ -23,7 +23,7 @@ fn new_verdict(before: WaitState, after: WaitState) -> Option<Verdict>
     }
 }
 
-// A waiter takes in a moment; its release, if that brings it.
+// The waiter takes in the moment. Returns its release, if the moment brings it.
 fn take_in_for_release(waiter: &mut Waiter, moment: &Moment) -> Option<(WaitId, Verdict)>
     requires { IsCounted waiter.old }
     ensures waiter { waiter_view waiter.new ≡ with_moment moment.now (waiter_view waiter.old) }
@@ -47,7 +47,7 @@ fn note<A: Allocator>(released: &mut Vec<(WaitId, Verdict), A>, release: Option<
     }
 }
 
-/// Every waiter takes in a moment, and the releases join the list, for which there is room.
+/// Every waiter takes in the moment, and the releases are added to the list; there is room for them.
 pub fn take_in_all<A: Allocator>(
     waiters: &mut [Waiter],
     moment: &Moment,
@@ -75,7 +75,8 @@ pub fn is_touched_by_any(waiter: &Waiter, moments: &[Moment]) -> bool
     moments.iter().any(|moment| is_touched(waiter, moment))
 }
 
-// Where the waiter of this serial stands: the first that passes, where its serial is the first of those that pass.
+// The place of the waiter of this serial. It is that of the first waiter that passes a test, where `id` is the first serial of those
+// that pass.
 fn place_in(waiters: &[Waiter], id: WaitId) -> usize
     requires { AreRising (map (λ k. k.id) (waiters_view waiters.now)) }
     ensures bound { result ≤ length waiters.now }
@@ -86,7 +87,8 @@ fn place_in(waiters: &[Waiter], id: WaitId) -> usize
     waiters.partition_point(|waiter| waiter.id.0 < id.0)
 }
 
-/// Where the waiter of this serial stands, from a place on: the first that passes, where its serial is the first of those that pass.
+/// The place of the waiter of this serial, at `start` or behind it. From there on it is that of the first waiter that passes a test,
+/// where `id` is the first serial of those that pass.
 pub fn place_from(waiters: &[Waiter], start: usize, id: WaitId) -> usize
     requires start { start ≤ length waiters.now }
     requires rising { AreRising (map (λ k. k.id) (waiters_view waiters.now)) }
@@ -126,8 +128,8 @@ fn change<A: Allocator>(waiter: &mut Waiter, watchers: &mut Watchers<A>, moments
     }
 }
 
-/// The waiters of these serials take in the moments, one after the other. They are those that the moments touch, so that for all
-/// others nothing changes.
+/// The waiters of these serials take in the moments, one after the other. They are all those that the moments touch, so that the
+/// others stay as they are.
 pub fn change_touched<A: Allocator>(
     waiters: &mut [Waiter],
     watchers: &mut Watchers<A>,

@@ -10,15 +10,16 @@ use s6_events::{Moment, NoMemory, Sid};
 use std::alloc::Allocator;
 use std::marker::Model;
 
-/// What is known of each service above the run before, up to this serial.
+/// What is known of the services of one run: of each serial above the run before, up to `last`.
 #[derive(Clone, Copy, Debug)]
 pub struct StateRun {
     pub last: Sid,
     pub state: SupervisorState,
 }
 
-/// What the marks say of every service, in runs of neighbours of which the same is known. Services that were dropped all ended, so they
-/// share the runs between those that stand: however long a tree runs, there are at most two runs for each service that stands, and one.
+/// What the marks say of every service, in runs of neighbouring serials of which the same is known. Services that were dropped have all
+/// ended, so they share the runs between those that stand. However long a tree runs, there are at most two runs for each service that
+/// stands, and one more.
 #[derive(Drop)]
 pub struct ServiceStates<A: Allocator> {
     runs: Vec<StateRun, A>,
@@ -68,7 +69,7 @@ fn reaches_no_further(run: StateRun, other: StateRun) -> bool
     run.last.0 <= other.last.0
 }
 
-// Whether a run says the same as the one after it, which reaches as far.
+// Whether a run says the same as the one after it, and reaches no further than that one.
 fn says_the_same(run: StateRun, after: StateRun) -> bool
     ensures reach { result ≡ true → run.last ≤ after.last }
     ensures same { result ≡ true → run.state ≡ after.state }
@@ -88,7 +89,7 @@ fn is_covered(runs: &[StateRun], place: usize) -> bool
     reaches_no_further(runs[place], runs[place - 1])
 }
 
-// Whether the run at this place says the same as the one after it, which reaches as far.
+// Whether the run at this place says the same as the one after it, and reaches no further than that one.
 fn is_repeated(runs: &[StateRun], place: usize) -> bool
     requires { place < length runs.now }
     ensures { result ≡ true → (sid : ℕ) →
@@ -107,7 +108,7 @@ fn ends_with(run: StateRun, last: u64) -> bool
     run.last.0 == last
 }
 
-// Whether the run before this place reaches up to the serial below this one, if there is any.
+// Whether the run before this place ends with the serial just below this one, or there is no such serial.
 fn is_reached_below(runs: &[StateRun], place: usize, sid: Sid) -> bool
     requires { place ≤ length runs.now }
     ensures { result ≡ true → (other : ℕ) → other < sid
@@ -126,7 +127,7 @@ fn is_of_one(runs: &[StateRun], place: usize, sid: Sid) -> bool
     place < runs.len() && ends_with(runs[place], sid.0) && is_reached_below(runs, place, sid)
 }
 
-// Whether there is a run at this place that says nothing of its own.
+// Whether there is a run at this place that is not needed: without it the same is known of each service.
 fn is_redundant(runs: &[StateRun], place: usize) -> bool
     ensures within { result ≡ true → place < length runs.now }
     ensures same { result ≡ true → (sid : ℕ) →
@@ -135,7 +136,7 @@ fn is_redundant(runs: &[StateRun], place: usize) -> bool
     place < runs.len() && (is_covered(runs, place) || is_repeated(runs, place))
 }
 
-// A run joins at this place, for which there is room.
+// Puts a run in at this place; there is room for it.
 fn insert_run<A: Allocator>(
     runs: &mut Vec<StateRun, A>,
     place: usize,
@@ -152,7 +153,7 @@ fn insert_run<A: Allocator>(
     runs.insert(place, StateRun { last, state }).unwrap();
 }
 
-// Where there is a serial below this one, a run up to that joins at the place, for which there is room.
+// Puts a run in at this place that ends with the serial just below this one, if there is such a serial; there is room for it.
 fn insert_below<A: Allocator>(
     runs: &mut Vec<StateRun, A>,
     place: usize,
@@ -173,7 +174,7 @@ fn insert_below<A: Allocator>(
     }
 }
 
-// The run at this place says this from now on.
+// Replaces the run at this place.
 fn set_run<A: Allocator>(
     runs: &mut Vec<StateRun, A>,
     place: usize,
@@ -190,7 +191,7 @@ fn set_run<A: Allocator>(
 }
 
 impl<A: Allocator + Copy> ServiceStates<A> {
-    /// No service has a mark.
+    /// The states where no service has a mark.
     pub fn new(alloc: A) -> ServiceStates<A>
         ensures { result.runs ≡ [] }
     {
@@ -199,7 +200,7 @@ impl<A: Allocator + Copy> ServiceStates<A> {
         }
     }
 
-    /// Makes room for so many moments. `NoMemory` where the growth is refused; nothing has changed then.
+    /// Makes room for this many more moments. `NoMemory` where memory is refused: nothing has changed then.
     pub fn reserve(&mut self, moments: usize) -> Result<(), NoMemory>
         ensures runs { self.new.runs ≡ self.old.runs }
         ensures ok { OnOk result (2 * moments ≤ self.new.spare_capacity) }
@@ -233,7 +234,7 @@ impl<A: Allocator> ServiceStates<A> {
         state
     }
 
-    /// One more moment comes, for which there is room.
+    /// Takes in one more moment; there is room for it.
     pub fn take_in(&mut self, moment: &Moment)
         requires { 2 ≤ self.old.spare_capacity }
         ensures states { (sid : ℕ) → state_in self.new.runs sid
@@ -249,7 +250,7 @@ impl<A: Allocator> ServiceStates<A> {
         }
     }
 
-    /// These moments come, one after the other; there is room for them.
+    /// Takes in these moments, one after the other; there is room for them.
     pub fn take_in_all(&mut self, moments: &[Moment])
         requires { 2 * length moments.now ≤ self.old.spare_capacity }
         ensures states { (sid : ℕ) → state_in self.new.runs sid
@@ -260,7 +261,7 @@ impl<A: Allocator> ServiceStates<A> {
         }
     }
 
-    // This is known of a service, for which there is room.
+    // Sets what is known of this service; there is room for that.
     fn put(&mut self, sid: Sid, state: SupervisorState)
         requires { 2 ≤ self.old.spare_capacity }
         ensures states { (other : ℕ) → state_in self.new.runs other
@@ -279,7 +280,7 @@ impl<A: Allocator> ServiceStates<A> {
         self.tidy(place);
     }
 
-    // Takes out the runs round this place that say nothing of their own.
+    // Takes out the runs that are not needed, at the four places from one before this one to two after it.
     fn tidy(&mut self, place: usize)
         ensures states { (sid : ℕ) → state_in self.new.runs sid ≡ state_in self.old.runs sid }
         ensures room { self.old.spare_capacity ≤ self.new.spare_capacity }
@@ -312,7 +313,7 @@ impl<A: Allocator> ServiceStates<A> {
         }
     }
 
-    // Takes out the run at this place, if it says nothing of its own.
+    // Takes out the run at this place, if it is not needed.
     fn drop_redundant(&mut self, place: usize)
         ensures states { (sid : ℕ) → state_in self.new.runs sid ≡ state_in self.old.runs sid }
         ensures room { self.old.spare_capacity ≤ self.new.spare_capacity }

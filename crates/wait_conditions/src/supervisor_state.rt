@@ -8,21 +8,21 @@ ghost use Rattle.wait_conditions.specs.SupervisorState.{state_of, since_of, stat
 use crate::failure::{next_ended, next_failed};
 use s6_events::{Mark, Moment, Sid, letter_after};
 
-/// What is known of a service.
+/// What is known of a service: its current letter, and whether its supervisor has ended.
 #[derive(Clone, Copy, Debug, PartialEq, Eq)]
 pub struct SupervisorState {
     pub letter: Mark,
     pub ended: bool,
 }
 
-/// What is known of a service since a waiter began: a start, a failure that stands.
+/// What is known of a service since a waiter began: whether it was started, and whether it failed for good and was not started since.
 #[derive(Clone, Copy, Debug)]
 pub struct SinceState {
     pub spawned: bool,
     pub failed: bool,
 }
 
-// The mark of a service that a moment is, if it is one.
+// The mark in a moment, if the moment is an event of this service.
 pub fn mark_in(sid: Sid, moment: &Moment) -> Option<Mark>
     ensures { result ≡ mark_of sid moment.now }
 {
@@ -51,7 +51,7 @@ fn next_spawned(mark: Option<Mark>, spawned: bool) -> bool
 }
 
 impl SupervisorState {
-    /// Of a service with no mark.
+    /// What is known of a service with no mark.
     pub fn unseen() -> SupervisorState
         ensures { result ≡ state_of 0 [] }
     {
@@ -61,7 +61,7 @@ impl SupervisorState {
         }
     }
 
-    /// After one more mark, if there is one.
+    /// What is known after one more mark, if there is one.
     pub fn after(self, mark: Option<Mark>) -> SupervisorState
         ensures { result ≡ state_after mark self }
     {
@@ -73,7 +73,7 @@ impl SupervisorState {
 }
 
 impl SinceState {
-    /// Where no moment has come.
+    /// What is known where no moment has come yet.
     pub fn fresh() -> SinceState
         ensures { result ≡ since_of 0 [] }
     {
@@ -83,7 +83,7 @@ impl SinceState {
         }
     }
 
-    /// After one more mark, if there is one.
+    /// What is known after one more mark, if there is one.
     pub fn after(self, mark: Option<Mark>) -> SinceState
         ensures { result ≡ since_after mark self }
     {

@@ -1,4 +1,4 @@
-//! Verdicts: which one a waiter gets, and where it stands.
+//! Verdicts: which one a waiter gets, and what its state is.
 ghost use Rattle.std.specs.Prelude.{◌≡◌};
 ghost use Rattle.wait_conditions.specs.Counts.{count_is_enough, count_is_hopeless, verdict_by};
 
@@ -18,7 +18,7 @@ pub enum Verdict {
     TimedOut,
 }
 
-/// Where a waiter stands.
+/// The state of a waiter.
 #[derive(Clone, Copy, Debug, PartialEq, Eq)]
 pub enum WaitState {
     /// It waits still.
@@ -37,7 +37,7 @@ fn is_enough(counts: Counts, mode: Mode, services: usize) -> bool
     }
 }
 
-// Whether it fails of so many that it can't hold any more.
+// Whether the condition fails of so many services that it can't hold any more of as many as the mode asks for.
 fn is_hopeless(counts: Counts, mode: Mode, services: usize) -> bool
     ensures { result ≡ count_is_hopeless mode services counts.failing }
 {
@@ -47,8 +47,8 @@ fn is_hopeless(counts: Counts, mode: Mode, services: usize) -> bool
     }
 }
 
-/// The verdict over so many services, of which the condition holds and fails as counted, where the deadline has come or not: the first
-/// that applies of Held, Failed or Gone, TimedOut, and Waiting.
+/// The verdict over `services` services, by their counters. `late`: the deadline has come. It is the first that applies of Held, Failed
+/// or Gone, TimedOut, and Waiting.
 pub fn verdict_of(counts: Counts, mode: Mode, services: usize, late: bool) -> WaitState
     ensures { result ≡ verdict_by mode services counts late }
 {

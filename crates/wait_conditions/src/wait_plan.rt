@@ -66,7 +66,7 @@ pub(crate) struct ChangePlan<A: Allocator> {
 }
 
 impl<A: Allocator> ChangePlan<A> {
-    /// The list stays.
+    /// A plan in which the list of waiters stays as it is.
     pub(crate) fn stay(answer: WaitAnswer, next: u64) -> ChangePlan<A>
         ensures answer { result.answer ≡ answer }
         ensures change { result.change ≡ Stay }

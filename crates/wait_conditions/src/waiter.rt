@@ -21,8 +21,8 @@ use arrayvec::ArrayVec;
 use s6_events::{Condition, Mode, Moment, Sid, WaitId};
 use std::alloc::Allocator;
 
-/// A waiter: what it was made with, how many moments had come by then, and where it stands. A deadline is a moment in milliseconds.
-/// While it waits it knows its services, and counts those that hold and that fail; afterwards it knows none.
+/// A waiter: what it was made with, how many moments had come by then, and its state. A deadline is a moment in milliseconds. While it
+/// waits it knows its services, and counts those of which the condition holds and those of which it fails; afterwards it knows none.
 #[derive(Drop)]
 pub struct Waiter {
     pub id: WaitId,
@@ -74,7 +74,7 @@ pub fn is_touched(waiter: &Waiter, moment: &Moment) -> bool
     waits_still(waiter) && is_concerned(waiter, moment)
 }
 
-// Its services take in a moment.
+// The waiter's services take in the moment.
 fn watch(waiter: &mut Waiter, moment: &Moment)
     requires { IsCounted waiter.old }
     ensures waiter { waiter_view waiter.new ≡ record (waiter_view waiter.old)
@@ -89,7 +89,7 @@ fn watch(waiter: &mut Waiter, moment: &Moment)
     );
 }
 
-// It takes the verdict of its counters, and forgets its services where that releases it.
+// The waiter takes the verdict by its counters, and forgets its services where that releases it.
 fn judge(waiter: &mut Waiter, late: bool)
     requires { IsCounted waiter.old }
     ensures waiter { waiter_view waiter.new ≡ judged late (waiter_view waiter.old) }
@@ -102,7 +102,7 @@ fn judge(waiter: &mut Waiter, late: bool)
     }
 }
 
-/// A waiter that waits takes in a moment, where that concerns it.
+/// The waiter takes in the moment, if it waits and the moment concerns it.
 pub fn take_in(waiter: &mut Waiter, moment: &Moment)
     requires { IsCounted waiter.old }
     ensures waiter { waiter_view waiter.new ≡ with_moment moment.now (waiter_view waiter.old) }
@@ -115,7 +115,7 @@ pub fn take_in(waiter: &mut Waiter, moment: &Moment)
     }
 }
 
-/// The same waiter once more.
+/// A copy of this waiter.
 pub fn copy_of(waiter: &Waiter) -> Waiter
     requires { IsCounted waiter.now }
     ensures waiter { waiter_view result ≡ waiter_view waiter.now }
@@ -156,7 +156,7 @@ fn watch_services<A: Allocator>(
     watched
 }
 
-/// A waiter that is made once so many moments have come, of which these are not taken in yet by what is known of the services.
+/// A waiter that is made once `place` moments have come. `states` has not taken in yet the last ones of these, which are `moments`.
 pub fn new_waiter<A: Allocator>(
     id: WaitId,
     place: u64,
@@ -189,7 +189,7 @@ pub fn new_waiter<A: Allocator>(
     waiter
 }
 
-/// The verdict of a new waiter that is released at once.
+/// The verdict of a new waiter that is released at once; None where it waits.
 pub fn release_at_once(waiter: &Waiter) -> Option<Verdict>
     ensures { result ≡ new_release Waiting (waiter_view waiter.now).standing }
 {

@@ -1,4 +1,5 @@
-//! The limits of waiters: the services of one, and how many stand at a time. Before these, `refusals.rt` of tree_core refuses a wait by names.
+//! The limits of waiters: the services of one, and how many stand at a time. Before these are looked at, `refusals.rt` of tree_core
+//! refuses a wait by its names.
 ghost use Rattle.std.specs.Prelude.{◌≡◌};
 ghost use Rattle.wait_conditions.specs.Refusal.{is_named_in, repeats_serial, add_refusal};
 
@@ -29,7 +30,7 @@ fn has_repeat(sids: &[Sid]) -> bool
     false
 }
 
-/// Why no waiter for these services may be made, where so many stand.
+/// Why a waiter for these services is refused, where `standing` waiters stand; None where it is not.
 pub fn refusal_for(standing: usize, sids: &[Sid]) -> Option<AddFault>
     ensures { result ≡ add_refusal standing sids.now }
 {

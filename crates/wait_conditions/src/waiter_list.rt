@@ -23,8 +23,8 @@ use std::marker::Model;
 /// The most services that one waiter watches.
 const MOST_WATCHED: usize = 16;
 
-/// The waiters that stand, in the order in which they were made, and beside them who watches which service, and a moment before
-/// which no deadline lies of a waiter that waits. So what a moment touches is found without a look at the others.
+/// The waiters that stand, in the order in which they were made. Beside them it keeps which waiter watches which service, and a moment:
+/// no waiter that waits has a deadline before it. So the waiters that a moment touches are mostly found without a look at the others.
 #[derive(Drop)]
 pub struct WaiterList<A: Allocator> {
     waiters: Vec<Waiter, A>,
@@ -45,35 +45,35 @@ impl<A: Allocator> Model for WaiterList<A> {
 }
 
 impl<A: Allocator> WaiterList<A> {
-    /// How many stand.
+    /// How many waiters stand.
     pub fn len(&self) -> usize
         ensures { result ≡ length self.now.waiters }
     {
         self.waiters.len()
     }
 
-    /// Where the waiter of this serial stands.
+    /// The state of the waiter of this serial; None where there is none.
     pub fn standing(&self, id: WaitId) -> Option<WaitState>
         ensures { result ≡ standing_kept id self.now.waiters }
     {
         find_standing(&self.waiters, id)
     }
 
-    /// The place of the oldest of those that wait still.
+    /// The place of the oldest of those that wait still; None where none does.
     pub fn oldest(&self) -> Option<u64>
         ensures { result ≡ oldest_place self.now.waiters }
     {
         oldest_of(&self.waiters)
     }
 
-    /// The earliest deadline of those that wait still.
+    /// The earliest deadline of those that wait still; None where none of them has one.
     pub fn next_deadline(&self) -> Option<u64>
         ensures { result ≡ earliest (map stored_until self.now.waiters) }
     {
         earliest_deadline(&self.waiters)
     }
 
-    /// Makes room for one more waiter. `NoMemory` where a growth is refused; no more waiters fit then than before.
+    /// Makes room for one more waiter. `NoMemory` where memory is refused: the waiters, and how many more fit, are then as before.
     pub fn reserve_one(&mut self) -> Result<(), NoMemory>
         ensures waiters { self.new.waiters ≡ self.old.waiters }
         ensures ok { OnOk result (1 ≤ self.new.spare) }
@@ -84,7 +84,7 @@ impl<A: Allocator> WaiterList<A> {
         Ok(())
     }
 
-    /// A waiter joins, that was made after all others; there is room for it.
+    /// Adds a waiter, which was made after all others; there is room for it.
     pub fn push(&mut self, waiter: Waiter)
         requires room { 1 ≤ self.old.spare }
         requires counted { IsCounted waiter }
@@ -98,7 +98,7 @@ impl<A: Allocator> WaiterList<A> {
         self.waiters.push_reserved(waiter);
     }
 
-    /// `push` of a waiter in a box. It stands apart: inlined, a step that no waiter joins would fill a place for one in its frame.
+    /// `push` of a waiter in a box. It is a function of its own: inlined, a step that adds none would fill a place for one in its frame.
     #[inline(never)]
     pub fn push_boxed(&mut self, waiter: Box<Waiter, A>)
         requires room { 1 ≤ self.old.spare }
@@ -120,7 +120,7 @@ impl<A: Allocator> WaiterList<A> {
         drop_named(&mut self.waiters, id);
     }
 
-    /// The waiters of these serials take in the moments, one after the other. They are those that the moments touch, so that all
+    /// The waiters of these serials take in the moments, one after the other. They are all those that the moments touch, so that the
     /// others stay as they are.
     pub fn change(&mut self, touched: &[WaitId], moments: &[Moment])
         requires { touched.now ≡ serials_where (touched_by moments.now) self.old.waiters }
@@ -135,7 +135,7 @@ impl<A: Allocator> WaiterList<A> {
 }
 
 impl<A: Allocator + Copy> WaiterList<A> {
-    /// No waiter.
+    /// A list with no waiter.
     pub fn new(alloc: A) -> WaiterList<A>
         ensures { result.waiters ≡ [] }
     {
@@ -151,14 +151,14 @@ impl<A: Allocator + Copy> WaiterList<A> {
         *self.waiters.allocator()
     }
 
-    /// All of them as plain data. `NoMemory` where a growth was refused.
+    /// All waiters as plain data. `NoMemory` where memory is refused.
     pub fn images(&self, alloc: A) -> Result<Vec<WaiterImage<A>, A>, NoMemory>
         ensures { IfOk result (λ images. images.items ≡ self.now.waiters) }
     {
         images_of(alloc, &self.waiters)
     }
 
-    /// Those that these moments touch, once more.
+    /// Copies of the waiters that these moments touch.
     pub fn copy_touched(&self, moments: &[Moment]) -> Result<Vec<Waiter, A>, NoMemory>
         ensures copies { IfOk result (λ copies. waiters_view copies.items
             ≡ filter (touched_by moments.now) self.now.waiters) }
@@ -185,14 +185,14 @@ fn earlier(due: u64, deadline: Option<u64>) -> u64
     }
 }
 
-// Whether a clock reading is at or past this moment.
+// Whether one of these moments is a clock reading at or past `due`.
 fn is_reached(due: u64, moments: &[Moment]) -> bool
     ensures { result ≡ list_any (reaches due) moments.now }
 {
     moments.iter().any(|moment| reaches_deadline(due, moment))
 }
 
-// The least deadline of those that wait, or the last moment of all.
+// The least deadline of those that wait, or the greatest number where none of them has one.
 fn least_deadline(waiters: &[Waiter]) -> u64
     ensures { AreDueFrom result (waiters_view waiters.now) }
 {
@@ -205,7 +205,7 @@ fn least_deadline(waiters: &[Waiter]) -> u64
     due
 }
 
-// Where the waiter of this serial stands.
+// The state of the waiter of this serial; None where there is none.
 fn find_standing(waiters: &[Waiter], id: WaitId) -> Option<WaitState>
     ensures { result ≡ standing_kept id (waiters_view waiters.now) }
 {
@@ -223,7 +223,7 @@ fn find_stored(waiters: &[Waiter], id: WaitId) -> Option<WaitState>
     None
 }
 
-// The place of the first that waits still: of those, the oldest.
+// The place of the first one that waits still, which is the oldest of those that do.
 fn oldest_of(waiters: &[Waiter]) -> Option<u64>
     requires { BeganInOrder (waiters_view waiters.now) }
     ensures { result ≡ oldest_place (waiters_view waiters.now) }

@@ -31,24 +31,25 @@ use s6_events::{At, Condition, Mode, Moment, NoMemory, Sid, WaitId};
 use std::alloc::Allocator;
 use std::marker::Model;
 
-/// The most moments that are counted: 2^63.
+/// Fewer moments than this are counted: 2^63.
 const COUNT_LIMIT: u64 = 9_223_372_036_854_775_808;
 
-/// The waiters that stand, at most `WAITER_LIMIT`, and what is known of every service. Pages `s6-svwait` and `s6-svlisten`; that the history
-/// alone says when a waiter is released is chosen here.
+/// The waiters that stand, at most `WAITER_LIMIT`, and what is known of every service. Pages `s6-svwait` and `s6-svlisten`; that the
+/// history alone says when a waiter is released is chosen here.
 ///
 /// A step is worked out first (`prepare`), which changes nothing that is shown, and its plan is then made (`commit`); or one thing
 /// alone is done at once (`add`, `moment`, `cancel`).
 ///
-/// No moment is kept. Each waiter that waits counts those of its services that hold and those that fail, and a moment looks at the
-/// waiters that it touches alone: those that watch its service, or those of which it reaches the deadline.
+/// No moment is kept. Each waiter that waits counts those of its services of which its condition holds, and those of which it fails. A
+/// step looks at all waiters only where its marks are of several services, or its clock reading may reach a deadline; else at those
+/// that watch the one service of its marks, or at none.
 #[derive(Drop)]
 pub struct Waits<A: Allocator> {
     count: u64,
     states: ServiceStates<A>,
     list: WaiterList<A>,
     next: u64,
-    // The memory of the moments of the last step, for those of the next.
+    // The list of the last step's moments, kept so that the next step can use its memory.
     spare: Vec<Moment, A>,
 }
 
@@ -65,7 +66,7 @@ impl<A: Allocator> Model for Waits<A> {
 }
 
 impl<A: Allocator + Copy> Waits<A> {
-    /// No waiter, and no moment yet. It keeps the allocator.
+    /// No waiter is made yet, and no moment came. It keeps the allocator.
     pub fn new(alloc: A) -> Waits<A>
         ensures empty { WaitsFor result new_watch }
         ensures serials { result.next ≡ 1 }
@@ -79,21 +80,21 @@ impl<A: Allocator + Copy> Waits<A> {
         }
     }
 
-    /// Where the waiter of this serial stands, or None where there is none.
+    /// The state of the waiter of this serial; None where there is none.
     pub fn result(&self, id: WaitId) -> Option<WaitState>
         ensures { (w : Watch) → WaitsFor self.now w → result ≡ state_named w id }
     {
         self.stored_result(id)
     }
 
-    // `result`, by what is stored alone.
+    // As `result`; its clause speaks only of what is stored.
     fn stored_result(&self, id: WaitId) -> Option<WaitState>
         ensures { result ≡ standing_kept id self.now.waiters }
     {
         self.list.standing(id)
     }
 
-    /// All that is shown as plain data. `NoMemory` where a growth was refused.
+    /// All that is shown as plain data. `NoMemory` where memory is refused.
     pub fn image(&self, alloc: A) -> Result<WaitsImage<A>, NoMemory>
         ensures { IfOk result (λ image. image ≡ waits_shown self.now) }
     {
@@ -106,22 +107,22 @@ impl<A: Allocator + Copy> Waits<A> {
         })
     }
 
-    /// The earliest deadline of the waiters that wait still, or None where none has one.
+    /// The earliest deadline of the waiters that wait still; None where none of them has one.
     pub fn next_deadline(&self) -> Option<u64>
         ensures { (w : Watch) → WaitsFor self.now w → result ≡ next_deadline w }
     {
         self.stored_deadline()
     }
 
-    // `next_deadline`, by what is stored alone.
+    // As `next_deadline`; its clause speaks only of what is stored.
     fn stored_deadline(&self) -> Option<u64>
         ensures { result ≡ earliest (map stored_until self.now.waiters) }
     {
         self.list.next_deadline()
     }
 
-    /// The place of the moment from which on a history is needed: how many had come when the oldest waiter that waits still was
-    /// made, or all of them where none waits. What came before may be forgotten.
+    /// The place from which on moments are still needed: how many had come when the oldest waiter that waits still was made, or how many
+    /// came in all where none waits. What came before may be forgotten.
     pub fn needed_from(&self) -> u64
         ensures value { result ≡ needed_from (waits_shown self.now) }
         ensures least { (place : ℕ) → NoneBegan place self.now.waiters → place ≤ self.now.count
@@ -134,9 +135,9 @@ impl<A: Allocator + Copy> Waits<A> {
         place_or_end(self.list.oldest(), self.count)
     }
 
-    /// Makes a waiter for these services, 1 to 16, each named once. Its deadline is `timeout` milliseconds after `start`, and with
-    /// a timeout of 0 it has none. Answers its serial, and its verdict where it is released at once. The faults are looked for in
-    /// the order of their numbers, and none changes anything. Pages `s6-svwait` and `s6-svlisten`.
+    /// Makes a waiter for these services, 1 to 16, each named once. Its deadline is `timeout` milliseconds after `start`; with a
+    /// timeout of 0 it has none. Returns its serial, and its verdict where it is released at once. The faults are looked for in
+    /// the order of their numbers; where there is one, nothing has changed. Pages `s6-svwait` and `s6-svlisten`.
     pub fn add(
         &mut self,
         condition: Condition,
@@ -163,7 +164,7 @@ impl<A: Allocator + Copy> Waits<A> {
         self.admit(condition, mode, sids, timeout, start)
     }
 
-    // `add`, by what is stored alone.
+    // As `add`; its clauses speak only of what is stored.
     fn admit(
         &mut self,
         condition: Condition,
@@ -204,8 +205,8 @@ impl<A: Allocator + Copy> Waits<A> {
         Ok((id, verdict))
     }
 
-    /// Hands in the next moment. Answers the waiters that it releases, in rising serial, each with its verdict. NoMemory: nothing
-    /// has changed; it is also answered at the moment 2^63.
+    /// Takes in the next moment. Returns the waiters that it releases, in rising serial, each with its verdict. NoMemory where memory is
+    /// refused, or where 2^63 moments would have come: nothing has changed then.
     pub fn moment(&mut self, moment: &Moment) -> Result<Vec<(WaitId, Verdict), A>, NoMemory>
         ensures ok { IfOk result (λ released. (w : Watch) → WaitsFor self.old w →
             (released.items ≡ releases w moment.now)
@@ -216,7 +217,7 @@ impl<A: Allocator + Copy> Waits<A> {
         self.take_moment(moment)
     }
 
-    // `moment`, by what is stored alone.
+    // As `moment`; its clauses speak only of what is stored.
     fn take_moment(&mut self, moment: &Moment) -> Result<Vec<(WaitId, Verdict), A>, NoMemory>
         ensures ok { IfOk result (λ released.
             (released.items ≡ filter_map (release_seen moment.now) self.old.waiters)
@@ -240,7 +241,7 @@ impl<A: Allocator + Copy> Waits<A> {
         Ok(released)
     }
 
-    /// Ends the waiter of this serial, released or not, and says whether there was one.
+    /// Ends the waiter of this serial, released or not, and returns whether there was one.
     pub fn cancel(&mut self, id: WaitId) -> bool
         ensures stood { (w : Watch) → WaitsFor self.old w → result ≡ is_some (state_named w id) }
         ensures after { (w : Watch) → WaitsFor self.old w → WaitsFor self.new (after_cancel w id) }
@@ -251,19 +252,18 @@ impl<A: Allocator + Copy> Waits<A> {
         stood
     }
 
-    // `cancel`, by what is stored alone.
+    // As `cancel`, but it returns nothing; its clause speaks only of what is stored.
     fn take_out(&mut self, id: WaitId)
         ensures { CancelsWaiter (waits_shown self.old) (waits_shown self.new) id }
     {
         self.list.remove(id);
     }
 
-    /// Works out a step: its moments in order, so that the releases come by moment and then in rising serial; and after all of them
-    /// one change. A waiter that is added begins after these moments, and its verdict is looked at once right then. Nothing that is
-    /// shown changes.
+    /// Works out a step: its moments in order, and after all of them one change. The releases come by moment and then in rising serial.
+    /// A waiter that is added begins after these moments, and its verdict is looked at right then. Nothing that is shown changes.
     ///
-    /// NoMemory where a growth was refused, or where 2^63 moments would have come. A step that does nothing takes no memory, and
-    /// releases nothing.
+    /// NoMemory where memory is refused, or where 2^63 moments would have come. A step with no moment and no change takes no memory,
+    /// and releases nothing.
     pub fn prepare(
         &mut self,
         moments: &[Moment],
@@ -291,7 +291,7 @@ impl<A: Allocator + Copy> Waits<A> {
         Ok(plan)
     }
 
-    // `prepare`, by what is stored alone.
+    // As `prepare`; its clauses speak only of what is stored.
     #[inline(always)]
     fn prepare_stored(
         &mut self,
@@ -328,7 +328,7 @@ impl<A: Allocator + Copy> Waits<A> {
         })
     }
 
-    // Room for the moments of a step, and for the waiter that it may add.
+    // Makes room for the moments of a step, and for the waiter that it may add.
     fn make_room(&mut self, moments: usize, change: &WaitChange) -> Result<(), NoMemory>
         ensures shown { waits_shown self.new ≡ waits_shown self.old }
         ensures count { OnOk result (self.new.count + moments < 2 ^ 63) }
@@ -347,7 +347,7 @@ impl<A: Allocator + Copy> Waits<A> {
         Ok(())
     }
 
-    // The change of a step, after these moments.
+    // Plans the change of a step, after these moments.
     #[inline(always)]
     fn plan_change(
         &self,
@@ -386,7 +386,8 @@ impl<A: Allocator + Copy> Waits<A> {
         }
     }
 
-    // A waiter is asked for, and made or refused. It stands apart, since a step that asks for none has no place for one.
+    // Plans the waiter that is asked for, or its refusal. It is a function of its own, so that a step that asks for none needs no place
+    // for one.
     #[inline(never)]
     fn plan_add(
         &self,
@@ -434,7 +435,7 @@ impl<A: Allocator + Copy> Waits<A> {
         })
     }
 
-    /// Makes the step of a plan that these waiters prepared, where nothing was changed in between.
+    /// Makes the step of a plan that these waiters prepared; nothing has changed since.
     pub fn commit(&mut self, plan: WaitsPlan<A>)
         requires { FitsWaits plan self.old }
         ensures makes { MakesPlan plan (waits_shown self.old) (waits_shown self.new) }
@@ -444,7 +445,7 @@ impl<A: Allocator + Copy> Waits<A> {
         self.make(plan);
     }
 
-    // `commit`, by what is stored alone.
+    // As `commit`; its clause speaks only of what is stored.
     #[inline(always)]
     fn make(&mut self, plan: WaitsPlan<A>)
         requires { FitsWaits plan self.old }

@@ -7,8 +7,8 @@ use crate::failure::{Failure, condition_failure};
 use crate::supervisor_state::{SinceState, SupervisorState};
 use s6_events::{Condition, Mark, Sid};
 
-/// A service that a waiter waits for: what is known of it, and of it since the waiter began; and so whether the condition holds of it,
-/// and else why it fails, if it does.
+/// A service that a waiter waits for: what is known of it in all, and since the waiter began; and, by these, whether the condition holds
+/// of it, or else why it fails, if it does.
 #[derive(Clone, Copy, Debug)]
 pub struct WatchedService {
     pub sid: Sid,
@@ -19,7 +19,7 @@ pub struct WatchedService {
 }
 
 impl WatchedService {
-    /// A service of which this is known.
+    /// The service of this serial, of which `state` is known in all, and `since` since the waiter began.
     pub fn new(
         condition: Condition,
         sid: Sid,
@@ -43,7 +43,7 @@ impl WatchedService {
         }
     }
 
-    /// After one more mark of it, if there is one.
+    /// The same after one more mark of the service, if there is one.
     pub fn after(self, condition: Condition, mark: Option<Mark>) -> WatchedService
         ensures { result ≡ watched_after condition mark self }
     {

@@ -36,7 +36,7 @@ impl<A: Allocator> Model for Watchers<A> {
 }
 
 impl<A: Allocator> Watchers<A> {
-    /// Nobody watches anything.
+    /// A list in which no waiter watches a service.
     pub fn new(alloc: A) -> Watchers<A>
         ensures { result.watchers ≡ [] }
     {
@@ -45,7 +45,7 @@ impl<A: Allocator> Watchers<A> {
         }
     }
 
-    /// Makes room for so many watchers. `NoMemory` where the growth is refused; nothing has changed then.
+    /// Makes room for `more` watchers. `NoMemory` where memory is refused: nothing has changed then.
     pub fn reserve(&mut self, more: usize) -> Result<(), NoMemory>
         ensures watchers { self.new.watchers ≡ self.old.watchers }
         ensures ok { OnOk result (more ≤ self.new.spare_capacity) }
@@ -56,7 +56,7 @@ impl<A: Allocator> Watchers<A> {
         Ok(())
     }
 
-    /// Those that watch a service, in rising serial.
+    /// The watchers of this service, in rising serial of the waiters.
     pub fn of(&self, sid: Sid) -> &[Watcher]
         ensures { map (λ w. w.waiter) result.now ≡ serials_of sid self.now.watchers }
     {
@@ -66,7 +66,7 @@ impl<A: Allocator> Watchers<A> {
         &low[start..]
     }
 
-    // One that watches a service, after all others that do; there is room for it.
+    // Adds a watcher of this service, after all others of it; there is room for it.
     fn put(&mut self, sid: Sid, waiter: WaitId)
         requires { 1 ≤ self.old.spare_capacity }
         ensures serials { (other : ℕ) → serials_of other self.new.watchers
@@ -77,8 +77,8 @@ impl<A: Allocator> Watchers<A> {
         self.list.insert(place, Watcher { sid, waiter }).unwrap();
     }
 
-    /// A waiter joins, of a higher serial than all others, for each service that it watches; there is room for it. One that is
-    /// released watches none.
+    /// Adds a watcher for each service that this waiter watches; there is room for them. Its serial is higher than those of all others. A
+    /// released waiter watches none.
     pub fn join(&mut self, waiter: &Waiter)
         requires room { length waiter.now.watched.items ≤ self.old.spare_capacity }
         requires apart { repeats_serial (map (λ w. w.sid) waiter.now.watched.items) ≡ false }
@@ -93,7 +93,7 @@ impl<A: Allocator> Watchers<A> {
         }
     }
 
-    /// A waiter watches no service any more.
+    /// Takes out all watchers of this waiter.
     pub fn leave(&mut self, waiter: WaitId)
         ensures serials { (sid : ℕ) → serials_of sid self.new.watchers
             ≡ filter (λ id. not (id == waiter)) (serials_of sid self.old.watchers) }

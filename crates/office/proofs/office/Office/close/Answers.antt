@@ -1,4 +1,6 @@
-use Rattle.std.proofs.Common.{rules, ◌≡◌, length, vec_capacity, ◌∙◌, arith}
+use Rattle.std.proofs.Common.{rules, ◌≡◌, ap, sym, length, vec_capacity, ◌∙◌, arith}
+use Rattle.run_records.specs.Runs.{inputs_of}
+use Rattle.locked_services.specs.Shots.{RoomView}
 use Rattle.office.proofs.Runs.{run_of}
 use Rattle.locked_services.specs.Closing.{desk_unseen}
 use Rattle.locked_services.proofs.EndOfRun.{same_length}
@@ -34,3 +36,11 @@ returns-in-Err-clause-lanes g c =
     ∙ (c.lock_all-desks.ensures.each
     ∙ (same_length desk_unseen c.unlock_all-locks.result.1.items c.in-Err.field-0.desks.items c.in-Err.ensures.desks.0
     ∙ (c.unlock_all-locks.ensures.each ∙ c.self.view_is)))
+
+pub returns-in-Err-clause-fault : goal.returns-in-Err-clause-fault
+returns-in-Err-clause-fault g c = (
+  c.show.new.self,
+  c.steps-steps.ensures.sound,
+  ap (λ (v : RoomView). inputs_of v.running.steps) c.show.ensures.same ∙ sym c.show.ensures.all,
+  (c.unlock_all-locks.result.1.items, c.in-Err.ensures.fault),
+)

@@ -7,14 +7,13 @@ pub returns-clause-room : goal.returns-clause-room
 returns-clause-room c =
     let all = c.self.inside.places.items in
     let one = c.index_mut.result.now in
-    let new = c.reserve-3.new.self in
+    let new = c.reserve-2.new.self in
     let low : c.args.actor ≤ 15 = subst (λ (n : ℕ). n ≤ 15) c.number.ensures.value c.number.ensures.bound in
     let k : c.from.result ≡ c.args.actor = c.from.ensures ∙ c.number.ensures.value in
     let here = actor_there all c.from.result c.args.actor one c.self.invariant.actors low k c.index_mut.ensures.value in
     let room : 1 ≤ new.room = search rules in
     record {
-      record_fits = search rules;
-      orders_fit = search rules;
+      log_fits = c.in_ok-reserve.ensures.room;
       place_fits = λ free at.
           let there : slice_get (map (λ (p : PlaceList). p.room) (slice_set all c.args.actor new)) c.args.actor ≡ Some free =
           subst (λ (j : ℕ). slice_get (map (λ (p : PlaceList). p.room) (slice_set all j new)) c.args.actor ≡ Some free) k at in

@@ -1,0 +1,13 @@
+-- What follows where a call succeeded.
+use Rattle.std.proofs.Common.{◌≡◌, ℕ, List, ◌++◌, Result, Ok, Err, ap, ◌∙◌}
+use Rattle.std.specs.Result.{IsOk, OnOk}
+use Rattle.step_codes.specs.Adding.{Adds}
+
+pub adds_as : {E : Type 0} (r : Result (Unit {0}) E) (before after : List ℕ) (f g : List ℕ → List ℕ) → OnOk r (Adds before after f)
+    → ((rest : List ℕ) → f rest ≡ g rest) → OnOk r (Adds before after g)
+adds_as (Ok x) before after f g p same = λ rest. p rest ∙ ap (λ (t : List ℕ). before ++ t) (same rest)
+adds_as (Err e) before after f g p same = p
+
+pub of_ok : {T E P : Type 0} (r : Result T E) → IsOk r → OnOk r P → P
+of_ok (Ok x) is p = p
+of_ok (Err e) is p = absurd (cc (is))

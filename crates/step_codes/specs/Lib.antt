@@ -1,0 +1,13 @@
+pub mod Adding
+pub mod Reading
+pub mod ReadingSteps
+pub mod NumberCodes
+pub mod NameCodes
+pub mod MarkCodes
+pub mod ToldCodes
+pub mod OrderCodes
+pub mod ListCodes
+pub mod ReplyCodes
+pub mod RequestCodes
+pub mod ActCodes
+pub mod StepCodes

@@ -1,0 +1,155 @@
+//! Numbers.
+ghost use Rattle.std.specs.Prelude.{◌≡◌, ◌<◌, ◌^◌, ◌++◌, ◌∷◌, List, ℕ, OnOk};
+ghost use Rattle.step_codes.specs.Adding.{Adds};
+
+use crate::coded::{Code, Coded};
+use byteorder::{ByteOrder, LittleEndian};
+use std::alloc::AllocError;
+
+// Adds a byte, and these behind it.
+fn push_behind(code: &mut Vec<u8>, first: u8, bytes: &[u8]) -> Result<(), AllocError>
+    ensures { OnOk result (Adds code.old.items code.new.items (λ rest. first ∷ (bytes.now ++ rest))) }
+{
+    code.push(first)?;
+    code.extend_from_slice(bytes)?;
+    Ok(())
+}
+
+impl Coded for u64 {
+    ghost use Rattle.std.specs.Prelude.{◌<◌, ◌^◌};
+    ghost use Rattle.step_codes.specs.NumberCodes.{number_onto};
+
+    ghost onto = { number_onto };
+
+    ghost fits = { λ n. n < 2 ^ 64 };
+
+    fn push(&self, code: &mut Vec<u8>) -> Result<(), AllocError> {
+        let number = *self;
+        if number < 251 {
+            push_behind(code, number as u8, &[])
+        } else if number < 0x1_0000_0000 {
+            let mut bytes = [0; 4];
+            LittleEndian::write_u32(&mut bytes, number as u32);
+            push_behind(code, 251, &bytes)
+        } else {
+            let mut bytes = [0; 8];
+            LittleEndian::write_u64(&mut bytes, number);
+            push_behind(code, 252, &bytes)
+        }
+    }
+
+    fn take(code: &mut Code<'_>) -> u64 {
+        let first = code.take_byte();
+        if first == 251 {
+            let bytes = code.take_bytes(4);
+            if bytes.len() < 4 {
+                return 0;
+            }
+            u64::from(LittleEndian::read_u32(bytes))
+        } else if first == 252 {
+            let bytes = code.take_bytes(8);
+            if bytes.len() < 8 {
+                return 0;
+            }
+            LittleEndian::read_u64(bytes)
+        } else {
+            u64::from(first)
+        }
+    }
+}
+
+impl Coded for u32 {
+    ghost use Rattle.std.specs.Prelude.{◌<◌, ◌^◌};
+    ghost use Rattle.step_codes.specs.NumberCodes.{number_onto};
+
+    ghost onto = { number_onto };
+
+    ghost fits = { λ n. n < 2 ^ 32 };
+
+    fn push(&self, code: &mut Vec<u8>) -> Result<(), AllocError> {
+        u64::from(*self).push(code)
+    }
+
+    fn take(code: &mut Code<'_>) -> u32 {
+        u64::take(code).min(u64::from(u32::MAX)) as u32
+    }
+}
+
+impl Coded for u16 {
+    ghost use Rattle.std.specs.Prelude.{◌<◌, ◌^◌};
+    ghost use Rattle.step_codes.specs.NumberCodes.{number_onto};
+
+    ghost onto = { number_onto };
+
+    ghost fits = { λ n. n < 2 ^ 16 };
+
+    fn push(&self, code: &mut Vec<u8>) -> Result<(), AllocError> {
+        u64::from(*self).push(code)
+    }
+
+    fn take(code: &mut Code<'_>) -> u16 {
+        u64::take(code).min(u64::from(u16::MAX)) as u16
+    }
+}
+
+impl Coded for u8 {
+    ghost use Rattle.std.specs.Prelude.{◌<◌, ◌^◌, ◌∷◌};
+
+    ghost onto = { λ n rest. n ∷ rest };
+
+    ghost fits = { λ n. n < 2 ^ 8 };
+
+    fn push(&self, code: &mut Vec<u8>) -> Result<(), AllocError> {
+        code.push(*self)?;
+        Ok(())
+    }
+
+    fn take(code: &mut Code<'_>) -> u8 {
+        code.take_byte()
+    }
+}
+
+impl Coded for bool {
+    ghost use Rattle.std.specs.Prelude.{◌∷◌, ⊤};
+    ghost use Rattle.step_codes.specs.NumberCodes.{bool_byte};
+
+    ghost onto = { λ yes rest. bool_byte yes ∷ rest };
+
+    ghost fits = { λ yes. ⊤ };
+
+    fn push(&self, code: &mut Vec<u8>) -> Result<(), AllocError> {
+        code.push(u8::from(*self))?;
+        Ok(())
+    }
+
+    fn take(code: &mut Code<'_>) -> bool {
+        code.take_byte() == 1
+    }
+}
+
+impl<T: Coded> Coded for Option<T> {
+    ghost use Rattle.step_codes.specs.NumberCodes.{option_onto, FitsOption};
+
+    ghost onto = { option_onto T.onto };
+
+    ghost fits = { FitsOption T.fits };
+
+    fn push(&self, code: &mut Vec<u8>) -> Result<(), AllocError> {
+        match self {
+            Some(one) => {
+                code.push(1)?;
+                one.push(code)?;
+            }
+            None => code.push(0)?,
+        }
+        Ok(())
+    }
+
+    fn take(code: &mut Code<'_>) -> Option<T> {
+        if code.take_byte() == 1 {
+            Some(T::take(code))
+        } else {
+            None
+        }
+    }
+}

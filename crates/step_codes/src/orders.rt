@@ -1,0 +1,62 @@
+//! Orders.
+use crate::coded::{Code, Coded};
+use s6_events::{Name, Order, Sid};
+use std::alloc::AllocError;
+
+impl Coded for Order {
+    ghost use Rattle.step_codes.specs.OrderCodes.{order_onto, FitsOrder};
+
+    ghost onto = { order_onto };
+
+    ghost fits = { FitsOrder };
+
+    fn push(&self, code: &mut Vec<u8>) -> Result<(), AllocError> {
+        match self {
+            Order::Run(sid, generation, name, descriptor) => {
+                code.push(0)?;
+                sid.0.push(code)?;
+                generation.push(code)?;
+                name.push(code)?;
+                descriptor.push(code)
+            }
+            Order::Finish(sid, generation, name, exit_code, signal) => {
+                code.push(1)?;
+                sid.0.push(code)?;
+                generation.push(code)?;
+                name.push(code)?;
+                exit_code.push(code)?;
+                signal.push(code)
+            }
+            Order::Signal(sid, generation, signal) => {
+                code.push(2)?;
+                sid.0.push(code)?;
+                generation.push(code)?;
+                signal.push(code)
+            }
+            Order::KillFinish(sid, generation) => {
+                code.push(3)?;
+                sid.0.push(code)?;
+                generation.push(code)
+            }
+        }
+    }
+
+    fn take(code: &mut Code<'_>) -> Order {
+        let kind = code.take_byte();
+        let sid = Sid(u64::take(code));
+        let generation = u64::take(code);
+        match kind {
+            0 => {
+                let name = Name::take(code);
+                Order::Run(sid, generation, name, <Option<u8> as Coded>::take(code))
+            }
+            1 => {
+                let name = Name::take(code);
+                let exit_code = u16::take(code);
+                Order::Finish(sid, generation, name, exit_code, u8::take(code))
+            }
+            2 => Order::Signal(sid, generation, u8::take(code)),
+            _ => Order::KillFinish(sid, generation),
+        }
+    }
+}
