@@ -5,7 +5,7 @@ use arrayvec::ArrayVec;
 use channel_names::Channels;
 use linked_list_allocator::LocalHeap;
 use s6_events::NoMemory;
-use status_board::{BoardReader, BoardWriter, NewBoard, ROW_LIMIT, Shot};
+use status_board::{BoardReader, BoardWriter, NewBoard, ROW_LIMIT, Shot, StandingRows};
 use std::alloc::{Allocator, Global};
 use std::marker::Brand;
 use std::process::Abort;
@@ -71,7 +71,8 @@ fn open_board<'a, C: Channels, R: Wait + Abort, A: Allocator + Copy>(
     requires board { board ≡ C.board }
     requires readers { (0 < readers) × (readers < 2 ^ 32) }
 {
-    let opened = board.open::<C, &R, A>(alloc, rt, readers, &shot(at));
+    let first = StandingRows::of(alloc, &shot(at)).expect(rt, "no memory");
+    let opened = board.open::<C, &R, A>(alloc, rt, readers, first);
     opened.ok().expect(rt, "no memory")
 }
 
@@ -195,8 +196,9 @@ fn refuse_to_open<C: Channels, R: Wait + Abort>(
     requires { board ≡ C.board }
     ensures { result ≡ board }
 {
-    let _room = fill(rt, heap, 1024);
-    let opened = board.open::<C, &R, &LocalHeap>(heap, rt, 1, &shot(0));
+    let first = StandingRows::of(heap, &shot(0)).expect(rt, "no memory");
+    let _room = fill(rt, heap, 128);
+    let opened = board.open::<C, &R, &LocalHeap>(heap, rt, 1, first);
     let (board, refused) = opened.err().expect(rt, "a board without room");
     assert_eq!(rt; refused, NoMemory);
     board

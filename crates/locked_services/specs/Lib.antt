@@ -6,3 +6,4 @@ pub mod Opening
 pub mod Chain
 pub mod Closing
 pub mod Recording
+pub mod Telling

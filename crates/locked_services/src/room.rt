@@ -7,7 +7,8 @@ ghost use Rattle.tree_core.specs.Machine.{Machine};
 ghost use Rattle.tree_core.specs.NextDue.{next_due};
 ghost use Rattle.tree_core.specs.StandsFor.{StandsFor};
 ghost use mathlib.Core.List.{IsPrefix};
-ghost use Rattle.run_records.specs.Runs.{RunStep, end_of, inputs_of, actor_at, moment_at, outcome_at, IsFilled, reply_at};
+ghost use Rattle.run_records.specs.Runs.{RunStep, end_of, inputs_of, actor_at, moment_at, outcome_at, reply_at};
+ghost use Rattle.locked_services.specs.Telling.{IsStepOf};
 ghost use Rattle.run_records.specs.RunText.{IsWritten, StopsWriting};
 ghost use Rattle.locked_services.specs.Closing.{AreComplete, AreDone, AreSameDesks, AreServed, IsClosed, IsFault, IsSameRoom};
 ghost use Rattle.locked_services.specs.Rings.{TakeMost, TakesBy, most_taken};
@@ -153,8 +154,8 @@ impl<C: Channels + Lanes, D: Board<C>> Room<C, D> {
         ensures same { OnErr result ((self.new.shots ≡ self.old.shots)
             × (self.new.is_shown ≡ self.old.is_shown)) }
     {
-        let shot = self.running.shot();
-        self.board.publish(&shot)?;
+        let rows = self.running.rows()?;
+        self.board.publish_rows(rows)?;
         self.is_shown = true;
         Ok(())
     }
@@ -184,13 +185,24 @@ impl<C: Channels + Lanes, D: Board<C>> Room<C, D> {
         self.running.effect(number)
     }
 
-    /// Fills an effect with all that step `number` gave, counted from 1; what it held is gone. False where there is no such step: nothing
-    /// is filled in. `NoMemory` where memory is refused: the effect may then be filled in part.
-    pub fn fill(&self, number: u64, effect: &mut Effect<Global>) -> Result<bool, NoMemory>
+    /// Fills an effect with all that step `number` gave, counted from 1, and returns whose input it took and when that was handed in; what
+    /// the effect held is gone. None where there is no such step: nothing is filled in. `NoMemory` where memory is refused: the effect may
+    /// then be filled in part.
+    pub fn step(
+        &self,
+        number: u64,
+        effect: &mut Effect<Global>,
+    ) -> Result<Option<(Actor, At)>, NoMemory>
         ensures { IfOk result
-            (λ is_there. IsFilled is_there (outcome_of effect.new) number self.now.running.steps) }
+            (λ source. IsStepOf source (outcome_of effect.new) number self.now.running.steps) }
     {
-        self.running.fill(number, effect)
+        if !self.running.fill(number, effect)? {
+            return Ok(None);
+        }
+        match (self.running.actor(number), self.running.moment(number)) {
+            (Some(actor), Some(moment)) => Ok(Some((actor, moment))),
+            _ => unreachable!(),
+        }
     }
 
     /// Whose input step `number` took, counted from 1; None where there is no such step.

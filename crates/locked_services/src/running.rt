@@ -27,7 +27,7 @@ use inbox::{Drain, Finished, Ticket};
 use order_lanes::{Backend, Desk, Lane, Lanes, blocked_lane, send_all};
 use run_records::{RUN_LIMIT, Run, RunFault};
 use s6_events::{Actor, At, NoMemory};
-use status_board::Shot;
+use status_board::StandingRows;
 use std::alloc::Global;
 use std::io::Write;
 use std::marker::Model;
@@ -209,17 +209,17 @@ impl<C: Channels + Lanes> RunningTree<C> {
         self.run.len()
     }
 
-    /// The present state, to be published.
-    pub fn shot(&self) -> Shot
+    /// The present state, to be published. `NoMemory` where memory is refused.
+    pub fn rows(&self) -> Result<StandingRows<Global>, NoMemory>
         ensures begins { (m : Machine) × StandsFor self.now.opening m }
-        ensures shot { (m : Machine) → StandsFor self.now.opening m →
-            result ≡ shot_of (end_of m self.now.steps) }
+        ensures rows { IfOk result (λ rows. (m : Machine) → StandsFor self.now.opening m →
+            rows ≡ shot_of (end_of m self.now.steps)) }
     {
         let tree = &*self.tree;
-        Shot {
-            at: tree.steps(),
-            rows: tree.rows(),
-        }
+        let at = tree.steps();
+        let mut rows = Vec::new(self.alloc);
+        tree.fill_rows(&mut rows)?;
+        Ok(StandingRows::new(at, rows))
     }
 
     /// The reply to the input of a ticket; None where its step isn't made yet. `NoMemory` where memory is refused.

@@ -8,19 +8,20 @@ ghost use Rattle.office.specs.declared.new_office.OpenFault.TheVariants as fault
 
 use crate::new_office::OpenFault;
 use channel_names::Channels;
-use status_board::{BoardReader, BoardWriter, NewBoard, Shot};
+use s6_events::NoMemory;
+use status_board::{BoardReader, BoardWriter, NewBoard, StandingRows};
 use std::alloc::Global;
 use std::sync::Wait;
 use tree_core::Tree;
 
-// The first shot of a run of this tree.
-fn first_shot(tree: &Tree<Global>) -> Shot
-    ensures { (m : Machine) → StandsFor tree.now m → result ≡ shot_of m }
+// The first rows of a run of this tree. `NoMemory` where memory is refused.
+fn first_rows(alloc: Global, tree: &Tree<Global>) -> Result<StandingRows<Global>, NoMemory>
+    ensures { IfOk result (λ rows. (m : Machine) → StandsFor tree.now m → rows ≡ shot_of m) }
 {
-    Shot {
-        at: tree.steps(),
-        rows: tree.rows(),
-    }
+    let at = tree.steps();
+    let mut rows = Vec::new(alloc);
+    tree.fill_rows(&mut rows)?;
+    Ok(StandingRows::new(at, rows))
 }
 
 // Makes `count` readers of this board. `Board` where it gives no reader, `NoMemory` where memory for their list is refused.
@@ -63,8 +64,10 @@ pub fn board_ends<C: Channels, R: Wait + Drop>(
     ensures count { IfOk result (λ ends. length ends.1.items ≡ readers) }
     ensures fault { IfErr result (λ e. (e ≡ fault.NoMemory) ⊎ (e ≡ fault.Board)) }
 {
-    let shot = first_shot(tree);
-    let Ok(writer) = board.open::<C, R, Global>(alloc, rt, readers, &shot) else {
+    let Ok(first) = first_rows(alloc, tree) else {
+        return Err(OpenFault::NoMemory);
+    };
+    let Ok(writer) = board.open::<C, R, Global>(alloc, rt, readers, first) else {
         return Err(OpenFault::NoMemory);
     };
     let all = readers_of(alloc, &writer, readers)?;

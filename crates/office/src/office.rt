@@ -8,10 +8,11 @@ ghost use Rattle.tree_core.specs.Machine.{Machine};
 ghost use Rattle.tree_core.specs.NextDue.{next_due};
 ghost use Rattle.tree_core.specs.StandsFor.{StandsFor};
 ghost use mathlib.Core.List.{IsPrefix};
-ghost use Rattle.run_records.specs.Runs.{end_of, inputs_of, actor_at, moment_at, outcome_at, IsFilled, reply_at};
+ghost use Rattle.run_records.specs.Runs.{end_of, inputs_of, actor_at, moment_at, outcome_at, reply_at};
 ghost use Rattle.run_records.specs.RunText.{IsWritten, StopsWriting};
 ghost use Rattle.locked_services.specs.Closing.{IsClosed, IsFault, IsRunFrom};
 ghost use Rattle.locked_services.specs.Shots.{RoomView, IsSoundHistory};
+ghost use Rattle.locked_services.specs.Telling.{IsStepOf};
 ghost use Rattle.office.specs.Told.{AddsInputs, IsTold, Stops};
 ghost use Rattle.order_lanes.specs.Desk.{DeskView};
 ghost use Rattle.status_board.specs.Board.{NeverFalls};
@@ -179,24 +180,24 @@ impl<C: Channels + Lanes, D: Board<C>, B: Backend> Office<C, D, B> {
         room.effect(number)
     }
 
-    /// Fills an effect with all that step `number` gave, counted from 1; what it held is gone. False where there is no such step: nothing
-    /// is filled in. `NoMemory` where memory is refused: the effect may then be filled in part. A caller that reads many steps takes less
-    /// memory if it fills the same effect each time.
-    pub fn fill<W: Wait>(
+    /// Fills an effect with all that step `number` gave, counted from 1, and returns whose input it took and when that was handed in; what
+    /// the effect held is gone. None where there is no such step: nothing is filled in. `NoMemory` where memory is refused: the effect may
+    /// then be filled in part. A caller that reads many steps takes less memory if it fills the same effect each time.
+    pub fn step<W: Wait>(
         &self,
         rt: &W,
         known: &mut History<C>,
         number: u64,
         effect: &mut Effect<Global>,
-    ) -> Result<bool, NoMemory>
+    ) -> Result<Option<(Actor, At)>, NoMemory>
         ensures longer { IsPrefix known.old known.new }
         ensures told { IsTold C.opening known.new (λ v. IfOk result
-            (λ is_there. IsFilled is_there (outcome_of effect.new) number v.running.steps)) }
+            (λ source. IsStepOf source (outcome_of effect.new) number v.running.steps)) }
     {
         let mut room = self.room.lock(rt);
         room.show(rt, known);
         let _steps = room.steps();
-        room.fill(number, effect)
+        room.step(number, effect)
     }
 
     /// Whose input step `number` took, counted from 1; None where there is no such step.

@@ -5,6 +5,9 @@ use s6_events::NoMemory;
 use std::alloc::Global;
 use std::marker::Model;
 
+/// The room that a list takes with its first step: a block of more than 32 MiB, as those of the log.
+const FIRST_ROOM: usize = 4_194_305;
+
 /// The places of one actor's steps in a run, oldest first.
 #[derive(Drop)]
 pub struct StepPlaces {
@@ -35,6 +38,11 @@ impl StepPlaces {
         ensures places { self.new.places ≡ self.old.places }
         ensures room { OnOk result (1 ≤ self.new.room) }
     {
+        if self.list.capacity() == 0 {
+            if let Ok(()) = self.list.reserve(FIRST_ROOM) {
+                return Ok(());
+            }
+        }
         self.list.reserve(1)?;
         Ok(())
     }

@@ -2,6 +2,7 @@
 ghost use Rattle.std.specs.Prelude.{◌≡◌, List, [], ◌∷◌, ◌++◌, OnErr, OnOk};
 ghost use Rattle.status_board.specs.declared.shot.Shot.{Shot as Published};
 
+use crate::change::StandingRows;
 use crate::shot::Shot;
 use crate::told::Told;
 use crate::writer::BoardWriter;
@@ -21,6 +22,11 @@ pub trait Board<C: Channels>: Drop {
         ensures added { OnOk result (shots self.new ≡ shots self.old ++ shot.now ∷ []) }
         ensures same { OnErr result (shots self.new ≡ shots self.old) };
 
+    /// Publishes this shot as `publish` does, and keeps its rows: none is copied.
+    fn publish_rows(&mut self, rows: StandingRows<Global>) -> Result<(), NoMemory>
+        ensures added { OnOk result (shots self.new ≡ shots self.old ++ rows ∷ []) }
+        ensures same { OnErr result (shots self.new ≡ shots self.old) };
+
     /// All shots that were published so far, for a reader to learn.
     fn tell(&self) -> Told<C>
         ensures { result ≡ shots self.now };
@@ -31,6 +37,10 @@ impl<C: Channels, R: Wait + Drop> Board<C> for BoardWriter<C, R, Global> {
 
     fn publish(&mut self, shot: &Shot) -> Result<(), NoMemory> {
         BoardWriter::publish(self, shot)
+    }
+
+    fn publish_rows(&mut self, rows: StandingRows<Global>) -> Result<(), NoMemory> {
+        BoardWriter::publish_rows(self, rows)
     }
 
     fn tell(&self) -> Told<C> {

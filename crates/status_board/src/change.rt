@@ -1,5 +1,5 @@
-//! A shot on its way to the two copies of a board.
-ghost use Rattle.std.specs.Prelude.{◌≡◌, IfOk, Some};
+//! A shot that the board keeps, and readers see.
+ghost use Rattle.std.specs.Prelude.{◌≡◌, ◌≤◌, IfOk, Some, length};
 ghost use Rattle.status_board.specs.Board.{last_shot};
 
 use crate::history::Published;
@@ -9,7 +9,7 @@ use std::alloc::{AllocError, Allocator};
 use std::marker::Model;
 use supervise_core::Row;
 
-/// A shot whose rows are in memory of their own.
+/// A shot whose rows are in memory of their own. Contracts see it as that shot.
 #[derive(Drop)]
 pub struct StandingRows<A: Allocator> {
     at: u64,
@@ -27,9 +27,19 @@ impl<A: Allocator> Model for StandingRows<A> {
     ghost invariant = { λ s. length s.rows.items ≤ 256 };
 }
 
+impl<A: Allocator> StandingRows<A> {
+    /// The rows of a tree, at most [`ROW_LIMIT`](crate::ROW_LIMIT), in rising serial, and after how many steps they were taken.
+    pub fn new(at: u64, rows: Vec<Row, A>) -> StandingRows<A>
+        requires { length rows.items ≤ 256 }
+        ensures { result ≡ record { at = at; rows = record { items = rows.items } } }
+    {
+        StandingRows { at, rows }
+    }
+}
+
 impl<A: Allocator + Copy> StandingRows<A> {
-    // A copy of this shot.
-    pub(crate) fn of(alloc: A, shot: &Shot) -> Result<StandingRows<A>, AllocError>
+    /// A copy of this shot. `AllocError` where memory is refused.
+    pub fn of(alloc: A, shot: &Shot) -> Result<StandingRows<A>, AllocError>
         ensures { IfOk result (λ rows. rows ≡ shot.now) }
     {
         let mut rows = Vec::new(alloc);

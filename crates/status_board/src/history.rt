@@ -3,9 +3,11 @@ ghost use Rattle.std.specs.Prelude.{◌≡◌, ◌+◌, ◌==◌, ◌<◌, ◌�
 ghost use mathlib.Core.List.{IsPrefix};
 ghost use Rattle.status_board.specs.History.{count_of};
 
+use crate::change::StandingRows;
 use crate::shot::Shot;
 use channel_names::Channels;
 use logbook::{Gain, Offer, Plain, Play, Rule, Seen, Word};
+use std::alloc::Allocator;
 use std::marker::{Model, PhantomData};
 
 /// The rule of the history: its first word counts its shots.
@@ -47,12 +49,12 @@ impl Play<Shot, u64> for AddsShot {
     ghost then = { Adds };
 }
 
-impl Plain<Shot, Shot, u64> for AddsShot {
+impl<A: Allocator> Plain<StandingRows<A>, Shot, u64> for AddsShot {
     ghost use Rattle.std.specs.Prelude.{None};
 
-    ghost ask = { λ shot. shot };
+    ghost ask = { λ rows. rows };
 
-    ghost state = { λ shot. None };
+    ghost state = { λ rows. None };
 }
 
 /// The word that counts the shots that were published.
@@ -133,9 +135,9 @@ impl<C: Channels> Published<C> {
     }
 
     // Adds a shot to the history, and returns whether it did: not where the history has more shots than these, or these are 2^64 - 1.
-    pub(crate) fn add(&mut self, word: &Count, shot: &Shot) -> bool
+    pub(crate) fn add<A: Allocator>(&mut self, word: &Count, rows: &StandingRows<A>) -> bool
         requires word { word.now ≡ count_of C.board }
-        ensures yes { IsTrue result → self.new ≡ self.old ++ shot.now ∷ [] }
+        ensures yes { IsTrue result → self.new ≡ self.old ++ rows.now ∷ [] }
         ensures no { IsFalse result → self.new ≡ self.old }
     {
         if self.count == u64::MAX {
@@ -145,9 +147,9 @@ impl<C: Channels> Published<C> {
         let mut log = self.log.again();
         let mut offer: Offer<Shot, u64, CountedShots, NothingGained> = log.plain::<
             NothingGained,
-            Shot,
+            StandingRows<A>,
             AddsShot,
-        >(shot);
+        >(rows);
         let mut pen = log.no_pen();
         let found = word.compare_exchange::<AddsShot, NothingGained>(
             count,

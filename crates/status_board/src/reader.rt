@@ -3,6 +3,7 @@ ghost use Rattle.std.specs.Prelude.{◌≡◌, ◌≤◌, IfSome, IfNone, IsTrue
 ghost use mathlib.Core.List.{IsPrefix};
 ghost use Rattle.status_board.specs.Board.{last_shot, last_steps, shot_unless_older, NeverFalls};
 
+use crate::change::Change;
 use crate::history::Published;
 use crate::shot::Shot;
 use crate::shown::Shown;
@@ -16,7 +17,7 @@ use std::marker::Model;
 /// own.
 #[derive(Drop)]
 pub struct BoardReader<C: Channels, A: Allocator = Global> {
-    handle: ReadHandle<Shown<C>, A>,
+    handle: ReadHandle<Shown<C, A>, A>,
     known: Published<C>,
 }
 
@@ -31,7 +32,7 @@ impl<C: Channels, A: Allocator> Model for BoardReader<C, A> {
 
 impl<C: Channels, A: Allocator> BoardReader<C, A> {
     // The reader with this handle, which knows these shots.
-    pub(crate) fn over(handle: ReadHandle<Shown<C>, A>, known: Published<C>) -> BoardReader<C, A>
+    pub(crate) fn over(handle: ReadHandle<Shown<C, A>, A>, known: Published<C>) -> BoardReader<C, A>
         ensures { result ≡ known }
     {
         BoardReader { handle, known }
@@ -67,8 +68,11 @@ impl<C: Channels, A: Allocator> BoardReader<C, A> {
         let Some(guard) = self.handle.enter() else {
             return false;
         };
-        let shown: &Shown<C> = &guard;
-        take_shot(&mut self.known, shown, shot)
+        let shown: &Shown<C, A> = &guard;
+        match shown.change() {
+            Some(change) => take_shot(&mut self.known, change, shot),
+            None => false,
+        }
     }
 
     /// From now on the reader knows all shots that were told too, so that no read gives an older one than the last of them.
@@ -80,20 +84,21 @@ impl<C: Channels, A: Allocator> BoardReader<C, A> {
     }
 }
 
-// Copies the shot that is shown, unless more shots are known than were published up to it. What is shown is known from then on. Returns
-// whether a shot was copied.
-fn take_shot<C: Channels>(known: &mut Published<C>, shown: &Shown<C>, shot: &mut Shot) -> bool
-    ensures answer { IsTrue result → shot_unless_older known.old shown.now ≡ Some shot.new }
-    ensures older { IsFalse result → shot_unless_older known.old shown.now ≡ None }
+// Copies the shot of a change, unless more shots are known than were published up to it. All these are known from then on. Returns whether
+// a shot was copied.
+fn take_shot<C: Channels, A: Allocator>(
+    known: &mut Published<C>,
+    change: &Change<C, A>,
+    shot: &mut Shot,
+) -> bool
+    ensures answer { IsTrue result → shot_unless_older known.old change.now ≡ Some shot.new }
+    ensures older { IsFalse result → shot_unless_older known.old change.now ≡ None }
     ensures later { IsPrefix known.old known.new }
     ensures last { IsTrue result → last_shot known.new ≡ Some shot.new }
     ensures none { IsFalse result → (known.new ≡ known.old) × (shot.new ≡ shot.old) }
 {
-    let Some(published) = shown.shot() else {
-        return false;
-    };
-    if known.follow(shown.published()) {
-        shot.copy_from(published);
+    if known.follow(change.published()) {
+        change.fill(shot);
         true
     } else {
         false

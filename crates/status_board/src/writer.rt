@@ -51,25 +51,24 @@ impl NewBoard {
         }
     }
 
-    /// A board on which this shot is published, with places for `readers` readers at a time. `C` names its history. `NoMemory` where memory
+    /// A board on which these rows are published, with places for `readers` readers at a time. `C` names its history. `NoMemory` where memory
     /// is refused: the history comes back as it was.
     pub fn open<C: Channels, R: Wait + Drop, A: Allocator + Copy>(
         self,
         alloc: A,
         rt: R,
         readers: usize,
-        shot: &Shot,
+        first: StandingRows<A>,
     ) -> Result<BoardWriter<C, R, A>, (NewBoard, NoMemory)>
         requires board { self ≡ C.board }
         requires readers { (0 < readers) × (readers < 2 ^ 32) }
-        ensures ok { IfOk result (λ writer. writer ≡ shot.now ∷ []) }
+        ensures ok { IfOk result (λ writer. writer ≡ first ∷ []) }
         ensures err { IfErr result (λ refused. refused.0 ≡ self) }
     {
         let NewBoard { word, log } = self;
         let published: Published<C> = Published::over(log);
-        let first = Shown::nothing(published.copied());
-        let second = Shown::nothing(published.copied());
-        let Ok(handle) = WriteHandle::new(alloc, rt, first, second, readers) else {
+        let (one, other) = (Shown::nothing(), Shown::nothing());
+        let Ok(handle) = WriteHandle::new(alloc, rt, one, other, readers) else {
             return Err((NewBoard::again(word, published), NoMemory));
         };
         let mut writer = BoardWriter {
@@ -78,7 +77,7 @@ impl NewBoard {
             word,
             published,
         };
-        match writer.publish(shot) {
+        match writer.publish_rows(first) {
             Ok(()) => Ok(writer),
             Err(refused) => Err((writer.into_new(), refused)),
         }
@@ -101,17 +100,17 @@ impl NewBoard {
 #[derive(Drop)]
 pub struct BoardWriter<C: Channels, R: Wait + Drop, A: Allocator + Copy = Global>
 where
-    Shown<C>: Absorb<Next<C, A>, State = ()>,
+    Shown<C, A>: Absorb<Next<C, A>, State = ()>,
 {
     alloc: A,
-    handle: WriteHandle<Shown<C>, Next<C, A>, R, A>,
+    handle: WriteHandle<Shown<C, A>, Next<C, A>, R, A>,
     word: Count,
     published: Published<C>,
 }
 
 impl<C: Channels, R: Wait + Drop, A: Allocator + Copy> Model for BoardWriter<C, R, A>
 where
-    Shown<C>: Absorb<Next<C, A>, State = ()>,
+    Shown<C, A>: Absorb<Next<C, A>, State = ()>,
 {
     ghost use Rattle.std.specs.Prelude.{◌≡◌, List};
     ghost use Rattle.status_board.specs.declared.shot.Shot.{Shot};
@@ -139,15 +138,22 @@ impl<C: Channels, R: Wait + Drop, A: Allocator + Copy> BoardWriter<C, R, A> {
         NewBoard::again(word, published)
     }
 
-    /// Publishes this shot: readers see it from now on. `NoMemory` where memory is refused: nothing was published. Only the rows that the
-    /// shot has are copied, once into memory of their own, and from there into each of the two copies that readers see. It may wait for
-    /// readers that are reading, and is the only call of the board that waits.
-    #[tactic(auto, using(crate::proofs::Lasts::last_or_snoc))]
+    /// Publishes this shot, as `publish_rows` does. Only the rows that it has are copied, once, into memory that the board keeps.
     pub fn publish(&mut self, shot: &Shot) -> Result<(), NoMemory>
         ensures added { OnOk result (self.new ≡ self.old ++ shot.now ∷ []) }
         ensures same { OnErr result (self.new ≡ self.old) }
     {
         let rows = StandingRows::of(self.alloc, shot)?;
+        self.publish_rows(rows)
+    }
+
+    /// Publishes this shot, and keeps its rows: readers see it from now on. `NoMemory` where memory is refused: nothing was published. It
+    /// may wait for readers that are reading, and is the only call of the board that waits.
+    #[tactic(auto, using(crate::proofs::Lasts::last_or_snoc))]
+    pub fn publish_rows(&mut self, rows: StandingRows<A>) -> Result<(), NoMemory>
+        ensures added { OnOk result (self.new ≡ self.old ++ rows ∷ []) }
+        ensures same { OnErr result (self.new ≡ self.old) }
+    {
         let next: Next<C, A> = Arc::new(self.alloc, OnceLock::new())?;
         let theirs = Arc::try_clone(&next)?;
         if self.handle.append(theirs).is_err() {
@@ -155,7 +161,7 @@ impl<C: Channels, R: Wait + Drop, A: Allocator + Copy> BoardWriter<C, R, A> {
         }
         // All memory is there. There is one writer, so the history has no shot that it doesn't know.
         let mut published = self.published.copied();
-        if !published.add(&self.word, shot) {
+        if !published.add(&self.word, &rows) {
             return Err(NoMemory);
         }
         self.published = published.copied();

@@ -26,7 +26,7 @@ impl Coded for u64 {
     fn push(&self, code: &mut Vec<u8>) -> Result<(), AllocError> {
         let number = *self;
         if number < 251 {
-            push_behind(code, number as u8, &[])
+            (number as u8).push(code)
         } else if number < 0x1_0000_0000 {
             let mut bytes = [0; 4];
             LittleEndian::write_u32(&mut bytes, number as u32);

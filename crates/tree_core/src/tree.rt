@@ -1,6 +1,6 @@
 //! The tree: one input is one step, which `step.rt` works out and which is then made here. Where memory is refused, the whole input is
 //! handed back.
-ghost use Rattle.std.specs.Prelude.{◌≡◌, IfOk, OnOk, IfErr, IsOk, true, option_map};
+ghost use Rattle.std.specs.Prelude.{◌≡◌, ◌≤◌, IfOk, OnOk, IfErr, IsOk, length, true, option_map};
 ghost use Rattle.tree_core.specs.Acts.{offer_of};
 ghost use Rattle.tree_core.specs.Effect.{outcome_of};
 ghost use Rattle.tree_core.specs.Ended.{has_ended};
@@ -23,7 +23,7 @@ use super::image::Image;
 use super::input::{Act, Input};
 use super::limits::{SERVICE_LIMIT, is_spent};
 use super::reply::{Refusal, Reply};
-use super::rows::{row_of, rows_of};
+use super::rows::{fill_rows, row_of, rows_of};
 use super::step::plan_step;
 use arrayvec::ArrayVec;
 use deadlines::Deadlines;
@@ -160,6 +160,16 @@ impl<A: Allocator + Copy> Tree<A> {
         ensures { (m : Machine) → StandsFor self.now m → result.items ≡ all_rows m }
     {
         rows_of(&self.registry, self.clock)
+    }
+
+    /// Fills a list with the rows that `rows` gives, at most 256; what it held is gone. `NoMemory` where memory is refused: the list is then
+    /// filled in part. Each row is written once.
+    pub fn fill_rows<B: Allocator>(&self, rows: &mut Vec<Row, B>) -> Result<(), NoMemory>
+        ensures each { OnOk result ((m : Machine) → StandsFor self.now m
+            → rows.new.items ≡ all_rows m) }
+        ensures count { OnOk result (length rows.new.items ≤ 256) }
+    {
+        fill_rows(&self.registry, self.clock, rows)
     }
 
     /// The state of the waiter of this serial; None where there is none. Page `s6-svwait`.

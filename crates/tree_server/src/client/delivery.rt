@@ -40,13 +40,8 @@ fn deliver_each<C: Channels + Lanes, D: Board<C>, B: Backend, R: Wait>(
 ) -> Result<(), NoMemory> {
     for _ in 0..u64::MAX {
         let number = state.pace.steps.saturating_add(1);
-        if !office.fill(context.rt, &mut state.known, number, effect)? {
-            break;
-        }
-        let (Some(actor), Some(moment)) = (
-            office.actor(context.rt, &mut state.known, number),
-            office.moment(context.rt, &mut state.known, number),
-        ) else {
+        let told = office.step(context.rt, &mut state.known, number, effect)?;
+        let Some((actor, moment)) = told else {
             break;
         };
         hand_out_of(context, state, actor, number, moment, effect)?;
@@ -112,10 +107,13 @@ fn catch_up<C: Channels + Lanes, D: Board<C>, B: Backend, R: Wait>(
     state: &mut DriverState<'_, C>,
 ) -> Result<(), NoMemory> {
     let first = state.lasting.clients.notes.noted.saturating_add(1);
+    if state.board.made < first {
+        return Ok(());
+    }
+    let mut effect = Box::new(context.alloc(), Effect::new(context.alloc()))?;
     for number in first..=state.board.made {
-        let moment = office.moment(context.rt, &mut state.known, number);
-        let effect = office.effect(context.rt, &mut state.known, number)?;
-        if let (Some(moment), Some(effect)) = (moment, effect) {
+        let told = office.step(context.rt, &mut state.known, number, &mut effect)?;
+        if let Some((_, moment)) = told {
             state.lasting.clients.notes.note(number, moment, &effect)?;
         }
     }

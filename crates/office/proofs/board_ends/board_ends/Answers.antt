@@ -3,4 +3,4 @@ use Rattle.status_board.specs.declared.shot.Shot.{Shot}
 use Rattle.office.proofs.board_ends.board_ends.Goals as goal
 
 pub returns-clause-first : goal.returns-clause-first
-returns-clause-first g c m stands = c.in-Ok.ensures.ok ∙ ap (λ (s : Shot). s ∷ []) (c.first_shot-shot.ensures m stands)
+returns-clause-first g c m stands = c.in-Ok-open.ensures.ok ∙ ap (λ (s : Shot). s ∷ []) (c.in-Ok.ensures m stands)

@@ -12,9 +12,6 @@ followed : (yes : Bool) (before after other : List Shot)
 followed true before after other longer shorter = (longer refl).1
 followed false before after other longer shorter = subst (λ (all : List Shot). IsPrefix before all) (sym (shorter refl).0) (prefix_self before)
 
-pub returns-in_default-clause-later : goal.returns-in_default-clause-later
-returns-in_default-clause-later g c = prefix_self c.args.known.now
-
 pub returns-then-follow-clause-later : goal.returns-then-follow-clause-later
 returns-then-follow-clause-later g c = followed c.follow.result c.args.known.now c.follow.new.self c.published.result.now c.follow.ensures.yes
     c.follow.ensures.no

@@ -14,5 +14,5 @@ compare_exchange-found-requires g c =
       pen.0 ∙ book,
       offer.0,
       rw (ap (λ w. w.key) h, pen.1, offer.1, offer.3)
-          (adds_moves c.again-log.result.log c.args.shot.now c.self.inside.count (ap (λ s. length s.log) s ∙ sym c.self.invariant.0)),
+          (adds_moves c.again-log.result.log c.args.rows.now c.self.inside.count (ap (λ s. length s.log) s ∙ sym c.self.invariant.0)),
     )

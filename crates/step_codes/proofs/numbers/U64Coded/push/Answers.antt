@@ -6,12 +6,12 @@ use Rattle.step_codes.proofs.numbers.U64Coded.push.Goals as goal
 
 pub returns-then-number-lt251-clause-added : goal.returns-then-number-lt251-clause-added
 returns-then-number-lt251-clause-added c =
-    adds_as _ _ _ _ _ c.push_behind.ensures (λ rest. sym (small_code c.args.self.now rest (grind (arith, nat_tests))))
+    adds_as _ _ _ _ _ c.push.ensures.added (λ rest. sym (small_code c.args.self.now rest (grind (arith, nat_tests))))
 
 pub returns-then-number-lt4294967296-clause-added :
     goal.returns-then-number-lt4294967296-clause-added
 returns-then-number-lt4294967296-clause-added c =
-    adds_as _ _ _ _ _ c.push_behind-then-number-lt4294967296.ensures (λ rest.
+    adds_as _ _ _ _ _ c.push_behind.ensures (λ rest.
     ap (λ (bytes : List ℕ). 251 ∷ (bytes ++ rest)) c.write_u32.ensures
     ∙ sym (middle_code c.args.self.now rest (grind (arith, nat_tests)) (grind (arith, nat_tests))))
 
