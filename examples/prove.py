@@ -20,7 +20,7 @@ SECONDS = {
     "s6_script": 215, "s6_replay": 320, "run_stories": 260, "day_times": 15, "replay_tool": 60, "channel_names": 5, "inbox": 45,
     "order_lanes": 70, "error_notes": 50, "child_runner": 345, "line_server": 115, "status_board": 60, "s6_tools": 405, "step_codes": 90, "run_records": 110,
     "run_history": 90, "locked_services": 235, "office": 290, "scan_directory": 80, "server_rules": 280, "svcheck": 40, "server_threads": 140,
-    "client_desk": 90, "run_recorder": 75, "tree_server": 450, "tree_front": 200, "s6_tree": 240,
+    "client_desk": 90, "run_recorder": 75, "tree_driver": 300, "tree_server": 200, "tree_front": 200, "s6_tree": 240,
 }
 USUAL_SECONDS = 60
 # The memory that a check may want, in kilobytes.

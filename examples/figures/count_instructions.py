@@ -45,27 +45,30 @@ exec -a clang {KIT}/toolchain/bin/clang "$@"
 
 
 def inlined():
-    """The functions that the sources mark as inlined always."""
-    found = set()
+    """What LLVM is to do with each function that the sources mark as inlined always or never, by crate and name."""
+    found = {}
     for folder, _, files in os.walk("crates"):
         for name in files:
             if name.endswith(".rt"):
                 text = open(os.path.join(folder, name)).read()
-                found.update(re.findall(r"#\[inline\(always\)\]\s*(?:pub(?:\(crate\))? )?fn (\w+)", text))
+                for word, function in re.findall(r"#\[inline\((always|never)\)\]\s*(?:pub(?:\(crate\))? )?fn (\w+)", text):
+                    found[folder.split(os.sep)[1], function] = {"always": "alwaysinline", "never": "noinline"}[word]
     return found
 
 
 def without_checks(module, to):
-    """Writes the module as a proved one: no checks, no poison, and what is inlined always marked so."""
-    always = inlined()
+    """Writes the module as a proved one: no checks, no poison, and what is inlined always or never marked so."""
+    marked = inlined()
     with open(module) as file, open(to, "w") as out:
         for line in file:
             if CHECKS.match(line) or POISON.match(line):
                 continue
             if line.startswith("attributes #"):
                 line = re.sub(r' sanitize_address| "(frame-pointer|probe-stack|stack-probe-size)"="[^"]*"', "", line).replace("{ }", "{ nounwind }")
-            if line.startswith("define ") and re.search(r'@"?([^"(]*)', line).group(1).split("::<")[0].split("::")[-1] in always:
-                line = re.sub(r"(#\d+) \{", r"alwaysinline \1 {", line)
+            if line.startswith("define "):
+                path = re.search(r'@"?([^"(]*)', line).group(1).split("::<")[0].split("::")
+                if (path[0], path[-1]) in marked:
+                    line = re.sub(r"(#\d+) \{", marked[path[0], path[-1]] + r" \1 {", line)
             out.write(line)
 
 

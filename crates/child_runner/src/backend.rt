@@ -9,7 +9,7 @@ use crate::commands::{
 use crate::keeper::Keeper;
 use crate::process::{Pipe, ServiceProcess};
 use crate::roll::Roll;
-use crate::roster::Roster;
+use crate::roster::ChildList;
 use crate::shell::{Sending, signal_child};
 use crate::start::{Program, Start, is_last};
 use error_notes::Notes;
@@ -28,7 +28,7 @@ pub struct ProcessBackend<R> {
     rt: R,
     alloc: Global,
     root: String,
-    roster: Arc<Roster, Global>,
+    roster: Arc<ChildList, Global>,
     bell: Arc<Bell, Global>,
     notes: Arc<Notes, Global>,
     processes: Vec<Arc<ServiceProcess, Global>>,

@@ -2,7 +2,7 @@
 ghost use Rattle.std.specs.Prelude.{◌≡◌};
 
 use crate::process::ServiceProcess;
-use crate::roster::Roster;
+use crate::roster::ChildList;
 use crate::shell::signal_child;
 use crate::watching::{STACK, give_back, watch};
 use s6_events::SIGKILL;
@@ -42,14 +42,14 @@ impl<T: Drop> From<AllocFailed<T>> for KeeperFault {
 pub struct Keeper<R> {
     rt: R,
     alloc: Global,
-    pub(crate) roster: Arc<Roster, Global>,
+    pub(crate) roster: Arc<ChildList, Global>,
     thread: JoinHandle<()>,
 }
 
 impl<R: Threads + Wait + Clock + Copy + Send + Sync + Drop + 'static> Keeper<R> {
     /// Starts its thread.
     pub fn start(rt: R, alloc: Global) -> Result<Keeper<R>, KeeperFault> {
-        let roster = Arc::new(alloc, Roster::new(alloc))?;
+        let roster = Arc::new(alloc, ChildList::new(alloc))?;
         let theirs = Arc::try_clone(&roster)?;
         match Builder::new()
             .stack_size(STACK)
@@ -95,7 +95,7 @@ fn stop<R: Processes + Wait>(rt: &R, alloc: Global, process: &ServiceProcess) {
 
 fn keep<R: Threads + Wait + Clock + Copy + Send + Sync + Drop + 'static>(
     rt: R,
-    roster: Arc<Roster, Global>,
+    roster: Arc<ChildList, Global>,
 ) {
     watch_all(&rt, &roster);
 }
@@ -103,7 +103,7 @@ fn keep<R: Threads + Wait + Clock + Copy + Send + Sync + Drop + 'static>(
 // Starts the thread of each child that comes. The end of the scope waits for the threads that still run.
 fn watch_all<R: Threads + Wait + Clock + Copy + Send + Sync + Drop + 'static>(
     rt: &R,
-    roster: &Roster,
+    roster: &ChildList,
 ) {
     thread::scope(thread::scope_env(), rt, |scope| watch_in(scope, rt, roster));
 }
@@ -111,7 +111,7 @@ fn watch_all<R: Threads + Wait + Clock + Copy + Send + Sync + Drop + 'static>(
 fn watch_in<'s, E, R: Threads + Wait + Clock + Copy + Send + Sync + Drop + 'static>(
     scope: &Scope<'s, E>,
     rt: &'s R,
-    roster: &'s Roster,
+    roster: &'s ChildList,
 ) {
     for _ in rt.forever() {
         let Some(process) = roster.next_child(rt) else {
@@ -129,7 +129,7 @@ fn watch_in<'s, E, R: Threads + Wait + Clock + Copy + Send + Sync + Drop + 'stat
 fn spawn_watch<'s, E, R: Threads + Wait + Clock + Copy + Send + Sync + Drop + 'static>(
     scope: &Scope<'s, E>,
     rt: &'s R,
-    roster: &'s Roster,
+    roster: &'s ChildList,
     process: &Arc<ServiceProcess, Global>,
 ) -> bool {
     let Ok(theirs) = Arc::try_clone(process) else {

@@ -27,7 +27,7 @@ struct Entries {
 
 /// The children of all backends that share a keeper.
 #[derive(Drop)]
-pub(crate) struct Roster {
+pub(crate) struct ChildList {
     entries: Mutex<Entries>,
     changed: Condvar,
 }
@@ -75,10 +75,10 @@ impl Entries {
     }
 }
 
-impl Roster {
+impl ChildList {
     /// A roster with no child.
-    pub fn new(alloc: Global) -> Roster {
-        Roster {
+    pub fn new(alloc: Global) -> ChildList {
+        ChildList {
             entries: Mutex::new(Entries {
                 entries: Vec::new(alloc),
                 next_number: 0,

@@ -4,7 +4,7 @@ ghost use Rattle.std.specs.Prelude.{◌≤◌, length};
 use crate::end_mark::{Telling, telling_of};
 use crate::line_limit::LineLimit;
 use crate::process::ServiceProcess;
-use crate::roster::Roster;
+use crate::roster::ChildList;
 use arrayvec::ArrayVec;
 use s6_events::Exit;
 use std::alloc::Global;
@@ -22,7 +22,7 @@ pub(crate) const STACK: usize = 256 * 1024;
 /// Waits for the child and tells how it ended, while another thread reads its output. Then takes the child off the roster.
 pub(crate) fn watch<R: Threads + Wait + Clock + Copy + Send + Drop + 'static>(
     rt: R,
-    roster: &Roster,
+    roster: &ChildList,
     process: Arc<ServiceProcess, Global>,
 ) {
     if let Some(child) = process.take_child(&rt) {

@@ -7,6 +7,7 @@ ghost use Rattle.event_directory.specs.Hearing.{heard_moments, hits_of_moments};
 ghost use Rattle.event_directory.specs.Register.{prepared_change, given_change, told_change, after_step, view_in};
 ghost use Rattle.event_directory.specs.Remembered.{AreHeard, directories_after_commit, nothing_prepared, plan_number};
 ghost use Rattle.event_directory.specs.declared.directory_change.DirectoryAnswer.TheVariants as answer;
+ghost use Rattle.event_directory.specs.declared.pending.Pending.TheVariants.{Nothing};
 
 use crate::directory_change::{DirectoryAnswer, DirectoryChange};
 use crate::directory_plan::DirectoriesPlan;
@@ -127,6 +128,7 @@ impl<F: Finds, A: Allocator + Copy> Directories<F, A> {
     }
 
     // As `prepare`; its clauses speak only of what is stored.
+    #[inline(always)]
     fn prepare_stored(
         &mut self,
         moments: &[Moment],
@@ -149,25 +151,50 @@ impl<F: Finds, A: Allocator + Copy> Directories<F, A> {
         ensures quiet { moments.now ≡ [] → directory_request_of change.now ≡ no_directory_request
             → IsOkAnd result (λ plan. (plan.matches.items ≡ []) × (plan.answer ≡ answer.Done)) }
     {
+        self.forget_prepared();
+        self.number = self.number.wrapping_add(1);
+        if is_unheard(&self.register, moments, change) {
+            return Ok(DirectoriesPlan {
+                matches: Vec::new(self.register.allocator()),
+                answer: DirectoryAnswer::Done,
+                number: self.number,
+            });
+        }
+        self.prepare_heard(moments, change)
+    }
+
+    // A step that somebody may hear, or that changes something. It stands apart, since most steps are heard by nobody.
+    #[inline(never)]
+    fn prepare_heard(
+        &mut self,
+        moments: &[Moment],
+        change: &DirectoryChange<'_>,
+    ) -> Result<DirectoriesPlan<A>, NoMemory>
+        requires { self.old.shown.next < 2 ^ 63 }
+        ensures matches { IfOk result
+            (λ plan. plan.matches.items ≡ hits_of_moments F.test moments.now self.old.shown.followed
+            ++ given_change F.test (directory_request_of change.now)
+            (after_step F.test moments.now self.old.shown)) }
+        ensures answer { IfOk result
+            (λ plan. plan.answer ≡ told_change (directory_request_of change.now)
+            (after_step F.test moments.now self.old.shown)) }
+        ensures prepared { OnOk result
+            (self.new.prepared ≡ prepared_change F.test (directory_request_of change.now)
+            (after_step F.test moments.now self.old.shown)) }
+        ensures number { IfOk result (λ plan. plan_number plan ≡ self.new.number) }
+        ensures shown { self.new.shown ≡ self.old.shown }
+        ensures idle { OnErr result (self.new.prepared ≡ nothing_prepared self.old.shown) }
+    {
         let mut matches = Vec::new(self.register.allocator());
         self.pending = Pending::Nothing;
         self.is_prepared = false;
-        self.number = self.number.wrapping_add(1);
-        let number = self.number;
-        if is_unheard(&self.register, moments, change) {
-            return Ok(DirectoriesPlan {
-                matches,
-                answer: DirectoryAnswer::Done,
-                number,
-            });
-        }
         let (pending, answer) = work_out(&mut self.register, moments, change, &mut matches)?;
         self.is_prepared = true;
         self.pending = pending;
         Ok(DirectoriesPlan {
             matches,
             answer,
-            number,
+            number: self.number,
         })
     }
 
@@ -181,13 +208,49 @@ impl<F: Finds, A: Allocator + Copy> Directories<F, A> {
             (option_map (λ o. (F.source o.0, o.1)) offered) }
         ensures idle { self.new.prepared ≡ nothing_prepared self.new.shown }
     {
+        drop(plan);
+        if self.is_prepared || !is_nothing(&self.pending) {
+            self.make(offered);
+        }
+    }
+
+    // `commit` of a step that somebody hears, or that changes something. It stands apart, since most steps are heard by nobody.
+    #[inline(never)]
+    fn make(&mut self, offered: Option<(F, bool)>)
+        ensures after { self.new.shown
+            ≡ directories_after_commit self.old.prepared
+            (option_map (λ o. (F.source o.0, o.1)) offered) }
+        ensures idle { self.new.prepared ≡ nothing_prepared self.new.shown }
+    {
         let pending = std::mem::replace(&mut self.pending, Pending::Nothing);
         if self.is_prepared {
             self.register.hear_prepared();
             self.is_prepared = false;
         }
         finish_step(&mut self.register, pending, offered);
-        drop(plan);
+    }
+
+    // What was prepared is forgotten.
+    fn forget_prepared(&mut self)
+        ensures shown { self.new.shown ≡ self.old.shown }
+        ensures number { self.new.number ≡ self.old.number }
+        ensures idle { self.new.prepared ≡ nothing_prepared self.new.shown }
+    {
+        self.is_prepared = false;
+        if !is_nothing(&self.pending) {
+            self.drop_pending();
+        }
+    }
+
+    // The change that was prepared is forgotten. It stands apart, since most steps prepare none.
+    #[inline(never)]
+    fn drop_pending(&mut self)
+        ensures shown { self.new.shown ≡ self.old.shown }
+        ensures number { self.new.number ≡ self.old.number }
+        ensures idle { self.new.prepared ≡ nothing_prepared self.new.shown }
+    {
+        self.is_prepared = false;
+        self.pending = Pending::Nothing;
     }
 }
 
@@ -220,6 +283,13 @@ fn is_unheard<F: Finds, A: Allocator + Copy>(
         return true;
     }
     register.is_silent()
+}
+
+// Whether no change is prepared.
+fn is_nothing<F: Finds, A: Allocator + Copy>(pending: &Pending<F, A>) -> bool
+    ensures { result ≡ true → pending.now ≡ Nothing }
+{
+    matches!(pending, Pending::Nothing)
 }
 
 fn asks_nothing(change: &DirectoryChange<'_>) -> bool

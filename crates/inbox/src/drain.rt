@@ -1,5 +1,5 @@
 //! The end of a ring that takes inputs out.
-ghost use Rattle.std.specs.Prelude.{◌≡◌, ◌≢◌, ◌<◌, [], ◌∷◌, ◌++◌, length, true, false, IsSome, IfSome, IfNone, Some, None};
+ghost use Rattle.std.specs.Prelude.{◌≡◌, ◌≢◌, ◌<◌, [], ◌∷◌, ◌++◌, length, true, false, IsTrue, IsFalse, IsSome, IfSome, IfNone, Some, None};
 ghost use mathlib.Core.List.{IsPrefix};
 ghost use Rattle.rtrb.specs.Ring.{received, known_items};
 ghost use Rattle.channel_names.specs.RingName.{consumer_ring};
@@ -71,12 +71,39 @@ impl<C: Channels> Drain<C> {
         ensures none { IfNone result ((self.new.taken ≡ self.old.taken) × (self.new.seen ≡ [])) }
         ensures succeeds { 0 < length self.old.seen → IsSome result }
     {
-        let submission = self.consumer.pop().ok()?;
-        Some(Input {
-            actor: self.actor,
-            at: submission.at,
-            act: submission.act,
-        })
+        let mut held = None;
+        if self.take_into(&mut held) {
+            held
+        } else {
+            None
+        }
+    }
+
+    /// Takes out the oldest submission as `take_next` does, and puts it into `held`, where it is moved no more. Whether the ring had one;
+    /// where it had none, `held` is as it was.
+    pub fn take_into(&mut self, held: &mut Option<Input<Global>>) -> bool
+        ensures actor { self.new.actor ≡ self.old.actor }
+        ensures held { IsTrue result → IsSome held.new }
+        ensures taken { IsTrue result → IfSome held.new
+            (λ i. (i.actor ≡ self.old.actor)
+            × (self.new.taken ≡ self.old.taken ++ record { at = i.at; act = i.act } ∷ [])) }
+        ensures next { IsTrue result → IfSome held.new
+            (λ i. IsPrefix self.old.seen (record { at = i.at; act = i.act } ∷ self.new.seen)) }
+        ensures none { IsFalse result → (held.new ≡ held.old) × (self.new.taken ≡ self.old.taken)
+            × (self.new.seen ≡ []) }
+        ensures succeeds { 0 < length self.old.seen → IsTrue result }
+    {
+        match self.consumer.pop() {
+            Ok(Submission { at, act }) => {
+                *held = Some(Input {
+                    actor: self.actor,
+                    at,
+                    act,
+                });
+                true
+            }
+            Err(_) => false,
+        }
     }
 
     /// Whether all that the seat of the same actor ever submitted was taken out; None where the ring didn't tell what that is.

@@ -15,7 +15,7 @@ use Rattle.inbox.proofs.Crosses.{drain_send}
 use Rattle.tree_core.specs.contracts.image.Image as Image
 use Rattle.tree_core.proofs.Crosses.{input_send, tree_send}
 use Rattle.run_records.proofs.Crosses.{run_send}
-use Rattle.run_history.proofs.history.Keeper.TheSendSync as keeper
+use Rattle.run_history.proofs.history.WholeHistory.TheSendSync as whole
 use Rattle.locked_services.specs.contracts.room.Room as Room
 use Rattle.locked_services.specs.contracts.room.Room.TheInside as RoomInside
 use Rattle.locked_services.specs.contracts.running.RunningTree as RunningTree
@@ -60,7 +60,7 @@ running_send C g h c = let i = inside_send C g h c in search (i, sendable) depth
 room_inside_send : (C B : RattleType) (g : Ghosts C.Denot) (h : lanes.Ghosts C.Denot) (b : board.Ghosts B.Denot C.Denot) → IsSend C → IsSend B → IsSend (RoomInside.the_row C B g h b)
 room_inside_send C B g h b c d =
     recorded_send _ _ _ (RoomInside.the_type C B g h b).to_one (struct_send (shape (RoomInside.the_type C B g h b))
-    (running_send C g h c, (d, (flag_send, (keeper.the_send C h, tt)))))
+    (running_send C g h c, (d, (flag_send, (whole.the_send C h, tt)))))
 
 pub room_send : (C B : RattleType) (g : Ghosts C.Denot) (h : lanes.Ghosts C.Denot) (b : board.Ghosts B.Denot C.Denot) → IsSend C → IsSend B → IsSend (Room.the_row C B g h b)
 room_send C B g h b c d = let i = room_inside_send C B g h b c d in search (i, sendable) depth 60 fits 20000

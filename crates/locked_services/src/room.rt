@@ -27,7 +27,7 @@ use crate::stop::{DriveStop, Driven, Stop};
 use channel_names::Channels;
 use inbox::{Finished, Ticket};
 use order_lanes::{Backend, Desk, Lanes};
-use run_history::{History, Keeper, Whole};
+use run_history::{KnownHistory, Whole, WholeHistory};
 use run_records::{Run, RunFault};
 use s6_events::{Actor, At, NoMemory};
 use status_board::{Board, Told};
@@ -44,21 +44,21 @@ pub struct Room<C: Channels + Lanes, D: Board<C>> {
     running: RunningTree<C>,
     board: D,
     is_shown: bool,
-    keeper: Keeper<C>,
+    history: WholeHistory<C>,
 }
 
-// Tells the keeper all inputs that were done. For the proof, the type `N` names them.
+// Adds to the history all inputs that were done. For the proof, the type `N` names them.
 fn keep<N: Whole, C: Channels + Lanes, R: Wait>(
     rt: &R,
-    keeper: &mut Keeper<C>,
+    history: &mut WholeHistory<C>,
     running: &RunningTree<C>,
 )
     requires named { N.whole ≡ inputs_of running.now.steps }
-    requires longer { IsPrefix keeper.old (inputs_of running.now.steps) }
-    ensures { keeper.new ≡ inputs_of running.now.steps }
+    requires longer { IsPrefix history.old (inputs_of running.now.steps) }
+    ensures { history.new ≡ inputs_of running.now.steps }
 {
     let _steps = running.steps();
-    keeper.extend::<N, R>(rt);
+    history.extend::<N, R>(rt);
 }
 
 /// A room that was not closed, why it was not, and all that `close` was given beside it.
@@ -80,13 +80,13 @@ impl<C: Channels + Lanes, D: Board<C>> Model for Room<C, D> {
 
     ghost view = { λ r. record { running = r.running; shots = D.shots r.board; is_shown = r.is_shown } };
 
-    ghost invariant = { λ r. IsSoundRoom C.opening (record { running = r.running; shots = D.shots r.board; is_shown = r.is_shown }) × (r.keeper ≡ inputs_of r.running.steps) };
+    ghost invariant = { λ r. IsSoundRoom C.opening (record { running = r.running; shots = D.shots r.board; is_shown = r.is_shown }) × (r.history ≡ inputs_of r.running.steps) };
 }
 
 impl<C: Channels + Lanes, D: Board<C>> Room<C, D> {
     /// A room of this running tree, which has made no step. Its present state is the only one that was published on the board.
-    pub fn begin(running: RunningTree<C>, board: D, keeper: Keeper<C>) -> Room<C, D>
-        requires keeper { keeper ≡ [] }
+    pub fn begin(running: RunningTree<C>, board: D, history: WholeHistory<C>) -> Room<C, D>
+        requires history { history ≡ [] }
         requires opening { running.opening ≡ C.opening }
         requires steps { running.steps ≡ [] }
         requires first { (m : Machine) → StandsFor running.opening m →
@@ -99,25 +99,25 @@ impl<C: Channels + Lanes, D: Board<C>> Room<C, D> {
             running,
             board,
             is_shown: true,
-            keeper,
+            history,
         }
     }
 
     /// Sets `known` to all inputs that were done. What it was before is a beginning of them.
-    pub fn show<R: Wait>(&mut self, rt: &R, known: &mut History<C>)
+    pub fn show<R: Wait>(&mut self, rt: &R, known: &mut KnownHistory<C>)
         ensures same { self.new ≡ self.old }
         ensures all { known.new ≡ inputs_of self.old.running.steps }
         ensures longer { IsPrefix known.old known.new }
     {
-        self.keeper.show(rt, known);
+        self.history.show(rt, known);
     }
 
     /// All inputs that were done.
-    pub fn history(&mut self) -> History<C>
+    pub fn history(&mut self) -> KnownHistory<C>
         ensures same { self.new ≡ self.old }
         ensures all { result ≡ inputs_of self.old.running.steps }
     {
-        self.keeper.tell()
+        self.history.tell()
     }
 
     /// Makes one step, of the input that is held or, where none is held, of one that it takes from the rings.
@@ -140,7 +140,7 @@ impl<C: Channels + Lanes, D: Board<C>> Room<C, D> {
         let stop = self.running.step_one();
         if stop == Stop::Done {
             self.is_shown = false;
-            keep::<Brand, C, R>(rt, &mut self.keeper, &self.running);
+            keep::<Brand, C, R>(rt, &mut self.history, &self.running);
         }
         stop
     }

@@ -117,8 +117,7 @@ impl<C: Channels + Lanes> RunningTree<C> {
         if self.held.is_some() {
             return true;
         }
-        self.held = take_next(&mut self.drains);
-        self.held.is_some()
+        take_next(&mut self.drains, &mut self.held)
     }
 
     // The least lane that may have no room for the orders of a step; None where each has room.
@@ -148,27 +147,18 @@ impl<C: Channels + Lanes> RunningTree<C> {
         ensures refused { OnErr result ((self.new.held ≡ self.old.held)
             × (self.new.tree ≡ self.old.tree) × (self.new.steps ≡ self.old.steps)) }
     {
-        let plain = match &self.held {
-            Some(input) => input.plain(self.alloc)?,
-            None => unreachable!(),
-        };
-        self.run.reserve(plain.actor)?;
-        let Some(input) = self.held.take() else {
+        let Some(input) = &mut self.held else {
             unreachable!()
         };
+        let plain = input.plain(self.alloc)?;
+        self.run.reserve(plain.actor)?;
         let effect = &mut *self.effect;
-        match self.tree.apply_into(input, effect) {
-            Ok(()) => {
-                let _count = effect.orders.len();
-                send_all(&mut self.lanes, effect.orders.as_slice());
-                self.run.add(plain, effect);
-                Ok(())
-            }
-            Err((input, refused)) => {
-                self.held = Some(input);
-                Err(refused)
-            }
-        }
+        self.tree.apply_in_place(input, effect)?;
+        self.held = None;
+        let _count = effect.orders.len();
+        send_all(&mut self.lanes, effect.orders.as_slice());
+        self.run.add(plain, effect);
+        Ok(())
     }
 
     /// Makes one step, of the input that is held or, where none is held, of one that it takes from the rings. Before that it looks for what

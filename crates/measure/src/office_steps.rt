@@ -12,7 +12,7 @@ use locked_services::DriveStop;
 use office::{NewOffice, Office, Opened};
 use order_lanes::probe::Probe;
 use order_lanes::{Backend, Lanes};
-use run_history::History;
+use run_history::KnownHistory;
 use s6_events::NoMemory;
 use status_board::Board;
 use std::alloc::Global;
@@ -108,7 +108,7 @@ fn drive_rounds<B: Backend, C: Channels + Lanes, D: Board<C>, R: Wait>(
     rt: &R,
     alloc: Global,
     office: &Office<C, D, B>,
-    known: &mut History<C>,
+    known: &mut KnownHistory<C>,
     seats: &mut [Seat<C>],
     load: Load,
 ) -> Result<(), Fault> {
@@ -165,7 +165,7 @@ fn submit<C: Channels>(seat: &mut Seat<C>, input: Input<Global>) -> Result<(), F
 fn drive<C: Channels + Lanes, D: Board<C>, B: Backend, R: Wait>(
     rt: &R,
     office: &Office<C, D, B>,
-    known: &mut History<C>,
+    known: &mut KnownHistory<C>,
     wanted: u64,
 ) -> Result<(), Fault> {
     let mut left = wanted;

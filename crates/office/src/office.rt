@@ -26,7 +26,7 @@ use channel_names::Channels;
 use inbox::{Finished, Ticket};
 use locked_services::{CloseFault, Closed, Driven, NotClosed, Room};
 use order_lanes::{Backend, Carried, Desk, Lanes, Report};
-use run_history::History;
+use run_history::KnownHistory;
 use run_records::RunFault;
 use s6_events::{Actor, At, NoMemory};
 use status_board::{Board, Told};
@@ -50,7 +50,7 @@ pub struct NotStarted {
 /// that no backend keeps anybody out of the room. What is promised of a room or of a desk holds whenever its lock is free. Contracts see
 /// how many lanes there are.
 ///
-/// A call that tells of the run takes a `History`: the inputs that its caller knows to be done. The call sets it to all inputs that were
+/// A call that tells of the run takes a `KnownHistory`: the inputs that its caller knows to be done. The call sets it to all inputs that were
 /// done: what was known before is a beginning of these. The answer is that of the run that did just these inputs. So all answers to a
 /// caller are of one run. Two callers, such as two threads, learn by `compare` that theirs is the same run. The contracts of `Desk` tell
 /// what a backend was asked and what it reported.
@@ -97,7 +97,7 @@ impl<C: Channels + Lanes, D: Board<C>, B: Backend> Office<C, D, B> {
 
     /// Makes at most `most` steps in the room, and publishes the state, as `Room::drive` does. All inputs that were done before, and those
     /// of these steps, become known.
-    pub fn drive<W: Wait>(&self, rt: &W, known: &mut History<C>, most: u64) -> Driven
+    pub fn drive<W: Wait>(&self, rt: &W, known: &mut KnownHistory<C>, most: u64) -> Driven
         ensures longer { IsPrefix known.old known.new }
         ensures most { result.steps ≤ most }
         ensures count { result.stop ≡ ended.Count → result.steps ≡ most }
@@ -114,7 +114,7 @@ impl<C: Channels + Lanes, D: Board<C>, B: Backend> Office<C, D, B> {
     }
 
     /// All inputs that were done so far, for a caller that knows none yet.
-    pub fn history<W: Wait>(&self, rt: &W) -> History<C>
+    pub fn history<W: Wait>(&self, rt: &W) -> KnownHistory<C>
         ensures { (v : RoomView) × IsSoundHistory C.opening v
             × (result ≡ inputs_of v.running.steps) }
     {
@@ -124,7 +124,7 @@ impl<C: Channels + Lanes, D: Board<C>, B: Backend> Office<C, D, B> {
     }
 
     /// Makes all inputs that were done so far known to both. Before, one of the two was a beginning of the other.
-    pub fn compare<W: Wait>(&self, rt: &W, one: &mut History<C>, other: &mut History<C>)
+    pub fn compare<W: Wait>(&self, rt: &W, one: &mut KnownHistory<C>, other: &mut KnownHistory<C>)
         ensures longer { IsPrefix one.old one.new × IsPrefix other.old other.new }
         ensures same { one.new ≡ other.new }
         ensures agree { IsPrefix one.old other.old ⊎ IsPrefix other.old one.old }
@@ -135,7 +135,7 @@ impl<C: Channels + Lanes, D: Board<C>, B: Backend> Office<C, D, B> {
     }
 
     /// All shots that were published so far, for a reader to learn.
-    pub fn tell<W: Wait>(&self, rt: &W, known: &mut History<C>) -> Told<C>
+    pub fn tell<W: Wait>(&self, rt: &W, known: &mut KnownHistory<C>) -> Told<C>
         ensures longer { IsPrefix known.old known.new }
         ensures shots { IsTold C.opening known.new (λ v. result ≡ v.shots) }
         ensures rising { NeverFalls result }
@@ -150,7 +150,7 @@ impl<C: Channels + Lanes, D: Board<C>, B: Backend> Office<C, D, B> {
     pub fn reply<W: Wait>(
         &self,
         rt: &W,
-        known: &mut History<C>,
+        known: &mut KnownHistory<C>,
         ticket: Ticket,
     ) -> Result<Option<Reply<Global>>, NoMemory>
         ensures longer { IsPrefix known.old known.new }
@@ -167,7 +167,7 @@ impl<C: Channels + Lanes, D: Board<C>, B: Backend> Office<C, D, B> {
     pub fn effect<W: Wait>(
         &self,
         rt: &W,
-        known: &mut History<C>,
+        known: &mut KnownHistory<C>,
         number: u64,
     ) -> Result<Option<Effect<Global>>, NoMemory>
         ensures longer { IsPrefix known.old known.new }
@@ -186,7 +186,7 @@ impl<C: Channels + Lanes, D: Board<C>, B: Backend> Office<C, D, B> {
     pub fn step<W: Wait>(
         &self,
         rt: &W,
-        known: &mut History<C>,
+        known: &mut KnownHistory<C>,
         number: u64,
         effect: &mut Effect<Global>,
     ) -> Result<Option<(Actor, At)>, NoMemory>
@@ -201,7 +201,7 @@ impl<C: Channels + Lanes, D: Board<C>, B: Backend> Office<C, D, B> {
     }
 
     /// Whose input step `number` took, counted from 1; None where there is no such step.
-    pub fn actor<W: Wait>(&self, rt: &W, known: &mut History<C>, number: u64) -> Option<Actor>
+    pub fn actor<W: Wait>(&self, rt: &W, known: &mut KnownHistory<C>, number: u64) -> Option<Actor>
         ensures longer { IsPrefix known.old known.new }
         ensures told { IsTold C.opening known.new (λ v. result ≡ actor_at number v.running.steps) }
     {
@@ -212,7 +212,7 @@ impl<C: Channels + Lanes, D: Board<C>, B: Backend> Office<C, D, B> {
     }
 
     /// The moment at which the input of step `number` was handed in, counted from 1; None where there is no such step.
-    pub fn moment<W: Wait>(&self, rt: &W, known: &mut History<C>, number: u64) -> Option<At>
+    pub fn moment<W: Wait>(&self, rt: &W, known: &mut KnownHistory<C>, number: u64) -> Option<At>
         ensures longer { IsPrefix known.old known.new }
         ensures told { IsTold C.opening known.new (λ v. result ≡ moment_at number v.running.steps) }
     {
@@ -223,7 +223,7 @@ impl<C: Channels + Lanes, D: Board<C>, B: Backend> Office<C, D, B> {
     }
 
     /// How many steps the run has.
-    pub fn steps<W: Wait>(&self, rt: &W, known: &mut History<C>) -> usize
+    pub fn steps<W: Wait>(&self, rt: &W, known: &mut KnownHistory<C>) -> usize
         ensures longer { IsPrefix known.old known.new }
         ensures told { IsTold C.opening known.new (λ v. result ≡ length v.running.steps) }
     {
@@ -236,7 +236,7 @@ impl<C: Channels + Lanes, D: Board<C>, B: Backend> Office<C, D, B> {
     pub fn write_run<R: Wait, W: Write>(
         &self,
         rt: &R,
-        known: &mut History<C>,
+        known: &mut KnownHistory<C>,
         head: bool,
         writer: &mut W,
     ) -> Result<u64, RunFault>
@@ -254,7 +254,7 @@ impl<C: Channels + Lanes, D: Board<C>, B: Backend> Office<C, D, B> {
     }
 
     /// Whether the tree has ended: it is closing, and the supervisor of each service that stands has ended.
-    pub fn ended<W: Wait>(&self, rt: &W, known: &mut History<C>) -> bool
+    pub fn ended<W: Wait>(&self, rt: &W, known: &mut KnownHistory<C>) -> bool
         ensures longer { IsPrefix known.old known.new }
         ensures told { IsTold C.opening known.new (λ v. (m : Machine)
             → StandsFor v.running.opening m → result ≡ has_ended (end_of m v.running.steps)) }
@@ -266,7 +266,7 @@ impl<C: Channels + Lanes, D: Board<C>, B: Backend> Office<C, D, B> {
     }
 
     /// The next moment, in milliseconds, to which a timer or a deadline is set; None where there is none.
-    pub fn next_due<W: Wait>(&self, rt: &W, known: &mut History<C>) -> Option<u64>
+    pub fn next_due<W: Wait>(&self, rt: &W, known: &mut KnownHistory<C>) -> Option<u64>
         ensures longer { IsPrefix known.old known.new }
         ensures told { IsTold C.opening known.new (λ v. (m : Machine)
             → StandsFor v.running.opening m → result ≡ next_due (end_of m v.running.steps)) }
@@ -303,7 +303,7 @@ impl<C: Channels + Lanes, D: Board<C>, B: Backend> Office<C, D, B> {
     pub fn close<R: Wait>(
         self,
         rt: &R,
-        known: &mut History<C>,
+        known: &mut KnownHistory<C>,
         finishes: Vec<Finished<C>>,
     ) -> Result<Closed<B>, (Office<C, D, B>, Vec<Finished<C>>, CloseFault)>
         ensures longer { IsPrefix known.old known.new }

@@ -19,7 +19,7 @@ use channel_names::Channels;
 use inbox::{Drain, Ring, Seat};
 use locked_services::{Beginning, Room, RunningTree, SeatEnds, seat_ends};
 use order_lanes::{Backend, Lane, LaneRing, Lanes};
-use run_history::{History, Keeper, NewHistory};
+use run_history::{KnownHistory, NewHistory, WholeHistory};
 use status_board::{Board, BoardReader, BoardWriter, NewBoard};
 use std::alloc::Global;
 use std::sync::Wait;
@@ -31,7 +31,7 @@ pub struct Opened<C: Channels + Lanes, D: Board<C>, B: Backend> {
     pub office: Office<C, D, B>,
     pub seats: Vec<Seat<C>>,
     pub readers: Vec<BoardReader<C>>,
-    pub known: History<C>,
+    pub known: KnownHistory<C>,
 }
 
 // The parts of an office for which memory is taken. The lists of its lanes and desks are still empty.
@@ -124,7 +124,7 @@ fn new_room<C: Channels + Lanes, D: Board<C>>(
     ensures shown { result.is_shown ≡ true }
 {
     let running = RunningTree::begin(alloc, beginning, tree, drains, lanes);
-    Room::begin(running, board, Keeper::over(history))
+    Room::begin(running, board, WholeHistory::over(history))
 }
 
 impl<C: Channels + Lanes, D: Board<C>, B: Backend> Parts<C, D, B> {

@@ -4,7 +4,7 @@ use channel_names::Channels;
 use inbox::Ticket;
 use office::Office;
 use order_lanes::{Backend, Lanes};
-use run_history::History;
+use run_history::KnownHistory;
 use s6_events::Actor;
 use s6_replay::{check, push_reply, write_effect};
 use status_board::Board;
@@ -35,7 +35,7 @@ pub fn ask<C: Channels + Lanes, D: Board<C>, B: Backend, R: Wait>(
     verb: &str,
     rest: &str,
     office: &Office<C, D, B>,
-    known: &mut History<C>,
+    known: &mut KnownHistory<C>,
     text: &mut Vec<u8>,
 ) -> bool {
     let (first, second) = numbers_of(rest);
@@ -57,7 +57,7 @@ pub fn ask<C: Channels + Lanes, D: Board<C>, B: Backend, R: Wait>(
 fn drive<C: Channels + Lanes, D: Board<C>, B: Backend, R: Wait>(
     rt: &R,
     office: &Office<C, D, B>,
-    known: &mut History<C>,
+    known: &mut KnownHistory<C>,
     most: u64,
     text: &mut Vec<u8>,
 ) -> bool {
@@ -84,7 +84,7 @@ fn carry<C: Channels + Lanes, D: Board<C>, B: Backend, R: Wait>(
 fn tell_reply<C: Channels + Lanes, D: Board<C>, B: Backend, R: Wait>(
     rt: &R,
     office: &Office<C, D, B>,
-    known: &mut History<C>,
+    known: &mut KnownHistory<C>,
     actor: u64,
     number: u64,
     text: &mut Vec<u8>,
@@ -108,7 +108,7 @@ fn does_count(reply: &Reply<Global>, by_done: bool) -> bool {
 fn is_answered<C: Channels + Lanes, D: Board<C>, B: Backend, R: Wait>(
     rt: &R,
     office: &Office<C, D, B>,
-    known: &mut History<C>,
+    known: &mut KnownHistory<C>,
     ticket: Ticket,
     by_done: bool,
 ) -> bool {
@@ -122,7 +122,7 @@ fn is_answered<C: Channels + Lanes, D: Board<C>, B: Backend, R: Wait>(
 fn count_answered<C: Channels + Lanes, D: Board<C>, B: Backend, R: Wait>(
     rt: &R,
     office: &Office<C, D, B>,
-    known: &mut History<C>,
+    known: &mut KnownHistory<C>,
     actor: Actor,
     most: u64,
     by_done: bool,
@@ -140,7 +140,7 @@ fn count_answered<C: Channels + Lanes, D: Board<C>, B: Backend, R: Wait>(
 fn tell_answered<C: Channels + Lanes, D: Board<C>, B: Backend, R: Wait>(
     rt: &R,
     office: &Office<C, D, B>,
-    known: &mut History<C>,
+    known: &mut KnownHistory<C>,
     most: u64,
     by_done: bool,
     text: &mut Vec<u8>,
@@ -158,7 +158,7 @@ fn tell_effect<C: Channels + Lanes, D: Board<C>, B: Backend, R: Wait>(
     rt: &R,
     alloc: Global,
     office: &Office<C, D, B>,
-    known: &mut History<C>,
+    known: &mut KnownHistory<C>,
     number: u64,
     text: &mut Vec<u8>,
 ) -> bool {
@@ -173,7 +173,7 @@ fn tell_effect<C: Channels + Lanes, D: Board<C>, B: Backend, R: Wait>(
 fn record<C: Channels + Lanes, D: Board<C>, B: Backend, R: Wait>(
     rt: &R,
     office: &Office<C, D, B>,
-    known: &mut History<C>,
+    known: &mut KnownHistory<C>,
     head: bool,
     text: &mut Vec<u8>,
 ) -> bool {
@@ -188,7 +188,7 @@ fn tell_checked<C: Channels + Lanes, D: Board<C>, B: Backend, R: Wait>(
     rt: &R,
     alloc: Global,
     office: &Office<C, D, B>,
-    known: &mut History<C>,
+    known: &mut KnownHistory<C>,
     text: &mut Vec<u8>,
 ) -> bool {
     let mut script = Vec::new(alloc);
@@ -206,7 +206,7 @@ fn tell_replayed<C: Channels + Lanes, D: Board<C>, B: Backend, R: Wait>(
     rt: &R,
     alloc: Global,
     office: &Office<C, D, B>,
-    known: &mut History<C>,
+    known: &mut KnownHistory<C>,
     steps: u64,
     text: &mut Vec<u8>,
 ) -> bool {

@@ -7,7 +7,7 @@ use channel_names::Channels;
 use inbox::{Finished, Seat};
 use office::{Closed, Office, Opened};
 use order_lanes::{Backend, Lanes, act_of};
-use run_history::History;
+use run_history::KnownHistory;
 use s6_events::At;
 use status_board::Board;
 use std::alloc::Global;
@@ -126,7 +126,7 @@ fn serve<
 fn sizes<C: Channels + Lanes, D: Board<C>, B: Backend, R: Wait>(
     rt: &R,
     office: &Office<C, D, B>,
-    known: &mut History<C>,
+    known: &mut KnownHistory<C>,
     finishes: usize,
     text: &mut Vec<u8>,
 ) -> bool {

@@ -5,7 +5,7 @@ use channel_names::Channels;
 use inbox::Ticket;
 use office::Office;
 use order_lanes::{Backend, Lanes};
-use run_history::History;
+use run_history::KnownHistory;
 use s6_events::Actor;
 use s6_replay::push_reply;
 use status_board::Board;
@@ -48,7 +48,7 @@ fn has_reply<C: Channels + Lanes, D: Board<C>, B: Backend, R: Wait>(
     rt: &R,
     alloc: Global,
     office: &Office<C, D, B>,
-    known: &mut History<C>,
+    known: &mut KnownHistory<C>,
     ticket: Ticket,
     reply: &Reply<Global>,
 ) -> Option<bool> {
@@ -63,7 +63,7 @@ fn gives_same<C: Channels + Lanes, D: Board<C>, B: Backend, R: Wait>(
     rt: &R,
     alloc: Global,
     office: &Office<C, D, B>,
-    known: &mut History<C>,
+    known: &mut KnownHistory<C>,
     tree: &mut Tree<Global>,
     effect: &mut Effect<Global>,
     numbers: &mut [u32],
@@ -90,7 +90,7 @@ fn gives_each<C: Channels + Lanes, D: Board<C>, B: Backend, R: Wait>(
     rt: &R,
     alloc: Global,
     office: &Office<C, D, B>,
-    known: &mut History<C>,
+    known: &mut KnownHistory<C>,
     tree: &mut Tree<Global>,
     effect: &mut Effect<Global>,
     steps: u64,
@@ -120,7 +120,7 @@ pub fn is_replayed<C: Channels + Lanes, D: Board<C>, B: Backend, R: Wait>(
     rt: &R,
     alloc: Global,
     office: &Office<C, D, B>,
-    known: &mut History<C>,
+    known: &mut KnownHistory<C>,
     steps: u64,
 ) -> Option<bool> {
     let mut tree = new_tree(alloc).ok()?;

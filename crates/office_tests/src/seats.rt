@@ -3,7 +3,7 @@ use channel_names::Channels;
 use inbox::{Finished, Seat};
 use office::Office;
 use order_lanes::{Backend, Lanes};
-use run_history::History;
+use run_history::KnownHistory;
 use s6_events::At;
 use s6_script::parse_line;
 use status_board::{Board, BoardReader};
@@ -87,7 +87,7 @@ fn submit_ticks<C: Channels>(seat: Seat<C>, count: u32) -> Seat<C> {
 pub fn take_board<C: Channels + Lanes, D: Board<C>, B: Backend, R: Wait>(
     rt: &R,
     office: &Office<C, D, B>,
-    known: &mut History<C>,
+    known: &mut KnownHistory<C>,
     readers: &mut Vec<BoardReader<C>>,
     text: &mut Vec<u8>,
 ) -> Option<()> {

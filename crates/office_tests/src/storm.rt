@@ -5,7 +5,7 @@ use inbox::{Seat, Ticket};
 use locked_services::{DriveStop, Driven};
 use office::Office;
 use order_lanes::{Backend, Lanes};
-use run_history::History;
+use run_history::KnownHistory;
 use s6_events::{Actor, At};
 use status_board::{Board, BoardReader, Shot};
 use std::alloc::Global;
@@ -247,7 +247,7 @@ fn drive_all<C: Channels + Lanes, D: Board<C>, B: Backend, R: Wait + Clock>(
 fn drive_on<C: Channels + Lanes, D: Board<C>, B: Backend, R: Wait + Clock>(
     rt: &R,
     office: &Office<C, D, B>,
-    known: &mut History<C>,
+    known: &mut KnownHistory<C>,
 ) -> u64 {
     let Driven { steps, stop } = office.drive(rt, known, 512);
     match stop {

@@ -7,7 +7,7 @@ use inbox::{Finished, Seat};
 use locked_services::{DriveStop, Driven};
 use office::{Office, Opened};
 use order_lanes::{AskFault, Backend, Carried, Lanes};
-use run_history::History;
+use run_history::KnownHistory;
 use run_records::RunFault;
 use s6_events::NoMemory;
 use s6_replay::{Checked, ReplayFault, check, write_effect};
@@ -51,7 +51,7 @@ pub fn play_opened<B: Backend, C: Channels + Lanes, D: Board<C>, R: Wait>(
 fn drive_all<B: Backend, C: Channels + Lanes, D: Board<C>, R: Wait>(
     rt: &R,
     office: &Office<C, D, B>,
-    known: &mut History<C>,
+    known: &mut KnownHistory<C>,
     attempts: &mut Attempts,
 ) {
     let mut made = 0u64;
@@ -94,7 +94,7 @@ fn tell_effects<B: Backend, C: Channels + Lanes, D: Board<C>, R: Wait>(
     rt: &R,
     alloc: Global,
     office: &Office<C, D, B>,
-    known: &mut History<C>,
+    known: &mut KnownHistory<C>,
     text: &mut Text,
 ) -> Result<(), NoMemory> {
     for number in 1..=65u64 {
@@ -114,7 +114,7 @@ fn tell_effects<B: Backend, C: Channels + Lanes, D: Board<C>, R: Wait>(
 fn record<B: Backend, C: Channels + Lanes, D: Board<C>, R: Wait>(
     rt: &R,
     office: &Office<C, D, B>,
-    known: &mut History<C>,
+    known: &mut KnownHistory<C>,
     text: &mut Text,
 ) -> Result<(), NoMemory> {
     match office.write_run(rt, known, true, text) {
@@ -135,7 +135,7 @@ fn tell_legal<B: Backend, C: Channels + Lanes, D: Board<C>, R: Wait>(
     rt: &R,
     alloc: Global,
     office: &Office<C, D, B>,
-    known: &mut History<C>,
+    known: &mut KnownHistory<C>,
     text: &mut Text,
 ) -> Result<(), NoMemory> {
     let mut script = Text::new();
@@ -158,7 +158,7 @@ fn tell_legal<B: Backend, C: Channels + Lanes, D: Board<C>, R: Wait>(
 fn tell_shot<B: Backend, C: Channels + Lanes, D: Board<C>, R: Wait>(
     rt: &R,
     office: &Office<C, D, B>,
-    known: &mut History<C>,
+    known: &mut KnownHistory<C>,
     readers: &mut [BoardReader<C>],
     attempts: &mut Attempts,
 ) {
@@ -177,7 +177,7 @@ fn close<B: Backend, C: Channels + Lanes, D: Board<C>, R: Wait>(
     alloc: Global,
     office: Office<C, D, B>,
     seats: Vec<Seat<C>>,
-    mut known: History<C>,
+    mut known: KnownHistory<C>,
     attempts: &mut Attempts,
 ) -> Played<B> {
     let mut finishes: Vec<Finished<C>> = Vec::new(alloc);

@@ -14,11 +14,11 @@ knower all = record { keeps = true; all = all; claim = [] }
 abbrev pub nobody : View
 nobody = record { keeps = false; all = []; claim = [] }
 
--- a token of all inputs that the keeper knows
+-- all inputs, as a known history claims them
 abbrev pub claim_of : View → View
 claim_of v = record { keeps = false; all = []; claim = v.all }
 
--- the keeper's pass with a claim to compare
+-- the pass of the whole history with a claim to compare
 abbrev pub shown : View → View → View
 shown v w = record { keeps = v.keeps; all = v.all; claim = w.claim }
 
@@ -28,10 +28,10 @@ Kept words views =
     (seat : ℕ) × (log : List (Input Global))
     × ((by : ℕ) (v : View) → get_elem? views by ≡ some v → (v.keeps ≡ true → (by ≡ seat) × (v.all ≡ log)) × IsPrefix v.claim log)
 
--- the keeper adds inputs, after which `whole` is all of them
+-- inputs are added, after which `whole` is all of them
 abbrev pub Extended : List (Input Global) → View → List ℕ → List ℕ → View → Type 0
 Extended whole v before after w = w ≡ record { keeps = v.keeps; all = whole; claim = v.claim }
 
--- the keeper compares a claim with all inputs, and is without a claim again
+-- a claim is compared with all inputs, and is gone again
 abbrev pub Checked : View → List ℕ → List ℕ → View → Type 0
 Checked v before after w = (w ≡ knower v.all) × IsPrefix v.claim v.all

@@ -30,7 +30,7 @@ impl Whole for Brand {
     ghost whole = { [] };
 }
 
-/// What a pass knows: the keeper's pass knows all inputs, and the pass of a token a beginning of them. No value of this type is made.
+/// What a pass knows: that of the whole history all inputs, that of a known one a beginning of them. No value of this type is made.
 pub struct View {
     pub keeps: bool,
     pub all: LinkedList<Input<Global>>,
@@ -69,7 +69,7 @@ impl Outcome<[u64; 1], View> for Checks {
     ghost then = { Checked };
 }
 
-/// How a token is split from the keeper's pass, and joined with it again.
+/// How the pass of a known history is split from that of the whole one, and joined with it again.
 pub struct AllSoFar;
 
 impl Split<View> for AllSoFar {
@@ -124,12 +124,12 @@ impl NewHistory {
 
 /// All inputs that were done up to some moment: a beginning of the run's one history. It has no bytes.
 #[derive(Drop)]
-pub struct History<C: Lanes> {
+pub struct KnownHistory<C: Lanes> {
     pass: Receipt,
     of: PhantomData<C>,
 }
 
-impl<C: Lanes> Model for History<C> {
+impl<C: Lanes> Model for KnownHistory<C> {
     ghost use Rattle.std.specs.Prelude.{◌≡◌, [], List};
     ghost use Rattle.crossbeam_utils.specs.Seq.{cell_view};
     ghost use Rattle.std.specs.declared.alloc.Global.{Global};
@@ -142,14 +142,14 @@ impl<C: Lanes> Model for History<C> {
     ghost invariant = { λ h. (h.pass.table_id ≡ C.history) × (h.pass.me.1 ≡ []) };
 }
 
-impl<C: Lanes> History<C> {
-    // The token with this pass.
-    fn over(pass: Receipt) -> History<C>
+impl<C: Lanes> KnownHistory<C> {
+    // What this pass knows.
+    fn over(pass: Receipt) -> KnownHistory<C>
         requires cell { pass.table_id ≡ C.history }
         requires free { pass.me.1 ≡ [] }
         ensures { result ≡ (cell_view pass).claim }
     {
-        History {
+        KnownHistory {
             pass,
             of: PhantomData,
         }
@@ -161,20 +161,20 @@ impl<C: Lanes> History<C> {
         ensures free { result.me.1 ≡ [] }
         ensures claim { (cell_view result).claim ≡ self }
     {
-        let History { pass, of: _ } = self;
+        let KnownHistory { pass, of: _ } = self;
         pass
     }
 }
 
-/// The keeper knows all of the history, and alone adds to it. It is under the lock.
+/// All inputs that were done, to which it alone adds. It is under the lock.
 #[derive(Drop)]
-pub struct Keeper<C: Lanes> {
+pub struct WholeHistory<C: Lanes> {
     cell: Cell,
     pass: Receipt,
     of: PhantomData<C>,
 }
 
-impl<C: Lanes> Model for Keeper<C> {
+impl<C: Lanes> Model for WholeHistory<C> {
     ghost use Rattle.std.specs.Prelude.{◌≡◌, List};
     ghost use Rattle.crossbeam_utils.specs.Seq.{cell_view};
     ghost use Rattle.std.specs.declared.alloc.Global.{Global};
@@ -188,14 +188,14 @@ impl<C: Lanes> Model for Keeper<C> {
     ghost invariant = { λ k. (k.cell.table.shared.table_id ≡ C.history) × (k.pass.table_id ≡ C.history) × (cell_view k.pass ≡ knower (cell_view k.pass).all) };
 }
 
-impl<C: Lanes> Keeper<C> {
-    /// The keeper of this history. `C` names it.
-    pub fn over(new: NewHistory) -> Keeper<C>
+impl<C: Lanes> WholeHistory<C> {
+    /// The whole of this history, which has no input yet. `C` names it.
+    pub fn over(new: NewHistory) -> WholeHistory<C>
         requires { new ≡ C.history }
         ensures { result ≡ [] }
     {
         let NewHistory { cell, pass } = new;
-        Keeper {
+        WholeHistory {
             cell,
             pass,
             of: PhantomData,
@@ -210,26 +210,26 @@ impl<C: Lanes> Keeper<C> {
         self.cell.swap_as::<Extends<N>, R>(rt, &mut self.pass, [0]);
     }
 
-    /// A token of all inputs so far.
-    pub fn tell(&mut self) -> History<C>
+    /// All inputs so far.
+    pub fn tell(&mut self) -> KnownHistory<C>
         ensures same { self.new ≡ self.old }
         ensures all { result ≡ self.old }
     {
         let pass = self.cell.split_pass::<AllSoFar>(&mut self.pass);
-        History {
+        KnownHistory {
             pass,
             of: PhantomData,
         }
     }
 
     /// Sets `known` to all inputs so far. What it was before is a beginning of them.
-    pub fn show<R: Wait>(&mut self, rt: &R, known: &mut History<C>)
+    pub fn show<R: Wait>(&mut self, rt: &R, known: &mut KnownHistory<C>)
         ensures same { self.new ≡ self.old }
         ensures all { known.new ≡ self.old }
         ensures longer { IsPrefix known.old known.new }
     {
         let fresh = self.cell.split_pass::<AllSoFar>(&mut self.pass);
-        let all = History::over(fresh);
+        let all = KnownHistory::over(fresh);
         let pass = mem::replace(known, all).into_pass();
         self.cell.join_pass::<AllSoFar>(&mut self.pass, pass);
         self.cell.load_as::<Checks, R>(rt, &mut self.pass);

@@ -4,4 +4,4 @@
 
 mod history;
 
-pub use history::{History, Keeper, NewHistory, Whole};
+pub use history::{KnownHistory, NewHistory, Whole, WholeHistory};

@@ -2,7 +2,7 @@
 use channel_names::Channels;
 use office::Office;
 use order_lanes::{Backend, Lanes};
-use run_history::History;
+use run_history::KnownHistory;
 use run_records::RunFault;
 use s6_events::NoMemory;
 use server_rules::FileIdentity;
@@ -79,7 +79,7 @@ impl<W: Write + Drop> Recorder<W> {
         &mut self,
         rt: &R,
         office: &Office<C, D, B>,
-        known: &mut History<C>,
+        known: &mut KnownHistory<C>,
     ) -> Result<(), RecordFault> {
         let Some(writer) = self.writer.as_mut() else {
             return Ok(());

@@ -172,6 +172,7 @@ impl Run {
     /// Writes the steps as a recorded script: the head line, if `head`, and then for each step the line of its input and that of its reply.
     /// Returns how many steps these are. Where each run goes on from the one before, and only the first is written with the head line,
     /// their texts in a row are one script. The writer is not flushed. `RunFault` says what each fault leaves written.
+    #[inline(never)]
     pub fn write<W: Write>(
         &self,
         alloc: Global,

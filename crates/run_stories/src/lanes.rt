@@ -17,7 +17,7 @@ pub struct Change {
 
 /// The lane of all services with one name: one that was dropped and comes again has the same lane.
 #[derive(Drop)]
-pub struct Lane<A: Allocator> {
+pub struct TimelineLane<A: Allocator> {
     pub name: Name,
     standing: Standing,
     pub changes: Vec<Change, A>,
@@ -25,8 +25,8 @@ pub struct Lane<A: Allocator> {
 
 /// The lanes of all services, in the order in which they were added.
 #[derive(Drop)]
-pub struct Lanes<A: Allocator> {
-    pub lanes: Vec<Lane<A>, A>,
+pub struct TimelineLanes<A: Allocator> {
+    pub lanes: Vec<TimelineLane<A>, A>,
 }
 
 // Adds a change, if the shade is another than before. Of two changes at one moment the later one stays.
@@ -46,9 +46,9 @@ fn note<A: Allocator>(
     Ok(())
 }
 
-impl<A: Allocator + Copy> Lanes<A> {
-    pub fn new(alloc: A) -> Lanes<A> {
-        Lanes {
+impl<A: Allocator + Copy> TimelineLanes<A> {
+    pub fn new(alloc: A) -> TimelineLanes<A> {
+        TimelineLanes {
             lanes: Vec::new(alloc),
         }
     }
@@ -66,7 +66,7 @@ impl<A: Allocator + Copy> Lanes<A> {
             return Ok(place);
         }
         let place = self.lanes.len();
-        self.lanes.push(Lane {
+        self.lanes.push(TimelineLane {
             name,
             standing: Standing::Supervised,
             changes: Vec::new(alloc),

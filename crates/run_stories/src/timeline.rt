@@ -4,7 +4,7 @@ ghost use Rattle.s6_replay.specs.Script.{input_limit};
 
 use crate::drawing::{Layout, write_end, write_frame, write_lane};
 use crate::intervals::{Interval, cut_lane};
-use crate::lanes::{Lane, Lanes};
+use crate::lanes::{TimelineLane, TimelineLanes};
 use crate::scale::Scale;
 use crate::story::follow_scan;
 use arrayvec::ArrayVec;
@@ -19,7 +19,7 @@ use tree_core::{Act, Input, SERVICE_LIMIT, Tree};
 // memory that is used again for each step.
 #[derive(Drop)]
 struct Watcher<A: Allocator> {
-    lanes: Lanes<A>,
+    lanes: TimelineLanes<A>,
     first: Option<At>,
     rows: ArrayVec<Row, SERVICE_LIMIT>,
     scratch: Scratch<A>,
@@ -28,7 +28,7 @@ struct Watcher<A: Allocator> {
 impl<A: Allocator + Copy> Watcher<A> {
     fn new(alloc: A) -> Watcher<A> {
         Watcher {
-            lanes: Lanes::new(alloc),
+            lanes: TimelineLanes::new(alloc),
             first: None,
             rows: ArrayVec::new(),
             scratch: Scratch::new(alloc),
@@ -110,7 +110,7 @@ fn watch_all<A: Allocator + Copy, R: BufRead>(
 }
 
 // How many bytes the longest name of a lane has.
-fn longest_name<A: Allocator>(lanes: &[Lane<A>]) -> usize {
+fn longest_name<A: Allocator>(lanes: &[TimelineLane<A>]) -> usize {
     let mut longest = 0;
     for lane in lanes {
         longest = lane.name.as_bytes().len().max(longest);
@@ -125,7 +125,7 @@ fn draw_lane<A: Allocator, W: Write>(
     scale: &Scale,
     intervals: &mut Vec<Interval, A>,
     place: usize,
-    lane: &Lane<A>,
+    lane: &TimelineLane<A>,
 ) -> Result<(), ReplayFault> {
     if cut_lane(scale, lane.changes.as_slice(), intervals).is_err() {
         return Err(ReplayFault::NoMemory);
@@ -142,7 +142,7 @@ fn draw_lanes<A: Allocator + Copy, W: Write>(
     writer: &mut W,
     layout: Layout,
     scale: &Scale,
-    lanes: &[Lane<A>],
+    lanes: &[TimelineLane<A>],
 ) -> Result<(), ReplayFault> {
     let mut intervals = Vec::new(alloc);
     for (place, lane) in lanes.iter().enumerate() {

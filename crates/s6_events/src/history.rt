@@ -16,6 +16,8 @@ pub struct History<A: Allocator> {
     // How many of the first ones in `moments` are forgotten. They are dropped once they are at least half of `moments`.
     skipped: usize,
     moments: Vec<Moment, A>,
+    // The memory of the moments of the last step, for those of the next.
+    spare: Vec<Moment, A>,
 }
 
 impl<A: Allocator> Model for History<A> {
@@ -55,6 +57,7 @@ impl<A: Allocator + Copy> History<A> {
             dropped: 0,
             skipped: 0,
             moments: Vec::new(alloc),
+            spare: Vec::new(alloc),
         }
     }
 
@@ -143,6 +146,17 @@ impl<A: Allocator + Copy> History<A> {
         self.skipped = 0;
     }
 
+    /// A list for the moments of the next step, with none in it: it has the memory of those of the last step that was made.
+    pub fn lend(&mut self) -> Vec<Moment, A>
+        ensures none { result.items ≡ [] }
+        ensures same { self.new ≡ self.old }
+    {
+        let none = Vec::new(*self.moments.allocator());
+        let mut list = std::mem::replace(&mut self.spare, none);
+        list.clear();
+        list
+    }
+
     /// Makes room to push these moments, which the plan keeps, and changes nothing else: an earlier plan keeps its room, even where this
     /// call is refused. `NoMemory` where memory is refused; never where there is no moment to push.
     pub fn prepare(&mut self, moments: Vec<Moment, A>) -> Result<HistoryPlan<A>, NoMemory>
@@ -165,5 +179,6 @@ impl<A: Allocator + Copy> History<A> {
         ensures kept { self.new.kept ≡ self.old.kept ++ plan }
     {
         self.moments.extend_from_slice(&plan.moments).unwrap();
+        self.spare = plan.moments;
     }
 }

@@ -69,6 +69,16 @@ verb_of_act (Send target message) = verbs.Send
 verb_of_act (MakeDir name) = verbs.Mkdir
 verb_of_act Tick = verbs.Tick
 
+-- the verb is that of an act that is asked for: of no report, and not `tick`
+abbrev pub is_asked : Verb → Bool
+is_asked verbs.Started = false
+is_asked verbs.StartFailed = false
+is_asked verbs.Notify = false
+is_asked verbs.Death = false
+is_asked verbs.Finished = false
+is_asked verbs.Tick = false
+is_asked verb = true
+
 -- the words of an exit
 abbrev pub exit_words : Exit → List (List ℕ)
 exit_words (Code n) = codes "code" ∷ decimal n ∷ []

@@ -2,7 +2,7 @@
 //! and in `entry_options.rt`, gives the value that its words spell, and for words that spell none any value of its type. The act that comes
 //! of this is spelled again, and returned only where the spelling equals the words that were read. So no function has to look for words
 //! that spell no act. A pattern is built last, so a line is refused for its pattern only where it spells an act otherwise.
-ghost use Rattle.std.specs.Prelude.{◌≡◌, ℕ, ◌≤◌, ◌<◌, ◌^◌, ◌-◌, ◌∷◌, ◌++◌, [], List, Bool, Err, IfOk, Some, IfSome, decimal, drop, map, length, slice_index_or};
+ghost use Rattle.std.specs.Prelude.{◌≡◌, ℕ, ◌≤◌, ◌<◌, ◌^◌, ◌-◌, ◌∷◌, ◌++◌, [], List, Bool, Err, IfOk, Some, IfSome, true, decimal, drop, map, length, slice_index_or};
 ghost use Rattle.hex.specs.Hex.{IsBytes, encode_lower};
 ghost use Rattle.s6_script.specs.Spelling.{HasExpression, IsExit, IsAct, SpellsAct, SpellsActButForPattern, act_words};
 ghost use Rattle.s6_script.specs.Spelling.{Spells, SpellsButForPattern};
@@ -10,7 +10,7 @@ ghost use Rattle.s6_script.specs.Unbuilt.{act_read, FitsButText};
 ghost use Rattle.s6_events.specs.At.{last_moment};
 ghost use Rattle.control_letters.specs.ControlLetter.{byte_of};
 ghost use Rattle.control_letters.specs.declared.control_letter.ControlLetter.{ControlLetter};
-ghost use Rattle.s6_script.specs.Verb.{exit_words, has_form_of, order_word, verb_word, verb_of_act, details};
+ghost use Rattle.s6_script.specs.Verb.{exit_words, has_form_of, is_asked, order_word, verb_word, verb_of_act, details};
 ghost use Rattle.svscan_core.specs.declared.entry.ScanOrder.{ScanOrder};
 
 use super::death_list::permafailon_of;
@@ -230,6 +230,7 @@ fn letters_of(word: &[u8]) -> Letters
 }
 
 // Reads bytes from their digits: 1 to 64, whatever the word is.
+#[inline(never)]
 fn bytes_of(word: &[u8]) -> ArrayVec<u8, 64>
     ensures spelled { (bytes : List ℕ) → 1 ≤ length bytes → length bytes ≤ 64 → IsBytes bytes
         → word.now ≡ encode_lower bytes → result.items ≡ bytes }
@@ -264,9 +265,6 @@ fn act_of<A: Allocator + Copy>(
     ensures fits { IfOk result FitsButText }
 {
     let act = match verb {
-        Verb::Scan => Act::Scan(Listing::new(entries_of(alloc, words)?)),
-        Verb::Scanctl => Act::Scanctl(order_of(words.take_next())),
-        Verb::Svc => Act::Svc(name_of(words.take_next()), letters_of(words.take_next())),
         Verb::Started => {
             let (sid, generation) = run_of(words);
             Act::Started(sid, generation, process_of(words.take_next()))
@@ -287,6 +285,28 @@ fn act_of<A: Allocator + Copy>(
             let (sid, generation) = run_of(words);
             Act::FinishEnded(sid, generation, exit_of(words))
         }
+        Verb::Tick => Act::Tick,
+        _ => return request_of(alloc, verb, words),
+    };
+    Ok(UnbuiltAct::Whole(act))
+}
+
+// Reads an act that is asked for. It stands apart: inlined, each line would fill a place for each of these acts.
+#[inline(never)]
+fn request_of<A: Allocator + Copy>(
+    alloc: A,
+    verb: Verb,
+    words: &mut Words<'_>,
+) -> Result<UnbuiltAct<A>, NoMemory>
+    requires { is_asked verb ≡ true }
+    ensures spelled { IfOk result (λ found. (act : Act A) → IsAct act → verb ≡ verb_of_act act
+        → words.old ≡ details act → act_read found ≡ act) }
+    ensures fits { IfOk result FitsButText }
+{
+    let act = match verb {
+        Verb::Scan => Act::Scan(Listing::new(entries_of(alloc, words)?)),
+        Verb::Scanctl => Act::Scanctl(order_of(words.take_next())),
+        Verb::Svc => Act::Svc(name_of(words.take_next()), letters_of(words.take_next())),
         Verb::Status => Act::Status(name_of(words.take_next())),
         Verb::Tally => Act::Tally(name_of(words.take_next())),
         Verb::Permafailon => permafailon_of(alloc, words)?,
@@ -296,7 +316,7 @@ fn act_of<A: Allocator + Copy>(
         Verb::Unsubscribe => Act::Unsubscribe(SubId(serial_of(words.take_next()))),
         Verb::Send => send_of(words),
         Verb::Mkdir => Act::MakeDir(name_of(words.take_next())),
-        Verb::Tick => Act::Tick,
+        _ => unreachable!(),
     };
     Ok(UnbuiltAct::Whole(act))
 }

@@ -19,7 +19,7 @@ pub fn ask_server<R: Net + Clock>(
     alloc: Global,
     path: &str,
     request: &[u8],
-) -> Result<(Connection, Answer), ToolFault> {
+) -> Result<(ToolConnection, Answer), ToolFault> {
     ask_within(rt, alloc, path, request, &mut Patience::of(Some(TRY_TIME)))
 }
 
@@ -30,7 +30,7 @@ pub fn ask_within<R: Net + Clock>(
     path: &str,
     request: &[u8],
     patience: &mut Patience,
-) -> Result<(Connection, Answer), ToolFault> {
+) -> Result<(ToolConnection, Answer), ToolFault> {
     for _ in 0..u64::MAX {
         match ask_once(rt, alloc, path, request) {
             Err(fault) => await_room(rt, fault, patience)?,
@@ -63,26 +63,26 @@ pub fn ask_once<R: Net>(
     alloc: Global,
     path: &str,
     request: &[u8],
-) -> Result<(Connection, Answer), ToolFault> {
-    let mut connection = Connection::open(rt, alloc, path)?;
+) -> Result<(ToolConnection, Answer), ToolFault> {
+    let mut connection = ToolConnection::open(rt, alloc, path)?;
     let answer = connection.ask(request)?;
     Ok((connection, answer))
 }
 
 /// A connection, and the bytes that came on it and aren't read yet.
 #[derive(Drop)]
-pub struct Connection {
+pub struct ToolConnection {
     reader: BufReader<UnixStream>,
     // The line that was read last; while a request is sent, the line of the request.
     line: Vec<u8>,
 }
 
-impl Connection {
+impl ToolConnection {
     /// Connects to the socket at this path. `NoServer` where there is no socket or nobody listens, `Forbidden` without permission,
     /// `LongPath` where the path is too long for a socket, `NoMemory` where memory is refused; else `Socket`.
-    pub fn open<R: Net>(rt: &R, alloc: Global, path: &str) -> Result<Connection, ToolFault> {
+    pub fn open<R: Net>(rt: &R, alloc: Global, path: &str) -> Result<ToolConnection, ToolFault> {
         let stream = UnixStream::connect(rt, path)?;
-        Ok(Connection {
+        Ok(ToolConnection {
             reader: BufReader::new(alloc, stream)?,
             line: Vec::new(alloc),
         })

@@ -1,5 +1,5 @@
 //! `follow` and `record`.
-use crate::connection::{Connection, ask_server, await_room};
+use crate::connection::{ToolConnection, ask_server, await_room};
 use crate::followed_letter::{FollowedLetter, letter_line, letter_of};
 use crate::list_command::{ListCommand, compile_list, is_among};
 use crate::misuse::Misuse;
@@ -39,7 +39,7 @@ fn follow<R: Net + Clock>(
     alloc: Global,
     socket: &str,
     command: &ListCommand,
-) -> Result<(Connection, u64), ToolFault> {
+) -> Result<(ToolConnection, u64), ToolFault> {
     let mut patience = Patience::of(None);
     for _ in 0..u64::MAX {
         match follow_once(rt, alloc, socket, command) {
@@ -55,8 +55,8 @@ fn follow_once<R: Net>(
     alloc: Global,
     socket: &str,
     command: &ListCommand,
-) -> Result<(Connection, u64), ToolFault> {
-    let mut connection = Connection::open(rt, alloc, socket)?;
+) -> Result<(ToolConnection, u64), ToolFault> {
+    let mut connection = ToolConnection::open(rt, alloc, socket)?;
     let start = connection.ask_clock()?;
     let request = follow_request(alloc, command.names.as_slice())?;
     let _done = connection.ask(request.as_slice())?;

@@ -2,7 +2,7 @@
 ghost use Rattle.std.specs.Prelude.{◌≡◌, IfOk};
 ghost use Rattle.s6_tools.specs.Listing.{listed_text};
 
-use crate::connection::{Connection, await_room};
+use crate::connection::{ToolConnection, await_room};
 use crate::json_line::json_lines;
 use crate::list_command::{ListCommand, are_there, compile_list, keep_asked};
 use crate::list_entry::ListEntry;
@@ -53,7 +53,7 @@ pub fn ask_states_once<R: Net>(
     alloc: Global,
     socket: &str,
 ) -> Result<Vec<ListEntry>, ToolFault> {
-    let mut connection = Connection::open(rt, alloc, socket)?;
+    let mut connection = ToolConnection::open(rt, alloc, socket)?;
     let start = connection.ask_clock()?;
     connection.next_line()?;
     let mut entries = connection.ask_states(alloc)?;

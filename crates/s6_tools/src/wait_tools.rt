@@ -3,7 +3,7 @@ ghost use Rattle.std.specs.Prelude.{◌≡◌};
 ghost use Rattle.s6_tools.specs.Endings.{status_of_outcome};
 
 use crate::answer::{Answer, Outcome};
-use crate::connection::{Connection, ask_once, await_room};
+use crate::connection::{ToolConnection, ask_once, await_room};
 use crate::misuse::Misuse;
 use crate::patience::Patience;
 use crate::request::wait_request;
@@ -32,7 +32,7 @@ fn subscribe<R: Net + Clock>(
     alloc: Global,
     socket: &str,
     command: &mut WaitCommand,
-) -> Result<Option<Connection>, ToolFault> {
+) -> Result<Option<ToolConnection>, ToolFault> {
     let mut patience = Patience::of_wait(command.timeout);
     for _ in 0..u64::MAX {
         command.timeout = patience.timeout_left();
@@ -48,7 +48,7 @@ fn subscribe<R: Net + Clock>(
 }
 
 // Waits until the waiter is released.
-fn await_release(connection: &mut Connection) -> Result<u8, ToolFault> {
+fn await_release(connection: &mut ToolConnection) -> Result<u8, ToolFault> {
     match connection.answer()? {
         Answer::Released(outcome) => Ok(status_of(outcome)),
         _ => Err(ToolFault::Socket),

@@ -1,6 +1,6 @@
 //! A full table: as many services as may stand are added and told to end.
 ghost use Rattle.std.specs.Prelude.{IfSome};
-ghost use Rattle.svscan_core.specs.Registry.{Fits};
+ghost use Rattle.svscan_core.specs.Registry.{IsPlanOf};
 
 use crate::tables::{control, prepare, scan, wants_services};
 use s6_events::{At, Mark, Name, Order, Sid};
@@ -63,13 +63,16 @@ fn full_table(rt: &impl Abort, alloc: Global) -> Answer<Global> {
     wanted
 }
 
-// What a step gives is what was wanted.
-fn tells(rt: &impl Abort, plan: &RegistryPlan<Global>, wanted: &Answer<Global>) {
-    assert_eq!(rt; plan.events(), wanted.events.as_slice());
-    assert_eq!(rt; plan.orders(), wanted.orders.as_slice());
-    assert_eq!(rt; plan.listed(), wanted.listed.as_slice());
-    assert_eq!(rt; (plan.dropped().is_empty(), plan.is_stale()), (true, false));
-    assert_eq!(rt; plan.timers().len(), 256);
+// What the step gives that was worked out last is what was wanted.
+fn tells(rt: &impl Abort, registry: &Registry<Global>, wanted: &Answer<Global>) {
+    assert_eq!(rt; registry.events(), wanted.events.as_slice());
+    assert_eq!(rt; registry.orders(), wanted.orders.as_slice());
+    assert_eq!(rt; registry.listed(), wanted.listed.as_slice());
+    assert_eq!(rt;
+        (registry.dropped().is_empty(), registry.is_stale()),
+        (true, false)
+    );
+    assert_eq!(rt; registry.timers().len(), 256);
 }
 
 // What was answered is what was wanted.
@@ -85,8 +88,8 @@ fn prepare_listing(
     alloc: Global,
     registry: &mut Registry<Global>,
     listing: &[Entry],
-) -> RegistryPlan<Global>
-    ensures { Fits registry.new result }
+) -> RegistryPlan
+    ensures { IsPlanOf registry.new result }
 {
     let work = ServiceWork::Listing(listing);
     let planned = prepare(rt, alloc, registry, &[], &work, At::zero());
@@ -96,7 +99,7 @@ fn prepare_listing(
 // A step that fills the table shows nothing before it is made.
 fn fill_in_a_step(rt: &impl Abort, alloc: Global, registry: &mut Registry<Global>) {
     let plan = prepare_listing(rt, alloc, registry, &too_many(rt, alloc));
-    tells(rt, &plan, &full_table(rt, alloc));
+    tells(rt, registry, &full_table(rt, alloc));
     assert_eq!(rt; registry.len(), 0);
     registry.commit(plan);
 }

@@ -3,7 +3,7 @@ ghost use Rattle.std.specs.Prelude.{◌≡◌, ℕ, ◌+◌, ◌<◌, ◌^◌, �
 ghost use Rattle.std.specs.List.{list_any};
 ghost use Rattle.supervise_core.specs.Chart.{is_due};
 ghost use Rattle.svscan_core.specs.Asked.{work_asked, IsOrderly};
-ghost use Rattle.svscan_core.specs.Registry.{Fits};
+ghost use Rattle.svscan_core.specs.Registry.{IsPlanOf};
 ghost use Rattle.svscan_core.specs.Table.{charts_of};
 ghost use Rattle.svscan_core.specs.Work.{AreDue};
 
@@ -87,9 +87,9 @@ fn prepare_orderly<A: Allocator + Copy>(
     due: &[Sid],
     work: &ServiceWork,
     now: At,
-) -> Option<RegistryPlan<A>>
+) -> Option<RegistryPlan>
     requires { (next : ℕ) → next < 1000 → IsOrderly next (work_asked work.now) }
-    ensures { IfSome result (λ plan. Fits registry.new plan) }
+    ensures { IfSome result (IsPlanOf registry.new) }
 {
     if !is_ready(registry, due, now) {
         return None;
@@ -105,8 +105,8 @@ pub fn prepare<A: Allocator + Copy>(
     due: &[Sid],
     work: &ServiceWork,
     now: At,
-) -> Option<RegistryPlan<A>>
-    ensures { IfSome result (λ plan. Fits registry.new plan) }
+) -> Option<RegistryPlan>
+    ensures { IfSome result (IsPlanOf registry.new) }
 {
     let is_orderly = is_orderly(alloc, work).expect(rt, "memory");
     assert!(rt; is_orderly);

@@ -42,7 +42,7 @@ pub use requests::{Request, read_request};
 pub use roster::{Ending, Member, Roster};
 pub use row_cache::RowCache;
 pub use serve_fault::{ServeFault, tell_serve_fault};
-pub use service_state::{ServiceState, state_of};
+pub use service_state::{StateWord, state_of};
 pub use socket_rules::{FileIdentity, says_abandoned};
 pub use standing::{Admission, SUBSCRIPTION_LIMIT, Standing, StandingChange, WAITER_LIMIT};
 pub use status::Subject;

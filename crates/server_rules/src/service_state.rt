@@ -7,7 +7,7 @@ use supervise_core::Row;
 
 /// The state of a service. The words are this program's own, not those of s6.
 #[derive(Clone, Copy, Debug, PartialEq, Eq)]
-pub enum ServiceState {
+pub enum StateWord {
     /// `paused`: it is up, and was stopped by SIGSTOP.
     Paused,
     /// `ready`: it is up, and has said that it is ready.
@@ -31,57 +31,57 @@ pub enum ServiceState {
 }
 
 // The state of a service that is up.
-fn up_state(row: &Row) -> ServiceState
+fn up_state(row: &Row) -> StateWord
     ensures { result ≡ up_state row.now.paused row.now.ready }
 {
     if row.paused {
-        ServiceState::Paused
+        StateWord::Paused
     } else if row.ready {
-        ServiceState::Ready
+        StateWord::Ready
     } else {
-        ServiceState::Up
+        StateWord::Up
     }
 }
 
 // The state of a service that stays down.
-fn stays_down(ending: Option<Ending>) -> ServiceState
+fn stays_down(ending: Option<Ending>) -> StateWord
     ensures { result ≡ stays_down ending }
 {
     match ending {
-        Some(Ending::Failed) => ServiceState::Failed,
-        _ => ServiceState::Down,
+        Some(Ending::Failed) => StateWord::Failed,
+        _ => StateWord::Down,
     }
 }
 
 // The state of a service whose supervisor is there.
-fn supervised_state(ending: Option<Ending>, row: &Row) -> ServiceState
+fn supervised_state(ending: Option<Ending>, row: &Row) -> StateWord
     ensures { result ≡ supervised_state ending row.now }
 {
     if row.up {
         up_state(row)
     } else if !row.ready && row.exit.is_some() {
-        ServiceState::Finishing
+        StateWord::Finishing
     } else if !row.wanted_up {
         stays_down(ending)
     } else if row.exit.is_some() {
-        ServiceState::Restarting
+        StateWord::Restarting
     } else {
-        ServiceState::Starting
+        StateWord::Starting
     }
 }
 
 // The state after a failed start: instead of `starting` or `restarting` it is `startfailed`.
-fn state_after_failed_start(state: ServiceState) -> ServiceState
+fn state_after_failed_start(state: StateWord) -> StateWord
     ensures { result ≡ state_after_failed_start state }
 {
     match state {
-        ServiceState::Starting | ServiceState::Restarting => ServiceState::StartFailed,
+        StateWord::Starting | StateWord::Restarting => StateWord::StartFailed,
         _ => state,
     }
 }
 
 // The state of a service whose supervisor is there.
-fn started_state(start_failed: bool, state: ServiceState) -> ServiceState
+fn started_state(start_failed: bool, state: StateWord) -> StateWord
     ensures { result ≡ started_state start_failed state }
 {
     if start_failed {
@@ -93,31 +93,31 @@ fn started_state(start_failed: bool, state: ServiceState) -> ServiceState
 
 /// The state of a service, by what its letters say of its end, by whether its start failed since the last of them, and by its row. Page
 /// `s6-svstat` for the row.
-pub fn state_of(ending: Option<Ending>, start_failed: bool, row: &Row) -> ServiceState
+pub fn state_of(ending: Option<Ending>, start_failed: bool, row: &Row) -> StateWord
     ensures { result ≡ state_of ending start_failed row.now }
 {
     match ending {
-        Some(Ending::Gone) => ServiceState::Gone,
+        Some(Ending::Gone) => StateWord::Gone,
         _ => started_state(start_failed, supervised_state(ending, row)),
     }
 }
 
-impl ServiceState {
+impl StateWord {
     /// Its word.
     pub fn word(self) -> &'static [u8]
         ensures { result.now ≡ state_word self }
     {
         match self {
-            ServiceState::Paused => b"paused",
-            ServiceState::Ready => b"ready",
-            ServiceState::Up => b"up",
-            ServiceState::Finishing => b"finishing",
-            ServiceState::Starting => b"starting",
-            ServiceState::StartFailed => b"startfailed",
-            ServiceState::Restarting => b"restarting",
-            ServiceState::Down => b"down",
-            ServiceState::Failed => b"failed",
-            ServiceState::Gone => b"gone",
+            StateWord::Paused => b"paused",
+            StateWord::Ready => b"ready",
+            StateWord::Up => b"up",
+            StateWord::Finishing => b"finishing",
+            StateWord::Starting => b"starting",
+            StateWord::StartFailed => b"startfailed",
+            StateWord::Restarting => b"restarting",
+            StateWord::Down => b"down",
+            StateWord::Failed => b"failed",
+            StateWord::Gone => b"gone",
         }
     }
 }

@@ -19,7 +19,7 @@ pub enum Task {
 }
 
 #[derive(Drop)]
-struct Desk {
+struct DeskState {
     is_asked: bool,
     found: Option<ReadScan>,
     closed: Option<Run>,
@@ -29,7 +29,7 @@ struct Desk {
 /// Where the driver asks for a listing, and another thread leaves what it read of the directory, while the tree goes on.
 #[derive(Drop)]
 pub struct ScanDesk {
-    desk: Mutex<Desk>,
+    desk: Mutex<DeskState>,
     changed: Condvar,
 }
 
@@ -37,7 +37,7 @@ impl ScanDesk {
     /// Nothing is asked for.
     pub fn new() -> ScanDesk {
         ScanDesk {
-            desk: Mutex::new(Desk {
+            desk: Mutex::new(DeskState {
                 is_asked: false,
                 found: None,
                 closed: None,

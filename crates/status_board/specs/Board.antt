@@ -1,5 +1,5 @@
 -- Lists of published shots, oldest first.
-use Rattle.std.specs.Prelude.{ℕ, ◌≤◌, Bool, true, false, List, [], ◌∷◌, Option, Some, None, length, nat_le, if◌then◌else◌}
+use Rattle.std.specs.Prelude.{ℕ, ◌≤◌, List, [], ◌∷◌, Option, Some, None, length, nat_le, if◌then◌else◌}
 use Rattle.status_board.specs.declared.shot.Shot.{Shot}
 
 abbrev pub last_or : Option Shot → List Shot → Option Shot
@@ -9,11 +9,6 @@ last_or other (shot ∷ shots) = last_or (Some shot) shots
 -- the shot that was published last
 abbrev pub last_shot : List Shot → Option Shot
 last_shot shots = last_or None shots
-
--- the shot, if it is there
-abbrev pub shown_shot : Bool → Shot → Option Shot
-shown_shot true shot = Some shot
-shown_shot false shot = None
 
 -- what a reader that knows some shots gets where others are shown: the last one shown, unless fewer are shown than it knows
 abbrev pub shot_unless_older : List Shot → List Shot → Option Shot

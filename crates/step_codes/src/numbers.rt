@@ -1,6 +1,7 @@
 //! Numbers.
-ghost use Rattle.std.specs.Prelude.{◌≡◌, ◌<◌, ◌^◌, ◌++◌, ◌∷◌, List, ℕ, OnOk};
+ghost use Rattle.std.specs.Prelude.{◌≡◌, ◌<◌, ◌≤◌, ◌^◌, ◌++◌, ◌∷◌, List, ℕ, OnOk};
 ghost use Rattle.step_codes.specs.Adding.{Adds};
+ghost use Rattle.step_codes.specs.NumberCodes.{number_onto};
 
 use crate::coded::{Code, Coded};
 use byteorder::{ByteOrder, LittleEndian};
@@ -15,6 +16,23 @@ fn push_behind(code: &mut Vec<u8>, first: u8, bytes: &[u8]) -> Result<(), AllocE
     Ok(())
 }
 
+// Adds a number that is more than one byte: a byte that tells its size, and its bytes. It stands apart, since most numbers are small.
+#[inline(never)]
+fn push_wide(code: &mut Vec<u8>, number: u64) -> Result<(), AllocError>
+    requires { 251 ≤ number }
+    ensures { OnOk result (Adds code.old.items code.new.items (number_onto number)) }
+{
+    if number < 0x1_0000_0000 {
+        let mut bytes = [0; 4];
+        LittleEndian::write_u32(&mut bytes, number as u32);
+        push_behind(code, 251, &bytes)
+    } else {
+        let mut bytes = [0; 8];
+        LittleEndian::write_u64(&mut bytes, number);
+        push_behind(code, 252, &bytes)
+    }
+}
+
 impl Coded for u64 {
     ghost use Rattle.std.specs.Prelude.{◌<◌, ◌^◌};
     ghost use Rattle.step_codes.specs.NumberCodes.{number_onto};
@@ -23,18 +41,13 @@ impl Coded for u64 {
 
     ghost fits = { λ n. n < 2 ^ 64 };
 
+    #[inline(always)]
     fn push(&self, code: &mut Vec<u8>) -> Result<(), AllocError> {
         let number = *self;
         if number < 251 {
             (number as u8).push(code)
-        } else if number < 0x1_0000_0000 {
-            let mut bytes = [0; 4];
-            LittleEndian::write_u32(&mut bytes, number as u32);
-            push_behind(code, 251, &bytes)
         } else {
-            let mut bytes = [0; 8];
-            LittleEndian::write_u64(&mut bytes, number);
-            push_behind(code, 252, &bytes)
+            push_wide(code, number)
         }
     }
 

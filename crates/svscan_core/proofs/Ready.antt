@@ -1,11 +1,10 @@
 -- A step that was worked out, and the places for it.
-use Rattle.std.proofs.Common.{rules, ◌≡◌, ◌∙◌, ℕ, List, sym, ap, subst}
-use Rattle.std.specs.Prelude.{Result, Ok, Err, OnOk, IsOk}
+use Rattle.std.proofs.Common.{◌≡◌, ◌≤◌, ◌∙◌, ℕ, List, length, sym, ap, subst}
 use Rattle.supervise_core.specs.Service.{Supervised}
 use Rattle.svscan_core.specs.declared.pending.Pending.{Pending}
-use Rattle.svscan_core.specs.Moving.{with_changes}
+use Rattle.svscan_core.specs.Moving.{with_changes, KeepNames}
 use Rattle.svscan_core.specs.Pending.{planned_of, IsBlank}
-use Rattle.svscan_core.specs.Registry.{RegistryPrepared, registry_prepared, result_of, idle_of, IsSoundTable}
+use Rattle.svscan_core.specs.Registry.{Fits, PlannedStep, RegistryPrepared, RegistryView, registry_prepared, result_of, idle_of, IsSoundTable}
 use Rattle.svscan_core.specs.Sound.{IsSound}
 use Rattle.svscan_core.specs.Table.{charts_of}
 use Rattle.supervise_core.specs.declared.change.Change.{Change}
@@ -17,10 +16,6 @@ use Rattle.svscan_core.proofs.Few.{step_few, work_few}
 use Rattle.svscan_core.proofs.Names.{step_names, work_names}
 use Rattle.svscan_core.proofs.SerialsRise.{step_numbers, work_numbers}
 use Rattle.svscan_core.proofs.Working.{nothing_dropped}
-
-pub on_ok : {X E : Type 0} (r : Result X E) (P : Type 0) → OnOk r P → IsOk r → P
-on_ok (Ok x) P h ok = h
-on_ok (Err e) P h ok = search rules
 
 -- a step leaves a sound table
 pub sound_step : (p : RegistryPrepared) (work : Work) (now next : ℕ) (services : List Supervised) → IsSound next (charts_of services)
@@ -42,6 +37,15 @@ sound_work p work now next services s e =
       names = work_names work now (charts_of services) next s.names;
       order = work_numbers work now (charts_of services) next s.order;
     })
+
+-- a step that was worked out on these services fits a registry that shows them
+pub fits_as : (r : RegistryView) (p : PlannedStep) (services : List Supervised) → r.shown.services ≡ services → KeepNames services p.touched
+    → length p.added ≤ r.room → IsSoundTable (registry_prepared services p) → Fits r p
+fits_as r p services is names room sound = record {
+  names = subst (λ (ss : List Supervised). KeepNames ss p.touched) (sym is) names;
+  room = room;
+  sound = subst (λ (ss : List Supervised). IsSoundTable (registry_prepared ss p)) (sym is) sound;
+}
 
 -- a step that is not begun leaves the table
 pub blank_idle : {A : Type 0} (services : List Supervised) (next : ℕ) (p : Pending A) → IsBlank next p

@@ -18,5 +18,4 @@ pub mod Adding
 pub mod Asked
 pub mod Registry
 pub mod Pending
-pub mod PlanFields
 pub mod RegistryFields

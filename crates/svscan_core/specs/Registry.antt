@@ -1,5 +1,5 @@
 -- What a contract sees of a registry, and of a step that it worked out.
-use Rattle.std.specs.Prelude.{◌≤◌, ℕ, List, [], Bool, false, length}
+use Rattle.std.specs.Prelude.{◌≡◌, ◌≤◌, ℕ, List, [], Bool, false, length}
 use Rattle.deadlines.specs.declared.timer.TimerChange.{TimerChange}
 use Rattle.s6_events.specs.declared.order.Order.{Order}
 use Rattle.supervise_core.specs.Service.{Supervised}
@@ -11,11 +11,6 @@ use Rattle.svscan_core.specs.Scanning.{prepared_services}
 use Rattle.svscan_core.specs.Sound.{IsSound}
 use Rattle.svscan_core.specs.Table.{Table, charts_of}
 use Rattle.svscan_core.specs.Work.{WorkResult}
-
--- what it shows, and how many more services can be added without more memory
-pub record RegistryView : Type 0 where
-  pub shown : Table
-  pub room : ℕ
 
 -- a step that is worked out: the services that it changes, those that it drops and adds, and what it gives
 pub record PlannedStep : Type 0 where
@@ -29,6 +24,13 @@ pub record PlannedStep : Type 0 where
   pub dropped : List ℕ
   pub listed : List Listed
   pub timers : List TimerChange
+
+-- what it shows, how many more services can be added without more memory, the step that was worked out last, and the number of its plan
+pub record RegistryView : Type 0 where
+  pub shown : Table
+  pub room : ℕ
+  pub planned : PlannedStep
+  pub number : ℕ
 
 -- what a commit would leave, what is answered, and what it does to the timers
 pub record RegistryPrepared : Type 0 where
@@ -93,3 +95,8 @@ pub record Fits (r : RegistryView) (plan : PlannedStep) : Type 0 where
   pub names : KeepNames r.shown.services plan.touched
   pub room : length plan.added ≤ r.room
   pub sound : IsSoundTable (registry_prepared r.shown.services plan)
+
+-- the plan is that of the step that was worked out last, and this can be made
+pub record IsPlanOf (r : RegistryView) (plan : ℕ) : Type 0 where
+  pub number : plan ≡ r.number
+  pub fits : Fits r r.planned

@@ -14,8 +14,7 @@ ghost use Rattle.svscan_core.specs.Limits.{order_limit, service_limit};
 ghost use Rattle.svscan_core.specs.Listing.{names_in};
 ghost use Rattle.svscan_core.specs.Names.{repeats_name};
 ghost use Rattle.svscan_core.specs.Scan.{after_scan, dropped_by};
-ghost use Rattle.svscan_core.specs.Pending.{planned_of};
-ghost use Rattle.svscan_core.specs.Registry.{registry_prepared, table_of, result_of, idle_of, Fits};
+ghost use Rattle.svscan_core.specs.Registry.{registry_prepared, table_of, result_of, idle_of, IsPlanOf};
 ghost use Rattle.svscan_core.specs.Sound.{AllAgree, IsSound};
 ghost use Rattle.svscan_core.specs.Table.{new_table, charts_of};
 ghost use Rattle.svscan_core.specs.Timers.{TimersAgree};
@@ -23,27 +22,32 @@ ghost use Rattle.svscan_core.specs.Work.{AreDue, change_move_at, command_move, s
 ghost use Rattle.svscan_core.specs.Work.Work.{do_nothing};
 
 use super::commit::commit_changes;
-use super::entry::{Entry, ScanOrder};
+use super::entry::{Entry, Listed, ScanOrder};
+use super::event::Event;
 use super::image::{RegistryImage, images_of};
 use super::pending::Pending;
 use super::plan::{Answer, RegistryPlan};
 use super::slots::Slots;
 use super::table::{self, find_sid, nth_sid};
 use super::work::ServiceWork;
-use s6_events::{At, Name, NoMemory, Sid};
+use deadlines::TimerChange;
+use s6_events::{At, Name, NoMemory, Order, Sid};
 use std::alloc::Allocator;
 use std::marker::Model;
 use supervise_core::{Change, Out, Service, ServiceState};
 
 /// The services of a scan directory, at most `SERVICE_LIMIT`, in rising serial. A step is worked out first (`prepare`), which changes
 /// nothing that is shown, and then made (`commit`), which takes no memory; or one thing alone is done at once (`scan`, `control`,
-/// `change`). The memory in which a step is worked out is kept from step to step. Page `s6-svscan`.
+/// `change`). The step that was worked out last lies in the registry, in memory that is kept from step to step. Page `s6-svscan`.
 #[derive(Drop)]
 pub struct Registry<A: Allocator> {
     slots: Slots<A>,
     next_sid: u64,
-    // Kept for their memory: the next step is worked out in the one, and a change of one service gives its marks and orders in the other.
-    spare: Pending<A>,
+    // The step that was worked out last.
+    pending: Pending<A>,
+    // Counts the steps that were worked out, modulo 2^64. The plan of the last one has this as its number.
+    number: u64,
+    // Kept for its memory: a change of one service gives its marks and orders there.
     out: Out,
 }
 
@@ -59,33 +63,6 @@ impl<A: Allocator> Model for Registry<A> {
     ghost invariant = { IsSoundRegistry };
 }
 
-// Makes room for the services that the step in `spare` adds, and takes that step out as a plan. Where memory was refused, in `attempt`
-// or for that room, `spare` is emptied.
-fn settle<A: Allocator + Copy>(
-    slots: &mut Slots<A>,
-    spare: &mut Pending<A>,
-    next_sid: u64,
-    attempt: Result<(), NoMemory>,
-) -> Result<RegistryPlan<A>, NoMemory>
-    requires { OnOk attempt (length spare.old.moves.orders.items ≤ order_limit) }
-    ensures services { slots.new.services ≡ slots.old.services }
-    ensures ok { OnOk result (IsOk attempt) }
-    ensures same { IfOk result (λ plan. plan ≡ planned_of spare.old) }
-    ensures room { OnOk result (length spare.old.scan.added.items ≤ slots.new.room) }
-    ensures quiet { IsOk attempt → spare.old.scan.added.items ≡ [] → IsOk result }
-{
-    if let Err(refused) = attempt {
-        spare.clear(next_sid);
-        return Err(refused);
-    }
-    if let Err(refused) = slots.reserve(spare.scan.added.len()) {
-        spare.clear(next_sid);
-        return Err(refused);
-    }
-    let blank = Pending::new(slots.allocator(), next_sid);
-    Ok(RegistryPlan::of(std::mem::replace(spare, blank)))
-}
-
 impl<A: Allocator + Copy> Registry<A> {
     /// A registry with no service; the first one gets the serial 1.
     pub fn new(alloc: A) -> Registry<A>
@@ -94,7 +71,8 @@ impl<A: Allocator + Copy> Registry<A> {
         Registry {
             slots: Slots::new(alloc),
             next_sid: 1,
-            spare: Pending::new(alloc, 1),
+            pending: Pending::new(alloc, 1),
+            number: 0,
             out: Out::new(),
         }
     }
@@ -217,57 +195,117 @@ impl<A: Allocator + Copy> Registry<A> {
     }
 
     /// Works out a step: each service whose timer is due takes its rule, and then the work is done. `due` has the serials of the
-    /// services whose timers are due. Nothing that is shown changes, and the plan fits the registry until something shown does.
-    /// `NoMemory` where memory is refused; never where no timer is due and no work is asked.
+    /// services whose timers are due. Nothing that is shown changes; the step that was worked out before is forgotten. `commit` makes this
+    /// one, unless something that is shown has changed since. `NoMemory` where memory is refused; never where no timer is due and no work
+    /// is asked.
     pub fn prepare(
         &mut self,
         due: &[Sid],
         work: &ServiceWork,
         now: At,
-    ) -> Result<RegistryPlan<A>, NoMemory>
+    ) -> Result<RegistryPlan, NoMemory>
         requires due { AreDue due.now now (charts_of self.old.shown.services) }
         requires listing { IsOrderly self.old.shown.next_sid (work_asked work.now) }
         requires generations { All (λ c. c.generation + 2 < 2 ^ 64)
             (charts_of self.old.shown.services) }
         ensures shown { self.new.shown ≡ self.old.shown }
-        ensures fits { IfOk result (λ plan. Fits self.new plan) }
-        ensures prepared { IfOk result
-            (λ plan. result_of (registry_prepared self.new.shown.services plan)
+        ensures fits { IfOk result (λ plan. IsPlanOf self.new plan) }
+        ensures few { OnOk result (length self.new.planned.orders ≤ order_limit) }
+        ensures prepared { OnOk result
+            (result_of (registry_prepared self.new.shown.services self.new.planned)
             ≡ step_result (work_asked work.now) now
             (charts_of self.old.shown.services) self.old.shown.next_sid) }
-        ensures agrees { IfOk result (λ plan. (history : List Moment) → clock_of history ≡ now
+        ensures agrees { OnOk result ((history : List Moment) → clock_of history ≡ now
             → AllAgree self.old.shown.services history
-            → AllAgree (registry_prepared self.new.shown.services plan).services
-            (history ++ map moment_of plan.events)) }
-        ensures tallies { IfOk result (λ plan. KeepTallied self.old.shown.next_sid
-            self.old.shown.services (registry_prepared self.new.shown.services plan).services
+            → AllAgree (registry_prepared self.new.shown.services self.new.planned).services
+            (history ++ map moment_of self.new.planned.events)) }
+        ensures tallies { OnOk result (KeepTallied self.old.shown.next_sid
+            self.old.shown.services (registry_prepared self.new.shown.services self.new.planned).services
             (deaths_given (work_asked work.now) now
             (services_after (fire_move now) (charts_of self.old.shown.services)))) }
-        ensures timers { IfOk result (λ plan. (timers : List Timer)
+        ensures timers { OnOk result ((timers : List Timer)
             → TimersAgree timers (charts_of self.old.shown.services)
-            → TimersAgree (with_timer_changes plan.timers timers)
-            (charts_of (registry_prepared self.new.shown.services plan).services)) }
+            → TimersAgree (with_timer_changes self.new.planned.timers timers)
+            (charts_of (registry_prepared self.new.shown.services self.new.planned).services)) }
         ensures quiet { due.now ≡ [] → work_asked work.now ≡ do_nothing → IsOk result }
         ensures still { due.now ≡ [] → work_asked work.now ≡ do_nothing
-            → IfOk result (λ plan. registry_prepared self.new.shown.services plan
+            → OnOk result (registry_prepared self.new.shown.services self.new.planned
             ≡ idle_of self.new.shown) }
     {
         let out = &mut self.out;
-        let worked = self
-            .spare
-            .work_out(&self.slots, self.next_sid, due, work, now, out);
-        let plan = settle(&mut self.slots, &mut self.spare, self.next_sid, worked)?;
-        Ok(plan)
+        self.pending
+            .work_out(&self.slots, self.next_sid, due, work, now, out)?;
+        self.slots.reserve(self.pending.scan.added.len())?;
+        self.number = self.number.wrapping_add(1);
+        Ok(RegistryPlan::of(self.number))
     }
 
-    /// Makes a step that this registry worked out; nothing that is shown has changed since. It takes no memory, and keeps that of
-    /// the plan for the next step.
-    pub fn commit(&mut self, plan: RegistryPlan<A>)
-        requires { Fits self.old plan }
-        ensures { self.new.shown ≡ table_of (registry_prepared self.old.shown.services plan) }
+    /// The marks that the step gives that was worked out last, in the order made.
+    pub fn events(&self) -> &[Event]
+        ensures { result.now ≡ self.now.planned.events }
     {
-        let mut pending = plan.into_pending();
-        let Pending { moves, scan, .. } = &mut pending;
+        self.pending.moves.events.as_slice()
+    }
+
+    /// The orders that this step gives, in the order made.
+    pub fn orders(&self) -> &[Order]
+        ensures { result.now ≡ self.now.planned.orders }
+    {
+        self.pending.moves.orders.as_slice()
+    }
+
+    /// Whether this step is a report that was stale.
+    pub fn is_stale(&self) -> bool
+        ensures { result ≡ self.now.planned.stale }
+    {
+        self.pending.stale
+    }
+
+    /// The serials of the services that a commit of this step will drop, which rise.
+    pub fn dropped(&self) -> &[Sid]
+        ensures { result.now ≡ self.now.planned.dropped }
+    {
+        self.pending.scan.dropped_sids.as_slice()
+    }
+
+    /// What becomes of each listed name for which no service stood, in the order of the names' bytes.
+    pub fn listed(&self) -> &[Listed]
+        ensures { result.now ≡ self.now.planned.listed }
+    {
+        self.pending.scan.listed.as_slice()
+    }
+
+    /// What a commit of this step does to the timers: deadlines that agree with the services before it agree with those after it, once
+    /// these changes are made.
+    pub fn timers(&self) -> &[TimerChange]
+        ensures { result.now ≡ self.now.planned.timers }
+    {
+        self.pending.timers.as_slice()
+    }
+
+    // What this step gives, copied. `NoMemory` where memory for that is refused.
+    fn answer(&self, alloc: A) -> Result<Answer<A>, NoMemory>
+        ensures events { IfOk result (λ answer. answer.events.items ≡ self.now.planned.events) }
+        ensures orders { IfOk result (λ answer. answer.orders.items ≡ self.now.planned.orders) }
+        ensures dropped { IfOk result (λ answer. answer.dropped.items ≡ self.now.planned.dropped) }
+        ensures listed { IfOk result (λ answer. answer.listed.items ≡ self.now.planned.listed) }
+    {
+        Ok(Answer {
+            events: self.events().to_vec(alloc)?,
+            orders: self.orders().to_vec(alloc)?,
+            dropped: self.dropped().to_vec(alloc)?,
+            listed: self.listed().to_vec(alloc)?,
+        })
+    }
+
+    /// Makes the step that was worked out last, whose plan this is; nothing that is shown has changed since. It takes no memory.
+    pub fn commit(&mut self, plan: RegistryPlan)
+        requires { IsPlanOf self.old plan }
+        ensures { self.new.shown
+            ≡ table_of (registry_prepared self.old.shown.services self.old.planned) }
+    {
+        let RegistryPlan { number: _ } = plan;
+        let Pending { moves, scan, .. } = &mut self.pending;
         commit_changes(
             &mut self.slots,
             moves.touched.as_slice(),
@@ -275,42 +313,33 @@ impl<A: Allocator + Copy> Registry<A> {
             &mut scan.added,
         );
         self.next_sid = scan.next_sid;
-        self.keep(pending);
-    }
-
-    // Keeps the memory of this step for the next one.
-    fn keep(&mut self, pending: Pending<A>)
-        ensures { self.new ≡ self.old }
-    {
-        self.spare = pending;
-        self.spare.clear(self.next_sid);
     }
 
     // Works out the work alone: no timer goes off.
-    fn prepare_alone(&mut self, work: &ServiceWork, now: At) -> Result<RegistryPlan<A>, NoMemory>
+    fn prepare_alone(&mut self, work: &ServiceWork, now: At) -> Result<RegistryPlan, NoMemory>
         requires listing { IsOrderly self.old.shown.next_sid (work_asked work.now) }
         requires generations { All (λ c. c.generation + 1 < 2 ^ 64)
             (charts_of self.old.shown.services) }
         ensures shown { self.new.shown ≡ self.old.shown }
-        ensures fits { IfOk result (λ plan. Fits self.new plan) }
-        ensures prepared { IfOk result
-            (λ plan. result_of (registry_prepared self.new.shown.services plan)
+        ensures fits { IfOk result (λ plan. IsPlanOf self.new plan) }
+        ensures prepared { OnOk result
+            (result_of (registry_prepared self.new.shown.services self.new.planned)
             ≡ work_result (work_asked work.now) now
             (charts_of self.old.shown.services) self.old.shown.next_sid) }
-        ensures agrees { IfOk result (λ plan. (history : List Moment) → clock_of history ≡ now
+        ensures agrees { OnOk result ((history : List Moment) → clock_of history ≡ now
             → AllAgree self.old.shown.services history
-            → AllAgree (registry_prepared self.new.shown.services plan).services
-            (history ++ map moment_of plan.events)) }
-        ensures tallies { IfOk result (λ plan. KeepTallied self.old.shown.next_sid
-            self.old.shown.services (registry_prepared self.new.shown.services plan).services
+            → AllAgree (registry_prepared self.new.shown.services self.new.planned).services
+            (history ++ map moment_of self.new.planned.events)) }
+        ensures tallies { OnOk result (KeepTallied self.old.shown.next_sid
+            self.old.shown.services (registry_prepared self.new.shown.services self.new.planned).services
             (deaths_given (work_asked work.now) now (charts_of self.old.shown.services))) }
     {
         let out = &mut self.out;
-        let worked = self
-            .spare
-            .work_alone(&self.slots, self.next_sid, work, now, out);
-        let plan = settle(&mut self.slots, &mut self.spare, self.next_sid, worked)?;
-        Ok(plan)
+        self.pending
+            .work_alone(&self.slots, self.next_sid, work, now, out)?;
+        self.slots.reserve(self.pending.scan.added.len())?;
+        self.number = self.number.wrapping_add(1);
+        Ok(RegistryPlan::of(self.number))
     }
 
     // Does the work at once.
@@ -351,16 +380,9 @@ impl<A: Allocator + Copy> Registry<A> {
         ensures unchanged { OnErr result (self.new.shown ≡ self.old.shown) }
     {
         let plan = self.prepare_alone(work, now)?;
-        match plan.answer(self.slots.allocator()) {
-            Ok(answer) => {
-                self.commit(plan);
-                Ok(answer)
-            }
-            Err(refused) => {
-                self.keep(plan.into_pending());
-                Err(refused)
-            }
-        }
+        let answer = self.answer(self.slots.allocator())?;
+        self.commit(plan);
+        Ok(answer)
     }
 
     /// Takes a listing of the scan directory, at once. Each service whose name is listed becomes active and takes the configuration

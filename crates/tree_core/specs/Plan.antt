@@ -16,6 +16,7 @@ use Rattle.svscan_core.specs.Sound.{AllAgree, IsNumbered}
 use Rattle.svscan_core.specs.Table.{charts_of}
 use Rattle.tree_core.specs.declared.effect.Effect.{Effect}
 use Rattle.tree_core.specs.declared.input.Act.{Act}
+use Rattle.tree_core.specs.declared.input.Act.TheVariants.{Started, StartFailed, Notify, Death, FinishEnded}
 use Rattle.tree_core.specs.declared.input.Act.TheVariants.{Status, Permafailon, Tick}
 use Rattle.tree_core.specs.declared.input.Input.{Input}
 use Rattle.tree_core.specs.declared.step.StepPlan.{StepPlan}
@@ -107,6 +108,16 @@ is_reading (Status name) = true
 is_reading (Permafailon name seconds count items) = true
 is_reading Tick = true
 is_reading act = false
+
+-- the act is asked for: it is no report, and not the clock alone
+abbrev pub is_request : {A : Type 0} → Act A → Bool
+is_request (Started sid generation pid) = false
+is_request (StartFailed sid generation) = false
+is_request (Notify sid generation bytes) = false
+is_request (Death sid generation exit) = false
+is_request (FinishEnded sid generation exit) = false
+is_request Tick = false
+is_request act = true
 
 -- an act that only reads, at a moment that isn't later than the clock, while no timer is due
 pub record IsQuiet {A : Type 0} (input : Input A) (clock : ℕ) (services : List ChartState) : Type 0 where

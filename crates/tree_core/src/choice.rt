@@ -1,5 +1,5 @@
 //! What an act asks of the services, the waiters and the event directories. Why it may be refused is in `refusals.rt`.
-ghost use Rattle.std.specs.Prelude.{◌≡◌, ◌+◌, ◌<◌, ◌^◌, List, All, IfOk, IsOk, true};
+ghost use Rattle.std.specs.Prelude.{◌≡◌, ◌+◌, ◌<◌, ◌^◌, List, All, IfOk, IsOk, OnOk, true};
 ghost use Rattle.event_directory.specs.Changes.{directory_request_of};
 ghost use Rattle.s6_events.specs.declared.moment.Moment.{Moment};
 ghost use Rattle.svscan_core.specs.Asked.{work_asked, IsOrderly};
@@ -9,7 +9,7 @@ ghost use Rattle.wait_conditions.specs.Steps.{wait_request_of};
 ghost use Rattle.tree_core.specs.Limits.{service_limit};
 ghost use Rattle.tree_core.specs.Machine.{Machine};
 ghost use Rattle.tree_core.specs.Choices.{chosen_of, chosen_work, chosen_change, chosen_ask, AsksNothing};
-ghost use Rattle.tree_core.specs.Plan.{Chooses, HasFired, is_reading};
+ghost use Rattle.tree_core.specs.Plan.{Chooses, HasFired, is_reading, is_request};
 
 use super::input::Act;
 use super::limits::NAME_LIMIT;
@@ -43,56 +43,59 @@ pub enum Choice<'a> {
     Unsubscribe(SubId),
 }
 
-/// What a step asks of the services, of the waiters and of the event directories, and whether the tree is closing after it.
-#[derive(Clone, Copy)]
-pub struct Requests<'a> {
-    pub services: ServiceWork<'a>,
-    pub waiters: WaitChange<'a>,
-    pub directories: DirectoryChange<'a>,
-    pub closing: bool,
-}
-
 impl Choice<'_> {
-    /// What the choice asks of each part at this moment, where the tree is closing or not.
-    pub fn requests(&self, now: At, closing: bool) -> Requests<'_>
-        ensures services { work_asked result.services ≡ chosen_work (chosen_of self.now) }
-        ensures waiters { wait_request_of result.waiters ≡ chosen_change now (chosen_of self.now) }
-        ensures directories { directory_request_of result.directories
-            ≡ chosen_ask (chosen_of self.now) }
-        ensures closing { result.closing
-            ≡ closing_after (chosen_work (chosen_of self.now)) closing }
+    /// What is asked of the services.
+    pub fn services(&self) -> ServiceWork<'_>
+        ensures { work_asked result ≡ chosen_work (chosen_of self.now) }
     {
-        let mut asked = Requests {
-            services: ServiceWork::Nothing,
-            waiters: WaitChange::Nothing,
-            directories: DirectoryChange::Nothing,
-            closing,
-        };
         match self {
-            Choice::Report(sid, change) => asked.services = ServiceWork::Change(*sid, change),
-            Choice::Letters(sid, change) => asked.services = ServiceWork::Change(*sid, change),
-            Choice::Listing(listing) => asked.services = ServiceWork::Listing(listing),
-            Choice::Command(order) => {
-                asked.services = ServiceWork::Command(*order);
-                asked.closing = closing_after(*order, closing);
-            }
-            Choice::Wait(condition, mode, timeout, sids) => {
-                asked.waiters = WaitChange::Add(*condition, *mode, sids.as_slice(), *timeout, now);
-            }
-            Choice::Cancel(id) => asked.waiters = WaitChange::Cancel(*id),
-            Choice::MakeDirectory(name) => asked.directories = DirectoryChange::Make(*name),
-            Choice::Send(name, message) => asked.directories = DirectoryChange::Send(
-                *name, message,
-            ),
-            Choice::Subscribe(source) => asked.directories = DirectoryChange::Subscribe(*source),
-            Choice::Unsubscribe(id) => asked.directories = DirectoryChange::Unsubscribe(*id),
-            _ => {}
+            Choice::Report(sid, change) => ServiceWork::Change(*sid, change),
+            Choice::Letters(sid, change) => ServiceWork::Change(*sid, change),
+            Choice::Listing(listing) => ServiceWork::Listing(listing),
+            Choice::Command(order) => ServiceWork::Command(*order),
+            _ => ServiceWork::Nothing,
         }
-        asked
+    }
+
+    /// What is asked of the waiters at this moment.
+    pub fn waiters(&self, now: At) -> WaitChange<'_>
+        ensures { wait_request_of result ≡ chosen_change now (chosen_of self.now) }
+    {
+        match self {
+            Choice::Wait(condition, mode, timeout, sids) => {
+                WaitChange::Add(*condition, *mode, sids.as_slice(), *timeout, now)
+            }
+            Choice::Cancel(id) => WaitChange::Cancel(*id),
+            _ => WaitChange::Nothing,
+        }
+    }
+
+    /// What is asked of the event directories.
+    pub fn directories(&self) -> DirectoryChange<'_>
+        ensures { directory_request_of result ≡ chosen_ask (chosen_of self.now) }
+    {
+        match self {
+            Choice::MakeDirectory(name) => DirectoryChange::Make(*name),
+            Choice::Send(name, message) => DirectoryChange::Send(*name, message),
+            Choice::Subscribe(source) => DirectoryChange::Subscribe(*source),
+            Choice::Unsubscribe(id) => DirectoryChange::Unsubscribe(*id),
+            _ => DirectoryChange::Nothing,
+        }
+    }
+
+    /// Whether the tree is closing after it, where it was closing before or not.
+    pub fn closing(&self, closing: bool) -> bool
+        ensures { result ≡ closing_after (chosen_work (chosen_of self.now)) closing }
+    {
+        match self {
+            Choice::Command(order) => closing_after(*order, closing),
+            _ => closing,
+        }
     }
 }
 
-/// What a step does for this act. The due timers of these services have not gone off yet; the act is done as if they had.
+/// What a step does for this act. The due timers of these services have not gone off yet; the act is done as if they had. It is put where it
+/// is to lie, since it is large.
 #[inline(always)]
 pub fn choose<'a, A: Allocator + Copy>(
     alloc: A,
@@ -100,8 +103,90 @@ pub fn choose<'a, A: Allocator + Copy>(
     act: &'a Act<A>,
     closing: bool,
     now: At,
-) -> Result<Choice<'a>, NoMemory>
+    choice: &mut Choice<'a>,
+) -> Result<(), NoMemory>
     requires { All (λ c. c.generation + 1 < 2 ^ 64) (charts_of registry.now.shown.services) }
+    ensures chosen { OnOk result ((m : Machine) → (history : List Moment)
+        → HasFired closing now registry.now.shown.services history m
+        → Chooses act.now m registry.now.shown.services (chosen_of choice.new)) }
+    ensures orderly { OnOk result (registry.now.shown.next_sid + service_limit + 1 < 2 ^ 64
+        → IsOrderly registry.now.shown.next_sid (chosen_work (chosen_of choice.new))) }
+    ensures quiet { is_reading act.now ≡ true → IsOk result }
+    ensures idle { is_reading act.now ≡ true
+        → OnOk result (AsksNothing now (chosen_of choice.new)) }
+{
+    match act {
+        Act::Started(sid, generation, pid) => {
+            let told = Report::Started(*sid, *generation, *pid);
+            *choice = report(registry, *sid, Change::Report(told));
+            Ok(())
+        }
+        Act::StartFailed(sid, generation) => {
+            let told = Report::StartFailed(*sid, *generation);
+            *choice = report(registry, *sid, Change::Report(told));
+            Ok(())
+        }
+        Act::Notify(sid, generation, bytes) => {
+            let told = Report::Notify(*sid, *generation, copy_of(bytes));
+            *choice = report(registry, *sid, Change::Report(told));
+            Ok(())
+        }
+        Act::Death(sid, generation, exit) => {
+            let told = Report::Death(*sid, *generation, *exit);
+            *choice = report(registry, *sid, Change::Report(told));
+            Ok(())
+        }
+        Act::FinishEnded(sid, generation, exit) => {
+            let told = Report::FinishEnded(*sid, *generation, *exit);
+            *choice = report(registry, *sid, Change::Report(told));
+            Ok(())
+        }
+        Act::Tick => {
+            *choice = Choice::Nothing;
+            Ok(())
+        }
+        _ => choose_request(alloc, registry, act, closing, now, choice),
+    }
+}
+
+// What an act does that is asked for. It stands apart: inlined, each step would fill a place for each of its answers.
+#[inline(never)]
+fn choose_request<'a, A: Allocator + Copy>(
+    alloc: A,
+    registry: &Registry<A>,
+    act: &'a Act<A>,
+    closing: bool,
+    now: At,
+    choice: &mut Choice<'a>,
+) -> Result<(), NoMemory>
+    requires asked { is_request act.now ≡ true }
+    requires generations { All (λ c. c.generation + 1 < 2 ^ 64)
+        (charts_of registry.now.shown.services) }
+    ensures chosen { OnOk result ((m : Machine) → (history : List Moment)
+        → HasFired closing now registry.now.shown.services history m
+        → Chooses act.now m registry.now.shown.services (chosen_of choice.new)) }
+    ensures orderly { OnOk result (registry.now.shown.next_sid + service_limit + 1 < 2 ^ 64
+        → IsOrderly registry.now.shown.next_sid (chosen_work (chosen_of choice.new))) }
+    ensures quiet { is_reading act.now ≡ true → IsOk result }
+    ensures idle { is_reading act.now ≡ true
+        → OnOk result (AsksNothing now (chosen_of choice.new)) }
+{
+    let chosen = chosen_for(alloc, registry, act, closing, now)?;
+    *choice = chosen;
+    Ok(())
+}
+
+// The same, as a value.
+fn chosen_for<'a, A: Allocator + Copy>(
+    alloc: A,
+    registry: &Registry<A>,
+    act: &'a Act<A>,
+    closing: bool,
+    now: At,
+) -> Result<Choice<'a>, NoMemory>
+    requires asked { is_request act.now ≡ true }
+    requires generations { All (λ c. c.generation + 1 < 2 ^ 64)
+        (charts_of registry.now.shown.services) }
     ensures chosen { IfOk result
         (λ choice. (m : Machine) → (history : List Moment)
         → HasFired closing now registry.now.shown.services history m
@@ -118,31 +203,6 @@ pub fn choose<'a, A: Allocator + Copy>(
         Act::Scanctl(_) if closing => Ok(Choice::Refuse(Refusal::Closing)),
         Act::Scanctl(order) => Ok(Choice::Command(*order)),
         Act::Svc(name, sent) => Ok(letters(registry, *name, sent, now)),
-        Act::Started(sid, generation, pid) => Ok(report(
-            registry,
-            *sid,
-            Change::Report(Report::Started(*sid, *generation, *pid)),
-        )),
-        Act::StartFailed(sid, generation) => Ok(report(
-            registry,
-            *sid,
-            Change::Report(Report::StartFailed(*sid, *generation)),
-        )),
-        Act::Notify(sid, generation, bytes) => Ok(report(
-            registry,
-            *sid,
-            Change::Report(Report::Notify(*sid, *generation, copy_of(bytes))),
-        )),
-        Act::Death(sid, generation, exit) => Ok(report(
-            registry,
-            *sid,
-            Change::Report(Report::Death(*sid, *generation, *exit)),
-        )),
-        Act::FinishEnded(sid, generation, exit) => Ok(report(
-            registry,
-            *sid,
-            Change::Report(Report::FinishEnded(*sid, *generation, *exit)),
-        )),
         Act::Status(name) => Ok(show(registry, *name, now)),
         Act::Tally(name) => Ok(Choice::Tally(*name)),
         Act::Permafailon(name, seconds, count, list) => {
@@ -156,6 +216,6 @@ pub fn choose<'a, A: Allocator + Copy>(
         Act::Unsubscribe(id) => Ok(Choice::Unsubscribe(*id)),
         Act::Send(target, message) => Ok(send(*target, message)),
         Act::MakeDir(name) => Ok(Choice::MakeDirectory(*name)),
-        Act::Tick => Ok(Choice::Nothing),
+        _ => unreachable!(),
     }
 }

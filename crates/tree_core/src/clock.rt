@@ -16,19 +16,19 @@ pub fn later(a: At, b: At) -> At
     if a.millis() < b.millis() { b } else { a }
 }
 
-/// The moments of a step: the clock reading, where the clock moves on, and then its marks.
+/// The moments of a step, in a list that has none yet: the clock reading, where the clock moves on, and then its marks.
 pub fn moments_of<A: Allocator + Copy>(
-    alloc: A,
+    mut moments: Vec<Moment, A>,
     clock: At,
     at: At,
     events: &[Event],
 ) -> Result<Vec<Moment, A>, NoMemory>
+    requires { moments.items ≡ [] }
     ensures moments { IfOk result
         (λ moments. moments.items ≡ clock_moments clock at ++ map moment_of events.now) }
     ensures count { IfOk result (λ moments. length moments.items ≤ 1 + length events.now) }
     ensures quiet { at ≤ clock → events.now ≡ [] → IsOkAnd result (λ moments. moments.items ≡ []) }
 {
-    let mut moments = Vec::new(alloc);
     if clock.millis() < at.millis() {
         moments.push(Moment::Clock(at))?;
     }

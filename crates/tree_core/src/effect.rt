@@ -65,7 +65,9 @@ impl<A: Allocator + Copy> Effect<A> {
         ensures matched { self.new.matched.items ≡ [] }
         ensures released { self.new.released.items ≡ [] }
     {
-        self.reply = Reply::Done;
+        if !matches!(self.reply, Reply::Done) {
+            self.reply = Reply::Done;
+        }
         self.events.clear();
         self.orders.clear();
         self.matched.clear();

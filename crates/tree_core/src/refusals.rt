@@ -43,6 +43,7 @@ pub fn copy_of<T: Copy + Default, const N: usize>(list: &ArrayVec<T, N>) -> Arra
 }
 
 /// The choice for a report to the service of this serial. NoService where no service has it.
+#[inline(always)]
 pub fn report<'a, A: Allocator + Copy>(
     registry: &Registry<A>,
     sid: Sid,

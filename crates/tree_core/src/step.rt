@@ -1,21 +1,23 @@
 //! A step, in its order: clock, due timers, act, who looks at its moments, reply. It is worked out before anything is changed; `apply_into`
 //! of `tree.rt` makes it, or hands the input back where memory was refused. `work_out` of svscan_core (`pending.rt`) does the due timers,
 //! in rising serial, and then the act's work.
-ghost use Rattle.std.specs.Prelude.{ℕ, false, ◌≡◌, ◌+◌, ◌++◌, ◌*◌, ◌<◌, ◌≤◌, ◌^◌, List, [], length, map, All, IfOk, IsOk, OnOk};
+ghost use Rattle.std.specs.Prelude.{ℕ, false, ◌≡◌, ◌+◌, ◌++◌, ◌*◌, ◌<◌, ◌≤◌, ◌^◌, List, [], length, map, true, All, IfOk, IsOk, OnOk};
 ghost use Rattle.deadlines.specs.declared.timer.Timer.{Timer};
 ghost use Rattle.deadlines.specs.Timers.{with_timer_changes};
 ghost use Rattle.event_directory.specs.Changes.{Offer};
 ghost use Rattle.event_directory.specs.Remembered.{directories_after_commit, plan_number};
 ghost use Rattle.svscan_core.specs.Table.{charts_of};
 ghost use Rattle.svscan_core.specs.Timers.{TimersAgree};
-ghost use Rattle.svscan_core.specs.Registry.{Fits, registry_prepared, result_of};
+ghost use Rattle.svscan_core.specs.Registry.{IsPlanOf, registry_prepared, result_of};
 ghost use Rattle.tree_core.specs.Acts.{tally_reply};
-ghost use Rattle.tree_core.specs.Limits.{service_limit, moment_limit};
+ghost use Rattle.tree_core.specs.Limits.{service_limit, moment_limit, order_limit};
 ghost use Rattle.tree_core.specs.Listening.{as_match, as_release};
 ghost use Rattle.tree_core.specs.Machine.{Machine};
 ghost use Rattle.wait_conditions.specs.Stands.{WaitsShown, FitsWaits, MakesPlan, waits_shown};
 ghost use Rattle.tree_core.specs.Choices.{chosen_of, lists_more};
-ghost use Rattle.tree_core.specs.Replies.{tally_in, chosen_reply, released_by_answer, waiter_reply, directory_reply};
+ghost use Rattle.tree_core.specs.Replies.{ListenersAnswer, tally_in, chosen_reply, released_by_answer, waiter_reply, directory_reply};
+ghost use Rattle.tree_core.specs.declared.reply.Reply.TheVariants.{Done};
+ghost use Rattle.supervise_core.specs.Service.{Supervised};
 ghost use Rattle.tree_core.specs.Plan.{present_state, IsNow, Plans, IsQuiet};
 ghost use Rattle.tree_core.specs.Step.{step_limit};
 
@@ -36,7 +38,7 @@ use wait_conditions::{WaitAnswer, Waits, WaitsPlan};
 pub struct StepPlan<A: Allocator> {
     pub now: At,
     pub closing: bool,
-    pub services: RegistryPlan<A>,
+    pub services: RegistryPlan,
     pub timers: DeadlinesPlan<A>,
     pub history: HistoryPlan<A>,
     pub waiters: WaitsPlan<A>,
@@ -83,29 +85,28 @@ fn directory_reply<A: Allocator>(told: &DirectoryAnswer) -> Reply<A>
     }
 }
 
-// The reply to a choice, whose work is prepared in `plan`. `waiters` and `directories` are the answers to what it asks of the waiters
-// and of the event directories.
-#[inline(always)]
+// The reply to a choice, whose work the registry has worked out. `waiters` and `directories` are the answers to what it asks of the
+// waiters and of the event directories. It stands apart, since most steps are just done.
+#[inline(never)]
 fn reply_to<A: Allocator + Copy>(
     alloc: A,
     registry: &Registry<A>,
-    plan: &RegistryPlan<A>,
     choice: &Choice,
     waiters: &WaitAnswer,
     directories: &DirectoryAnswer,
 ) -> Result<Reply<A>, NoMemory>
     ensures reply { IfOk result (λ reply. reply
         ≡ chosen_reply (chosen_of choice.now) registry.now.shown.services
-        (result_of (registry_prepared registry.now.shown.services plan.now))
+        (result_of (registry_prepared registry.now.shown.services registry.now.planned))
         (record { waiters = waiters.now; directories = directories.now })) }
     ensures quiet { lists_more (chosen_of choice.now) ≡ false → IsOk result }
 {
     Ok(match choice {
         Choice::Refuse(why) => Reply::Refused(*why),
-        Choice::Report(_, _) if plan.is_stale() => Reply::Refused(Refusal::Stale),
+        Choice::Report(_, _) if registry.is_stale() => Reply::Refused(Refusal::Stale),
         Choice::Listing(_) => Reply::Scanned(ScanReport::new(
-            plan.dropped().to_vec(alloc)?,
-            plan.listed().to_vec(alloc)?,
+            registry.dropped().to_vec(alloc)?,
+            registry.listed().to_vec(alloc)?,
         )),
         Choice::Show(row) => Reply::Row(*row),
         Choice::Tally(name) => tally_of(alloc, registry, *name)?,
@@ -121,41 +122,57 @@ fn reply_to<A: Allocator + Copy>(
     })
 }
 
+// Whether the reply is Done, whatever the parts answered.
+fn is_just_done<A: Allocator + Copy>(registry: &Registry<A>, choice: &Choice) -> bool
+    ensures { result ≡ true → (services : List Supervised) → (told : ListenersAnswer)
+        → chosen_reply {A = A} (chosen_of choice.now) services
+        (result_of (registry_prepared services registry.now.planned)) told ≡ Done }
+{
+    match choice {
+        Choice::Report(_, _) => !registry.is_stale(),
+        Choice::Nothing | Choice::Letters(_, _) | Choice::Command(_) => true,
+        _ => false,
+    }
+}
+
 // Fills an empty effect with what the parts prepared: the reply, the marks and orders, the matches and the releases.
 #[inline(always)]
 fn fill_effect<A: Allocator + Copy>(
     registry: &Registry<A>,
     choice: &Choice,
-    services: &RegistryPlan<A>,
     waiters: &WaitsPlan<A>,
     letters: &DirectoriesPlan<A>,
     effect: &mut Effect<A>,
 ) -> Result<(), NoMemory>
+    requires reply { effect.old.reply ≡ Done }
     requires events { effect.old.events.items ≡ [] }
     requires orders { effect.old.orders.items ≡ [] }
     requires matched { effect.old.matched.items ≡ [] }
     requires released { effect.old.released.items ≡ [] }
+    requires few { length registry.now.planned.orders ≤ order_limit }
     ensures reply { OnOk result (effect.new.reply
         ≡ chosen_reply (chosen_of choice.now) registry.now.shown.services
-        (result_of (registry_prepared registry.now.shown.services services.now))
+        (result_of (registry_prepared registry.now.shown.services registry.now.planned))
         (record { waiters = waiters.now.answer; directories = letters.now.answer })) }
-    ensures events { OnOk result (effect.new.events.items ≡ services.now.events) }
-    ensures orders { OnOk result (effect.new.orders.items ≡ services.now.orders) }
+    ensures events { OnOk result (effect.new.events.items ≡ registry.now.planned.events) }
+    ensures orders { OnOk result (effect.new.orders.items ≡ registry.now.planned.orders) }
     ensures matched { OnOk result
         (effect.new.matched.items ≡ map as_match letters.now.matches.items) }
     ensures released { OnOk result (effect.new.released.items
         ≡ map as_release waiters.now.released
         ++ map as_release (released_by_answer waiters.now.answer)) }
-    ensures quiet { lists_more (chosen_of choice.now) ≡ false → services.now.events ≡ []
+    ensures quiet { lists_more (chosen_of choice.now) ≡ false → registry.now.planned.events ≡ []
         → letters.now.matches.items ≡ [] → waiters.now.released ≡ []
         → released_by_answer waiters.now.answer ≡ [] → IsOk result }
 {
-    effect.tell(services.events(), services.orders())?;
+    effect.tell(registry.events(), registry.orders())?;
     effect.match_all(letters)?;
     effect.release_all(waiters)?;
-    let alloc = registry.allocator();
-    let answer = waiters.answer();
-    effect.reply = reply_to(alloc, registry, services, choice, &answer, &letters.answer)?;
+    if !is_just_done(registry, choice) {
+        let alloc = registry.allocator();
+        let answer = waiters.answer();
+        effect.reply = reply_to(alloc, registry, choice, &answer, &letters.answer)?;
+    }
     Ok(())
 }
 
@@ -179,10 +196,6 @@ pub fn plan_step<A: Allocator + Copy>(
     requires next { registry.old.shown.next_sid + service_limit + 1 < 2 ^ 64 }
     requires waiters { waits.old.next < 2 ^ 63 }
     requires subscriptions { directories.old.shown.next < 2 ^ 63 }
-    requires events { effect.old.events.items ≡ [] }
-    requires orders { effect.old.orders.items ≡ [] }
-    requires matched { effect.old.matched.items ≡ [] }
-    requires released { effect.old.released.items ≡ [] }
     ensures shown { registry.new.shown ≡ registry.old.shown }
     ensures set { deadlines.new.timers ≡ deadlines.old.timers }
     ensures forgotten { history.new.forgotten ≡ history.old.forgotten }
@@ -193,9 +206,9 @@ pub fn plan_step<A: Allocator + Copy>(
         → IsNow (present_state clock steps closing registry.old.shown.services
         registry.old.shown.next_sid (waits_shown waits.old) directories.old.shown) m
         → (later : WaitsShown) → MakesPlan plan.waiters (waits_shown waits.old) later
-        → Plans m input.now plan (registry_prepared registry.new.shown.services plan.services) later
+        → Plans m input.now plan (registry_prepared registry.new.shown.services registry.new.planned) later
         directories.new.prepared effect.new) }
-    ensures fits { IfOk result (λ plan. Fits registry.new plan.services) }
+    ensures fits { IfOk result (λ plan. IsPlanOf registry.new plan.services) }
     ensures room { IfOk result (λ plan. length plan.history ≤ history.new.spare_capacity) }
     ensures timer_room { IfOk result (λ plan. length plan.timers ≤ deadlines.new.spare_capacity) }
     ensures waiter_room { IfOk result (λ plan. FitsWaits plan.waiters waits.new) }
@@ -203,9 +216,9 @@ pub fn plan_step<A: Allocator + Copy>(
     ensures grows { IfOk result (λ plan. (n : ℕ)
         → All (λ c. c.generation ≤ n) (charts_of registry.old.shown.services)
         → All (λ c. c.generation ≤ n + 2)
-        (charts_of (registry_prepared registry.new.shown.services plan.services).services)) }
-    ensures next { IfOk result
-        (λ plan. plan.services.next_sid ≤ registry.old.shown.next_sid + service_limit) }
+        (charts_of (registry_prepared registry.new.shown.services registry.new.planned).services)) }
+    ensures next { OnOk result
+        (registry.new.planned.next_sid ≤ registry.old.shown.next_sid + service_limit) }
     ensures waiters { IfOk result (λ plan. plan.waiters.next ≤ waits.old.next + 1) }
     ensures subscriptions { OnOk result
         ((offer : Offer) → (directories_after_commit directories.new.prepared offer).next
@@ -214,27 +227,28 @@ pub fn plan_step<A: Allocator + Copy>(
     ensures timers { IfOk result
         (λ plan. (timers : List Timer) → TimersAgree timers (charts_of registry.old.shown.services)
         → TimersAgree (with_timer_changes plan.timers timers)
-        (charts_of (registry_prepared registry.new.shown.services plan.services).services)) }
+        (charts_of (registry_prepared registry.new.shown.services registry.new.planned).services)) }
     ensures quiet { IsQuiet input.now clock (charts_of registry.old.shown.services) → IsOk result }
 {
+    effect.clear();
     let alloc = registry.allocator();
     // For the proof: its clause says that the table is sound.
     let _count = registry.len();
     let now = later(clock, input.at);
     let due = deadlines.due(alloc, now)?;
-    let choice = choose(alloc, registry, &input.act, closing, now)?;
-    let asked = choice.requests(now, closing);
-    let services = registry.prepare(due.as_slice(), &asked.services, now)?;
-    let moments = moments_of(alloc, clock, input.at, services.events())?;
+    let mut choice = Choice::Nothing;
+    choose(alloc, registry, &input.act, closing, now, &mut choice)?;
+    let services = registry.prepare(due.as_slice(), &choice.services(), now)?;
+    let moments = moments_of(history.lend(), clock, input.at, registry.events())?;
     let joining = moments.as_slice();
-    let waiters = waits.prepare(joining, &asked.waiters)?;
-    let letters = directories.prepare(joining, &asked.directories)?;
+    let waiters = waits.prepare(joining, &choice.waiters(now))?;
+    let letters = directories.prepare(joining, &choice.directories())?;
     let history = history.prepare(moments)?;
-    let timers = deadlines.prepare(services.timers())?;
-    fill_effect(registry, &choice, &services, &waiters, &letters, effect)?;
+    let timers = deadlines.prepare(registry.timers())?;
+    fill_effect(registry, &choice, &waiters, &letters, effect)?;
     Ok(StepPlan {
         now,
-        closing: asked.closing,
+        closing: choice.closing(closing),
         services,
         timers,
         history,

@@ -1,6 +1,6 @@
 //! The tree: one input is one step, which `step.rt` works out and which is then made here. Where memory is refused, the whole input is
 //! handed back.
-ghost use Rattle.std.specs.Prelude.{◌≡◌, ◌≤◌, IfOk, OnOk, IfErr, IsOk, length, true, option_map};
+ghost use Rattle.std.specs.Prelude.{◌≡◌, ◌≤◌, IfOk, OnErr, OnOk, IfErr, IsOk, length, true, option_map};
 ghost use Rattle.tree_core.specs.Acts.{offer_of};
 ghost use Rattle.tree_core.specs.Effect.{outcome_of};
 ghost use Rattle.tree_core.specs.Ended.{has_ended};
@@ -78,6 +78,53 @@ impl<A: Allocator + Copy> Tree<A> {
         }
     }
 
+    /// Takes one input as `apply_into` does, and leaves it where it lies: a caller that holds it moves nothing. Once the step is made, nothing is
+    /// said of what lies there. At `NoMemory` the input is as it was, and only the effect has changed.
+    pub fn apply_in_place(
+        &mut self,
+        input: &mut Input<A>,
+        effect: &mut Effect<A>,
+    ) -> Result<(), NoMemory>
+        ensures step { OnOk result ((m : Machine) → StandsFor self.old m →
+            (outcome_of effect.new ≡ outcome m input.old) × StandsFor self.new (after m input.old)) }
+        ensures unchanged { OnErr result ((input.new ≡ input.old) × (self.new ≡ self.old)) }
+        ensures spent { self.old.steps ≡ step_limit → IsOk result }
+        ensures quiet { IsQuiet input.old self.old.clock (charts_of self.old.services)
+            → IsOk result }
+    {
+        if is_spent(self.steps) {
+            effect.clear();
+            effect.reply = Reply::Refused(Refusal::Spent);
+            return Ok(());
+        }
+        let planned = plan_step(
+            &mut self.registry,
+            &mut self.deadlines,
+            &mut self.history,
+            &mut self.waits,
+            &mut self.directories,
+            self.clock,
+            self.closing,
+            input,
+            effect,
+        );
+        let plan = match planned {
+            Ok(plan) => plan,
+            Err(refused) => return Err(refused),
+        };
+        let offer = take_offer(&mut input.act, &plan.letters.answer);
+        self.clock = plan.now;
+        self.steps += 1;
+        self.closing = plan.closing;
+        self.registry.commit(plan.services);
+        self.deadlines.commit(plan.timers);
+        self.history.commit(plan.history);
+        self.waits.commit(plan.waiters);
+        self.directories.commit(plan.letters, offer);
+        self.history.forget(self.waits.needed_from());
+        Ok(())
+    }
+
     /// Takes one input, whole: the clock first, then the due timers, then the act; and fills the effect with all that the step gives.
     /// What was in the effect is gone, but its memory is used again: a caller that makes many steps keeps one effect, and a step then
     /// costs only what it gives. Where memory is refused the same input comes back with `NoMemory`, and only the effect has changed.
@@ -92,37 +139,10 @@ impl<A: Allocator + Copy> Tree<A> {
         ensures spent { self.old.steps ≡ step_limit → IsOk result }
         ensures quiet { IsQuiet input self.old.clock (charts_of self.old.services) → IsOk result }
     {
-        effect.clear();
-        if is_spent(self.steps) {
-            effect.reply = Reply::Refused(Refusal::Spent);
-            return Ok(());
+        match self.apply_in_place(&mut input, effect) {
+            Ok(()) => Ok(()),
+            Err(refused) => Err((input, refused)),
         }
-        let planned = plan_step(
-            &mut self.registry,
-            &mut self.deadlines,
-            &mut self.history,
-            &mut self.waits,
-            &mut self.directories,
-            self.clock,
-            self.closing,
-            &input,
-            effect,
-        );
-        let plan = match planned {
-            Ok(plan) => plan,
-            Err(refused) => return Err((input, refused)),
-        };
-        let offer = take_offer(&mut input.act, &plan.letters.answer);
-        self.clock = plan.now;
-        self.steps += 1;
-        self.closing = plan.closing;
-        self.registry.commit(plan.services);
-        self.deadlines.commit(plan.timers);
-        self.history.commit(plan.history);
-        self.waits.commit(plan.waiters);
-        self.directories.commit(plan.letters, offer);
-        self.history.forget(self.waits.needed_from());
-        Ok(())
     }
 
     /// Takes one input as `apply_into` does, and returns a new effect. A refused act is a step like any other. Where memory is refused the
@@ -250,9 +270,17 @@ fn take_offer<A: Allocator>(act: &mut Act<A>, told: &DirectoryAnswer) -> Option<
     ensures { is_subscribed told.now ≡ true
         → option_map (λ o. (o.0, o.1)) result ≡ offer_of act.old }
 {
-    if !matches!(told, DirectoryAnswer::Subscribed(_)) {
-        return None;
+    match told {
+        DirectoryAnswer::Subscribed(_) => take_pattern(act),
+        _ => None,
     }
+}
+
+// The pattern that an act offers. It stands apart: inlined, each step would fill places for two acts.
+#[inline(never)]
+fn take_pattern<A: Allocator>(act: &mut Act<A>) -> Option<(Pattern, bool)>
+    ensures { option_map (λ o. (o.0, o.1)) result ≡ offer_of act.old }
+{
     match std::mem::replace(act, Act::Tick) {
         Act::Subscribe(_, pattern, repeats) => Some((pattern, repeats)),
         _ => None,

@@ -3,7 +3,7 @@ use denote.RattleType.{RattleType}
 use denote.Struct.Declared.{shape}
 use denote.Param.Send.{IsSend, recorded_send, struct_send, sendable}
 use Rattle.std.proofs.Crossing.{crosses}
-use Rattle.tree_server.proofs.run.runs.RunSettings.TheSendSync as settings
+use Rattle.tree_driver.proofs.runs.RunSettings.TheSendSync as settings
 use Rattle.tree_server.specs.contracts.threads.DriverParts as DriverParts
 
 pub parts_send : (B W : RattleType) → IsSend B → IsSend W → IsSend (DriverParts.the_row B W)

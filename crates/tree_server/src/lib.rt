@@ -2,14 +2,12 @@
 //! scan directory, one accepts connections, and each connection has two.
 #![tactic(auto)]
 
-mod client;
-mod lane;
 mod options;
-mod run;
 mod serve;
+mod service_lanes;
 mod threads;
 
-pub use lane::service_lanes::{ServiceLanes, TreeLanes, open_service_lanes};
 pub use options::{HANDOVER, ServeOptions};
 pub use serve::run_tree;
 pub use server_rules::{ServeFault, tell_serve_fault};
+pub use service_lanes::{ServiceLanes, TreeLanes, open_service_lanes};

@@ -1,7 +1,6 @@
 //! A tree that runs, from its first scan to its end.
-use crate::lane::service_lanes::TreeLanes;
 use crate::options::ServeOptions;
-use crate::run::runs::RunSettings;
+use crate::service_lanes::TreeLanes;
 use crate::threads::{DriverParts, start_driver, start_lane};
 use child_runner::{Bell, LaneLink, ShellProbe};
 use day_times::day_second;
@@ -25,6 +24,7 @@ use std::sync::{Arc, Wait};
 use std::thread;
 use std::thread::{Scope, Threads};
 use std::time::Clock;
+use tree_driver::RunSettings;
 
 /// What is made before a tree is served.
 #[derive(Drop)]

@@ -1,5 +1,4 @@
 //! The threads of a tree, from its first run to its last.
-use crate::run::runs::{RunSettings, run_all};
 use child_runner::{LaneLink, serve_lane};
 use error_notes::{NoteWriter, Notes};
 use line_server::Server;
@@ -10,6 +9,7 @@ use std::io::Write;
 use std::sync::Wait;
 use std::thread::{Builder, Scope, Threads};
 use std::time::Clock;
+use tree_driver::{RunSettings, run_all};
 
 /// The stack of the driver, in bytes. A step may publish all rows of the board. Only what is touched takes memory.
 const DRIVER_STACK: usize = 8 * 1024 * 1024;

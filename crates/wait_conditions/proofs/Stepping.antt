@@ -89,6 +89,11 @@ releases_are (m ∷ ms) st n ks w s =
     (releases_are ms (λ q. state_after (mark_of q m) (st q)) (n + 1) (map (with_moment m) ks) (waits_after_moment w m)
     (stands_moment st n ks w m s))
 
+-- where no waiter stands, none is released
+pub none_seen : (ms : List Moment) → releases_seen ms [] ≡ []
+none_seen [] = refl
+none_seen (m ∷ ms) = none_seen ms
+
 -- the written waiters themselves are the same
 pub same_waiters : (ms : List Moment) (w : Watch) → (waits_after_moments w ms).waiters ≡ w.waiters
 same_waiters [] w = refl

@@ -143,3 +143,18 @@ pub fn release_all<A: Allocator + Copy>(
     }
     Ok(released)
 }
+
+/// The moments once more, in the memory that is spare; none is left there then.
+pub fn keep_moments<A: Allocator + Copy>(
+    spare: &mut Vec<Moment, A>,
+    moments: &[Moment],
+) -> Result<Vec<Moment, A>, NoMemory>
+    ensures moments { IfOk result (λ own. own.items ≡ moments.now) }
+    ensures quiet { moments.now ≡ [] → IsOk result }
+{
+    let none = Vec::new(*spare.allocator());
+    let mut own = std::mem::replace(spare, none);
+    own.clear();
+    own.extend_from_slice(moments)?;
+    Ok(own)
+}

@@ -1,5 +1,7 @@
 //! A step of the waiters that is worked out and not made yet.
-ghost use Rattle.std.specs.Prelude.{◌≡◌};
+ghost use Rattle.std.specs.Prelude.{◌≡◌, []};
+ghost use Rattle.wait_conditions.specs.Stands.ListChange.{stay};
+ghost use Rattle.wait_conditions.specs.declared.wait_change.WaitAnswer.TheVariants.{Nothing};
 ghost use Rattle.wait_conditions.specs.declared.wait_plan.PlannedChange.TheVariants.{Stay};
 
 use crate::verdict::Verdict;
@@ -54,6 +56,30 @@ impl<A: Allocator> WaitsPlan<A> {
         ensures { result ≡ self.now.answer }
     {
         self.answer
+    }
+}
+
+impl<A: Allocator + Copy> WaitsPlan<A> {
+    /// The plan of these moments alone, where no waiter stands: nobody is touched.
+    pub(crate) fn of_nobody(moments: Vec<Moment, A>, next: u64) -> WaitsPlan<A>
+        ensures { result ≡ record {
+          released = [];
+          answer = Nothing;
+          moments = moments.items;
+          touched = [];
+          change = stay;
+          next = next;
+        } }
+    {
+        let alloc = *moments.allocator();
+        WaitsPlan {
+            released: Vec::new(alloc),
+            answer: WaitAnswer::Nothing,
+            moments,
+            change: PlannedChange::Stay,
+            next,
+            touched: Vec::new(alloc),
+        }
     }
 }
 

@@ -1,9 +1,10 @@
 //! The waiters that stand, in the order in which they were made.
-ghost use Rattle.std.specs.Prelude.{◌≡◌, ◌≤◌, ◌<◌, ◌++◌, [], ◌∷◌, All, IfOk, IsOk, OnOk, OnErr, None, false, length, map, filter, vec_len, vec_capacity};
+ghost use Rattle.std.specs.Prelude.{◌≡◌, ◌≤◌, ◌<◌, ◌++◌, [], ◌∷◌, All, IfOk, IsOk, OnOk, OnErr, None, false, true, length, map, filter, vec_len, vec_capacity};
 ghost use Rattle.std.specs.List.{list_any};
 ghost use Rattle.wait_conditions.specs.Kept.{waiter_view, standing_stored, standing_kept, is_other, oldest_place, still_waits, with_moments};
 ghost use Rattle.wait_conditions.specs.NextDeadline.{earliest, stored_until};
 ghost use Rattle.wait_conditions.specs.Refusal.{repeats_serial};
+ghost use Rattle.wait_conditions.specs.Stands.{place_or_end};
 ghost use Rattle.wait_conditions.specs.Verdict.{reaches};
 ghost use Rattle.wait_conditions.specs.Watchers.{AreDueFrom, BeganInOrder, earlier, serials_where, touched_by};
 ghost use Rattle.wait_conditions.specs.WaitsFields.{IsCounted, waiters_view};
@@ -50,6 +51,13 @@ impl<A: Allocator> WaiterList<A> {
         ensures { result ≡ length self.now.waiters }
     {
         self.waiters.len()
+    }
+
+    /// Whether none stands.
+    pub fn is_empty(&self) -> bool
+        ensures { result ≡ true → self.now.waiters ≡ [] }
+    {
+        self.waiters.is_empty()
     }
 
     /// The state of the waiter of this serial; None where there is none.
@@ -234,6 +242,16 @@ fn oldest_of(waiters: &[Waiter]) -> Option<u64>
         }
     }
     None
+}
+
+/// The place of the oldest, or the end where there is none.
+pub fn place_or_end(oldest: Option<u64>, count: u64) -> u64
+    ensures { result ≡ place_or_end oldest count }
+{
+    match oldest {
+        None => count,
+        Some(place) => place,
+    }
 }
 
 // Takes the waiter of this serial out, if there is one.

@@ -19,14 +19,14 @@ ghost use Rattle.wait_conditions.specs.Watch.{wait_terms, new_waiter, new_releas
 use crate::add_fault::AddFault;
 use crate::deadline::deadline_for;
 use crate::image::WaitsImage;
-use crate::planning::{list_serials, release_all};
+use crate::planning::{keep_moments, list_serials, release_all};
 use crate::service_states::ServiceStates;
 use crate::verdict::{Verdict, WaitState};
 use crate::wait_change::{WaitAnswer, WaitChange};
 use crate::wait_plan::{ChangePlan, PlannedChange, WaitsPlan};
 use crate::waiter::{new_waiter, release_at_once};
 use crate::waiter_limits::refusal_for;
-use crate::waiter_list::WaiterList;
+use crate::waiter_list::{WaiterList, place_or_end};
 use s6_events::{At, Condition, Mode, Moment, NoMemory, Sid, WaitId};
 use std::alloc::Allocator;
 use std::marker::Model;
@@ -309,15 +309,41 @@ impl<A: Allocator + Copy> Waits<A> {
         ensures quiet { moments.now ≡ [] → wait_request_of change.now ≡ no_wait_request
             → IsOkAnd result (λ plan. plan.answer ≡ answer.Nothing) }
     {
+        if self.list.is_empty() {
+            if let WaitChange::Nothing = change {
+                self.make_room(moments.len(), change)?;
+                let own = keep_moments(&mut self.spare, moments)?;
+                return Ok(WaitsPlan::of_nobody(own, self.next));
+            }
+        }
+        self.prepare_any(moments, change)
+    }
+
+    // `prepare_stored`, whoever stands. It stands apart, since most steps find no waiter.
+    #[inline(never)]
+    fn prepare_any(
+        &mut self,
+        moments: &[Moment],
+        change: &WaitChange,
+    ) -> Result<WaitsPlan<A>, NoMemory>
+        requires { self.old.next < 2 ^ 63 }
+        ensures released { IfOk result (λ plan. plan.released
+            ≡ releases_seen moments.now self.old.waiters) }
+        ensures moments { IfOk result (λ plan. plan.moments ≡ moments.now) }
+        ensures change { IfOk result (λ plan. PlansChange (waits_shown self.old) moments.now
+            (wait_request_of change.now) plan.answer plan.change plan.next) }
+        ensures fits { IfOk result (λ plan. FitsWaits plan self.new) }
+        ensures shown { waits_shown self.new ≡ waits_shown self.old }
+        ensures quiet { moments.now ≡ [] → wait_request_of change.now ≡ no_wait_request
+            → IsOkAnd result (λ plan. plan.answer ≡ answer.Nothing) }
+    {
         let alloc = self.list.allocator();
         self.make_room(moments.len(), change)?;
         let mut copies = self.list.copy_touched(moments)?;
         let touched = list_serials(alloc, &copies)?;
         let released = release_all(alloc, &mut copies, moments)?;
         let planned = self.plan_change(moments, change)?;
-        let mut own = std::mem::replace(&mut self.spare, Vec::new(alloc));
-        own.clear();
-        own.extend_from_slice(moments)?;
+        let own = keep_moments(&mut self.spare, moments)?;
         Ok(WaitsPlan {
             released,
             answer: planned.answer,
@@ -468,15 +494,5 @@ impl<A: Allocator + Copy> Waits<A> {
             PlannedChange::Join(waiter) => self.list.push_boxed(waiter),
             PlannedChange::Leave(id) => self.list.remove(id),
         }
-    }
-}
-
-// The place of the oldest, or the end where there is none.
-fn place_or_end(oldest: Option<u64>, count: u64) -> u64
-    ensures { result ≡ place_or_end oldest count }
-{
-    match oldest {
-        None => count,
-        Some(place) => place,
     }
 }

@@ -1,4 +1,4 @@
-use Rattle.std.proofs.Common.{◌≡◌, ℕ, length}
+use Rattle.std.proofs.Common.{◌≡◌, ℕ, length, None}
 use Rattle.locked_services.specs.Submissions.{AreNumbered, NoneSeenBelow, taken_from}
 use Rattle.locked_services.proofs.taking.take_next.Given as goal
 
@@ -6,3 +6,4 @@ abbrev pub invariant-loop-k : goal.invariant-loop-k
 invariant-loop-k g l =
     (length l.drains.items ≡ length l.initial.drains.items) × AreNumbered l.drains.items
     × ((a : ℕ) → taken_from a l.drains.items ≡ taken_from a l.initial.drains.items) × NoneSeenBelow l.k l.drains.items
+    × (l.held ≡ None)

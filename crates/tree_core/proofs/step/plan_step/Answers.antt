@@ -39,14 +39,14 @@ returns-in_err-services-clause-quiet g c = λ q.
     let none = none_for_quiet c.args.input.now c.args.clock c.later-now.result c.as_slice.result.now c.args.deadlines.now.timers
     (charts_of c.args.registry.now.shown.services) c.later-now.ensures.later c.later-now.ensures.bound
     (c.as_slice.ensures.value ∙ c.in_ok-due.ensures.due) c.requires.timers q in
-    let still = c.requests-asked.ensures.services ∙ (c.in_ok-choice.ensures.idle q.reading).work in
+    let still = c.services.ensures ∙ (c.in_ok-choose.ensures.idle q.reading).work in
     not_ok c.prepare.result _ _ c.in_err-services.was (c.prepare.ensures.quiet none still)
 
 pub returns-clause-step : goal.returns-clause-step
 returns-clause-step g c = λ steps left m is later made.
     let services = c.args.registry.now.shown.services in
     let next = c.args.registry.now.shown.next_sid in
-    let prepared = registry_prepared c.prepare.new.self.shown.services c.in_ok-services.services in
+    let prepared = registry_prepared c.prepare.new.self.shown.services c.prepare.new.self.planned in
     let kept = waits_shown c.args.waits.now in
     let moments = c.in_ok-moments.moments.items in
     let heard = c.args.directories.now.shown in
@@ -56,18 +56,18 @@ returns-clause-step g c = λ steps left m is later made.
     let told : ListenersAnswer = record { waiters = c.in_ok-waiters.waiters.answer; directories = c.in_ok-letters.letters.answer } in
     let planned : c.in_ok-history.history ≡ moments = c.in_ok-history.ensures.ok in
     plans_all (present_state c.args.clock steps c.args.closing services next kept heard) c.later-now.result c.args.input.now _
-    prepared later hearing c.fill_effect.new.effect (chosen_of c.in_ok-choice.choice) left c.later-now.ensures.later
+    prepared later hearing c.fill_effect.new.effect (chosen_of c.choose.new.choice) left c.later-now.ensures.later
     (record {
       given = given;
       matches = matches;
       told = told;
       answered = refl;
       now_is = refl;
-      closes = c.requests-asked.ensures.closing;
-      works = c.in_ok-services.ensures.prepared ∙ ap (λ w. step_result w c.later-now.result (charts_of services) next) c.requests-asked.ensures.services;
-      chooses = λ n history fired. c.in_ok-choice.ensures.chosen n history fired;
+      closes = c.closing.ensures;
+      works = c.in_ok-services.ensures.prepared ∙ ap (λ w. step_result w c.later-now.result (charts_of services) next) c.services.ensures;
+      chooses = λ n history fired. c.in_ok-choose.ensures.chosen n history fired;
       reply = c.in_ok-fill_effect.ensures.reply
-          ∙ ap (λ (t : Table). chosen_reply (chosen_of c.in_ok-choice.choice) t.services (result_of prepared) told) c.prepare.ensures.shown;
+          ∙ ap (λ (t : Table). chosen_reply (chosen_of c.choose.new.choice) t.services (result_of prepared) told) c.prepare.ensures.shown;
       events = c.in_ok-fill_effect.ensures.events;
       orders = c.in_ok-fill_effect.ensures.orders;
       matched = c.in_ok-fill_effect.ensures.matched;
@@ -75,10 +75,10 @@ returns-clause-step g c = λ steps left m is later made.
       moments = planned ∙ (c.in_ok-moments.ensures.moments
           ∙ ap (λ es. clock_moments c.args.clock c.args.input.now.at ++ map moment_of es) c.events.ensures);
       listens =
-          subst (λ (x : List Moment). Listens kept later x (chosen_change c.later-now.result (chosen_of c.in_ok-choice.choice)) given told.waiters)
+          subst (λ (x : List Moment). Listens kept later x (chosen_change c.later-now.result (chosen_of c.choose.new.choice)) given told.waiters)
           (sym planned)
-          (subst (λ (x : WaitRequest). Listens kept later moments x given told.waiters) c.requests-asked.ensures.waiters
-          (subst (λ (x : List Moment). Listens kept later x (wait_request_of c.requests-asked.result.waiters) given told.waiters)
+          (subst (λ (x : WaitRequest). Listens kept later moments x given told.waiters) c.waiters.ensures
+          (subst (λ (x : List Moment). Listens kept later x (wait_request_of c.waiters.result) given told.waiters)
           c.as_slice-joining.ensures.value
           (record {
             stands = λ w st. c.in_ok-waiters.ensures.prepared w st later made;
@@ -86,15 +86,15 @@ returns-clause-step g c = λ steps left m is later made.
             answer = c.in_ok-waiters.ensures.answer;
           })));
       hears_letters =
-          subst (λ (x : List Moment). HearsLetters heard hearing x (chosen_ask (chosen_of c.in_ok-choice.choice)) matches told.directories)
+          subst (λ (x : List Moment). HearsLetters heard hearing x (chosen_ask (chosen_of c.choose.new.choice)) matches told.directories)
           (sym planned)
-          (subst (λ (x : DirectoryRequest). HearsLetters heard hearing moments x matches told.directories) c.requests-asked.ensures.directories
-          (subst (λ (x : List Moment). HearsLetters heard hearing x (directory_request_of c.requests-asked.result.directories) matches told.directories)
+          (subst (λ (x : DirectoryRequest). HearsLetters heard hearing moments x matches told.directories) c.directories.ensures
+          (subst (λ (x : List Moment). HearsLetters heard hearing x (directory_request_of c.directories.result) matches told.directories)
           c.as_slice-joining.ensures.value
           (record { stands = c.in_ok-letters.ensures.prepared; matched = c.in_ok-letters.ensures.matches; answer = c.in_ok-letters.ensures.answer })));
       agrees = c.in_ok-services.ensures.agrees;
       tallies = subst (λ (w : Work). KeepTallied next services prepared.services
-          (deaths_given w c.later-now.result (services_after (fire_move c.later-now.result) (charts_of services)))) c.requests-asked.ensures.services
+          (deaths_given w c.later-now.result (services_after (fire_move c.later-now.result) (charts_of services)))) c.services.ensures
           c.in_ok-services.ensures.tallies;
       sound = c.len-count.ensures.sound;
     }) m is
@@ -103,26 +103,26 @@ pub returns-clause-grows : goal.returns-clause-grows
 returns-clause-grows g c = λ n below.
     let works = c.in_ok-services.ensures.prepared in
     subst (λ (w : WorkResult). Below (n + 2) w.services) (sym works)
-    (step_grows (work_asked c.requests-asked.result.services) c.later-now.result
+    (step_grows (work_asked c.services.result) c.later-now.result
     (charts_of c.args.registry.now.shown.services) c.args.registry.now.shown.next_sid n below)
 
 pub returns-clause-next : goal.returns-clause-next
 returns-clause-next g c =
     let works = ap (λ (w : WorkResult). w.next_sid) c.in_ok-services.ensures.prepared in
-    let few = step_next (work_asked c.requests-asked.result.services) c.later-now.result
+    let few = step_next (work_asked c.services.result) c.later-now.result
     (charts_of c.args.registry.now.shown.services) c.args.registry.now.shown.next_sid c.len-count.ensures.sound.few in
     omega (arith, works, few)
 
 pub returns-clause-timers : goal.returns-clause-timers
 returns-clause-timers g c = λ timers agree.
     subst (λ cs. TimersAgree (with_timer_changes cs timers)
-    (charts_of (registry_prepared c.prepare.new.self.shown.services c.in_ok-services.services).services))
+    (charts_of (registry_prepared c.prepare.new.self.shown.services c.prepare.new.self.planned).services))
     (sym (c.in_ok-timers.ensures.ok ∙ c.timers.ensures)) (c.in_ok-services.ensures.timers timers agree)
 
 pub returns-clause-count : goal.returns-clause-count
 returns-clause-count g c =
     let events = ap (λ (w : WorkResult). length w.events) c.in_ok-services.ensures.prepared in
-    let few = step_events (work_asked c.requests-asked.result.services) c.later-now.result
+    let few = step_events (work_asked c.services.result) c.later-now.result
     (charts_of c.args.registry.now.shown.services) c.args.registry.now.shown.next_sid c.len-count.ensures.sound.few in
     let seen = ap length c.events.ensures in
     let planned = ap length c.in_ok-history.ensures.ok in
@@ -133,31 +133,31 @@ returns-in_err-waiters-clause-quiet g c = λ q.
     let none = none_for_quiet c.args.input.now c.args.clock c.later-now.result c.as_slice.result.now c.args.deadlines.now.timers
     (charts_of c.args.registry.now.shown.services) c.later-now.ensures.later c.later-now.ensures.bound
     (c.as_slice.ensures.value ∙ c.in_ok-due.ensures.due) c.requires.timers q in
-    let still = c.requests-asked.ensures.services ∙ (c.in_ok-choice.ensures.idle q.reading).work in
+    let still = c.services.ensures ∙ (c.in_ok-choose.ensures.idle q.reading).work in
     let idle = c.in_ok-services.ensures.still none still in
     let nothing = ap (λ (p : RegistryPrepared). p.events) idle in
     let silent = c.as_slice-joining.ensures.value ∙ c.in_ok-moments.ensures.quiet q.early (c.events.ensures ∙ nothing) in
     not_ok_and c.prepare-2.result _ _ _ c.in_err-waiters.was
-    (c.prepare-2.ensures.quiet silent (c.requests-asked.ensures.waiters ∙ (c.in_ok-choice.ensures.idle q.reading).waiters))
+    (c.prepare-2.ensures.quiet silent (c.waiters.ensures ∙ (c.in_ok-choose.ensures.idle q.reading).waiters))
 
 pub returns-in_err-letters-clause-quiet : goal.returns-in_err-letters-clause-quiet
 returns-in_err-letters-clause-quiet g c = λ q.
     let none = none_for_quiet c.args.input.now c.args.clock c.later-now.result c.as_slice.result.now c.args.deadlines.now.timers
     (charts_of c.args.registry.now.shown.services) c.later-now.ensures.later c.later-now.ensures.bound
     (c.as_slice.ensures.value ∙ c.in_ok-due.ensures.due) c.requires.timers q in
-    let still = c.requests-asked.ensures.services ∙ (c.in_ok-choice.ensures.idle q.reading).work in
+    let still = c.services.ensures ∙ (c.in_ok-choose.ensures.idle q.reading).work in
     let idle = c.in_ok-services.ensures.still none still in
     let nothing = ap (λ (p : RegistryPrepared). p.events) idle in
     let silent = c.as_slice-joining.ensures.value ∙ c.in_ok-moments.ensures.quiet q.early (c.events.ensures ∙ nothing) in
     not_ok_and c.prepare-3.result _ _ _ c.in_err-letters.was
-    (c.prepare-3.ensures.quiet silent (c.requests-asked.ensures.directories ∙ (c.in_ok-choice.ensures.idle q.reading).directories))
+    (c.prepare-3.ensures.quiet silent (c.directories.ensures ∙ (c.in_ok-choose.ensures.idle q.reading).directories))
 
 pub returns-in_err-history-clause-quiet : goal.returns-in_err-history-clause-quiet
 returns-in_err-history-clause-quiet g c = λ q.
     let none = none_for_quiet c.args.input.now c.args.clock c.later-now.result c.as_slice.result.now c.args.deadlines.now.timers
     (charts_of c.args.registry.now.shown.services) c.later-now.ensures.later c.later-now.ensures.bound
     (c.as_slice.ensures.value ∙ c.in_ok-due.ensures.due) c.requires.timers q in
-    let still = c.requests-asked.ensures.services ∙ (c.in_ok-choice.ensures.idle q.reading).work in
+    let still = c.services.ensures ∙ (c.in_ok-choose.ensures.idle q.reading).work in
     let idle = c.in_ok-services.ensures.still none still in
     let nothing = ap (λ (p : RegistryPrepared). p.events) idle in
     let silent = c.in_ok-moments.ensures.quiet q.early (c.events.ensures ∙ nothing) in
@@ -168,7 +168,7 @@ returns-in_err-timers-clause-quiet g c = λ q.
     let none = none_for_quiet c.args.input.now c.args.clock c.later-now.result c.as_slice.result.now c.args.deadlines.now.timers
     (charts_of c.args.registry.now.shown.services) c.later-now.ensures.later c.later-now.ensures.bound
     (c.as_slice.ensures.value ∙ c.in_ok-due.ensures.due) c.requires.timers q in
-    let still = c.requests-asked.ensures.services ∙ (c.in_ok-choice.ensures.idle q.reading).work in
+    let still = c.services.ensures ∙ (c.in_ok-choose.ensures.idle q.reading).work in
     let idle = c.in_ok-services.ensures.still none still in
     let nothing = ap (λ (p : RegistryPrepared). p.events) idle in
     not_ok c.prepare-5.result _ _ c.in_err-timers.was
@@ -179,7 +179,7 @@ returns-in_err-moments-clause-quiet g c = λ q.
     let none = none_for_quiet c.args.input.now c.args.clock c.later-now.result c.as_slice.result.now c.args.deadlines.now.timers
     (charts_of c.args.registry.now.shown.services) c.later-now.ensures.later c.later-now.ensures.bound
     (c.as_slice.ensures.value ∙ c.in_ok-due.ensures.due) c.requires.timers q in
-    let still = c.requests-asked.ensures.services ∙ (c.in_ok-choice.ensures.idle q.reading).work in
+    let still = c.services.ensures ∙ (c.in_ok-choose.ensures.idle q.reading).work in
     let idle = c.in_ok-services.ensures.still none still in
     let nothing = ap (λ (p : RegistryPrepared). p.events) idle in
     not_ok_and c.moments_of.result _ _ _ c.in_err-moments.was (c.moments_of.ensures.quiet q.early (c.events.ensures ∙ nothing))
@@ -189,11 +189,11 @@ returns-in_err-fill_effect-clause-quiet g c = λ q.
     let none = none_for_quiet c.args.input.now c.args.clock c.later-now.result c.as_slice.result.now c.args.deadlines.now.timers
     (charts_of c.args.registry.now.shown.services) c.later-now.ensures.later c.later-now.ensures.bound
     (c.as_slice.ensures.value ∙ c.in_ok-due.ensures.due) c.requires.timers q in
-    let asks = c.in_ok-choice.ensures.idle q.reading in
-    let idle = c.in_ok-services.ensures.still none (c.requests-asked.ensures.services ∙ asks.work) in
+    let asks = c.in_ok-choose.ensures.idle q.reading in
+    let idle = c.in_ok-services.ensures.still none (c.services.ensures ∙ asks.work) in
     let nothing = ap (λ (p : RegistryPrepared). p.events) idle in
     let silent = c.as_slice-joining.ensures.value ∙ c.in_ok-moments.ensures.quiet q.early (c.events.ensures ∙ nothing) in
-    let heard = c.in_ok-letters.ensures.quiet silent (c.requests-asked.ensures.directories ∙ asks.directories) in
-    let told = c.in_ok-waiters.ensures.quiet silent (c.requests-asked.ensures.waiters ∙ asks.waiters) in
+    let heard = c.in_ok-letters.ensures.quiet silent (c.directories.ensures ∙ asks.directories) in
+    let told = c.in_ok-waiters.ensures.quiet silent (c.waiters.ensures ∙ asks.waiters) in
     not_ok c.fill_effect.result _ _ c.in_err-fill_effect.was
     (c.fill_effect.ensures.quiet asks.short nothing heard.0 told.0 (ap released_by_answer told.1))

@@ -1,4 +1,4 @@
-use Rattle.std.proofs.Common.{◌≡◌, ◌≤◌, ◌<◌, [], ◌∷◌, ◌++◌, List, length, slice_get, Some, refl, sym, ap, subst, ◌∙◌, arith}
+use Rattle.std.proofs.Common.{◌≡◌, ◌≤◌, ◌<◌, [], ◌∷◌, ◌++◌, List, length, slice_get, Some, None, refl, sym, ap, subst, ◌∙◌, arith}
 use Rattle.std.specs.declared.alloc.Global.{Global}
 use Rattle.order_lanes.specs.Lane.{sent_in}
 use Rattle.order_lanes.specs.LaneOrders.{orders_of_lane}
@@ -12,39 +12,33 @@ use Rattle.locked_services.specs.Running.{RunningView, run_limit}
 use Rattle.locked_services.proofs.Lasting.{GoesTo, sound_step}
 use Rattle.locked_services.proofs.running.RunningTree.make_step.Goals as goal
 
-pub invariant_of-self-in-Ok : goal.invariant_of-self-in-Ok
-invariant_of-self-in-Ok g c =
+pub invariant_of-self-2 : goal.invariant_of-self-2
+invariant_of-self-2 g c =
     let old = c.self.inside in
     let v : RunningView = record { opening = old.opening; tree = old.tree.value; steps = old.run.steps; drains = old.drains.items; held = old.held; lanes = old.lanes.items } in
-    let w : RunningView = record { opening = old.opening; tree = c.apply_into.new.self; steps = c.add.new.self.steps; drains = old.drains.items; held = c.take.new.self; lanes = c.send_all.new.lanes.items } in
-    let i = c.in-Some-take.input in
-    let s : RunStep = record { input = i; outcome = outcome_of c.apply_into.new.effect } in
-    let held : old.held ≡ Some i = sym c.take.ensures.value ∙ c.in-Some-take.is in
-    let same : c.in-Some.input ≡ i = cc (c.in-Some.is, held) in
+    let w : RunningView = record { opening = old.opening; tree = c.apply_in_place.new.self; steps = c.add.new.self.steps; drains = old.drains.items; held = None; lanes = c.send_all.new.lanes.items } in
+    let s : RunStep = record { input = c.in-Some.input; outcome = outcome_of c.apply_in_place.new.effect } in
     let steps : c.add.new.self.steps ≡ old.run.steps ++ s ∷ [] =
     c.add.ensures
-    ∙ (ap (λ (xs : List RunStep). xs ++ record { input = c.in_ok-plain-in-Some.plain; outcome = s.outcome } ∷ []) c.reserve.ensures.steps
-    ∙ ap (λ (j : Input Global). old.run.steps ++ record { input = j; outcome = s.outcome } ∷ []) (c.in_ok-plain-in-Some.ensures ∙ same)) in
+    ∙ (ap (λ (xs : List RunStep). xs ++ record { input = c.in_ok-plain.plain; outcome = s.outcome } ∷ []) c.reserve.ensures.steps
+    ∙ ap (λ (j : Input Global). old.run.steps ++ record { input = j; outcome = s.outcome } ∷ []) c.in_ok-plain.ensures) in
     let goes : GoesTo v.tree w.tree s = record {
-      goes = λ m stands. c.in-Ok.ensures.step m (subst (λ (t : StoredTree). StandsFor t m) (sym c.deref_mut.ensures.value) stands);
+      goes = λ m stands. c.in_ok-apply_in_place.ensures.step m (subst (λ (t : StoredTree). StandsFor t m) (sym c.deref_mut.ensures.value) stands);
     } in
-    sound_step v w s c.self.invariant held goes refl steps refl c.take.ensures.after c.send_all.ensures.len
+    sound_step v w s c.self.invariant c.in-Some.is goes refl steps refl refl c.send_all.ensures.len
     (λ k below. c.send_all.ensures.sent k below
     ∙ ap (λ (os : List Order). sent_in k old.lanes.items ++ orders_of_lane (length old.lanes.items) k os) c.as_slice.ensures.value)
     (subst (λ (v : RunningView). length v.steps < run_limit) (sym c.self.view_is) c.requires.few)
 
-pub returns-in-Ok-clause-made : goal.returns-in-Ok-clause-made
-returns-in-Ok-clause-made g c =
-    let i = c.in-Some-take.input in
-    let s : RunStep = record { input = i; outcome = outcome_of c.apply_into.new.effect } in
-    let held : c.self.inside.held ≡ Some i = sym c.take.ensures.value ∙ c.in-Some-take.is in
-    let same : c.in-Some.input ≡ i = cc (c.in-Some.is, held) in
+pub returns-clause-made : goal.returns-clause-made
+returns-clause-made g c =
+    let s : RunStep = record { input = c.in-Some.input; outcome = outcome_of c.apply_in_place.new.effect } in
     let steps : c.add.new.self.steps ≡ c.self.inside.run.steps ++ s ∷ [] =
     c.add.ensures
-    ∙ (ap (λ (xs : List RunStep). xs ++ record { input = c.in_ok-plain-in-Some.plain; outcome = s.outcome } ∷ []) c.reserve.ensures.steps
-    ∙ ap (λ (j : Input Global). c.self.inside.run.steps ++ record { input = j; outcome = s.outcome } ∷ []) (c.in_ok-plain-in-Some.ensures ∙ same)) in (
-      c.take.ensures.after,
-      (s, ap (λ (v : RunningView). v.held) (sym c.self.view_is) ∙ held, steps ∙ ap (λ (v : RunningView). v.steps ++ s ∷ []) c.self.view_is),
+    ∙ (ap (λ (xs : List RunStep). xs ++ record { input = c.in_ok-plain.plain; outcome = s.outcome } ∷ []) c.reserve.ensures.steps
+    ∙ ap (λ (j : Input Global). c.self.inside.run.steps ++ record { input = j; outcome = s.outcome } ∷ []) c.in_ok-plain.ensures) in (
+      refl,
+      (s, ap (λ (v : RunningView). v.held) (sym c.self.view_is) ∙ c.in-Some.is, steps ∙ ap (λ (v : RunningView). v.steps ++ s ∷ []) c.self.view_is),
     )
 
 pub send_all-requires-clause-room : goal.send_all-requires-clause-room

@@ -1,23 +1,9 @@
-use Rattle.std.proofs.Common.{ℕ, List, ◌∷◌, ◌++◌, ap, sym, ◌∙◌, arith}
+use Rattle.std.proofs.Common.{sym, arith}
 use Rattle.std.proofs.lemmas.Bool.Decides.{nat_tests}
 use Rattle.step_codes.proofs.OnSuccess.{adds_as}
-use Rattle.step_codes.proofs.NumberCodes.{small_code, middle_code, large_code}
+use Rattle.step_codes.proofs.NumberCodes.{small_code}
 use Rattle.step_codes.proofs.numbers.U64Coded.push.Goals as goal
 
 pub returns-then-number-lt251-clause-added : goal.returns-then-number-lt251-clause-added
 returns-then-number-lt251-clause-added c =
     adds_as _ _ _ _ _ c.push.ensures.added (λ rest. sym (small_code c.args.self.now rest (grind (arith, nat_tests))))
-
-pub returns-then-number-lt4294967296-clause-added :
-    goal.returns-then-number-lt4294967296-clause-added
-returns-then-number-lt4294967296-clause-added c =
-    adds_as _ _ _ _ _ c.push_behind.ensures (λ rest.
-    ap (λ (bytes : List ℕ). 251 ∷ (bytes ++ rest)) c.write_u32.ensures
-    ∙ sym (middle_code c.args.self.now rest (grind (arith, nat_tests)) (grind (arith, nat_tests))))
-
-pub returns-else-number-lt4294967296-clause-added :
-    goal.returns-else-number-lt4294967296-clause-added
-returns-else-number-lt4294967296-clause-added c =
-    adds_as _ _ _ _ _ c.push_behind-else-number-lt4294967296.ensures (λ rest.
-    ap (λ (bytes : List ℕ). 252 ∷ (bytes ++ rest)) c.write_u64.ensures
-    ∙ sym (large_code c.args.self.now rest (grind (arith, nat_tests)) (grind (arith, nat_tests))))

@@ -1,5 +1,5 @@
 //! The lanes, as the driver sees them: they carry orders, and give reports back.
-use crate::run::driver_state::DriverState;
+use crate::driver_state::DriverState;
 use channel_names::Channels;
 use office::Office;
 use order_lanes::{Backend, Carried, Lanes, Report, act_of};

@@ -2,9 +2,9 @@
 ghost use Rattle.std.specs.Prelude.{◌≡◌, ℕ, slice_get};
 ghost use Rattle.office.specs.Names.{ring_of, lane_ring_of, asked_of};
 
-use crate::run::driver_state::{DriverState, Lasting};
-use crate::run::driving::{drive_run, tell_lines, wait_for_bell};
-use crate::run::ending_services::end_services;
+use crate::driver_state::{DriverState, Lasting};
+use crate::driving::{drive_run, tell_lines, wait_for_bell};
+use crate::ending_services::end_services;
 use channel_names::Channels;
 use inbox::Finished;
 use locked_services::Closed;

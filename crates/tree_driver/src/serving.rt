@@ -1,5 +1,5 @@
 //! What connections ask is begun, or answered from the board.
-use crate::run::driver_state::DriverState;
+use crate::driver_state::DriverState;
 use channel_names::Channels;
 use line_server::SEAT_COUNT;
 use order_lanes::Lanes;

@@ -1,6 +1,6 @@
 use Rattle.std.proofs.Common.{slice_get}
 use Rattle.office.specs.Names.{ring_of, lane_ring_of, asked_of}
-use Rattle.tree_server.proofs.run.runs.run_once.Given as goal
+use Rattle.tree_driver.proofs.runs.run_once.Given as goal
 
 -- the names of the new office's rings and of its board
 abbrev pub ghosts-run_named-C-Channels : goal.ghosts-run_named-C-Channels

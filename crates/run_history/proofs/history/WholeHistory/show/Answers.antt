@@ -1,6 +1,6 @@
 use Rattle.std.proofs.Common.{rules, sym, ap, ◌∙◌}
 use Rattle.run_history.proofs.Moves.{gives_as, takes_in_as, checks}
-use Rattle.run_history.proofs.history.Keeper.show.Goals as goal
+use Rattle.run_history.proofs.history.WholeHistory.show.Goals as goal
 
 pub split_pass-fresh-requires : goal.split_pass-fresh-requires
 split_pass-fresh-requires g c =

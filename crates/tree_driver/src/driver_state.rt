@@ -3,7 +3,7 @@ use channel_names::Channels;
 use client_desk::{ClientDesk, RunBoard};
 use inbox::Seat;
 use order_lanes::{Lanes, Report};
-use run_history::History;
+use run_history::KnownHistory;
 use s6_events::{At, NoMemory};
 use scan_directory::{Found, Remark};
 use server_rules::{FullServices, LANE_COUNT, Pace, Plans, Post, SCANNER};
@@ -68,9 +68,16 @@ impl Lasting {
     pub fn take_effect(&mut self, alloc: Global) -> Result<Box<Effect<Global>>, NoMemory> {
         match self.effect.take() {
             Some(effect) => Ok(effect),
-            None => Ok(Box::new(alloc, Effect::new(alloc))?),
+            None => new_effect(alloc),
         }
     }
+}
+
+/// An effect that holds nothing. `NoMemory` where memory is refused. It stands apart: inlined, a list of 768 orders would lie on the
+/// driver's stack for good.
+#[inline(never)]
+pub fn new_effect(alloc: Global) -> Result<Box<Effect<Global>>, NoMemory> {
+    Ok(Box::new(alloc, Effect::new(alloc))?)
 }
 
 /// What the driver keeps for a run.
@@ -80,7 +87,7 @@ pub struct DriverState<'a, C: Channels + Lanes> {
     pub seats: Vec<Seat<C>>,
     pub board: RunBoard<C>,
     /// What is known of the run.
-    pub known: History<C>,
+    pub known: KnownHistory<C>,
     pub lasting: &'a mut Lasting,
     pub pace: Pace,
     /// How many steps with an input of actor 0 were handed out in this run.
@@ -97,7 +104,7 @@ impl<'a, C: Channels + Lanes> DriverState<'a, C> {
         alloc: Global,
         seats: Vec<Seat<C>>,
         reader: BoardReader<C>,
-        known: History<C>,
+        known: KnownHistory<C>,
         lasting: &'a mut Lasting,
         pace: Pace,
     ) -> DriverState<'a, C> {

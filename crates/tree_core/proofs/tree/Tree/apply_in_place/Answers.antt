@@ -21,12 +21,12 @@ use Rattle.tree_core.specs.TreeFields.{tree_view}
 use Rattle.tree_core.proofs.PlanMakes.{not_ok}
 use Rattle.tree_core.proofs.Tied.{is_tied}
 use Rattle.tree_core.proofs.Stand.{recorded_after, stands_after, counted_after, cut_parts, is_cut}
-use Rattle.tree_core.proofs.tree.Tree.apply_into.Goals as goal
+use Rattle.tree_core.proofs.tree.Tree.apply_in_place.Goals as goal
 
 pub returns-in-Err-clause-quiet : goal.returns-in-Err-clause-quiet
 returns-in-Err-clause-quiet g c = λ q.
     not_ok c.plan_step-planned.result _ _ c.in-Err.is
-    (c.plan_step-planned.ensures.quiet (subst (λ (x : StoredTree). IsQuiet c.args.input x.clock (charts_of x.services)) (sym c.self.view_is) q))
+    (c.plan_step-planned.ensures.quiet (subst (λ (x : StoredTree). IsQuiet c.args.input.now x.clock (charts_of x.services)) (sym c.self.view_is) q))
 
 pub returns-clause-step : goal.returns-clause-step
 returns-clause-step g c = λ m s.
@@ -35,7 +35,7 @@ returns-clause-step g c = λ m s.
     let counted = c.self.invariant.0 in
     let most = counted.steps in
     let left : c.self.inside.steps < step_limit = grind (arith, nat_tests, most, c.is_spent.ensures, c.if-is_spent.false) in
-    let prepared = registry_prepared c.plan_step-planned.new.registry.shown.services plan.services in
+    let prepared = registry_prepared c.plan_step-planned.new.registry.shown.services c.plan_step-planned.new.registry.planned in
     let shown = c.commit.ensures in
     let waits : waits_shown c.plan_step-planned.new.waits ≡ t.waits = c.in-Ok.ensures.waits in
     let later = waits_shown c.commit-4.new.self in
@@ -48,7 +48,7 @@ returns-clause-step g c = λ m s.
     let offer : Offer = option_map (λ o. (o.0, o.1)) c.take_offer-offer.result in
     let heard : c.commit-5.new.self.shown ≡ directories_after_commit c.plan_step-planned.new.directories.prepared offer =
     c.commit-5.ensures.after in
-    stands_after t _ c.args.input plan prepared later c.plan_step-planned.new.directories.prepared
+    stands_after t _ c.args.input.now plan prepared later c.plan_step-planned.new.directories.prepared
     c.plan_step-planned.new.effect offer c.take_offer-offer.ensures (λ n now. c.in-Ok.ensures.step c.self.inside.steps left n now later made)
     (record {
       clock = refl;
@@ -71,7 +71,7 @@ invariant_of-self-2 g c =
     let counted = c.self.invariant.0 in
     let most = counted.steps in
     let left : c.self.inside.steps < step_limit = grind (arith, nat_tests, most, c.is_spent.ensures, c.if-is_spent.false) in
-    let prepared = registry_prepared c.plan_step-planned.new.registry.shown.services plan.services in
+    let prepared = registry_prepared c.plan_step-planned.new.registry.shown.services c.plan_step-planned.new.registry.planned in
     let shown = c.commit.ensures in
     let waits : waits_shown c.plan_step-planned.new.waits ≡ t.waits = c.in-Ok.ensures.waits in
     let later = waits_shown c.commit-4.new.self in
@@ -93,7 +93,7 @@ invariant_of-self-2 g c =
     let enough : t.forgotten ≤ t.waits.count = omega (arith, count) in
     let timers : c.commit-2.new.self.timers ≡ with_timer_changes plan.timers c.self.inside.deadlines.timers =
     c.commit-2.ensures ∙ ap (with_timer_changes plan.timers) c.in-Ok.ensures.set in
-    let done = stands_after t _ c.args.input plan prepared later c.plan_step-planned.new.directories.prepared
+    let done = stands_after t _ c.args.input.now plan prepared later c.plan_step-planned.new.directories.prepared
     c.plan_step-planned.new.effect offer c.take_offer-offer.ensures (λ n now. c.in-Ok.ensures.step c.self.inside.steps left n now later made)
     (record {
       clock = refl;
@@ -107,7 +107,7 @@ invariant_of-self-2 g c =
       waits = refl;
       directories = heard;
     }) m s in
-    let is = is_cut t _ plan.history c.commit-3.new.self.forgotten c.needed_from.result c.commit-3.new.self.kept (after m c.args.input) done.1
+    let is = is_cut t _ plan.history c.commit-3.new.self.forgotten c.needed_from.result c.commit-3.new.self.kept (after m c.args.input.now) done.1
     before all c.forget.ensures.forgotten c.forget.ensures.kept c.needed_from.ensures.value
     (c.commit-4.ensures.began t.forgotten (subst (λ (w : WaitsShown). NoneBegan t.forgotten w.waiters) (sym waits) none)
     (subst (λ (w : WaitsShown). t.forgotten ≤ w.count) (sym waits) enough)) in (
@@ -126,7 +126,7 @@ invariant_of-self-2 g c =
           (subst (λ (x : Table). TimersAgree (with_timer_changes plan.timers c.self.inside.deadlines.timers)
           (charts_of x.services)) (sym shown)
           (c.in-Ok.ensures.timers c.self.inside.deadlines.timers c.self.invariant.2)),
-      (after m c.args.input, done.1),
+      (after m c.args.input.now, done.1),
       is,
-      is_tied _ (after m c.args.input) done.1 is,
+      is_tied _ (after m c.args.input.now) done.1 is,
     )

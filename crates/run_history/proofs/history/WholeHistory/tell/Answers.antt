@@ -1,6 +1,6 @@
 use Rattle.std.proofs.Common.{rules, sym, ◌∙◌}
 use Rattle.run_history.proofs.Moves.{gives_as}
-use Rattle.run_history.proofs.history.Keeper.tell.Goals as goal
+use Rattle.run_history.proofs.history.WholeHistory.tell.Goals as goal
 
 pub split_pass-pass-requires : goal.split_pass-pass-requires
 split_pass-pass-requires g c =

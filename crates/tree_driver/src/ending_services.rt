@@ -1,7 +1,7 @@
 //! The end of a tree that can't go on: its services are ended in order.
-use crate::lane::lanes::hand_in_reports;
-use crate::run::driver_state::DriverState;
-use crate::run::driving::{hand_in_due, make_steps, wait_for_bell};
+use crate::driver_state::DriverState;
+use crate::driving::{hand_in_due, make_steps, wait_for_bell};
+use crate::lanes::hand_in_reports;
 use channel_names::Channels;
 use office::Office;
 use order_lanes::{Backend, Lanes};

@@ -1,8 +1,8 @@
 //! The driver, the thread that drives all runs, at work on one.
-use crate::client::delivery::deliver_all;
-use crate::client::serving::begin_all;
-use crate::lane::lanes::{carry_all, hand_in_reports};
-use crate::run::driver_state::{DriverState, Lasting};
+use crate::delivery::deliver_all;
+use crate::driver_state::{DriverState, Lasting};
+use crate::lanes::{carry_all, hand_in_reports};
+use crate::serving::begin_all;
 use channel_names::Channels;
 use locked_services::{DriveStop, Driven};
 use office::Office;

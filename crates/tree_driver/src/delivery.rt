@@ -1,5 +1,5 @@
 //! Handing out what steps gave.
-use crate::run::driver_state::{DriverState, Lasting};
+use crate::driver_state::{DriverState, Lasting, new_effect};
 use channel_names::Channels;
 use office::Office;
 use order_lanes::{Backend, Lanes};
@@ -110,7 +110,7 @@ fn catch_up<C: Channels + Lanes, D: Board<C>, B: Backend, R: Wait>(
     if state.board.made < first {
         return Ok(());
     }
-    let mut effect = Box::new(context.alloc(), Effect::new(context.alloc()))?;
+    let mut effect = new_effect(context.alloc())?;
     for number in first..=state.board.made {
         let told = office.step(context.rt, &mut state.known, number, &mut effect)?;
         if let Some((_, moment)) = told {

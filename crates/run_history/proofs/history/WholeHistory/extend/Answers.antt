@@ -3,7 +3,7 @@ use Rattle.std.specs.declared.alloc.Global.{Global}
 use mathlib.Core.List.{IsPrefix}
 use Rattle.tree_core.specs.declared.input.Input.{Input}
 use Rattle.run_history.proofs.Moves.{extends_as}
-use Rattle.run_history.proofs.history.Keeper.extend.Goals as goal
+use Rattle.run_history.proofs.history.WholeHistory.extend.Goals as goal
 
 pub swap_as-requires : goal.swap_as-requires
 swap_as-requires g c =
