@@ -1,4 +1,4 @@
-//! The commands by which orders are carried out.
+//! The commands by which orders are carried out. `run` and `finish` are started by their paths, so their texts are read at each start.
 ghost use Rattle.std.specs.Prelude.{◌≡◌, ◌++◌, IfOk, codes, string_bytes};
 ghost use Rattle.child_runner.specs.CommandLine.{line_of, run_line, plain_line, shell_line, finish_line, kill_line, redirection};
 

@@ -4,7 +4,7 @@
 
 mod client_desk;
 mod posting;
-mod refusing;
+mod refused_requests;
 mod run_board;
 
 pub use client_desk::ClientDesk;

@@ -5,7 +5,8 @@ use Rattle.server_rules.specs.declared.phase.Errand.TheVariants as errand
 use Rattle.server_rules.specs.declared.phase.Phase.{Phase}
 use Rattle.server_rules.specs.declared.phase.Phase.TheVariants.{Idle, Stepping, UnderWay, PutOff, LeftStepping, Left, Leaving, Cancelling, Gone}
 use Rattle.server_rules.specs.declared.requests.Request.{Request}
-use Rattle.server_rules.specs.Connection.{View, Moved, ends_by, is_here}
+use Rattle.server_rules.specs.Connection.{View, Moved, is_here}
+use Rattle.server_rules.specs.Begin.{ends_by}
 use Rattle.server_rules.specs.Standing.{Made, next_ended}
 use Rattle.connection_laws.specs.History.{Event, Ask, Begin, Answered, Recorded, RefuseErrand, RefuseNext, Told, Leave, moved_by, taken_by}
 use Rattle.connection_laws.specs.Laws.{posted_of}

@@ -1,5 +1,5 @@
 -- Each thing that stands when a client has left is ended once.
-use Rattle.std.proofs.Common.{refl, ap, sym, subst, ◌∙◌, ◌≡◌, ◌++◌, [], ◌∷◌, ℕ, List, true, map}
+use Rattle.std.proofs.Common.{refl, ap, ◌∙◌, ◌≡◌, ◌++◌, [], ◌∷◌, ℕ, List, true}
 use Rattle.std.proofs.lemmas.List.{append-nil, append_assoc}
 use Rattle.std.proofs.lemmas.Grind.{flat_map-append}
 use Rattle.std.specs.declared.alloc.Global.{Global}
@@ -7,11 +7,12 @@ use Rattle.tree_core.specs.declared.input.Act.{Act}
 use Rattle.server_rules.specs.declared.phase.Phase.{Phase}
 use Rattle.server_rules.specs.declared.phase.Phase.TheVariants.{Idle, Stepping, UnderWay, PutOff, LeftStepping, Left, Leaving, Cancelling, Gone}
 use Rattle.server_rules.specs.declared.requests.Request.{Request}
-use Rattle.server_rules.specs.Connection.{View, Moved, ends_by}
+use Rattle.server_rules.specs.Connection.{View, Moved}
+use Rattle.server_rules.specs.Begin.{ends_by}
 use Rattle.server_rules.specs.declared.following.Following.{Following}
 use Rattle.std.specs.Prelude.{Option}
 use Rattle.server_rules.specs.Standing.{Made, next_ended}
-use Rattle.connection_laws.specs.History.{Done, Event, Ask, Begin, Answered, Recorded, RefuseErrand, RefuseNext, Told, Leave, History, happens, moved_by, run}
+use Rattle.connection_laws.specs.History.{Done, Event, Ask, Begin, Answered, Recorded, RefuseErrand, RefuseNext, Told, Leave, History, happens, moved_by}
 use Rattle.connection_laws.specs.Laws.{EndsOnce, ends_of, is_ending, submitted, submitted_by}
 
 -- at a move, what is handed in and what still stands is what stood, and the client is gone as before

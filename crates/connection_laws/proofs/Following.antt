@@ -1,12 +1,11 @@
 -- The letters that a client is told are of services that it asked for.
-use Rattle.std.proofs.Common.{rules, refl, ap, sym, subst, ◌∙◌, ◌≡◌, ◌++◌, ◌||◌, [], ◌∷◌, ℕ, List, Bool, true, false, Option, Some, None, nat_lt, cond, if◌then◌else◌}
+use Rattle.std.proofs.Common.{rules, refl, ap, sym, subst, ◌≡◌, ◌++◌, ◌||◌, [], ◌∷◌, ℕ, List, Bool, true, false, Option, Some, None, nat_lt, cond, if◌then◌else◌}
 use Rattle.std.specs.List.{list_any}
 use Rattle.std.specs.declared.alloc.Global.{Global}
 use Rattle.tree_core.specs.declared.input.Act.{Act}
 use Rattle.tree_core.specs.declared.reply.Reply.{Reply}
 use Rattle.server_rules.specs.declared.following.Following.{Following}
 use Rattle.server_rules.specs.declared.own_answer.OwnAnswer.{OwnAnswer}
-use Rattle.server_rules.specs.declared.phase.Errand.{Errand}
 use Rattle.server_rules.specs.declared.phase.Errand.TheVariants as errand
 use Rattle.server_rules.specs.declared.phase.Phase.{Phase}
 use Rattle.server_rules.specs.declared.phase.Phase.TheVariants.{Idle, Stepping, UnderWay, PutOff, LeftStepping, Left, Leaving, Cancelling, Gone}
@@ -19,7 +18,9 @@ use Rattle.server_rules.specs.declared.standing.StandingChange.TheVariants as ch
 use Rattle.server_rules.specs.declared.todo.News.{News}
 use Rattle.server_rules.specs.declared.todo.News.TheVariants as news
 use Rattle.server_rules.specs.declared.todo.Todo.TheVariants as todo
-use Rattle.server_rules.specs.Connection.{View, Moved, after_news, begin_admitted, begin_next, begin_put_off, ends_by, is_for, joins, replaces, stays, step_limit, steps_in, takes_requests}
+use Rattle.server_rules.specs.Connection.{View, Moved, stays, takes_requests}
+use Rattle.server_rules.specs.NewsTold.{after_news, is_for}
+use Rattle.server_rules.specs.Begin.{begin_admitted, begin_next, begin_put_off, ends_by, joins, replaces, step_limit, steps_in}
 use Rattle.server_rules.specs.Standing.{Made, admission_of, after_reply, change_of, is_followed, next_ended}
 use Rattle.server_rules.specs.StatusAge.{is_recent}
 use Rattle.connection_laws.specs.History.{Event, Ask, Begin, Answered, Recorded, RefuseErrand, RefuseNext, Told, Leave, History, happens, moved_by, opened, taken_by}

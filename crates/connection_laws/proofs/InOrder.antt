@@ -20,13 +20,16 @@ use Rattle.server_rules.specs.declared.standing.Admission.{Admission}
 use Rattle.server_rules.specs.declared.standing.Admission.TheVariants as admission
 use Rattle.server_rules.specs.declared.standing.StandingChange.{StandingChange}
 use Rattle.server_rules.specs.declared.standing.StandingChange.TheVariants as change
-use Rattle.server_rules.specs.declared.status.Subject.{Subject}
+use Rattle.server_rules.specs.declared.status_lines.Subject.{Subject}
 use Rattle.server_rules.specs.declared.todo.Answer.{Answer}
 use Rattle.server_rules.specs.declared.todo.Answer.TheVariants as answer
 use Rattle.server_rules.specs.declared.todo.News.{News}
 use Rattle.server_rules.specs.declared.todo.Todo.{Todo}
 use Rattle.server_rules.specs.declared.todo.Todo.TheVariants as todo
-use Rattle.server_rules.specs.Connection.{View, Moved, answers_by, begin_admitted, begin_next, begin_put_off, fewer, hands_in, is_for, is_here, joins, replaces, stays, step_limit, steps_in}
+use Rattle.server_rules.specs.Connection.{View, Moved, answers_by, hands_in, is_here, stays}
+use Rattle.server_rules.specs.NewsTold.{is_for}
+use Rattle.server_rules.specs.ErrandEnds.{fewer}
+use Rattle.server_rules.specs.Begin.{begin_admitted, begin_next, begin_put_off, joins, replaces, step_limit, steps_in}
 use Rattle.server_rules.specs.Standing.{Made, admission_of, change_of}
 use Rattle.server_rules.specs.StatusAge.{is_recent}
 use Rattle.connection_laws.specs.History.{Done, Event, Ask, Begin, Answered, Recorded, RefuseErrand, RefuseNext, Told, Leave, History, happens, moved_by, opened, run, taken_by}

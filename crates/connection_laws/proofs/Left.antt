@@ -16,7 +16,9 @@ use Rattle.server_rules.specs.declared.standing.StandingChange.{StandingChange}
 use Rattle.server_rules.specs.declared.standing.StandingChange.TheVariants as change
 use Rattle.server_rules.specs.declared.todo.News.{News}
 use Rattle.server_rules.specs.declared.todo.Todo.TheVariants as todo
-use Rattle.server_rules.specs.Connection.{View, Moved, after_news, begin_admitted, begin_next, begin_put_off, ends_by, is_for, joins, replaces, stays, step_limit, steps_in, takes_requests}
+use Rattle.server_rules.specs.Connection.{View, Moved, stays, takes_requests}
+use Rattle.server_rules.specs.NewsTold.{after_news, is_for}
+use Rattle.server_rules.specs.Begin.{begin_admitted, begin_next, begin_put_off, ends_by, joins, replaces, step_limit, steps_in}
 use Rattle.server_rules.specs.Standing.{Made, admission_of, change_of, next_ended, nothing_made}
 use Rattle.server_rules.specs.StatusAge.{is_recent}
 use Rattle.connection_laws.specs.History.{Event, Ask, Begin, Answered, Recorded, RefuseErrand, RefuseNext, Told, Leave, History, happens, moved_by, opened, run}

@@ -21,7 +21,9 @@ use Rattle.server_rules.specs.declared.todo.News.{News}
 use Rattle.server_rules.specs.declared.todo.News.TheVariants as news
 use Rattle.server_rules.specs.declared.todo.Todo.{Todo}
 use Rattle.server_rules.specs.declared.todo.Todo.TheVariants as todo
-use Rattle.server_rules.specs.Connection.{View, Moved, after_news, begin_admitted, begin_next, begin_put_off, ends_by, has_made, is_for, is_here, joins, replaces, stays, step_limit, steps_in, takes_requests}
+use Rattle.server_rules.specs.Connection.{View, Moved, is_here, stays, takes_requests}
+use Rattle.server_rules.specs.NewsTold.{after_news, has_made, is_for}
+use Rattle.server_rules.specs.Begin.{begin_admitted, begin_next, begin_put_off, ends_by, joins, replaces, step_limit, steps_in}
 use Rattle.server_rules.specs.Standing.{Made, admission_of, after_reply, change_of, is_among, next_ended, without}
 use Rattle.server_rules.specs.StatusAge.{is_recent}
 use Rattle.connection_laws.specs.History.{Done, Event, Ask, Begin, Answered, Recorded, RefuseErrand, RefuseNext, Told, Leave, History, happens, made_by_reply, made_in, moved_by, opened, run}

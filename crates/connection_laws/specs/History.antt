@@ -13,7 +13,10 @@ use Rattle.server_rules.specs.declared.standing.StandingChange.{StandingChange}
 use Rattle.server_rules.specs.declared.standing.StandingChange.TheVariants as change
 use Rattle.server_rules.specs.declared.todo.News.{News}
 use Rattle.server_rules.specs.declared.todo.Todo.{Todo}
-use Rattle.server_rules.specs.Connection.{View, Moved, new_view, stays, takes_requests, ask_next, begin_move, answered_move, recorded_move, refuse_errand_move, refuse_next_move, told_move, leave_next}
+use Rattle.server_rules.specs.Connection.{View, Moved, new_view, stays, takes_requests, ask_next, leave_next}
+use Rattle.server_rules.specs.NewsTold.{told_move}
+use Rattle.server_rules.specs.ErrandEnds.{answered_move, recorded_move, refuse_errand_move, refuse_next_move}
+use Rattle.server_rules.specs.Begin.{begin_move}
 use Rattle.server_rules.specs.Standing.{Made, nothing_made}
 
 -- what happens to a connection; moments are in milliseconds

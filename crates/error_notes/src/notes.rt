@@ -63,6 +63,7 @@ impl Notes {
             .changed
             .wait_while(rt, list, |list| list.is_open() && list.is_empty());
         if list.is_empty() {
+            // The wait is over, and nothing came: the list was closed.
             return None;
         }
         Some(list.take_all(text))

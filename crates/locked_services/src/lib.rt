@@ -4,12 +4,12 @@
 mod beginning;
 mod closing;
 pub mod laws;
+mod next_input;
 mod opening;
 mod room;
 mod running;
 mod serving;
 mod stop;
-mod taking;
 
 pub use beginning::Beginning;
 pub use closing::{CloseFault, Closed};

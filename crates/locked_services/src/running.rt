@@ -19,9 +19,9 @@ ghost use Rattle.order_lanes.specs.Lane.{HaveRoom, IsBlocked, sent_in};
 
 use crate::beginning::Beginning;
 use crate::closing::{CloseFault, input_fault};
+use crate::next_input::take_next;
 use crate::serving::are_served;
 use crate::stop::Stop;
-use crate::taking::take_next;
 use channel_names::Channels;
 use inbox::{Drain, Finished, Ticket};
 use order_lanes::{Backend, Desk, Lane, Lanes, blocked_lane, send_all};

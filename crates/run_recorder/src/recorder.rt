@@ -1,4 +1,4 @@
-//! The file in which the runs of a tree are recorded.
+//! The file in which the runs of a tree are recorded. `recording.rt` of tree_driver says when.
 use channel_names::Channels;
 use office::Office;
 use order_lanes::{Backend, Lanes};

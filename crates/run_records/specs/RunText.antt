@@ -9,7 +9,7 @@ use Rattle.s6_replay.specs.declared.version.Version.TheVariants.{Two}
 use Rattle.s6_replay.specs.Lines.{AppendsFront}
 use Rattle.s6_replay.specs.Recording.{FitsLine}
 use Rattle.s6_replay.specs.Script.{Recorded, head_line, step_lines}
-use Rattle.s6_replay.specs.Transcript.{reply_text}
+use Rattle.s6_replay.specs.ReplyText.{reply_text}
 use Rattle.run_records.specs.Runs.{RunStep}
 use Rattle.run_records.specs.declared.writing.RunFault.{RunFault}
 use Rattle.run_records.specs.declared.writing.RunFault.TheVariants.{Write, NoMemory, Unspelt}

@@ -7,7 +7,8 @@ use Rattle.tree_core.specs.Machine.{Machine, Outcome}
 use Rattle.tree_core.specs.Rows.{all_rows}
 use Rattle.tree_core.specs.Run.{after, outcome}
 use Rattle.tree_core.specs.StandsFor.{StoredTree, StandsFor}
-use Rattle.run_stories.specs.Requests.{cause_of, is_told, head_words, body_words, reply_lines}
+use Rattle.run_stories.specs.Requests.{cause_of, is_told, reply_lines}
+use Rattle.run_stories.specs.ActWords.{head_words, body_words}
 use Rattle.run_stories.specs.Stories.{rows_after, effect_lines, story_of, Tells}
 use Rattle.run_stories.specs.declared.cause.Cause.{Cause}
 

@@ -1,6 +1,7 @@
 pub mod Moments
 pub mod Words
 pub mod Requests
+pub mod ActWords
 pub mod Stories
 pub mod Scripts
 pub mod Lanes

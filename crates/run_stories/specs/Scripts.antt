@@ -5,7 +5,8 @@ use Rattle.supervise_core.specs.declared.row.Row.{Row}
 use Rattle.tree_core.specs.Machine.{Machine, new_machine}
 use Rattle.tree_core.specs.StandsFor.{StoredTree, StandsFor}
 use Rattle.s6_replay.specs.Lines.{AppendsFront}
-use Rattle.s6_replay.specs.Script.{Recorded, HasLines, StopsBehind, BeginsOtherwise, ReadsHead, step_lines, script, inputs_of}
+use Rattle.s6_replay.specs.Script.{Recorded, HasLines, step_lines, script, inputs_of}
+use Rattle.s6_replay.specs.ReadingStops.{StopsBehind, BeginsOtherwise, ReadsHead}
 use Rattle.s6_replay.specs.Replay.{MakeScript, IsRead}
 use Rattle.s6_replay.specs.declared.version.Version.{Version}
 use Rattle.s6_replay.specs.declared.fault.ReplayFault.{ReplayFault}

@@ -11,7 +11,8 @@ use Rattle.tree_core.specs.Rows.{all_rows}
 use Rattle.tree_core.specs.Run.{after, outcome}
 use Rattle.tree_core.specs.StandsFor.{StoredTree, StandsFor}
 use Rattle.run_stories.specs.Words.{event_line, order_line, match_line, release_line}
-use Rattle.run_stories.specs.Requests.{cause_of, is_told, head_words, body_words, reply_lines}
+use Rattle.run_stories.specs.Requests.{cause_of, is_told, reply_lines}
+use Rattle.run_stories.specs.ActWords.{head_words, body_words}
 use Rattle.run_stories.specs.declared.cause.Cause.{Cause}
 
 -- the rows by which services are named after a step: those of the last scan that was done

@@ -2,7 +2,8 @@
 ghost use Rattle.std.specs.Prelude.{◌≡◌, ◌++◌, ◌∷◌, map, OnOk};
 ghost use Rattle.std.specs.List.{flat_map};
 ghost use Rattle.control_letters.specs.ControlLetter.{byte_of};
-ghost use Rattle.run_stories.specs.Requests.{is_told, head_words, target_text, mode_words, names_text, condition_words, patience_text, wait_text, body_words};
+ghost use Rattle.run_stories.specs.Requests.{is_told};
+ghost use Rattle.run_stories.specs.ActWords.{head_words, target_text, mode_words, names_text, condition_words, patience_text, wait_text, body_words};
 
 use crate::effect_words::push_service;
 use crate::moments::push_seconds;

@@ -7,7 +7,8 @@ ghost use Rattle.s6_replay.specs.Lines.{AppendsFront};
 ghost use Rattle.s6_replay.specs.Script.{input_limit};
 ghost use Rattle.tree_core.specs.Rows.{all_rows};
 ghost use Rattle.tree_core.specs.StandsFor.{StandsFor};
-ghost use Rattle.run_stories.specs.Requests.{body_words, reply_lines};
+ghost use Rattle.run_stories.specs.Requests.{reply_lines};
+ghost use Rattle.run_stories.specs.ActWords.{body_words};
 ghost use Rattle.run_stories.specs.Scripts.{TellsNext, NextStops, IsStory, StoryStops};
 ghost use Rattle.run_stories.specs.Stories.{rows_after, effect_lines, IsTold};
 ghost use Rattle.s6_replay.specs.declared.fault.ReplayFault.TheVariants.{NoMemory, Write};
@@ -23,7 +24,7 @@ use s6_replay::{
 use std::alloc::{AllocError, Allocator, Global};
 use std::io::{BufRead, Write};
 use supervise_core::Row;
-use tree_core::{Act, Effect, Input, Reply, SERVICE_LIMIT, Tree};
+use tree_core::{Act, Effect, Reply, SERVICE_LIMIT, Tree};
 
 // The rows of the last scan, by which services are named, and memory that is used again for each step: what its act is about, and its
 // story, which is the text of the scratch.
@@ -106,29 +107,33 @@ fn make_story<A: Allocator + Copy>(
     Ok(())
 }
 
-// Applies an input, and fills the text with the story of the step.
+// Applies the input that was read, and fills the text with the story of the step.
 fn tell_step<A: Allocator + Copy>(
     tree: &mut Tree<A>,
     teller: &mut Teller<A>,
-    input: Input<A>,
 ) -> Result<(), ReplayFault>
     ensures told { OnOk result (IsTold teller.old.rows.items teller.new.rows.items
-        teller.new.scratch.text.items tree.old tree.new input) }
+        teller.new.scratch.text.items tree.old tree.new teller.old.scratch.input) }
     ensures fault { IfErr result (λ fault. fault ≡ NoMemory) }
 {
-    let told = is_told(&input.act);
-    let head = head_of(&input.act);
-    let cause = cause_of(&input.act);
     let Teller {
         rows,
         body,
         scratch,
     } = teller;
-    let Scratch { text, effect, .. } = scratch;
+    let Scratch {
+        text,
+        input,
+        effect,
+        ..
+    } = scratch;
+    let told = is_told(&input.act);
+    let head = head_of(&input.act);
+    let cause = cause_of(&input.act);
     let Ok(()) = make_body(body, rows, &input.act) else {
         return Err(ReplayFault::NoMemory);
     };
-    let Ok(()) = tree.apply_into(input, effect) else {
+    let Ok(()) = tree.apply_in_place(input, effect) else {
         return Err(ReplayFault::NoMemory);
     };
     match make_story(tree, rows, text, effect, told, head, body, cause) {
@@ -176,10 +181,11 @@ fn tell_next<A: Allocator + Copy, R: BufRead, W: Write>(
         (W.contents writer.old) (W.contents writer.new)) }
 {
     let scratch = &mut teller.scratch;
-    let Some(input) = read_step(alloc, patterns, reader, scratch, version, done)? else {
+    let found = read_step(alloc, patterns, reader, scratch, version, done)?;
+    if !found {
         return Ok(false);
-    };
-    if let Err(fault) = tell_step(tree, teller, input) {
+    }
+    if let Err(fault) = tell_step(tree, teller) {
         return Err(fault);
     }
     match write_story(teller, writer) {

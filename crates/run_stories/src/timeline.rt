@@ -13,7 +13,7 @@ use s6_replay::{INPUT_LIMIT, ReplayFault, Scratch, Version, read_end, read_head,
 use std::alloc::{Allocator, Global};
 use std::io::{BufRead, Write};
 use supervise_core::Row;
-use tree_core::{Act, Input, SERVICE_LIMIT, Tree};
+use tree_core::{Act, SERVICE_LIMIT, Tree};
 
 // What was seen of a run so far: its lanes, the moment of its first step, and the rows of its last scan, by which services are named. And
 // memory that is used again for each step.
@@ -44,22 +44,21 @@ fn lettered<A: Allocator>(act: &Act<A>) -> Option<Name> {
     }
 }
 
-// Applies an input, and notes what the lanes show after it.
+// Applies the input that was read, and notes what the lanes show after it.
 fn watch_step<A: Allocator + Copy>(
     alloc: A,
     tree: &mut Tree<A>,
     watcher: &mut Watcher<A>,
-    input: Input<A>,
 ) -> Result<(), ReplayFault> {
-    let named = lettered(&input.act);
     let Watcher {
         lanes,
         first,
         rows,
         scratch,
     } = watcher;
-    let effect = &mut scratch.effect;
-    let Ok(()) = tree.apply_into(input, effect) else {
+    let Scratch { input, effect, .. } = scratch;
+    let named = lettered(&input.act);
+    let Ok(()) = tree.apply_in_place(input, effect) else {
         return Err(ReplayFault::NoMemory);
     };
     if first.is_none() {
@@ -85,10 +84,11 @@ fn watch_next<A: Allocator + Copy, R: BufRead>(
     requires { done < input_limit }
 {
     let scratch = &mut watcher.scratch;
-    let Some(input) = read_step(alloc, patterns, reader, scratch, version, done)? else {
+    let found = read_step(alloc, patterns, reader, scratch, version, done)?;
+    if !found {
         return Ok(false);
-    };
-    watch_step(alloc, tree, watcher, input)?;
+    }
+    watch_step(alloc, tree, watcher)?;
     Ok(true)
 }
 

@@ -12,7 +12,8 @@ use Rattle.tree_core.specs.Run.{after, after_all}
 use Rattle.tree_core.specs.StandsFor.{StoredTree, StandsFor}
 use Rattle.s6_script.specs.Spelling.{spelling}
 use Rattle.s6_replay.specs.Lines.{HasNoNewline, AppendsFront}
-use Rattle.s6_replay.specs.Script.{Recorded, HasLines, StopsBehind, head_line, step_lines, script, inputs_of, input_limit}
+use Rattle.s6_replay.specs.Script.{Recorded, HasLines, head_line, step_lines, script, inputs_of, input_limit}
+use Rattle.s6_replay.specs.ReadingStops.{StopsBehind}
 use Rattle.s6_replay.specs.Turn.{HeadStops, EndStops}
 use Rattle.s6_replay.specs.Migration.{recorded, recorded_step, recorded_script, RecordingStops, Records, RecordStops, Migrates, MigrateStops, StopsMigrating}
 use Rattle.s6_replay.specs.declared.counts.Counts.{Counts}

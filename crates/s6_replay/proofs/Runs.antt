@@ -10,7 +10,8 @@ use Rattle.tree_core.specs.Run.{after, outcome, outcomes, after_all}
 use Rattle.tree_core.specs.StandsFor.{StoredTree, StandsFor}
 use Rattle.s6_script.specs.Spelling.{spelling}
 use Rattle.s6_replay.specs.Lines.{HasNoNewline, AppendsFront}
-use Rattle.s6_replay.specs.Script.{Recorded, HasLines, StopsBehind, head_line, step_lines, inputs_of, input_limit}
+use Rattle.s6_replay.specs.Script.{Recorded, HasLines, head_line, step_lines, inputs_of, input_limit}
+use Rattle.s6_replay.specs.ReadingStops.{StopsBehind}
 use Rattle.s6_replay.specs.Replay.{IsWhole, Stops, StopsReading, Written, transcript}
 use Rattle.s6_replay.specs.Transcript.{block, blocks}
 use Rattle.s6_replay.specs.Turn.{Answers, AnswerStops, HeadStops, Turns, TurnStops, EndStops}

@@ -10,9 +10,10 @@ use Rattle.tree_core.specs.declared.input.Input.{Input}
 use Rattle.tree_core.specs.Machine.{Machine, Outcome, new_machine}
 use Rattle.tree_core.specs.Run.{after, outcome, outcomes, after_all}
 use Rattle.tree_core.specs.StandsFor.{StoredTree, StandsFor}
-use Rattle.s6_replay.specs.Script.{Recorded, HasLines, StopsBehind, step_lines, script, head_line, inputs_of, input_limit}
-use Rattle.s6_replay.specs.Script.IsNoLine.{too_many}
-use Rattle.s6_replay.specs.Script.Place.{at_input}
+use Rattle.s6_replay.specs.Script.{Recorded, HasLines, step_lines, script, head_line, inputs_of, input_limit}
+use Rattle.s6_replay.specs.ReadingStops.{StopsBehind}
+use Rattle.s6_replay.specs.ReadingStops.IsNoLine.{too_many}
+use Rattle.s6_replay.specs.ReadingStops.Place.{at_input}
 use Rattle.s6_replay.specs.Replay.{CountsOf, IsRead, MakeScript}
 use Rattle.s6_replay.specs.Turn.{EndStops}
 use Rattle.s6_replay.proofs.Places.{stops_behind}

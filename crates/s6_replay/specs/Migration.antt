@@ -6,7 +6,8 @@ use Rattle.tree_core.specs.Machine.{Machine, new_machine}
 use Rattle.tree_core.specs.Run.{after, outcome}
 use Rattle.tree_core.specs.StandsFor.{StoredTree, StandsFor}
 use Rattle.s6_replay.specs.Lines.{AppendsFront}
-use Rattle.s6_replay.specs.Script.{Recorded, HasLines, StopsBehind, BeginsOtherwise, ReadsHead, head_line, step_lines, script, inputs_of}
+use Rattle.s6_replay.specs.Script.{Recorded, HasLines, head_line, step_lines, script, inputs_of}
+use Rattle.s6_replay.specs.ReadingStops.{StopsBehind, BeginsOtherwise, ReadsHead}
 use Rattle.s6_replay.specs.Replay.{CountsOf, MakeScript, IsRead}
 use Rattle.s6_replay.specs.Checking.{reply_of}
 use Rattle.s6_replay.specs.declared.counts.Counts.{Counts}

@@ -6,7 +6,8 @@ use Rattle.tree_core.specs.declared.input.Input.{Input}
 use Rattle.tree_core.specs.Machine.{new_machine}
 use Rattle.tree_core.specs.Run.{outcome, outcomes, after_all}
 use Rattle.s6_replay.specs.Lines.{AppendsFront}
-use Rattle.s6_replay.specs.Script.{Recorded, HasLines, StopsBehind, BeginsOtherwise, ReadsHead, script, inputs_of, input_limit}
+use Rattle.s6_replay.specs.Script.{Recorded, HasLines, script, inputs_of, input_limit}
+use Rattle.s6_replay.specs.ReadingStops.{StopsBehind, BeginsOtherwise, ReadsHead}
 use Rattle.s6_replay.specs.Transcript.{block, blocks}
 use Rattle.s6_replay.specs.declared.counts.Counts.{Counts}
 use Rattle.s6_replay.specs.declared.version.Version.{Version}

@@ -2,7 +2,8 @@
 ghost use Rattle.std.specs.Prelude.{◌≡◌, ◌<◌, [], IfOk, IfErr};
 ghost use Rattle.tree_core.specs.Machine.{new_machine};
 ghost use Rattle.tree_core.specs.StandsFor.{StandsFor};
-ghost use Rattle.s6_replay.specs.Script.{StopsBehind, input_limit};
+ghost use Rattle.s6_replay.specs.Script.{input_limit};
+ghost use Rattle.s6_replay.specs.ReadingStops.{StopsBehind};
 ghost use Rattle.s6_replay.specs.Turn.{text_in};
 ghost use Rattle.s6_replay.specs.Checking.{Checks, CheckStops, Compares, ComparesStep};
 ghost use Rattle.s6_replay.specs.declared.fault.ReplayFault.TheVariants.{NoMemory};
@@ -41,13 +42,14 @@ fn compare_reply<A: Allocator + Copy>(
     tree: &mut Tree<A>,
     effect: &mut Effect<A>,
     text: &mut Vec<u8, A>,
-    input: Input<A>,
+    input: &mut Input<A>,
     line: &[u8],
 ) -> Result<bool, ReplayFault>
-    ensures ok { IfOk result (λ same. Compares same tree.old tree.new input (text_in line.now)) }
+    ensures ok { IfOk result
+        (λ same. Compares same tree.old tree.new input.old (text_in line.now)) }
     ensures fault { IfErr result (λ fault. fault ≡ NoMemory) }
 {
-    let Ok(()) = tree.apply_into(input, effect) else {
+    let Ok(()) = tree.apply_in_place(input, effect) else {
         return Err(ReplayFault::NoMemory);
     };
     text.clear();
@@ -72,12 +74,14 @@ fn compare_step<A: Allocator + Copy, R: BufRead>(
     ensures ok { IfOk result (λ compared. ComparesStep A compared tree.old tree.new
         (R.remaining reader.old) (R.remaining reader.new)) }
 {
-    let Some(input) = read_step(alloc, patterns, reader, scratch, Version::Two, done)? else {
+    let found = read_step(alloc, patterns, reader, scratch, Version::Two, done)?;
+    if !found {
         return Ok(Compared::End);
-    };
+    }
     let Scratch {
         reply,
         text,
+        input,
         effect,
         ..
     } = scratch;

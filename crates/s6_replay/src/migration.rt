@@ -4,7 +4,7 @@ ghost use Rattle.s6_script.specs.Spelling.{spelling};
 ghost use Rattle.tree_core.specs.Machine.{new_machine};
 ghost use Rattle.tree_core.specs.StandsFor.{StandsFor};
 ghost use Rattle.s6_replay.specs.Script.{input_limit, reply_record};
-ghost use Rattle.s6_replay.specs.Transcript.{reply_text};
+ghost use Rattle.s6_replay.specs.ReplyText.{reply_text};
 ghost use Rattle.s6_replay.specs.Migration.{IsRecorded, RecordingStops, Records, RecordStops, Migrates, MigrateStops, HeadWritten, HeadUnwritten};
 
 use super::block::{WriteFault, write_whole};
@@ -42,17 +42,17 @@ fn record_input<A: Allocator + Copy, W: Write>(
     effect: &mut Effect<A>,
     text: &mut Vec<u8, A>,
     writer: &mut W,
-    input: Input<A>,
+    input: &mut Input<A>,
     line: &[u8],
 ) -> Result<(usize, usize), ReplayFault>
-    requires { line.now ≡ spelling input }
+    requires { line.now ≡ spelling input.old }
     ensures fault { IfErr result
-        (λ fault. RecordingStops fault tree.old input
+        (λ fault. RecordingStops fault tree.old input.old
         (W.contents writer.old) (W.contents writer.new)) }
-    ensures ok { IfOk result (λ given. IsRecorded given.0 given.1 tree.old tree.new input
+    ensures ok { IfOk result (λ given. IsRecorded given.0 given.1 tree.old tree.new input.old
         (W.contents writer.old) (W.contents writer.new)) }
 {
-    let Ok(()) = tree.apply_into(input, effect) else {
+    let Ok(()) = tree.apply_in_place(input, effect) else {
         return Err(ReplayFault::NoMemory);
     };
     let given = (
@@ -87,12 +87,14 @@ fn record_step<A: Allocator + Copy, R: BufRead, W: Write>(
         (R.remaining reader.old) (R.remaining reader.new)
         (W.contents writer.old) (W.contents writer.new)) }
 {
-    let Some(input) = read_step(alloc, patterns, reader, scratch, Version::One, done)? else {
+    let found = read_step(alloc, patterns, reader, scratch, Version::One, done)?;
+    if !found {
         return Ok(Turn::End);
-    };
+    }
     let Scratch {
         line,
         text,
+        input,
         effect,
         ..
     } = scratch;

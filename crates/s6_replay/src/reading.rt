@@ -1,26 +1,30 @@
 //! Reads the lines of a step, and says which fault a line has, and which line it is.
-ghost use Rattle.std.specs.Prelude.{◌≡◌, ◌<◌, ◌≤◌, [], IfOk, IfErr, OnOk, IfSome};
+ghost use Rattle.std.specs.Prelude.{◌≡◌, ◌<◌, ◌≤◌, [], IfOk, IfErr, OnOk, IsTrue, Some, None, if◌then◌else◌};
 ghost use Rattle.std.specs.Io.KnownBytes.{Consumes, IsAtEnd};
 ghost use Rattle.s6_script.specs.Spelling.{spelling};
-ghost use Rattle.s6_replay.specs.Script.{IsReplyText, StopsBehind, input_limit, input_line_number, reply_record};
+ghost use Rattle.s6_replay.specs.Script.{IsReplyText, input_limit, reply_record};
+ghost use Rattle.s6_replay.specs.ReadingStops.{StopsBehind, input_line_number};
 ghost use Rattle.s6_replay.specs.Turn.{InputWasRead, WasRead, ReplyStops, HoldsReply, EndStops, text_in};
 
 use super::fault::ReplayFault;
 use super::limits::{INPUT_LIMIT, INPUT_LINE_LIMIT, REPLY_LINE_LIMIT};
 use super::line::{Ended, ReadFault, read_line};
 use super::version::Version;
-use s6_script::{LineFault, parse_with};
+use s6_events::{Actor, At};
+use s6_script::{LineFault, parse_into};
 use std::alloc::{Allocator, Global};
 use std::io::{BufRead, Read};
-use tree_core::{Effect, Input};
+use tree_core::{Act, Effect, Input};
 
-/// Memory that is used again for each step: its lines, a text that is compared or written, and the effect that the tree fills. A step that
-/// needs no more room in these than those before it takes no memory for them.
+/// Memory that is used again for each step: its lines, a text that is compared or written, its input, and the effect that the tree fills. A
+/// step that needs no more room in these than those before it takes no memory for them.
 #[derive(Drop)]
 pub struct Scratch<A: Allocator> {
     pub line: Vec<u8, A>,
     pub reply: Vec<u8, A>,
     pub text: Vec<u8, A>,
+    /// The input of the step that was read last, until the tree takes it.
+    pub input: Input<A>,
     pub effect: Effect<A>,
 }
 
@@ -30,6 +34,11 @@ impl<A: Allocator + Copy> Scratch<A> {
             line: Vec::new(alloc),
             reply: Vec::new(alloc),
             text: Vec::new(alloc),
+            input: Input {
+                actor: Actor::default(),
+                at: At::zero(),
+                act: Act::Tick,
+            },
             effect: Effect::new(alloc),
         }
     }
@@ -59,31 +68,32 @@ pub fn input_line_number(version: Version, done: u64) -> u64
     }
 }
 
-// Reads the input after `done` steps; None at the end of the script.
+// Reads the input after `done` steps, and puts it where it is to lie. Whether there was one: not at the end of the script.
 fn read_input<A: Allocator + Copy, R: BufRead>(
     alloc: A,
     patterns: Global,
     reader: &mut R,
     line: &mut Vec<u8, A>,
     text: &mut Vec<u8, A>,
+    input: &mut Input<A>,
     version: Version,
     done: u64,
-) -> Result<Option<Input<A>>, ReplayFault>
+) -> Result<bool, ReplayFault>
     requires { done < input_limit }
     ensures fault { IfErr result
         (λ fault. StopsBehind A version done fault []
         (R.remaining reader.old) (R.remaining reader.new)) }
-    ensures ok { IfOk result (λ found.
-        InputWasRead found line.new.items (R.remaining reader.old) (R.remaining reader.new)) }
+    ensures ok { IfOk result (λ found. InputWasRead (if found then Some input.new else None)
+        line.new.items (R.remaining reader.old) (R.remaining reader.new)) }
 {
     match read_line::<A, R, INPUT_LINE_LIMIT>(reader, line)? {
         Ended::TooLong => return Err(ReplayFault::Line(input_line_number(version, done))),
-        Ended::End if line.is_empty() => return Ok(None),
+        Ended::End if line.is_empty() => return Ok(false),
         Ended::End => return Err(ReplayFault::Truncated),
         Ended::Newline => {}
     }
-    match parse_with(alloc, patterns, line.as_slice(), text) {
-        Ok(input) => Ok(Some(input)),
+    match parse_into(alloc, patterns, line.as_slice(), text, input) {
+        Ok(()) => Ok(true),
         Err(LineFault::Line) => Err(ReplayFault::Line(input_line_number(version, done))),
         Err(LineFault::Pattern) => Err(ReplayFault::Pattern(input_line_number(version, done))),
         Err(LineFault::NoMemory) => Err(ReplayFault::NoMemory),
@@ -125,7 +135,8 @@ fn read_reply<A: Allocator + Copy, R: BufRead>(
     }
 }
 
-/// Reads the lines of the step after `done` others; None at the end of the script. The limits and the faults are those of `run`.
+/// Reads the lines of the step after `done` others, and puts its input into the scratch. Whether there was one: not at the end of the
+/// script. The limits and the faults are those of `run`.
 pub fn read_step<A: Allocator + Copy, R: BufRead>(
     alloc: A,
     patterns: Global,
@@ -133,28 +144,32 @@ pub fn read_step<A: Allocator + Copy, R: BufRead>(
     scratch: &mut Scratch<A>,
     version: Version,
     done: u64,
-) -> Result<Option<Input<A>>, ReplayFault>
+) -> Result<bool, ReplayFault>
     requires { done < input_limit }
     ensures fault { IfErr result
         (λ fault. StopsBehind A version done fault []
         (R.remaining reader.old) (R.remaining reader.new)) }
-    ensures ok { IfOk result (λ found. WasRead version (text_in scratch.new.reply.items) found
+    ensures ok { IfOk result (λ found. WasRead version (text_in scratch.new.reply.items)
+        (if found then Some scratch.new.input else None)
         (R.remaining reader.old) (R.remaining reader.new)) }
-    ensures line { IfOk result (λ found. IfSome found (λ i. scratch.new.line.items ≡ spelling i)) }
+    ensures line { IfOk result (λ found. IsTrue found
+        → scratch.new.line.items ≡ spelling scratch.new.input) }
 {
     let Scratch {
         line,
         reply,
         text,
+        input,
         ..
     } = scratch;
-    let Some(input) = read_input(alloc, patterns, reader, line, text, version, done)? else {
-        return Ok(None);
-    };
+    let found = read_input(alloc, patterns, reader, line, text, input, version, done)?;
+    if !found {
+        return Ok(false);
+    }
     match version {
-        Version::One => Ok(Some(input)),
+        Version::One => Ok(true),
         Version::Two => match read_reply(reader, reply, done) {
-            Ok(()) => Ok(Some(input)),
+            Ok(()) => Ok(true),
             Err(fault) => Err(fault),
         },
     }

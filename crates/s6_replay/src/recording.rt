@@ -5,7 +5,7 @@ ghost use Rattle.s6_script.specs.Spelling.{spelling};
 ghost use Rattle.s6_replay.specs.Lines.{AppendsFront};
 ghost use Rattle.s6_replay.specs.Recording.{FitsLine};
 ghost use Rattle.s6_replay.specs.Script.{input_line, reply_record};
-ghost use Rattle.s6_replay.specs.Transcript.{reply_text};
+ghost use Rattle.s6_replay.specs.ReplyText.{reply_text};
 
 use super::block::{WriteFault, write_whole};
 use super::limits::INPUT_LINE_LIMIT;
@@ -117,9 +117,11 @@ pub fn spell_step<A: Allocator + Copy>(
     ensures in_memory { result ≡ Err SpellFault.Write → ⊥ }
 {
     if !spell_plain(alloc, text, input)? {
+        // It has no spelling.
         return Err(SpellFault::Unspelt);
     }
     if text.len() >= INPUT_LINE_LIMIT {
+        // Its line is too long.
         return Err(SpellFault::Unspelt);
     }
     text.extend_from_slice(b"\n= ")?;

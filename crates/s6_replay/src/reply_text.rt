@@ -1,7 +1,7 @@
 //! The text of a reply.
 ghost use Rattle.std.specs.Prelude.{◌≡◌, ◌++◌, OnOk};
 ghost use Rattle.std.specs.List.{flat_map};
-ghost use Rattle.s6_replay.specs.Transcript.{reason, dropped_text, listed_text, truth_text, truth_field, number_field, exit_code, signal_number, row_text, end_text, death_text, failure_text, reply_text};
+ghost use Rattle.s6_replay.specs.ReplyText.{reason, dropped_text, listed_text, truth_text, truth_field, number_field, exit_code, signal_number, row_text, end_text, death_text, failure_text, reply_text};
 
 use s6_events::{At, Exit, Sid};
 use s6_script::{push_number, push_spaced};

@@ -39,11 +39,17 @@ pub fn take_turn<A: Allocator + Copy, R: BufRead, W: Write>(
         (R.remaining reader.old) (R.remaining reader.new)
         (W.contents writer.old) (W.contents writer.new)) }
 {
-    let Some(mut input) = read_step(alloc, patterns, reader, scratch, version, done)? else {
+    let found = read_step(alloc, patterns, reader, scratch, version, done)?;
+    if !found {
         return Ok(Turn::End);
-    };
-    let Scratch { text, effect, .. } = scratch;
-    let Ok(()) = tree.apply_in_place(&mut input, effect) else {
+    }
+    let Scratch {
+        text,
+        input,
+        effect,
+        ..
+    } = scratch;
+    let Ok(()) = tree.apply_in_place(input, effect) else {
         return Err(ReplayFault::NoMemory);
     };
     let events = effect.events.as_slice().len();

@@ -20,7 +20,7 @@ pub record IsCut (line first second behind : List ℕ) : Type 0 where
   pub second_is : second ≡ slice_index_or (text_words line) 1 []
   pub behind_is : behind ≡ join_with_byte 32 (drop 2 (text_words line))
 
-pub is_cut : (line first second behind : List ℕ) (texts left rest : List (List ℕ)) → texts ≡ text_words line
+is_cut : (line first second behind : List ℕ) (texts left rest : List (List ℕ)) → texts ≡ text_words line
     → first ≡ slice_index_or texts 0 [] → left ≡ drop 1 texts → second ≡ slice_index_or left 0 [] → rest ≡ drop 1 left
     → behind ≡ join_with_byte 32 rest → IsCut line first second behind
 is_cut line first second behind texts left rest cut first_is left_is second_is rest_is behind_is =
@@ -30,6 +30,13 @@ is_cut line first second behind texts left rest cut first_is left_is second_is r
       second_is = next_word 1 (text_words line) left second one second_is;
       behind_is = behind_is ∙ ap (join_with_byte 32) (one_taken 1 (text_words line) left rest one rest_is);
     }
+
+-- a moment and an actor were taken
+pub cut_behind : (line behind : List ℕ) (at actor : ℕ) (texts left rest : List (List ℕ)) → texts ≡ text_words line → texts ≡ decimal at ∷ left
+    → left ≡ decimal actor ∷ rest → behind ≡ join_with_byte 32 rest → IsCut line (decimal at) (decimal actor) behind
+cut_behind line behind at actor texts left rest cut first next behind_is =
+    is_cut line (decimal at) (decimal actor) behind texts left rest cut (sym (ap (λ ws. slice_index_or ws 0 []) first)) (sym (ap (drop 1) first))
+    (sym (ap (λ ws. slice_index_or ws 0 []) next)) (sym (ap (drop 1) next)) behind_is
 
 -- the first two words, where both have a byte, and the rest
 two_words : (texts : List (List ℕ)) → 0 < length (slice_index_or texts 0 []) → 0 < length (slice_index_or texts 1 [])

@@ -9,6 +9,8 @@ pub mod Reading
 pub mod Building
 pub mod Heads
 pub mod Numbers
+pub mod FrontNumbers
+pub mod ReadOnce
 pub mod WordsTaken
 pub mod Letters
 pub mod Items

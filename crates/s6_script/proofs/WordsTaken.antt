@@ -68,7 +68,7 @@ more_words true rest words e = sym (ap (λ ws. nat_lt 0 (length ws)) e ∙ some_
 more_words false rest words e = sym (ap (λ ws. nat_lt 0 (length ws)) e)
 
 -- what is left while a word is left
-left_words : (more : Bool) (rest : List ℕ) (words : List (List ℕ)) → words ≡ (if more then text_words rest else []) → more ≡ true
+pub left_words : (more : Bool) (rest : List ℕ) (words : List (List ℕ)) → words ≡ (if more then text_words rest else []) → more ≡ true
     → words ≡ text_words rest
 left_words true rest words e go = e
 left_words false rest words e go = absurd (false≢true go)

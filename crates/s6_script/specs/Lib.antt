@@ -5,3 +5,4 @@ pub mod Words
 pub mod Spelling
 pub mod Telling
 pub mod Unbuilt
+pub mod ReadActs

@@ -7,6 +7,7 @@ mod digits;
 mod entry_options;
 mod parse;
 mod plain_spelling;
+mod reports;
 mod spelling;
 mod subscribing;
 mod unbuilt;
@@ -15,7 +16,7 @@ mod words;
 
 pub use death_list::push_permafailon;
 pub use digits::{push_number, push_spaced};
-pub use parse::{LineFault, parse_act, parse_line, parse_with};
+pub use parse::{LineFault, parse_act, parse_into, parse_line};
 pub use plain_spelling::spell_plain;
 pub use spelling::{push_act, push_named, push_svc};
 pub use subscribing::{push_send, push_subscribe};

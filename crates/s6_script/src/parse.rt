@@ -2,7 +2,7 @@
 //! and in `entry_options.rt`, gives the value that its words spell, and for words that spell none any value of its type. The act that comes
 //! of this is spelled again, and returned only where the spelling equals the words that were read. So no function has to look for words
 //! that spell no act. A pattern is built last, so a line is refused for its pattern only where it spells an act otherwise.
-ghost use Rattle.std.specs.Prelude.{◌≡◌, ℕ, ◌≤◌, ◌<◌, ◌^◌, ◌-◌, ◌∷◌, ◌++◌, [], List, Bool, Err, IfOk, Some, IfSome, true, decimal, drop, map, length, slice_index_or};
+ghost use Rattle.std.specs.Prelude.{◌≡◌, ℕ, ◌≤◌, ◌<◌, ◌^◌, ◌-◌, ◌∷◌, ◌++◌, [], List, Bool, Err, IfOk, OnOk, Some, IfSome, true, decimal, drop, map, length, slice_index_or};
 ghost use Rattle.hex.specs.Hex.{IsBytes, encode_lower};
 ghost use Rattle.s6_script.specs.Spelling.{HasExpression, IsExit, IsAct, SpellsAct, SpellsActButForPattern, act_words};
 ghost use Rattle.s6_script.specs.Spelling.{Spells, SpellsButForPattern};
@@ -15,11 +15,12 @@ ghost use Rattle.svscan_core.specs.declared.entry.ScanOrder.{ScanOrder};
 
 use super::death_list::permafailon_of;
 use super::entry_options::entries_of;
+use super::reports::read_report;
 use super::spelling::spell_read;
 use super::subscribing::{send_of, subscribe_of};
 use super::unbuilt::{UnbuiltAct, build_act};
 use super::waiting::wait_of;
-use super::words::{Words, exact_number, is_word, name_of, number};
+use super::words::{Words, is_word, name_of, number, take_number};
 use arrayvec::ArrayVec;
 use control_letters::{ControlLetter, Letters};
 use s6_events::{Actor, At, Exit, NoMemory, Sid, SubId, WaitId};
@@ -347,11 +348,12 @@ pub fn parse_act<A: Allocator + Copy>(
     ensures pattern { result ≡ Err LineFault.Pattern → SpellsActButForPattern A words.now }
 {
     let mut text = Vec::new(alloc);
-    parse_act_with(alloc, patterns, words, &mut text)
+    parse_other(alloc, patterns, words, &mut text)
 }
 
-// `parse_act`, with a text of the caller in which the act is spelled again.
-fn parse_act_with<A: Allocator + Copy>(
+// `parse_act`, with a text of the caller in which the act is spelled again. It stands apart, since most acts are read word for word.
+#[inline(never)]
+fn parse_other<A: Allocator + Copy>(
     alloc: A,
     patterns: Global,
     words: &[u8],
@@ -372,20 +374,50 @@ fn parse_act_with<A: Allocator + Copy>(
     }
 }
 
-// The moment that a word spells; None where it spells none.
-fn moment_of(word: &[u8]) -> Option<At>
-    ensures spelled { (n : ℕ) → n ≤ last_moment → word.now ≡ decimal n → result ≡ Some n }
-    ensures only { IfSome result (λ at. (at ≤ last_moment) × (word.now ≡ decimal at)) }
+// `parse_act`, which puts the act where it is to lie; on error nothing is said of what lies there.
+fn parse_act_into<A: Allocator + Copy>(
+    alloc: A,
+    patterns: Global,
+    words: &[u8],
+    text: &mut Vec<u8, A>,
+    act: &mut Act<A>,
+) -> Result<(), LineFault>
+    ensures found { OnOk result (SpellsAct words.now act.new) }
+    ensures only { OnOk result ((other : Act A) → SpellsAct words.now other → act.new ≡ other) }
+    ensures expression { OnOk result (HasExpression act.new) }
+    ensures line { result ≡ Err LineFault.Line → (other : Act A) → SpellsAct words.now other → ⊥ }
+    ensures pattern { result ≡ Err LineFault.Pattern → SpellsActButForPattern A words.now }
 {
-    At::new(exact_number(word, 1_000_000_000_000_000)?)
+    if read_report(words, act) {
+        return Ok(());
+    }
+    match parse_other(alloc, patterns, words, text) {
+        Ok(found) => {
+            *act = found;
+            Ok(())
+        }
+        Err(fault) => Err(fault),
+    }
 }
 
-// The actor that a word spells; None where it spells none.
-fn actor_of(word: &[u8]) -> Option<Actor>
-    ensures spelled { (n : ℕ) → n ≤ 15 → word.now ≡ decimal n → result ≡ Some n }
-    ensures only { IfSome result (λ actor. (actor ≤ 15) × (word.now ≡ decimal actor)) }
+// Takes a moment; None where the next word spells none.
+fn take_moment(words: &mut Words<'_>) -> Option<At>
+    ensures spelled { (n : ℕ) → n ≤ last_moment → slice_index_or words.old 0 [] ≡ decimal n
+        → result ≡ Some n }
+    ensures only { IfSome result (λ at. (at ≤ last_moment)
+        × (words.old ≡ decimal at ∷ words.new)) }
 {
-    Actor::new(exact_number(word, 15)? as u8)
+    At::new(take_number(words, 1_000_000_000_000_000)?)
+}
+
+// Takes an actor; None where the next word spells none.
+fn take_actor(words: &mut Words<'_>) -> Option<Actor>
+    ensures spelled { (n : ℕ) → n ≤ 15 → slice_index_or words.old 0 [] ≡ decimal n
+        → result ≡ Some n }
+    ensures only { IfSome result (λ actor. (actor ≤ 15)
+        × (words.old ≡ decimal actor ∷ words.new)) }
+{
+    Actor::new(take_number(words, 15)? as u8)
 }
 
 /// The input that a line spells: a moment, an actor, and an act. The line is given without its newline, and may be of any length. A pattern
@@ -404,32 +436,43 @@ pub fn parse_line<A: Allocator + Copy>(
     ensures pattern { result ≡ Err LineFault.Pattern → SpellsButForPattern A line.now }
 {
     let mut text = Vec::new(alloc);
-    parse_with(alloc, patterns, line, &mut text)
+    let mut input = Input {
+        actor: Actor::default(),
+        at: At::zero(),
+        act: Act::Tick,
+    };
+    match parse_into(alloc, patterns, line, &mut text, &mut input) {
+        Ok(()) => Ok(input),
+        Err(fault) => Err(fault),
+    }
 }
 
-/// `parse_line`, with a text of the caller in which the act is spelled again, so that its memory is used again. What is in that text before
-/// and after doesn't matter.
-pub fn parse_with<A: Allocator + Copy>(
+/// `parse_line`, which puts the input where it is to lie, and with a text of the caller in which the act may be spelled again, so that its
+/// memory is used again. What is in that text before and after doesn't matter; on error nothing is said of what lies in `input`.
+pub fn parse_into<A: Allocator + Copy>(
     alloc: A,
     patterns: Global,
     line: &[u8],
     text: &mut Vec<u8, A>,
-) -> Result<Input<A>, LineFault>
-    ensures found { IfOk result (Spells line.now) }
-    ensures only { IfOk result (λ found. (i : Input A) → Spells line.now i → found ≡ i) }
-    ensures expression { IfOk result (λ found. HasExpression found.act) }
+    input: &mut Input<A>,
+) -> Result<(), LineFault>
+    ensures found { OnOk result (Spells line.now input.new) }
+    ensures only { OnOk result ((i : Input A) → Spells line.now i → input.new ≡ i) }
+    ensures expression { OnOk result (HasExpression input.new.act) }
     ensures line { result ≡ Err LineFault.Line → (i : Input A) → Spells line.now i → ⊥ }
     ensures pattern { result ≡ Err LineFault.Pattern → SpellsButForPattern A line.now }
 {
     let mut words = Words::of(line);
-    let Some(at) = moment_of(words.take_next()) else {
+    let Some(at) = take_moment(&mut words) else {
         return Err(LineFault::Line);
     };
-    let Some(actor) = actor_of(words.take_next()) else {
+    let Some(actor) = take_actor(&mut words) else {
         return Err(LineFault::Line);
     };
-    match parse_act_with(alloc, patterns, words.rest(), text) {
-        Ok(act) => Ok(Input { actor, at, act }),
+    input.actor = actor;
+    input.at = at;
+    match parse_act_into(alloc, patterns, words.rest(), text, &mut input.act) {
+        Ok(()) => Ok(()),
         Err(fault) => Err(fault),
     }
 }

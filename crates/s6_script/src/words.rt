@@ -1,11 +1,11 @@
 //! The words of a line, and reading single words.
-ghost use Rattle.std.specs.Prelude.{◌≡◌, ℕ, ◌≤◌, ◌<◌, ◌^◌, nat_lt, [], decimal, length, map, bytes_eq, drop, slice_index_or, true, Some, IfSome};
-ghost use Rattle.std.specs.List.{join_with_byte};
+ghost use Rattle.std.specs.Prelude.{◌≡◌, ℕ, ◌≤◌, ◌<◌, ◌^◌, nat_lt, [], ◌∷◌, decimal, length, map, bytes_eq, drop, take, get_or, slice_index_or, true, false, Some, IfSome};
+ghost use Rattle.std.specs.List.{join_with_byte, list_all};
 ghost use Rattle.s6_events.specs.Name.{is_name};
-ghost use Rattle.servicedir.specs.Number.{is_digit, with_digit};
+ghost use Rattle.servicedir.specs.Number.{is_digit, with_digit, value_of_digits};
 ghost use Rattle.s6_script.specs.Verb.{text_words};
+ghost use Rattle.s6_script.specs.Words.{begins_with_zero, is_number_text};
 
-use itoa::Buffer;
 use memchr::memchr;
 use s6_events::Name;
 use std::marker::Model;
@@ -117,18 +117,69 @@ fn with_digit(value: u64, byte: u8) -> u64
         .wrapping_add(u64::from(byte.wrapping_sub(b'0')))
 }
 
-// The number, at most `most`, that a word spells; None where it spells none.
-pub fn exact_number(word: &[u8], most: u64) -> Option<u64>
-    ensures spelled { (n : ℕ) → n ≤ most → word.now ≡ decimal n → result ≡ Some n }
-    ensures only { IfSome result (λ n. (n ≤ most) × (word.now ≡ decimal n)) }
+// The digits at the front of a text: how many, and the number that they write, if it is below 2^64.
+fn digits_at_front(text: &[u8]) -> (usize, u64)
+    ensures within { result.0 ≤ length text.now }
+    ensures digits { list_all is_digit (take result.0 text.now) ≡ true }
+    ensures end { result.0 < length text.now → is_digit (get_or text.now result.0 0) ≡ false }
+    ensures value { value_of_digits (take result.0 text.now) < 2 ^ 64
+        → result.1 ≡ value_of_digits (take result.0 text.now) }
 {
-    let found = number(word, most);
-    let mut digits = Buffer::new();
-    if digits.format(found).as_bytes() == word {
-        Some(found)
-    } else {
-        None
+    let mut value = 0;
+    let mut count = 0;
+    for byte in text {
+        if !is_digit(*byte) {
+            return (count, value);
+        }
+        value = with_digit(value, *byte);
+        count += 1;
     }
+    (count, value)
+}
+
+fn is_digit(byte: u8) -> bool
+    ensures { result ≡ is_digit byte }
+{
+    byte.is_ascii_digit()
+}
+
+// Whether a word begins with a zero.
+fn begins_with_zero(word: &[u8]) -> bool
+    ensures { result ≡ begins_with_zero word.now }
+{
+    match word {
+        [b'0', ..] => true,
+        _ => false,
+    }
+}
+
+// Whether digits are the spelling of a number below 10^19: one digit, or more of which the first is no zero.
+fn is_number_text(digits: &[u8]) -> bool
+    ensures { result ≡ is_number_text digits.now }
+{
+    (1..=19).contains(&digits.len()) && (digits.len() == 1 || !begins_with_zero(digits))
+}
+
+// Takes the next word, where it spells a number of at most `most` that is below 10^19; None where it spells none.
+pub fn take_number(words: &mut Words<'_>, most: u64) -> Option<u64>
+    ensures spelled { (n : ℕ) → n ≤ most → n < 10 ^ 19 → slice_index_or words.old 0 [] ≡ decimal n
+        → result ≡ Some n }
+    ensures only { IfSome result (λ n. (n ≤ most) × (words.old ≡ decimal n ∷ words.new)) }
+{
+    if !words.more {
+        return None;
+    }
+    let line = words.rest;
+    let (count, value) = digits_at_front(line);
+    if !is_number_text(&line[..count]) || value > most {
+        return None;
+    }
+    match line.get(count) {
+        None => words.more = false,
+        Some(b' ') => words.rest = &line[count + 1..],
+        Some(_) => return None,
+    }
+    Some(value)
 }
 
 // Reads a number of 32 bits: of seconds, deaths or milliseconds.

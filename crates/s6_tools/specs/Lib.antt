@@ -1,5 +1,6 @@
 pub mod Ages
 pub mod Answers
+pub mod Clues
 pub mod Culprits
 pub mod Endings
 pub mod FaultLines
@@ -17,3 +18,4 @@ pub mod Tables
 pub mod Targets
 pub mod Told
 pub mod Words
+pub mod WrongWords

@@ -2,7 +2,9 @@
 ghost use Rattle.std.specs.Prelude.{◌≡◌, ◌<◌, ◌≤◌, IfSome, codes, length, map, option_map, position, slice_get};
 ghost use Rattle.std.specs.List.{find};
 ghost use Rattle.std.specs.Str.{bytes_eq};
-ghost use Rattle.s6_tools.specs.Culprits.{is_wrong, behind, before_dashes, own_words, seen_by, strange_of, spare_of, excess_of, number_clues, list_clues, name_clues, clues_of, seen_by_either, culprit_of, subject_clues, subject_of, program_of};
+ghost use Rattle.s6_tools.specs.Culprits.{behind, before_dashes, own_words, seen_by, seen_by_either, culprit_of, subject_of, program_of};
+ghost use Rattle.s6_tools.specs.Clues.{strange_of, spare_of, excess_of, number_clues, list_clues, name_clues, clues_of, subject_clues};
+ghost use Rattle.s6_tools.specs.WrongWords.{is_wrong};
 
 use crate::misuse::Misuse;
 use crate::tool::Tool;

@@ -1,7 +1,7 @@
 //! The kinds of words by which the wrong word of a command line is found.
 ghost use Rattle.std.specs.Prelude.{◌≡◌, ◌==◌};
 ghost use Rattle.std.specs.List.{list_any};
-ghost use Rattle.s6_tools.specs.Culprits.{letters_of, valued_of, is_dashed, has_strange_letter, is_strange, is_list_option, is_no_name, is_condition, is_mode, is_ended, is_valued, is_wrong};
+ghost use Rattle.s6_tools.specs.WrongWords.{letters_of, valued_of, is_dashed, has_strange_letter, is_strange, is_list_option, is_no_name, is_condition, is_mode, is_ended, is_valued, is_wrong};
 
 use crate::tool::Tool;
 use crate::words::is_word;

@@ -11,7 +11,8 @@ use Rattle.server_rules.specs.declared.standing.StandingChange.TheVariants as ch
 use Rattle.server_rules.specs.declared.todo.News.{News}
 use Rattle.server_rules.specs.declared.todo.News.TheVariants as news
 use Rattle.tree_core.specs.declared.effect.Release.{Release}
-use Rattle.server_rules.specs.Connection.{View, has_room_in, has_room_on, is_for, is_here}
+use Rattle.server_rules.specs.Connection.{View, has_room_in, has_room_on, is_here}
+use Rattle.server_rules.specs.NewsTold.{is_for}
 use Rattle.server_rules.specs.Standing.{Made, after_release, has_place, has_room_for, is_among, without}
 
 one_no_longer : (is : Bool) (x : ℕ) (rest : List ℕ) (n : ℕ) → length rest ≤ n → length (cond (not is) (x ∷ rest) rest) ≤ suc n

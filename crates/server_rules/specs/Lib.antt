@@ -1,8 +1,11 @@
 pub mod Answers
+pub mod Begin
 pub mod Connection
+pub mod ErrandEnds
 pub mod Faults
 pub mod Handover
 pub mod Letters
+pub mod NewsTold
 pub mod Places
 pub mod Plans
 pub mod Recipients

@@ -2,7 +2,8 @@
 use Rattle.std.specs.Prelude.{ℕ, Bool, true, false, List, [], ◌∷◌, ◌++◌, slice_get, slice_set, Option, Some, None}
 use Rattle.std.specs.List.{position}
 use Rattle.std.specs.declared.alloc.Global.{Global}
-use Rattle.s6_replay.specs.Transcript.{match_line, release_line, reply_text}
+use Rattle.s6_replay.specs.Transcript.{match_line, release_line}
+use Rattle.s6_replay.specs.ReplyText.{reply_text}
 use Rattle.svscan_core.specs.declared.event.Event.{Event}
 use Rattle.tree_core.specs.Machine.{Outcome}
 use Rattle.tree_core.specs.declared.effect.Match.{Match}
@@ -14,14 +15,16 @@ use Rattle.server_rules.specs.declared.recipients.Line.{Line}
 use Rattle.server_rules.specs.declared.recipients.Line.TheVariants as line
 use Rattle.server_rules.specs.declared.recipients.Post.{Post}
 use Rattle.server_rules.specs.declared.roster.Member.{Member}
-use Rattle.server_rules.specs.declared.status.Subject.TheVariants as subject
+use Rattle.server_rules.specs.declared.status_lines.Subject.TheVariants as subject
 use Rattle.server_rules.specs.declared.todo.Answer.TheVariants as answer
 use Rattle.server_rules.specs.declared.todo.News.{News}
 use Rattle.server_rules.specs.declared.todo.News.TheVariants as news
 use Rattle.server_rules.specs.declared.todo.Todo.{Todo}
 use Rattle.server_rules.specs.declared.todo.Todo.TheVariants as todo
 use Rattle.server_rules.specs.Letters.{letter_line, told_letter}
-use Rattle.server_rules.specs.Connection.{View, Moved, answered_move, is_for, told_move}
+use Rattle.server_rules.specs.Connection.{View, Moved}
+use Rattle.server_rules.specs.NewsTold.{is_for, told_move}
+use Rattle.server_rules.specs.ErrandEnds.{answered_move}
 
 -- the seats of the connections that the reply to a step answers: for a scan those that asked for it, for a request the one that asked
 abbrev pub askers_of : Place → Bool → List ℕ → List ℕ

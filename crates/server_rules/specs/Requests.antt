@@ -10,7 +10,7 @@ use Rattle.server_rules.specs.declared.following.Following.TheVariants as follow
 use Rattle.server_rules.specs.declared.own_answer.OwnAnswer.TheVariants as own
 use Rattle.server_rules.specs.declared.requests.Request.{Request}
 use Rattle.server_rules.specs.declared.requests.Request.TheVariants as request
-use Rattle.server_rules.specs.declared.status.Subject.TheVariants as subject
+use Rattle.server_rules.specs.declared.status_lines.Subject.TheVariants as subject
 
 -- the request for a scan, for which the server reads the scan directory itself
 abbrev pub scan_word : List ℕ

@@ -4,8 +4,8 @@ use Rattle.s6_events.specs.declared.exit.Exit.{Exit}
 use Rattle.supervise_core.specs.declared.row.Row.{Row}
 use Rattle.server_rules.specs.declared.roster.Ending.{Ending}
 use Rattle.server_rules.specs.declared.roster.Ending.TheVariants as ending
-use Rattle.server_rules.specs.declared.service_state.StateWord.{StateWord}
-use Rattle.server_rules.specs.declared.service_state.StateWord.TheVariants as state
+use Rattle.server_rules.specs.declared.state_word.StateWord.{StateWord}
+use Rattle.server_rules.specs.declared.state_word.StateWord.TheVariants as state
 
 -- the state of a service that is up, by whether it is paused and whether it has said that it is ready
 abbrev pub up_state : Bool → Bool → StateWord

@@ -2,10 +2,10 @@
 use Rattle.std.specs.Prelude.{ℕ, Bool, true, List, [], ◌∷◌, ◌++◌, Option, Some, None, codes, decimal}
 use Rattle.std.specs.List.{find, flat_map}
 use Rattle.std.specs.Str.{bytes_eq}
-use Rattle.s6_replay.specs.Transcript.{row_text}
+use Rattle.s6_replay.specs.ReplyText.{row_text}
 use Rattle.supervise_core.specs.declared.row.Row.{Row}
-use Rattle.server_rules.specs.declared.status.Subject.{Subject}
-use Rattle.server_rules.specs.declared.status.Subject.TheVariants.{One, All, States}
+use Rattle.server_rules.specs.declared.status_lines.Subject.{Subject}
+use Rattle.server_rules.specs.declared.status_lines.Subject.TheVariants.{One, All, States}
 use Rattle.scan_directory.specs.declared.found.Remark.{Remark}
 use Rattle.server_rules.specs.declared.roster.Ending.{Ending}
 use Rattle.server_rules.specs.declared.roster.Member.{Member}

@@ -5,8 +5,8 @@ use Rattle.tree_core.specs.Machine.{Outcome}
 use Rattle.tree_core.specs.declared.reply.Reply.{Reply}
 use Rattle.tree_core.specs.declared.reply.Reply.TheVariants as reply
 use Rattle.server_rules.specs.declared.roster.Member.{Member}
-use Rattle.server_rules.specs.declared.status.Subject.{Subject}
-use Rattle.server_rules.specs.declared.status.Subject.TheVariants as subject
+use Rattle.server_rules.specs.declared.status_lines.Subject.{Subject}
+use Rattle.server_rules.specs.declared.status_lines.Subject.TheVariants as subject
 use Rattle.server_rules.specs.declared.step_notes.StepNotes.{StepNotes}
 use Rattle.server_rules.specs.Roster.{added, after_letters}
 

@@ -1,7 +1,10 @@
 //! A connection: what it asked, what is under way for it, and its standing (`standing.rt`). docs/PROTOCOL.md has its rules.
 ghost use Rattle.std.specs.Prelude.{◌≡◌, ◌∷◌, [], true, IfSome, IfNone};
 ghost use Rattle.tree_core.specs.declared.input.Act.{Act};
-ghost use Rattle.server_rules.specs.Connection.{View, new_view, answered_move, answered_errand, ask_next, begin_admitted, begin_beside, begin_put_off, begin_first, begin_move, begin_request, ends_by, has_room_on, hands_in, is_for, is_ready, is_step_first, steps_in, leave_next, left_errand, left_unasked, recorded_move, refuse_errand_move, refuse_next_move, told_move};
+ghost use Rattle.server_rules.specs.Connection.{View, new_view, ask_next, has_room_on, hands_in, is_ready, leave_next, left_unasked};
+ghost use Rattle.server_rules.specs.NewsTold.{is_for, told_move};
+ghost use Rattle.server_rules.specs.ErrandEnds.{answered_move, answered_errand, left_errand, recorded_move, refuse_errand_move, refuse_next_move};
+ghost use Rattle.server_rules.specs.Begin.{begin_admitted, begin_beside, begin_put_off, begin_first, begin_move, begin_request, ends_by, is_step_first, steps_in};
 ghost use Rattle.server_rules.specs.Standing.{admission_of, has_place, has_room_for, is_told_more, next_end};
 ghost use Rattle.server_rules.specs.declared.phase.Errand.TheVariants as errand;
 ghost use Rattle.server_rules.specs.declared.phase.Phase.TheVariants as phase;
@@ -11,8 +14,8 @@ use crate::own_answer::OwnAnswer;
 use crate::phase::{Errand, Phase};
 use crate::requests::Request;
 use crate::standing::{Admission, Standing, StandingChange};
-use crate::status::Subject;
 use crate::status_age::is_recent;
+use crate::status_lines::Subject;
 use crate::todo::{Answer, News, Todo};
 use std::alloc::Global;
 use std::collections::VecDeque;

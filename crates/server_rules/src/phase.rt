@@ -3,7 +3,7 @@ ghost use Rattle.std.specs.Prelude.{◌≡◌};
 ghost use Rattle.server_rules.specs.Connection.{is_here};
 
 use crate::standing::StandingChange;
-use crate::status::Subject;
+use crate::status_lines::Subject;
 
 /// What a step, a scan or a handover that is under way for a connection is for.
 #[derive(Clone, Copy, PartialEq, Eq, Debug)]

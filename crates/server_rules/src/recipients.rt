@@ -2,14 +2,14 @@
 ghost use Rattle.std.specs.Prelude.{◌≡◌, ◌++◌, ◌+◌, ◌*◌, ◌≤◌, ◌<◌, length, vec_capacity, OnOk, OnErr};
 ghost use Rattle.std.specs.List.{position};
 ghost use Rattle.tree_core.specs.Effect.{outcome_of};
-ghost use Rattle.server_rules.specs.Connection.{is_for};
+ghost use Rattle.server_rules.specs.NewsTold.{is_for};
 ghost use Rattle.server_rules.specs.Recipients.{answer_at, askers_of, hand_all, handed_out, posts_of, tells_states, tell, tell_letter, tell_match, tell_release, tell_seat};
 
 use crate::connection::Connection;
 use crate::places::Place;
 use crate::plans::Askers;
 use crate::roster::Roster;
-use crate::status::Subject;
+use crate::status_lines::Subject;
 use crate::todo::{Answer, News, Todo};
 use arrayvec::ArrayVec;
 use line_server::SEAT_COUNT;

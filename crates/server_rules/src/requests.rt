@@ -5,7 +5,7 @@ ghost use Rattle.server_rules.specs.Requests.{follow_one, follow_request, is_las
 use crate::following::Following;
 use crate::own_answer::OwnAnswer;
 use crate::places::LAST_CLIENT;
-use crate::status::Subject;
+use crate::status_lines::Subject;
 use s6_events::{Actor, Name};
 use s6_script::{LineFault, parse_act};
 use std::alloc::Global;

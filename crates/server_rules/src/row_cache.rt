@@ -5,8 +5,8 @@ ghost use Rattle.server_rules.specs.Status.{told_text, is_had};
 ghost use Rattle.server_rules.specs.StatusAge.{is_fresh};
 
 use crate::roster::Roster;
-use crate::status::{Subject, push_told};
 use crate::status_age::is_recent;
+use crate::status_lines::{Subject, push_told};
 use channel_names::Channels;
 use s6_events::NoMemory;
 use scan_directory::Remark;

@@ -4,7 +4,7 @@ ghost use Rattle.tree_core.specs.Effect.{outcome_of};
 ghost use Rattle.server_rules.specs.StepNotes.{has_noted, with_next_run, with_step, tells_of};
 
 use crate::roster::Roster;
-use crate::status::Subject;
+use crate::status_lines::Subject;
 use s6_events::{At, NoMemory};
 use std::alloc::Global;
 use tree_core::{Effect, Reply};

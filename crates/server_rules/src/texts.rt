@@ -1,6 +1,7 @@
 //! The lines that are posted to connections, and the line that says where clients can connect.
 ghost use Rattle.std.specs.Prelude.{◌≡◌, ◌++◌, ◌∷◌, [], OnOk, IfOk};
-ghost use Rattle.s6_replay.specs.Transcript.{match_line, release_line, reply_text};
+ghost use Rattle.s6_replay.specs.Transcript.{match_line, release_line};
+ghost use Rattle.s6_replay.specs.ReplyText.{reply_text};
 ghost use Rattle.server_rules.specs.Answers.{clock_text, following_text, recorded_text};
 ghost use Rattle.server_rules.specs.Recipients.{news_lines, reply_lines};
 ghost use Rattle.server_rules.specs.Sockets.{serving_text};

@@ -1,7 +1,7 @@
 //! What is to be done for a connection.
 use crate::letters::ToldLetter;
 use crate::own_answer::OwnAnswer;
-use crate::status::Subject;
+use crate::status_lines::Subject;
 use std::alloc::Global;
 use tree_core::{Act, Match, Release};
 

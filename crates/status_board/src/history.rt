@@ -68,6 +68,7 @@ pub type Log = Seen<Shot, u64, CountedShots>;
 pub struct Published<C: Channels> {
     count: u64,
     log: Log,
+    // Names the board: what was published by another run's board has another type.
     channels: PhantomData<C>,
 }
 

@@ -1,5 +1,5 @@
 -- A step that is read of its code is the step that was coded.
-use Rattle.std.proofs.Common.{◌≡◌, ℕ, ◌<◌, ◌≤◌, ◌^◌, Bool, Option, List, [], ◌∷◌, length, refl, sym, ap, ◌∙◌, arith}
+use Rattle.std.proofs.Common.{◌≡◌, ℕ, ◌<◌, ◌^◌, Bool, Option, List, [], ◌∷◌, length, refl, ap, ◌∙◌, arith}
 use Rattle.std.specs.Prelude.{IsTrue, ⊤}
 use Rattle.std.specs.declared.alloc.Global.{Global}
 use Rattle.s6_events.specs.Name.{is_name}
@@ -22,7 +22,7 @@ use Rattle.wait_conditions.specs.declared.verdict.Verdict.{Verdict}
 use Rattle.wait_conditions.specs.declared.verdict.Verdict.TheVariants.{Held, Failed, Gone, TimedOut}
 use Rattle.tree_core.specs.declared.effect.Release.{Release}
 use Rattle.step_codes.specs.MarkCodes.{mark_byte, exit_onto, FitsExit}
-use Rattle.step_codes.specs.NumberCodes.{number_onto, bool_byte, option_onto, FitsOption}
+use Rattle.step_codes.specs.NumberCodes.{number_onto, bool_byte, option_onto}
 use Rattle.step_codes.specs.NameCodes.{bytes_onto}
 use Rattle.step_codes.specs.ToldCodes.{event_onto, release_onto, verdict_byte, FitsEvent, FitsRelease}
 use Rattle.step_codes.specs.OrderCodes.{order_onto, FitsOrder}
@@ -42,8 +42,10 @@ use Rattle.step_codes.specs.ReplyCodes.{refusal_byte, row_onto, reply_onto, Fits
 use Rattle.step_codes.specs.RequestCodes.{condition_byte, letter_onto, mode_byte, order_byte, target_onto, FitsTarget}
 use Rattle.step_codes.specs.ActCodes.{letters_onto, act_onto, FitsAct}
 use Rattle.step_codes.specs.StepCodes.{outcome_onto, step_onto, FitsOutcome, FitsStep}
-use Rattle.step_codes.specs.ReadingSteps.{mark_of, event_in, verdict_of, release_in, exit_in, order_behind, order_in}
-use Rattle.step_codes.specs.ReadingSteps.{refusal_of, row_in, reply_in, target_in, letter_in, order_of, condition_of, mode_of, act_in, outcome_in, step_in}
+use Rattle.step_codes.specs.ReadingSteps.{mark_of, event_in, verdict_of, release_in, order_behind, order_in}
+use Rattle.step_codes.specs.ReadingActs.{exit_in}
+use Rattle.step_codes.specs.ReadingSteps.{refusal_of, row_in, reply_in, outcome_in, step_in}
+use Rattle.step_codes.specs.ReadingActs.{target_in, letter_in, order_of, condition_of, mode_of, act_in}
 use Rattle.step_codes.proofs.LetterBack.{letter_back}
 use Rattle.step_codes.proofs.ReadBack.{then_back, number_back, bool_back, text_back, past_number, past_text, past_option, past_list}
 

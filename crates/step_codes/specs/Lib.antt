@@ -1,6 +1,7 @@
 pub mod Adding
 pub mod Reading
 pub mod ReadingSteps
+pub mod ReadingActs
 pub mod NumberCodes
 pub mod NameCodes
 pub mod MarkCodes

@@ -114,16 +114,16 @@ impl<A: Allocator + Copy> Moves<A> {
     fn touch(
         &mut self,
         place: usize,
-        standing: ServiceState,
+        standing: &ServiceState,
         death: Option<(At, Exit)>,
         out: &Out,
     ) -> Result<(), NoMemory>
         ensures touched { OnOk result
             (self.new.touched.items ≡ self.old.touched.items
-            ++ (record { place = place; standing = standing; death = death }) ∷ []) }
+            ++ (record { place = place; standing = standing.now; death = death }) ∷ []) }
         ensures events { OnOk result
             (self.new.events.items ≡ self.old.events.items
-            ++ map (service_mark standing.chart.sid) out.now.events.items) }
+            ++ map (service_mark standing.now.chart.sid) out.now.events.items) }
         ensures orders { OnOk result
             (self.new.orders.items ≡ self.old.orders.items ++ out.now.orders.items) }
     {
@@ -131,7 +131,7 @@ impl<A: Allocator + Copy> Moves<A> {
         add_events(&mut self.events, standing.sid(), out.events.as_slice())?;
         self.touched.push(ChangedService {
             place,
-            standing,
+            standing: *standing,
             death,
         })?;
         Ok(())
@@ -164,15 +164,14 @@ impl<A: Allocator + Copy> Moves<A> {
         ensures fires { visit.entry ≡ Fire
             → OnOk result (length self.new.orders.items ≤ length self.old.orders.items + 1) }
     {
-        let Some(before) = standing_at(slots, self.touched.as_slice(), place) else {
+        let Some(mut after) = standing_at(slots, self.touched.as_slice(), place) else {
             return Ok(());
         };
-        if visit.passes(&before, now) {
+        if visit.passes(&after, now) {
             return Ok(());
         }
-        let mut after = before;
         visit.make(&mut after, now, out);
-        self.touch(place, after, None, out)?;
+        self.touch(place, &after, None, out)?;
         Ok(())
     }
 
@@ -235,14 +234,13 @@ impl<A: Allocator + Copy> Moves<A> {
         let Some(place) = place_of(slots, sid) else {
             return Ok(false);
         };
-        let Some(before) = standing_at(slots, self.touched.as_slice(), place) else {
+        let Some(mut after) = standing_at(slots, self.touched.as_slice(), place) else {
             return Ok(false);
         };
-        let mut after = before;
         out.clear();
         after.change_onto(change, now, out);
         let stale = out.stale;
-        self.touch(place, after, change.death(stale, now), out)?;
+        self.touch(place, &after, change.death(stale, now), out)?;
         Ok(stale)
     }
 }

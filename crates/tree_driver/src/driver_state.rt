@@ -18,7 +18,7 @@ pub struct Lasting {
     pub clients: ClientDesk,
     pub plans: Plans,
     /// The listing of the first scan, which is handed in before anything else; None once it is.
-    pub first: Option<Found>,
+    pub first_listing: Option<Found>,
     /// Whether the first scan isn't answered yet: nothing is begun for connections before.
     pub awaits_first: bool,
     /// What could not be read of the scan that is handed in.
@@ -38,8 +38,8 @@ pub struct Lasting {
 }
 
 impl Lasting {
-    /// Of a tree to which nothing was handed in. `NoMemory` where memory is refused.
-    pub fn new(alloc: Global, first: Found, has_record: bool) -> Result<Lasting, NoMemory> {
+    /// Of a tree to which nothing was handed in, and whose first scan found this listing. `NoMemory` where memory is refused.
+    pub fn new(alloc: Global, first_listing: Found, has_record: bool) -> Result<Lasting, NoMemory> {
         let mut kept = Vec::with_capacity(alloc, LANE_COUNT)?;
         for _ in 0..LANE_COUNT {
             kept.push(None)?;
@@ -47,7 +47,7 @@ impl Lasting {
         Ok(Lasting {
             clients: ClientDesk::new(alloc, has_record)?,
             plans: Plans::new(),
-            first: Some(first),
+            first_listing: Some(first_listing),
             awaits_first: true,
             unread: Vec::new(alloc),
             full: FullServices::new(alloc),

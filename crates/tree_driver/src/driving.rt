@@ -34,7 +34,8 @@ pub fn drive_run<C: Channels + Lanes, D: Board<C>, B: Backend, R: Wait + Clock, 
             hand_in_all(context, state, now);
             is_full = hand_in_reports(context, office, state, now);
         }
-        let round = make_steps(context, office, state, now, is_open, is_full);
+        let halt = drive_some(context, office, state);
+        let round = round_after(context, office, state, halt, now, is_open, is_full);
         tell_lines(state.lasting, errors);
         match state.pace.after(&round) {
             After::GoOn => {}
@@ -53,16 +54,16 @@ pub fn tell_lines<E: Write>(lasting: &mut Lasting, errors: &mut E) {
     }
 }
 
-/// Makes all steps of what was handed in, hands out what they gave, and lets the lanes carry.
-pub fn make_steps<C: Channels + Lanes, D: Board<C>, B: Backend, R: Wait>(
+/// How a round ends in which all steps were made up to this halt: the connections are woken, and the lanes carry.
+pub fn round_after<C: Channels + Lanes, D: Board<C>, B: Backend, R: Wait>(
     context: &Context<'_, R>,
     office: &Office<C, D, B>,
     state: &mut DriverState<'_, C>,
+    halt: Halt,
     now: u64,
     is_open: bool,
     is_full: bool,
 ) -> Round {
-    let halt = drive_some(context, office, state);
     state.lasting.clients.wake_all(context);
     let carrying = carry_all(context, office);
     state.pace.is_lane_busy = !carrying.busy.is_empty();
@@ -88,9 +89,9 @@ fn hand_in_all<C: Channels + Lanes, R: Wait>(
     state: &mut DriverState<'_, C>,
     now: u64,
 ) {
-    if let Some(first) = state.lasting.first.take() {
+    if let Some(listing) = state.lasting.first_listing.take() {
         state.lasting.plans.begin_scan();
-        let _ = state.submit_scan(now, first);
+        let _ = state.submit_scan(now, listing);
     }
     if state.lasting.awaits_first {
         return;
@@ -107,7 +108,7 @@ fn hand_in_all<C: Channels + Lanes, R: Wait>(
 /// Hands in a tick, if one is wanted at this moment, in milliseconds.
 pub fn hand_in_due<C: Channels + Lanes>(state: &mut DriverState<'_, C>, now: u64) {
     if state.lasting.plans.wanted(now) == Wanted::Tick {
-        // If the ring is full, `make_steps` looks again for what is due, after the steps that fill it.
+        // If the ring is full, `round_after` looks again for what is due, after the steps that fill it.
         state.lasting.plans.due = None;
         let _ = state.hand_in(SCANNER, now, Act::Tick);
     }
@@ -142,8 +143,8 @@ fn refusal_of<C: Channels + Lanes>(
     }
 }
 
-// Makes all steps that can be made, and hands out what they gave. Why no step more was made.
-fn drive_some<C: Channels + Lanes, D: Board<C>, B: Backend, R: Wait>(
+/// Makes all steps that can be made, and hands out what they gave. Why no step more was made.
+pub fn drive_some<C: Channels + Lanes, D: Board<C>, B: Backend, R: Wait>(
     context: &Context<'_, R>,
     office: &Office<C, D, B>,
     state: &mut DriverState<'_, C>,

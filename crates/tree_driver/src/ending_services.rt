@@ -1,6 +1,6 @@
 //! The end of a tree that can't go on: its services are ended in order.
 use crate::driver_state::DriverState;
-use crate::driving::{hand_in_due, make_steps, wait_for_bell};
+use crate::driving::{drive_some, hand_in_due, round_after, wait_for_bell};
 use crate::lanes::hand_in_reports;
 use channel_names::Channels;
 use office::Office;
@@ -33,7 +33,9 @@ pub fn end_services<C: Channels + Lanes, D: Board<C>, B: Backend, R: Wait + Cloc
         }
         hand_in_due(state, now);
         let is_full = hand_in_reports(context, office, state, now);
-        match make_steps(context, office, state, now, true, is_full).after_ending() {
+        let halt = drive_some(context, office, state);
+        let round = round_after(context, office, state, halt, now, true, is_full);
+        match round.after_ending() {
             After::GoOn => {}
             After::Wait(_) => wait_for_bell(context, Some(RETRY_WAIT.min(left))),
             After::Stop(_) => break,

@@ -7,6 +7,7 @@ mod driver_state;
 mod driving;
 mod ending_services;
 mod lanes;
+mod recording;
 mod runs;
 mod serving;
 

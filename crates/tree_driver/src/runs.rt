@@ -3,17 +3,17 @@ ghost use Rattle.std.specs.Prelude.{◌≡◌, ℕ, slice_get};
 ghost use Rattle.office.specs.Names.{ring_of, lane_ring_of, asked_of};
 
 use crate::driver_state::{DriverState, Lasting};
-use crate::driving::{drive_run, tell_lines, wait_for_bell};
-use crate::ending_services::end_services;
+use crate::driving::wait_for_bell;
+use crate::recording::drive_to_end;
 use channel_names::Channels;
 use inbox::Finished;
 use locked_services::Closed;
 use log::{Log, info};
 use office::{NewOffice, Office, OpenFault, Opened};
 use order_lanes::{Backend, Lanes};
-use run_recorder::{RecordFault, Recorder};
+use run_recorder::Recorder;
 use scan_directory::Found;
-use server_rules::{ACTOR_COUNT, Pace, RETRY_WAIT, RunEnd, ServeFault};
+use server_rules::{ACTOR_COUNT, Pace, RETRY_WAIT, ServeFault};
 use server_threads::Context;
 use status_board::Board;
 use std::alloc::Global;
@@ -56,10 +56,10 @@ pub fn run_all<B: Backend, R: Wait + Clock + Copy + Drop, W: Write + Drop, E: Wr
     errors: &mut E,
     log: &L,
     backends: Vec<B>,
-    first: Found,
+    first_listing: Found,
 ) -> Result<(), ServeFault> {
     let alloc = context.alloc();
-    let Ok(mut lasting) = Lasting::new(alloc, first, settings.recorder.is_there()) else {
+    let Ok(mut lasting) = Lasting::new(alloc, first_listing, settings.recorder.is_there()) else {
         return Err(ServeFault::NoMemory);
     };
     let mut between = first_tree(alloc, backends);
@@ -129,7 +129,7 @@ fn wait_or_end<B: Drop, R: Wait + Clock>(
 ) -> AfterRun<B> {
     match fault {
         OpenFault::Actors | OpenFault::Lanes => AfterRun::Over(Err(ServeFault::Lanes)),
-        OpenFault::NoMemory | OpenFault::Board if lasting.first.is_some() => {
+        OpenFault::NoMemory | OpenFault::Board if lasting.first_listing.is_some() => {
             AfterRun::Over(Err(ServeFault::NoMemory))
         }
         OpenFault::NoMemory | OpenFault::Board => {
@@ -140,7 +140,7 @@ fn wait_or_end<B: Drop, R: Wait + Clock>(
 }
 
 // Answers what connections ask by `refused NoMemory`, and waits until the driver's bell rings, but at most 100 ms.
-fn refuse_and_wait<R: Wait + Clock>(context: &Context<'_, R>, lasting: &mut Lasting) {
+pub(crate) fn refuse_and_wait<R: Wait + Clock>(context: &Context<'_, R>, lasting: &mut Lasting) {
     lasting.clients.refuse_all(context);
     wait_for_bell(context, Some(RETRY_WAIT));
 }
@@ -209,36 +209,6 @@ fn run_opened<
     }
 }
 
-// Drives a run to its end, and records it. How the tree has ended; None where the next run follows. Where the record fails at a handover,
-// the services are ended in order first.
-fn drive_to_end<
-    C: Channels + Lanes,
-    D: Board<C>,
-    B: Backend,
-    R: Wait + Clock,
-    W: Write + Drop,
-    E: Write,
->(
-    context: &Context<'_, R>,
-    settings: &mut RunSettings<W>,
-    errors: &mut E,
-    office: &Office<C, D, B>,
-    state: &mut DriverState<'_, C>,
-) -> Option<Result<(), ServeFault>> {
-    let end = drive_run(context, office, state, errors);
-    let recorded = record(context, office, state, &mut settings.recorder);
-    match (end, recorded) {
-        (RunEnd::Handover, Ok(())) => None,
-        (RunEnd::Handover, Err(fault)) => {
-            end_services(context, office, state);
-            tell_lines(state.lasting, errors);
-            Some(Err(fault))
-        }
-        (RunEnd::Ended, recorded) => Some(recorded),
-        (RunEnd::Full, _) => Some(Err(ServeFault::Full)),
-    }
-}
-
 // Takes the memory that recording and closing a run need, and tries again until there is some; what connections ask meanwhile is refused.
 // Room for the finish of each seat.
 fn take_memory<C: Channels, R: Wait + Clock, W: Write + Drop>(
@@ -256,28 +226,6 @@ fn take_memory<C: Channels, R: Wait + Clock, W: Write + Drop>(
         refuse_and_wait(context, lasting);
     }
     Vec::new(alloc)
-}
-
-// Records the run, and tells those that wait for it. Where memory is refused it is tried again; what connections ask meanwhile is refused.
-// `Record` where the run can't be written.
-fn record<C: Channels + Lanes, D: Board<C>, B: Backend, R: Wait + Clock, W: Write + Drop>(
-    context: &Context<'_, R>,
-    office: &Office<C, D, B>,
-    state: &mut DriverState<'_, C>,
-    recorder: &mut Recorder<W>,
-) -> Result<(), ServeFault> {
-    for _ in context.rt.forever() {
-        match recorder.append(context.rt, office, &mut state.known) {
-            Ok(()) => {
-                let steps = recorder.steps();
-                state.lasting.clients.tell_recorded(context, steps);
-                return Ok(());
-            }
-            Err(RecordFault::Write) => break,
-            Err(RecordFault::NoMemory) => refuse_and_wait(context, state.lasting),
-        }
-    }
-    Err(ServeFault::Record)
 }
 
 // Finishes every seat, and closes the office, in which nothing is left to be done.

@@ -26,7 +26,7 @@ pub fn begin_all<C: Channels + Lanes, R: Wait>(
     }
 }
 
-// Begins what the connection on this seat asks, as far as that is possible now.
+// Begins what the connection on this seat asks, request after request, as far as that is possible now.
 fn begin_some<C: Channels + Lanes, R: Wait>(
     context: &Context<'_, R>,
     state: &mut DriverState<'_, C>,
@@ -39,40 +39,30 @@ fn begin_some<C: Channels + Lanes, R: Wait>(
         }
     }
     for _ in 0..TURN {
-        let todo = state.lasting.clients.begin(seat, now);
-        if !is_begun(context, state, seat, now, todo) {
-            break;
-        }
-    }
-}
-
-// Does what is to be done for the connection on this seat. Whether its next request may be begun.
-fn is_begun<C: Channels + Lanes, R: Wait>(
-    context: &Context<'_, R>,
-    state: &mut DriverState<'_, C>,
-    seat: usize,
-    now: u64,
-    todo: Todo,
-) -> bool {
-    match todo {
-        Todo::Submit(act) => return is_submitted(state, seat, now, act),
-        Todo::Give(answer) => {
-            let DriverState { board, lasting, .. } = state;
-            lasting.clients.give(context, board, seat, answer);
-            return true;
-        }
-        Todo::Scan => {
-            let _ = state.lasting.plans.askers.try_push(seat);
-        }
-        Todo::Record => {
-            if state.lasting.clients.await_record(context, seat) {
-                state.pace.end_early();
+        match state.lasting.clients.begin(seat, now) {
+            Todo::Submit(act) => {
+                if is_submitted(state, seat, now, act) {
+                    continue;
+                }
             }
+            Todo::Give(answer) => {
+                let DriverState { board, lasting, .. } = state;
+                lasting.clients.give(context, board, seat, answer);
+                continue;
+            }
+            Todo::Scan => {
+                let _ = state.lasting.plans.askers.try_push(seat);
+            }
+            Todo::Record => {
+                if state.lasting.clients.await_record(context, seat) {
+                    state.pace.end_early();
+                }
+            }
+            Todo::Free => state.lasting.clients.free(context, seat),
+            Todo::Nothing | Todo::Tell => {}
         }
-        Todo::Free => state.lasting.clients.free(context, seat),
-        Todo::Nothing | Todo::Tell => {}
+        break;
     }
-    false
 }
 
 // Hands in an act for the connection on this seat. False where its ring doesn't take it: then it is kept.

@@ -1,5 +1,5 @@
 //! A tree that runs. Its threads live from its first run to its last: one, the driver, drives all runs, each lane has one, one reads the
-//! scan directory, one accepts connections, and each connection has two.
+//! scan directory, one accepts connections, and each connection has two; `threads.rt` lists the others.
 #![tactic(auto)]
 
 mod options;

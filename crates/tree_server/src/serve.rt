@@ -31,7 +31,7 @@ use tree_driver::RunSettings;
 struct Parts {
     shared: Shared,
     seats: Seats,
-    first: Found,
+    first_listing: Found,
     recorder: Recorder<BufWriter<File>>,
 }
 
@@ -74,7 +74,7 @@ fn prepare<R: Files<File = File> + Wait + Clock + Copy + Drop>(
         return Err(ServeFault::Clock);
     };
     let mut errors = NoteWriter::new(rt, notes);
-    let first = match read_listing(rt, alloc, options.directory, &mut errors) {
+    let first_listing = match read_listing(rt, alloc, options.directory, &mut errors) {
         Ok(found) => found,
         Err(error) => return Err(fault_of(&error, ServeFault::Directory)),
     };
@@ -104,7 +104,7 @@ fn prepare<R: Files<File = File> + Wait + Clock + Copy + Drop>(
     Ok(Parts {
         shared,
         seats,
-        first,
+        first_listing,
         recorder,
     })
 }
@@ -133,7 +133,7 @@ fn serve<
     let Parts {
         shared,
         seats,
-        first,
+        first_listing,
         recorder,
     } = parts;
     let Ok(server) = Server::new(shared.alloc, listener, seats, shared) else {
@@ -146,7 +146,7 @@ fn serve<
     } = lanes;
     let driver = DriverParts {
         backends,
-        first,
+        first_listing,
         settings: RunSettings {
             handover: options.handover,
             recorder,

@@ -1,4 +1,6 @@
-//! The threads of a tree, from its first run to its last.
+//! The eleven threads of a tree, from its first run to its last. Here are the driver and the four lanes. The thread that began reads the scan
+//! directory (`serve.rt`), one accepts connections (`connecting.rt` of server_threads), two have the last seat (`accepting.rt` of line_server),
+//! one keeps the children (`keeper.rt` of child_runner), and one writes notes (`writing.rt` of error_notes).
 use child_runner::{LaneLink, serve_lane};
 use error_notes::{NoteWriter, Notes};
 use line_server::Server;
@@ -21,7 +23,7 @@ const LANE_STACK: usize = 1024 * 1024;
 #[derive(Drop)]
 pub struct DriverParts<B, W> {
     pub backends: Vec<B>,
-    pub first: Found,
+    pub first_listing: Found,
     pub settings: RunSettings<W>,
 }
 
@@ -57,13 +59,20 @@ fn drive_all<B: Backend, W: Write + Drop, R: Wait + Clock + Copy + Drop>(
 ) {
     let DriverParts {
         backends,
-        first,
+        first_listing,
         mut settings,
     } = parts;
     let log = NoteWriter::new(rt, notes);
     let mut errors = NoteWriter::new(rt, notes);
     let context = Context { rt, server };
-    let done = run_all(&context, &mut settings, &mut errors, &log, backends, first);
+    let done = run_all(
+        &context,
+        &mut settings,
+        &mut errors,
+        &log,
+        backends,
+        first_listing,
+    );
     outcome.note(rt, done);
     server.answers().scans.end(rt);
 }

@@ -1,5 +1,5 @@
 use Rattle.std.proofs.Common.{refl}
-use Rattle.s6_replay.specs.Script.Place.{at_reply}
+use Rattle.s6_replay.specs.ReadingStops.Place.{at_reply}
 use Rattle.s6_replay.proofs.Places.{is_too_long, is_no_reply}
 use Rattle.s6_replay.proofs.reading.read_reply.Goals as goal
 

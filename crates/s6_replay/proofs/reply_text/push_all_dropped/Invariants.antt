@@ -1,6 +1,6 @@
 use Rattle.std.proofs.Common.{◌≡◌, ◌++◌, take}
 use Rattle.std.specs.List.{flat_map}
-use Rattle.s6_replay.specs.Transcript.{dropped_text}
+use Rattle.s6_replay.specs.ReplyText.{dropped_text}
 use Rattle.s6_replay.proofs.reply_text.push_all_dropped.Given as goal
 
 abbrev pub invariant-loop-sid : goal.invariant-loop-sid

@@ -1,6 +1,6 @@
 use Rattle.std.proofs.Common.{◌≡◌, ◌++◌, take}
 use Rattle.std.specs.List.{flat_map}
-use Rattle.s6_replay.specs.Transcript.{listed_text}
+use Rattle.s6_replay.specs.ReplyText.{listed_text}
 use Rattle.s6_replay.proofs.reply_text.push_all_listed.Given as goal
 
 abbrev pub invariant-loop-listed : goal.invariant-loop-listed

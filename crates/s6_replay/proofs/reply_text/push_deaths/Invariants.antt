@@ -1,6 +1,6 @@
 use Rattle.std.proofs.Common.{◌≡◌, ◌++◌, take}
 use Rattle.std.specs.List.{flat_map}
-use Rattle.s6_replay.specs.Transcript.{death_text}
+use Rattle.s6_replay.specs.ReplyText.{death_text}
 use Rattle.s6_replay.proofs.reply_text.push_deaths.Given as goal
 
 abbrev pub invariant-loop-death : goal.invariant-loop-death

@@ -4,7 +4,7 @@ use Rattle.std.proofs.lemmas.Iterator.Adapters.{option_map_id}
 use Rattle.std.proofs.lemmas.Iterator.Consumers.{YieldsList-from_copied}
 use Rattle.std.proofs.lemmas.Iterator.Search.{find_from_yields_List}
 use Rattle.std.specs.Option.{option_map}
-use Rattle.s6_tools.specs.Culprits.{is_wrong}
+use Rattle.s6_tools.specs.WrongWords.{is_wrong}
 use Rattle.s6_tools.proofs.Texts.{find_text}
 use Rattle.s6_tools.proofs.culprit.first_wrong.Goals as goal
 

@@ -1,6 +1,7 @@
 use Rattle.std.proofs.Common.{◌∙◌, ◌+◌, ◌-◌, ℕ, List, Bor, ap, arith, drop, length, sym}
 use Rattle.std.proofs.lemmas.List.{drop-map, length-drop, take_all}
-use Rattle.s6_tools.specs.Culprits.{behind_place, is_wrong}
+use Rattle.s6_tools.specs.Culprits.{behind_place}
+use Rattle.s6_tools.specs.WrongWords.{is_wrong}
 use Rattle.s6_tools.proofs.Texts.{same_place, texts_of}
 use Rattle.s6_tools.proofs.culprit.words_behind.Goals as goal
 

@@ -37,7 +37,7 @@ pub change_onto-requires-clause-next : goal.change_onto-requires-clause-next
 change_onto-requires-clause-next g c =
     let ss = with_changes c.args.slots.now.services c.args.self.now.touched.items in
     let place = c.in-Some.place in
-    let before = c.in-Some-standing_at.before in
+    let before = c.in-Some-standing_at.after in
     let old = stood (slice_get ss place) before (sym c.in-Some-standing_at.is ∙ (rw c.as_slice.ensures.value at c.standing_at.ensures)) in
     let there : slice_get (charts_of ss) place ≡ Some before.chart =
     get_map (λ (t : Supervised). t.chart) ss place old.0 old.1 ∙ ap (λ (b : ServiceView). Some b.chart) old.2 in
@@ -49,7 +49,7 @@ returns-clause-takes g c =
     let ss = with_changes c.args.slots.now.services c.args.self.now.touched.items in
     let cs = charts_of ss in
     let place = c.in-Some.place in
-    let before = c.in-Some-standing_at.before in
+    let before = c.in-Some-standing_at.after in
     let rising = ap is_rising c.requires.serials ∙ c.requires.order in
     let at = state_found cs place c.args.sid (ap (λ ns. slice_get ns place) c.requires.serials ∙ c.in-Some.ensures.found) in
     let old = stood (slice_get ss place) before (sym c.in-Some-standing_at.is ∙ (rw c.as_slice.ensures.value at c.standing_at.ensures)) in
@@ -82,7 +82,7 @@ returns-clause-stale g c =
     let ss = with_changes c.args.slots.now.services c.args.self.now.touched.items in
     let cs = charts_of ss in
     let place = c.in-Some.place in
-    let before = c.in-Some-standing_at.before in
+    let before = c.in-Some-standing_at.after in
     let at = state_found cs place c.args.sid (ap (λ ns. slice_get ns place) c.requires.serials ∙ c.in-Some.ensures.found) in
     let old = stood (slice_get ss place) before (sym c.in-Some-standing_at.is ∙ (rw c.as_slice.ensures.value at c.standing_at.ensures)) in
     let is : before.chart ≡ at.state = sym (ap (λ (b : ServiceView). b.chart) old.2) ∙ chart_there ss place old.0 at.state old.1 at.there in
@@ -96,7 +96,7 @@ pub returns-clause-names : goal.returns-clause-names
 returns-clause-names g c = λ h.
     let ss = with_changes c.args.slots.now.services c.args.self.now.touched.items in
     let place = c.in-Some.place in
-    let before = c.in-Some-standing_at.before in
+    let before = c.in-Some-standing_at.after in
     let old = stood (slice_get ss place) before (sym c.in-Some-standing_at.is ∙ (rw c.as_slice.ensures.value at c.standing_at.ensures)) in
     let after = c.change_onto.new.self in
     let t : ChangedService = record { place = place; standing = after; death = c.death.result } in

@@ -5,7 +5,7 @@ ghost use Rattle.std.specs.Str.{bytes_eq};
 ghost use Rattle.server_rules.specs.Status.{moment_text, row_line, state_head, state_line, state_tail, status_line, status_text, told_text};
 
 use crate::roster::{Ending, Roster};
-use crate::service_state::state_of;
+use crate::state_word::state_of;
 use s6_events::{At, Name};
 use s6_replay::push_row;
 use s6_script::push_number;
@@ -79,7 +79,7 @@ fn push_moment(text: &mut Vec<u8>, moment: Option<At>) -> Result<(), AllocError>
     }
 }
 
-// Adds the word of a service's state.
+// Adds the front of a line `state WORD SINCE ..`: up to the space behind WORD.
 fn push_state(
     text: &mut Vec<u8>,
     ending: Option<Ending>,

@@ -4,7 +4,7 @@ use Rattle.std.specs.Cmp.Lexicographic.{bytes_decides}
 use Rattle.s6_script.specs.Spelling.{act_spelling}
 use Rattle.s6_script.specs.Unbuilt.{act_read}
 use Rattle.s6_script.proofs.Building.{act_reads, built_found, built_only, unbuilt_line, unbuilt_pattern}
-use Rattle.s6_script.proofs.parse.parse_act_with.Goals as goal
+use Rattle.s6_script.proofs.parse.parse_other.Goals as goal
 
 pub returns-then-eq-clause-found : goal.returns-then-eq-clause-found
 returns-then-eq-clause-found g c =

@@ -26,7 +26,7 @@ pub enum StateWord {
     Down,
     /// `failed`: it failed for good, and stays down.
     Failed,
-    /// `gone`: its supervisor has ended.
+    /// `gone`: its supervisor has ended: it was told `x`, its directory was gone at a `-h`, or the tree ends.
     Gone,
 }
 

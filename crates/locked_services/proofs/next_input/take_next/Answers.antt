@@ -7,7 +7,7 @@ use Rattle.inbox.specs.declared.submission.Submission.{Submission}
 use Rattle.tree_core.specs.declared.input.Input.{Input}
 use Rattle.locked_services.specs.Submissions.{submission_by, submissions_in, taken_from}
 use Rattle.locked_services.proofs.Submitted.{numbered_set, taken_more}
-use Rattle.locked_services.proofs.taking.take_next.Goals as goal
+use Rattle.locked_services.proofs.next_input.take_next.Goals as goal
 
 -- what is there, and what is true of it
 some_with : {X : Type 0} (o : Option X) (P : X → Type 0) → IsSome o → IfSome o P → (x : X) × (o ≡ Some x) × P x

@@ -1,6 +1,6 @@
 use Rattle.std.proofs.Common.{◌≡◌, ℕ, length, None}
 use Rattle.locked_services.specs.Submissions.{AreNumbered, NoneSeenBelow, taken_from}
-use Rattle.locked_services.proofs.taking.take_next.Given as goal
+use Rattle.locked_services.proofs.next_input.take_next.Given as goal
 
 abbrev pub invariant-loop-k : goal.invariant-loop-k
 invariant-loop-k g l =

@@ -1,0 +1,67 @@
+//! When a run is recorded: at its end, which comes early where somebody waits for a record.
+use crate::driver_state::DriverState;
+use crate::driving::{drive_run, tell_lines};
+use crate::ending_services::end_services;
+use crate::runs::{RunSettings, refuse_and_wait};
+use channel_names::Channels;
+use office::Office;
+use order_lanes::{Backend, Lanes};
+use run_recorder::{RecordFault, Recorder};
+use server_rules::{RunEnd, ServeFault};
+use server_threads::Context;
+use status_board::Board;
+use std::io::Write;
+use std::sync::Wait;
+use std::time::Clock;
+
+// Drives a run to its end, and records it. How the tree has ended; None where the next run follows. Where the record fails at a handover,
+// the services are ended in order first.
+pub(crate) fn drive_to_end<
+    C: Channels + Lanes,
+    D: Board<C>,
+    B: Backend,
+    R: Wait + Clock,
+    W: Write + Drop,
+    E: Write,
+>(
+    context: &Context<'_, R>,
+    settings: &mut RunSettings<W>,
+    errors: &mut E,
+    office: &Office<C, D, B>,
+    state: &mut DriverState<'_, C>,
+) -> Option<Result<(), ServeFault>> {
+    let end = drive_run(context, office, state, errors);
+    let recorded = record(context, office, state, &mut settings.recorder);
+    match (end, recorded) {
+        (RunEnd::Handover, Ok(())) => None,
+        (RunEnd::Handover, Err(fault)) => {
+            end_services(context, office, state);
+            tell_lines(state.lasting, errors);
+            Some(Err(fault))
+        }
+        (RunEnd::Ended, recorded) => Some(recorded),
+        (RunEnd::Full, _) => Some(Err(ServeFault::Full)),
+    }
+}
+
+// Records the run, and tells those that wait for it. Where memory is refused it is tried again; what connections ask meanwhile is refused.
+// `Record` where the run can't be written.
+fn record<C: Channels + Lanes, D: Board<C>, B: Backend, R: Wait + Clock, W: Write + Drop>(
+    context: &Context<'_, R>,
+    office: &Office<C, D, B>,
+    state: &mut DriverState<'_, C>,
+    recorder: &mut Recorder<W>,
+) -> Result<(), ServeFault> {
+    for _ in context.rt.forever() {
+        match recorder.append(context.rt, office, &mut state.known) {
+            Ok(()) => {
+                let steps = recorder.steps();
+                state.lasting.clients.tell_recorded(context, steps);
+                return Ok(());
+            }
+            Err(RecordFault::Write) => break,
+            Err(RecordFault::NoMemory) => refuse_and_wait(context, state.lasting),
+        }
+    }
+    Err(ServeFault::Record)
+}
