@@ -11,7 +11,7 @@ use crate::process::{Pipe, ServiceProcess};
 use crate::roll::Roll;
 use crate::roster::ChildList;
 use crate::shell::{Sending, signal_child};
-use crate::start::{Program, Start, is_last};
+use crate::started_program::{Program, Start, is_last};
 use error_notes::Notes;
 use order_lanes::{AskFault, Backend, Report};
 use s6_events::{Name, NoMemory, Order, SIGKILL, Sid};

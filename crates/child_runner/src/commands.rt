@@ -2,7 +2,7 @@
 ghost use Rattle.std.specs.Prelude.{◌≡◌, ◌++◌, IfOk, codes, string_bytes};
 ghost use Rattle.child_runner.specs.CommandLine.{line_of, run_line, plain_line, shell_line, finish_line, kill_line, redirection};
 
-use crate::start::Program;
+use crate::started_program::Program;
 use s6_events::{Name, NoMemory};
 use std::alloc::Global;
 use std::os::unix::fs::PermissionsExt;

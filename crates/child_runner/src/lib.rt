@@ -17,7 +17,7 @@ mod roll;
 mod roster;
 mod shell;
 mod signals;
-mod start;
+mod started_program;
 mod watching;
 
 pub use backend::ProcessBackend;

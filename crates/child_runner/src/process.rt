@@ -2,7 +2,7 @@
 use crate::bell::Bell;
 use crate::end_mark::END_MARK;
 use crate::progress::Progress;
-use crate::start::Start;
+use crate::started_program::Start;
 use order_lanes::Report;
 use s6_events::{Exit, Name};
 use std::alloc::Global;

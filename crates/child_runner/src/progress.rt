@@ -3,7 +3,7 @@ ghost use Rattle.std.specs.Prelude.{◌≡◌, IsTrue, IfSome, false};
 ghost use Rattle.child_runner.specs.Ending.{is_end};
 
 use crate::signals::Signals;
-use crate::start::{Program, Start};
+use crate::started_program::{Program, Start};
 use arrayvec::ArrayVec;
 use order_lanes::Report;
 use s6_events::Exit;

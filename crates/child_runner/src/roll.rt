@@ -6,7 +6,7 @@ ghost use Rattle.child_runner.specs.Roll.{WasAsked, is_last, orders_in, reports_
 ghost use Rattle.s6_events.specs.declared.order.Order.{Order as Asked};
 ghost use Rattle.order_lanes.specs.Backend.{answers, IsOfAsked};
 
-use crate::start::is_last;
+use crate::started_program::is_last;
 use order_lanes::{Report, answers};
 use s6_events::{NoMemory, Order};
 use std::alloc::Global;

@@ -1,6 +1,7 @@
 //! The timers that are set, and which of them are due.
 ghost use Rattle.std.specs.Prelude.{◌≡◌, ◌+◌, ◌<◌, ◌≤◌, [], length, IsOk, IfOk, OnOk, OnErr, IfSome, nat_lt, take, slice_get, true, false};
 ghost use Rattle.std.specs.List.{list_all};
+ghost use Rattle.deadlines.specs.Queue.{HaveSameTimers, in_moment_order};
 ghost use Rattle.deadlines.specs.Timers.{with_timer, without_timer, with_timer_change, with_timer_changes, due_by, is_rising, is_timer_of, rises};
 
 use crate::queue::{is_any_due, put_in, take_out};
@@ -16,6 +17,8 @@ pub struct Deadlines<A: Allocator> {
     queue: Vec<Timer, A>,
     // The list of the last step's changes, kept so that the next step can use its memory.
     spare: Vec<TimerChange, A>,
+    // The services whose timers the last search found due, kept likewise.
+    found: Vec<Sid, A>,
 }
 
 impl<A: Allocator> Model for Deadlines<A> {
@@ -80,6 +83,32 @@ fn is_at(timers: &[Timer], place: usize, sid: Sid) -> bool
     timers.get(place).is_some_and(|timer| timer.sid == sid)
 }
 
+// Adds the services whose timers are set to a moment at most `now`, in rising serial. The queue has the same timers.
+fn add_due<B: Allocator>(
+    timers: &[Timer],
+    queue: &[Timer],
+    now: At,
+    sids: &mut Vec<Sid, B>,
+) -> Result<(), NoMemory>
+    requires order { in_moment_order queue.now ≡ true }
+    requires same { HaveSameTimers queue.now timers.now }
+    requires rises { rises timers.now ≡ true }
+    requires empty { sids.old.items ≡ [] }
+    ensures rising { OnOk result (is_rising sids.new.items ≡ true) }
+    ensures due { OnOk result (sids.new.items ≡ due_by now timers.now) }
+    ensures quiet { due_by now timers.now ≡ [] → IsOk result }
+{
+    if !is_any_due(queue, now) {
+        return Ok(());
+    }
+    for timer in timers {
+        if timer.at.millis() <= now.millis() {
+            sids.push(timer.sid)?;
+        }
+    }
+    Ok(())
+}
+
 impl<A: Allocator + Copy> Deadlines<A> {
     /// Deadlines with no timer set. They keep the allocator.
     pub fn new(alloc: A) -> Deadlines<A>
@@ -89,6 +118,7 @@ impl<A: Allocator + Copy> Deadlines<A> {
             timers: Vec::new(alloc),
             queue: Vec::new(alloc),
             spare: Vec::new(alloc),
+            found: Vec::new(alloc),
         }
     }
 
@@ -145,19 +175,34 @@ impl<A: Allocator + Copy> Deadlines<A> {
         ensures quiet { due_by now self.now.timers ≡ [] → IsOk result }
     {
         let mut sids = Vec::new(alloc);
-        if !is_any_due(&self.queue, now) {
-            return Ok(sids);
-        }
-        for timer in &self.timers {
-            if timer.at.millis() <= now.millis() {
-                sids.push(timer.sid)?;
-            }
-        }
+        add_due(&self.timers, &self.queue, now, &mut sids)?;
         Ok(sids)
     }
 
-    /// Makes room for these changes, and changes nothing else: an earlier plan keeps its room, even where this call is refused.
+    /// Finds the services that `due` gives, and keeps them for `found`: their list uses the memory of the last search. `NoMemory` where
+    /// memory is refused; never where none is due.
+    pub fn find_due(&mut self, now: At) -> Result<(), NoMemory>
+        ensures due { OnOk result (self.new.found ≡ due_by now self.old.timers) }
+        ensures rising { OnOk result (is_rising self.new.found ≡ true) }
+        ensures timers { self.new.timers ≡ self.old.timers }
+        ensures same_room { self.old.spare_capacity ≤ self.new.spare_capacity }
+        ensures quiet { due_by now self.old.timers ≡ [] → IsOk result }
+    {
+        self.found.clear();
+        add_due(&self.timers, &self.queue, now, &mut self.found)
+    }
+
+    /// The services that the last search found due, in rising serial.
+    pub fn found(&self) -> &[Sid]
+        ensures { result.now ≡ self.now.found }
+    {
+        self.found.as_slice()
+    }
+
+    /// Makes room for these changes, and copies them into a plan: no timer is changed yet. An earlier plan keeps its room, even where this
+    /// call is refused.
     /// `NoMemory` where memory is refused; never where there is nothing to change.
+    #[inline(always)]
     pub fn prepare(&mut self, changes: &[TimerChange]) -> Result<DeadlinesPlan<A>, NoMemory>
         ensures ok { IfOk result (λ plan. plan ≡ changes.now) }
         ensures room { OnOk result (length changes.now ≤ self.new.spare_capacity) }

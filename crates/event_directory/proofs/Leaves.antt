@@ -6,7 +6,8 @@ use Rattle.std.proofs.lemmas.List.Elements.{All-cons}
 use Rattle.event_directory.specs.Directories.{WrittenDirectories, WrittenSubscription, is_same_source, with_text, subscriptions_to, place_now}
 use Rattle.event_directory.specs.Directories.{subscriptions_without, list_named}
 use Rattle.event_directory.specs.Register.{source_of, subscribers_without, followed_others, followed_if, without_subscription_at}
-use Rattle.event_directory.specs.Register.{without_subscription_by, view_at, view_in}
+use Rattle.event_directory.specs.Register.{without_subscription_by}
+use Rattle.event_directory.specs.RegisterChanges.{view_at, view_in}
 use Rattle.event_directory.specs.Remembered.{Followed, DirectoriesShown, kept_at, AreHeard}
 use Rattle.event_directory.specs.Sending.{TextSubscription, KeptSubscription, HaveHeard, left_without, kept_without, view_of}
 use Rattle.event_directory.specs.Views.{list_of_subscription}

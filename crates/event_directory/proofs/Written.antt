@@ -11,8 +11,9 @@ use Rattle.event_directory.specs.Changes.DirectoryRequest.{no_directory_request,
 use Rattle.event_directory.specs.Directories.{WrittenDirectories, WrittenSubscription, directories_after_moments, matches_by, has_directory}
 use Rattle.event_directory.specs.Directories.{subscriptions_without}
 use Rattle.event_directory.specs.Hearing.{hits_of_moments}
-use Rattle.event_directory.specs.Register.{is_source_named, source_of, without_subscription_of, stored_change, stored_given, stored_told}
-use Rattle.event_directory.specs.Register.{refusal_in, prepared_change, given_change, told_change, after_step}
+use Rattle.event_directory.specs.Register.{source_of}
+use Rattle.event_directory.specs.RegisterChanges.{is_source_named, without_subscription_of, stored_change, stored_given, stored_told}
+use Rattle.event_directory.specs.RegisterChanges.{refusal_in, prepared_change, given_change, told_change, after_step}
 use Rattle.event_directory.specs.Remembered.{DirectoriesShown, DirectoriesPrepared, AreHeard, directories_after_commit}
 use Rattle.event_directory.specs.declared.directory_change.DirectoryAnswer.{DirectoryAnswer}
 use Rattle.event_directory.specs.declared.directory_change.DirectoryAnswer.TheVariants as answer

@@ -11,3 +11,4 @@ pub mod Remembered
 pub mod Parts
 pub mod Hearing
 pub mod Register
+pub mod RegisterChanges

@@ -4,7 +4,7 @@ ghost use Rattle.event_directory.specs.Changes.{Offer, directory_request_of, mat
 ghost use Rattle.event_directory.specs.Changes.DirectoryRequest.{no_directory_request};
 ghost use Rattle.event_directory.specs.Directories.{WrittenDirectories, new_directories, list_named, matches_by, directories_after_moments};
 ghost use Rattle.event_directory.specs.Hearing.{heard_moments, hits_of_moments};
-ghost use Rattle.event_directory.specs.Register.{prepared_change, given_change, told_change, after_step, view_in};
+ghost use Rattle.event_directory.specs.RegisterChanges.{prepared_change, given_change, told_change, after_step, view_in};
 ghost use Rattle.event_directory.specs.Remembered.{AreHeard, directories_after_commit, nothing_prepared, plan_number};
 ghost use Rattle.event_directory.specs.declared.directory_change.DirectoryAnswer.TheVariants as answer;
 ghost use Rattle.event_directory.specs.declared.pending.Pending.TheVariants.{Nothing};
@@ -94,6 +94,7 @@ impl<F: Finds, A: Allocator + Copy> Directories<F, A> {
     /// The next serial has to be below 2^63. NoMemory where memory is refused: nothing is prepared then. A step with no moment and no
     /// change takes no memory, and gives nothing. Pages `s6-mkfifodir`, `s6-ftrig-notify` and `s6-ftrig-listen1`; the order of a step
     /// is chosen here.
+    #[inline(always)]
     pub fn prepare(
         &mut self,
         moments: &[Moment],

@@ -3,7 +3,7 @@ ghost use Rattle.std.specs.Prelude.{◌≡◌, ◌==◌, [], Bool, bytes_eq, opt
 ghost use Rattle.std.specs.List.{list_any};
 ghost use Rattle.event_directory.specs.Changes.{directory_request_of};
 ghost use Rattle.event_directory.specs.Changes.DirectoryRequest.{make_directory, send, subscribe, unsubscribe};
-ghost use Rattle.event_directory.specs.Register.{is_source_named, stored_refusal};
+ghost use Rattle.event_directory.specs.RegisterChanges.{is_source_named, stored_refusal};
 
 use crate::directory_change::{DirectoryChange, DirectoryFault};
 use crate::source::Source;

@@ -2,7 +2,8 @@
 ghost use Rattle.std.specs.Prelude.{◌≡◌, ◌<◌, ◌++◌, ◌+◌, ◌^◌, [], IfOk, OnOk, IfSome, IfNone, Some, drop, length, option_map, take, true};
 ghost use Rattle.event_directory.specs.Changes.{directory_request_of};
 ghost use Rattle.event_directory.specs.Hearing.{heard_moments, heard_message, hits_of_moments, hits_of_message};
-ghost use Rattle.event_directory.specs.Register.{shown_in, prepared_in, without_prepared, without_followed, source_of, subscribers_without, with_free_name, without_subscription_by, prepared_by_pending, HasRoom, CanJoin, CanStart, stored_refusal, view_in};
+ghost use Rattle.event_directory.specs.Register.{shown_in, prepared_in, without_prepared, without_followed, source_of, subscribers_without, with_free_name, without_subscription_by, prepared_by_pending, HasRoom, CanJoin, CanStart};
+ghost use Rattle.event_directory.specs.RegisterChanges.{stored_refusal, view_in};
 ghost use Rattle.event_directory.specs.Remembered.{DirectoriesShown, with_subscription_to};
 
 use crate::directory_change::{DirectoryChange, DirectoryFault};

@@ -3,7 +3,8 @@ ghost use Rattle.std.specs.Prelude.{◌≡◌, ◌<◌, ◌++◌, ◌^◌, [], N
 ghost use Rattle.event_directory.specs.Changes.{directory_request_of};
 ghost use Rattle.event_directory.specs.Changes.DirectoryRequest.{unsubscribe};
 ghost use Rattle.event_directory.specs.Hearing.{hits_of_moments};
-ghost use Rattle.event_directory.specs.Register.{shown_in, prepared_in, prepared_by_pending, HasRoom, stored_change, stored_given, stored_told, refusal_in, prepared_change, given_change, told_change, after_step};
+ghost use Rattle.event_directory.specs.Register.{shown_in, prepared_in, prepared_by_pending, HasRoom};
+ghost use Rattle.event_directory.specs.RegisterChanges.{stored_change, stored_given, stored_told, refusal_in, prepared_change, given_change, told_change, after_step};
 ghost use Rattle.event_directory.specs.Remembered.{directories_after_commit};
 
 use crate::directory_change::{DirectoryAnswer, DirectoryChange};

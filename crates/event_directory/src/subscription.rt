@@ -178,7 +178,7 @@ impl<F: Finds, A: Allocator + Copy> Subscription<F, A> {
     }
 
     /// Prepares `letter`, the last one of `text`, and returns the hit that it will give, if any.
-    pub fn prepare(&mut self, text: &[Letter], letter: Letter) -> Result<Option<Hit>, NoMemory>
+    pub fn prepare_hit(&mut self, text: &[Letter], letter: Letter) -> Result<Option<Hit>, NoMemory>
         requires { live_offset self.old.prepared < length text.now }
         ensures same { self.new.standing ≡ self.old.standing }
         ensures planned { self.new.planned ≡ self.old.planned }

@@ -65,7 +65,7 @@ pub fn prepare_all<F: Finds, A: Allocator + Copy>(
 {
     let mut hits = Vec::new(alloc);
     for subscription in subscriptions.iter_mut() {
-        match subscription.prepare(text, letter)? {
+        match subscription.prepare_hit(text, letter)? {
             Some(hit) => hits.push((subscription.id(), hit))?,
             None => {}
         }

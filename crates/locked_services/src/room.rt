@@ -231,10 +231,10 @@ impl<C: Channels + Lanes, D: Board<C>> Room<C, D> {
         self.running.write_run(head, writer)
     }
 
-    /// How many steps this run has. Many callers want only its clause `sound`, which says for their proofs what holds at every moment. The steps are a legal history from each machine for
-    /// which the first tree stood, and the tree stands for its end. Each actor's steps, and then the held input if it is the actor's, are
-    /// what its ring gave. Each lane was sent its orders. Each shot shows a state of this history: the first shows the one with which it
-    /// began, and none is older than the one before.
+    /// How many steps this run has. Many callers want only its clause `sound`, which says for their proofs what holds at every moment. The
+    /// steps are a legal history from each machine for which the first tree stood, and the tree stands for its end. Each actor's steps, and
+    /// then the held input if it is the actor's, are what its ring gave. Each lane was sent its orders. Each shot shows a state of this
+    /// history: the first shows the one with which it began, and none is older than the one before.
     pub fn steps(&self) -> usize
         ensures count { result ≡ length self.now.running.steps }
         ensures sound { IsSoundHistory C.opening self.now }

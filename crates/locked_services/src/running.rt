@@ -199,7 +199,8 @@ impl<C: Channels + Lanes> RunningTree<C> {
         self.run.len()
     }
 
-    /// The present state, to be published. `NoMemory` where memory is refused.
+    /// The present state, to be published: the rows of all services, and at how many steps of the tree they stood. `NoMemory` where memory is
+    /// refused.
     pub fn rows(&self) -> Result<StandingRows<Global>, NoMemory>
         ensures begins { (m : Machine) × StandsFor self.now.opening m }
         ensures rows { IfOk result (λ rows. (m : Machine) → StandsFor self.now.opening m →
@@ -318,7 +319,7 @@ impl<C: Channels + Lanes> RunningTree<C> {
         None
     }
 
-    /// The tree, and the steps.
+    /// The tree, and its run, which has the steps. The ends of the rings and the lanes are dropped.
     pub fn into_parts(self) -> (Box<Tree<Global>>, Run)
         ensures tree { result.0.value ≡ self.tree }
         ensures run { result.1.steps ≡ self.steps }

@@ -1,4 +1,4 @@
-//! The office: a room behind its lock, and desks behind theirs.
+//! The office: the room, which has the tree and its steps, behind one lock, and each lane's desk behind its own.
 ghost use Rattle.std.specs.Prelude.{◌≡◌, ◌⊎◌, ◌≤◌, ◌<◌, IfOk, IfErr, List, length, not, option_map, position};
 ghost use Rattle.std.specs.declared.alloc.Global.{Global};
 ghost use Rattle.tree_core.specs.declared.input.Input.{Input};

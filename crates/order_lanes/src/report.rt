@@ -9,7 +9,7 @@ use s6_events::{Order, Report, Sid};
 use std::alloc::Global;
 use tree_core::Act;
 
-// A copy of these bytes.
+// A copy of these bytes. It can't be refused, since it has as much room as they have.
 fn same_bytes(bytes: &ArrayVec<u8, 64>) -> ArrayVec<u8, 64>
     ensures { result ≡ bytes.now }
 {

@@ -51,6 +51,7 @@ impl Protocol<[u64; 1], View> for Growing {
 
 /// The step that adds inputs, after which all inputs are those that `N` names.
 pub struct Extends<N: Whole> {
+    // Only its type says which inputs these are.
     of: PhantomData<N>,
 }
 
@@ -143,7 +144,7 @@ impl<C: Lanes> Model for KnownHistory<C> {
 }
 
 impl<C: Lanes> KnownHistory<C> {
-    // What this pass knows.
+    // What is known by this pass, which is one of the two keys to the history's cell. Nothing else is stored: the history is in proofs alone.
     fn over(pass: Receipt) -> KnownHistory<C>
         requires cell { pass.table_id ≡ C.history }
         requires free { pass.me.1 ≡ [] }

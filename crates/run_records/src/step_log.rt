@@ -206,7 +206,7 @@ impl StepLog {
     }
 }
 
-// The bytes from this one on.
+// The codes of steps from byte `start` on, no byte where there are fewer.
 fn code_from(codes: &[u8], start: u32) -> Code<'_>
     ensures { result ≡ drop start codes.now }
 {

@@ -1,7 +1,8 @@
-//! Reads an act, and an input line, which is a moment, an actor and an act. Each function that reads a part of an act, here, in `words.rt`
-//! and in `entry_options.rt`, gives the value that its words spell, and for words that spell none any value of its type. The act that comes
-//! of this is spelled again, and returned only where the spelling equals the words that were read. So no function has to look for words
-//! that spell no act. A pattern is built last, so a line is refused for its pattern only where it spells an act otherwise.
+//! Reads an act, and an input line, which is a moment, an actor and an act. A start, a death and a tick are read word for word (`reports.rt`).
+//! For other acts, each function that reads a part, here, in `words.rt` and in `entry_options.rt`, gives the value that its words spell, and
+//! for words that spell none any value of its type. The act that comes of this is spelled again, and returned only where the spelling equals
+//! the words that were read. So no function has to look for words that spell no act. A pattern is built last, so a line is refused for its
+//! pattern only where it spells an act otherwise.
 ghost use Rattle.std.specs.Prelude.{◌≡◌, ℕ, ◌≤◌, ◌<◌, ◌^◌, ◌-◌, ◌∷◌, ◌++◌, [], List, Bool, Err, IfOk, OnOk, Some, IfSome, true, decimal, drop, map, length, slice_index_or};
 ghost use Rattle.hex.specs.Hex.{IsBytes, encode_lower};
 ghost use Rattle.s6_script.specs.Spelling.{HasExpression, IsExit, IsAct, SpellsAct, SpellsActButForPattern, act_words};

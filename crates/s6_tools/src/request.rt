@@ -123,7 +123,8 @@ pub fn subscribe_request(
     Ok(text)
 }
 
-/// The request of `follow` for these names: for one name the letters of its service, else those of all services.
+/// The request `follow`, to be told letters as services give them: where there is one name, those of its service, else those of all
+/// services.
 pub fn follow_request(alloc: Global, names: &[Name]) -> Result<Vec<u8>, AllocError>
     ensures { IfOk result (λ text. text.items ≡ follow_request_of names.now) }
 {

@@ -9,7 +9,8 @@ use std::process::ExitCode;
 use tree_front::{Begun, BegunTree, Standard, begin_program, end_program};
 use tree_server::{HANDOVER, run_tree};
 
-// After how many steps the next run goes on.
+// After how many steps a run ends, and the next goes on from its tree: what S6_TREE_HANDOVER says, from 1 to HANDOVER, and HANDOVER where it says
+// 0, no number, or nothing.
 fn handover<R: Env + Alloc>(rt: &R) -> u64
     ensures least { 1 ≤ result }
     ensures most { result ≤ 260000 }

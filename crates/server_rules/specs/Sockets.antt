@@ -1,6 +1,6 @@
 -- When two files are one, and the line that says where clients can connect.
 use Rattle.std.specs.Prelude.{ℕ, List, [], ◌∷◌, ◌++◌, Bool, codes, ◌==◌, ◌&&◌}
-use Rattle.server_rules.specs.declared.socket_rules.FileIdentity.{FileIdentity}
+use Rattle.server_rules.specs.declared.abandoned_socket.FileIdentity.{FileIdentity}
 
 -- two files are one where device and inode are the same
 abbrev pub is_one_file : FileIdentity → FileIdentity → Bool

@@ -3,6 +3,7 @@
 //! run takes inputs and when it ends, which socket is abandoned, and what is told of a tree that did not run to its end.
 #![tactic(auto)]
 
+mod abandoned_socket;
 mod connection;
 mod following;
 mod full_services;
@@ -17,7 +18,6 @@ mod requests;
 mod roster;
 mod row_cache;
 mod serve_fault;
-mod socket_rules;
 mod standing;
 mod state_word;
 mod status_age;
@@ -26,6 +26,7 @@ mod step_notes;
 mod texts;
 mod todo;
 
+pub use abandoned_socket::{FileIdentity, says_abandoned};
 pub use connection::Connection;
 pub use following::Following;
 pub use full_services::FullServices;
@@ -42,7 +43,6 @@ pub use requests::{Request, read_request};
 pub use roster::{Ending, Member, Roster};
 pub use row_cache::RowCache;
 pub use serve_fault::{ServeFault, tell_serve_fault};
-pub use socket_rules::{FileIdentity, says_abandoned};
 pub use standing::{Admission, SUBSCRIPTION_LIMIT, Standing, StandingChange, WAITER_LIMIT};
 pub use state_word::{StateWord, state_of};
 pub use status_age::is_recent;

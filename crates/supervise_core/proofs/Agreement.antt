@@ -12,7 +12,7 @@ use Rattle.s6_events.specs.Newest.{Dated, newest, mark_of, newer}
 use Rattle.s6_events.specs.CurrentLetter.{start_or, tells_state, is_up_or_down, is_ready_or_done, mark_or_done, moment_unless_start}
 use Rattle.s6_events.proofs.Newest.{newest-push}
 use Rattle.supervise_core.specs.declared.row.Status.{Status}
-use Rattle.supervise_core.specs.declared.chart.ChartState.{ChartState}
+use Rattle.supervise_core.specs.declared.chart_state.ChartState.{ChartState}
 use Rattle.supervise_core.specs.Moves.{begin_move}
 use Rattle.supervise_core.specs.Status.{Agrees, mark_moments, no_marks, status_with, status_with_all}
 

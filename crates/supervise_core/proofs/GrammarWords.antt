@@ -5,7 +5,7 @@ use Rattle.s6_events.specs.declared.mark.Mark.{Mark}
 use Rattle.s6_events.specs.declared.mark.Mark.TheVariants.{SupervisorStarted, Spawned, Ready, Died, FinishDone, PermanentFailure, SupervisorEnded}
 use Rattle.supervise_core.specs.EventGrammar.{Ran, perhaps, spell_runs, spell, BeginsWord, LeadsTo, next_place, step_on, walk, place_of}
 use Rattle.supervise_core.specs.declared.change.Change.{Change}
-use Rattle.supervise_core.specs.declared.chart.ChartState.{ChartState}
+use Rattle.supervise_core.specs.declared.chart_state.ChartState.{ChartState}
 use Rattle.supervise_core.specs.declared.out.Out.{Out}
 use Rattle.supervise_core.specs.Chart.{changed_by}
 use Rattle.supervise_core.specs.Moves.{begin_move}

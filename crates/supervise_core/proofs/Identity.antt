@@ -6,7 +6,7 @@ use Rattle.control_letters.specs.declared.control_letter.ControlLetter.{ControlL
 use Rattle.supervise_core.specs.declared.change.Change.{Change}
 use Rattle.s6_events.specs.declared.report.Report.TheVariants.{Started, StartFailed, Notify, Death, FinishEnded}
 use Rattle.supervise_core.specs.declared.change.Change.TheVariants.{Report, Control, Fire, SetConfig, SetActive}
-use Rattle.supervise_core.specs.declared.chart.ChartState.{ChartState}
+use Rattle.supervise_core.specs.declared.chart_state.ChartState.{ChartState}
 use Rattle.supervise_core.specs.ChartState.{Moved, no_move, new_service}
 use Rattle.supervise_core.specs.Moves.{begin_move}
 use Rattle.supervise_core.specs.ControlLetters.{letter_move, then_move}

@@ -1,7 +1,7 @@
 -- The letters of one call order at most one run.
 use Rattle.std.proofs.Common.{ℕ, ◌+◌, ◌≤◌, List, [], ◌∷◌, fold, arith, rules}
 use Rattle.control_letters.specs.declared.control_letter.ControlLetter.{ControlLetter}
-use Rattle.supervise_core.specs.declared.chart.ChartState.{ChartState}
+use Rattle.supervise_core.specs.declared.chart_state.ChartState.{ChartState}
 use Rattle.supervise_core.specs.ChartState.{Moved, no_move}
 use Rattle.supervise_core.specs.ControlLetters.{letter_move, then_move, control_move}
 use Rattle.supervise_core.specs.LetterBounds.{runs_left}

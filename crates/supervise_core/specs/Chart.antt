@@ -8,7 +8,7 @@ pub use Rattle.supervise_core.specs.Listed.{with_activity, with_config}
 use Rattle.supervise_core.specs.declared.change.Change.{Change}
 use Rattle.s6_events.specs.declared.report.Report.TheVariants.{Started, StartFailed, Notify, Death, FinishEnded}
 use Rattle.supervise_core.specs.declared.change.Change.TheVariants.{Report, Control, Fire, SetConfig, SetActive}
-use Rattle.supervise_core.specs.declared.chart.ChartState.{ChartState}
+use Rattle.supervise_core.specs.declared.chart_state.ChartState.{ChartState}
 use Rattle.supervise_core.specs.ChartState.{Moved, no_move}
 
 -- the five reports, of which the phase and the generation tell whether they are stale; letters; the timer; a look at the directory

@@ -4,7 +4,7 @@ use Rattle.s6_events.specs.declared.order.Order.TheVariants.{Signal}
 use Rattle.control_letters.specs.declared.control_letter.ControlLetter.{ControlLetter}
 use Rattle.control_letters.specs.declared.control_letter.ControlLetter.TheVariants as control_letter
 use Rattle.control_letters.specs.ControlLetter.{signal_of}
-use Rattle.supervise_core.specs.declared.chart.ChartState.{ChartState}
+use Rattle.supervise_core.specs.declared.chart_state.ChartState.{ChartState}
 use Rattle.supervise_core.specs.declared.phase.Phase.{Phase}
 use Rattle.supervise_core.specs.declared.phase.Phase.TheVariants.{Down, Starting, Up}
 use Rattle.supervise_core.specs.ChartState.{Moved, no_move, with_order, is_down, is_up, is_gone}

@@ -1,7 +1,7 @@
 -- What a look at its directory makes of a service.
 use Rattle.std.specs.Prelude.{ℕ, ◌+◌, Bool, None, Some, if◌then◌else◌}
 use Rattle.servicedir.specs.declared.config.Config.{Config}
-use Rattle.supervise_core.specs.declared.chart.ChartState.{ChartState}
+use Rattle.supervise_core.specs.declared.chart_state.ChartState.{ChartState}
 use Rattle.supervise_core.specs.ChartState.{is_gone}
 
 -- whether the directory is listed: where the supervisor has ended, a new one starts a second after it came back, and none while away

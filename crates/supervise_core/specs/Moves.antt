@@ -5,7 +5,7 @@ use Rattle.s6_events.specs.declared.exit.Exit.{Exit}
 use Rattle.s6_events.specs.declared.order.Order.TheVariants as order
 use Rattle.finish_core.specs.FinishArguments.{finish_arguments}
 use Rattle.finish_core.specs.Restart.{restart_moment}
-use Rattle.supervise_core.specs.declared.chart.ChartState.{ChartState}
+use Rattle.supervise_core.specs.declared.chart_state.ChartState.{ChartState}
 use Rattle.supervise_core.specs.declared.phase.Phase.TheVariants.{Down, Starting, Finish, Gone}
 use Rattle.supervise_core.specs.ChartState.{Moved, no_move, with_mark, with_order}
 

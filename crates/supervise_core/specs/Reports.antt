@@ -7,7 +7,7 @@ use Rattle.s6_events.specs.declared.exit.Exit.{Exit}
 use Rattle.finish_core.specs.declared.exit_verdict.Verdict125.{Verdict125}
 use Rattle.finish_core.specs.declared.exit_verdict.Verdict125.TheVariants.{Permanent, Ordinary}
 use Rattle.finish_core.specs.ExitVerdict.{verdict_of}
-use Rattle.supervise_core.specs.declared.chart.ChartState.{ChartState}
+use Rattle.supervise_core.specs.declared.chart_state.ChartState.{ChartState}
 use Rattle.supervise_core.specs.declared.phase.Phase.TheVariants.{Down, Up}
 use Rattle.supervise_core.specs.ChartState.{Moved, no_move, stale_move, with_mark, is_starting, is_up, is_finishing}
 use Rattle.supervise_core.specs.Moves.{down_signal_move, finish_move, end_move, settle_move}

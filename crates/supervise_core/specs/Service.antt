@@ -8,7 +8,7 @@ use Rattle.s6_events.specs.Clock.{clock_of}
 use Rattle.supervise_core.specs.declared.change.Change.{Change}
 use Rattle.s6_events.specs.declared.report.Report.TheVariants.{Death}
 use Rattle.supervise_core.specs.declared.change.Change.TheVariants.{Report}
-use Rattle.supervise_core.specs.declared.chart.ChartState.{ChartState}
+use Rattle.supervise_core.specs.declared.chart_state.ChartState.{ChartState}
 use Rattle.supervise_core.specs.declared.row.Status.{Status}
 use Rattle.supervise_core.specs.Status.{Agrees, mark_moments}
 

@@ -1,7 +1,7 @@
 -- The timer of a service: what it does in each phase, once its moment has come.
 use Rattle.std.specs.Prelude.{ℕ, Bool, false, nat_le, Option, None, Some, if◌then◌else◌}
 use Rattle.s6_events.specs.declared.order.Order.TheVariants.{Signal, KillFinish}
-use Rattle.supervise_core.specs.declared.chart.ChartState.{ChartState}
+use Rattle.supervise_core.specs.declared.chart_state.ChartState.{ChartState}
 use Rattle.supervise_core.specs.declared.phase.Phase.{Phase}
 use Rattle.supervise_core.specs.declared.phase.Phase.TheVariants.{Down, Starting, Up, Finish, Gone}
 use Rattle.supervise_core.specs.ChartState.{Moved, no_move, with_order}

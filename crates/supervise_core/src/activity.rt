@@ -2,7 +2,7 @@
 ghost use Rattle.std.specs.Prelude.{◌≡◌};
 ghost use Rattle.supervise_core.specs.Chart.{with_activity};
 
-use super::chart::ChartState;
+use super::chart_state::ChartState;
 use super::moves::SUPERVISOR_PAUSE;
 use super::phase::Phase;
 use s6_events::At;

@@ -25,7 +25,7 @@ pub enum Change {
 impl Change {
     /// The death that this change, at this moment, adds to the tally of a service: that of a death report that was not stale. None for any
     /// other change.
-    pub fn death(&self, stale: bool, now: At) -> Option<(At, Exit)>
+    pub fn counted_death(&self, stale: bool, now: At) -> Option<(At, Exit)>
         ensures { result ≡ death_by self.now stale now }
     {
         match self {

@@ -1,5 +1,5 @@
 //! A service as plain data.
-use super::chart::ChartState;
+use super::chart_state::ChartState;
 use super::row::Status;
 use s6_events::{At, Exit};
 use std::alloc::Allocator;

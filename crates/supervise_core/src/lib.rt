@@ -3,9 +3,9 @@
 
 mod activity;
 mod change;
-mod chart;
+mod chart_state;
+mod control;
 mod image;
-mod letters;
 mod moves;
 mod new_config;
 mod out;
@@ -17,7 +17,7 @@ mod service_state;
 mod timer;
 
 pub use change::Change;
-pub use chart::ChartState;
+pub use chart_state::ChartState;
 pub use image::ServiceImage;
 pub use out::Out;
 pub use phase::Phase;

@@ -3,7 +3,7 @@ ghost use Rattle.std.specs.Prelude.{◌≡◌, ◌+◌, ◌<◌, ◌≤◌, ◌^
 ghost use Rattle.supervise_core.specs.Moves.{run_move, begin_move, down_signal_move, kill_timer, end_move, settle_move, finish_move};
 ghost use Rattle.supervise_core.specs.MatchesMove.{AppendsMove};
 
-use super::chart::ChartState;
+use super::chart_state::ChartState;
 use super::out::Out;
 use super::phase::Phase;
 use finish_core::{finish_args, restart_due};

@@ -2,7 +2,7 @@
 ghost use Rattle.std.specs.Prelude.{◌≡◌};
 ghost use Rattle.supervise_core.specs.Chart.{with_config};
 
-use super::chart::ChartState;
+use super::chart_state::ChartState;
 use servicedir::Config;
 
 impl ChartState {

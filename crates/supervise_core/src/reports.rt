@@ -4,7 +4,7 @@ ghost use Rattle.supervise_core.specs.Reports.{started_move, start_failed_move, 
 ghost use Rattle.finish_core.specs.ExitVerdict.{verdict_of};
 ghost use Rattle.supervise_core.specs.MatchesMove.{MatchesMove, AppendsMove};
 
-use super::chart::ChartState;
+use super::chart_state::ChartState;
 use super::out::Out;
 use super::phase::Phase;
 use finish_core::{Verdict125, verdict};

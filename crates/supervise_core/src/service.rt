@@ -13,7 +13,7 @@ ghost use Rattle.supervise_core.specs.Service.{AgreesWith, KeepsAgreeing, with_v
 ghost use Rattle.supervise_core.specs.StatusRow.{status_row};
 
 use super::change::Change;
-use super::chart::ChartState;
+use super::chart_state::ChartState;
 use super::image::ServiceImage;
 use super::out::Out;
 use super::row::{Row, Status};
@@ -60,17 +60,36 @@ impl<A: Allocator + Copy> Service<A> {
             → IfOk result (λ made. AgreesWith made.0
             (history ++ mark_moments sid made.1.events.items)) }
     {
+        let mut out = Out::new();
+        let service = Service::begin_into(alloc, sid, name, config, &mut out)?;
+        Ok((service, out))
+    }
+
+    /// As `begin`, but its mark and its order are put into `out`, in place of what that held: it is large, and a scan that adds many
+    /// services fills one. Where memory is refused, nothing is said of `out`.
+    pub fn begin_into(
+        alloc: A,
+        sid: Sid,
+        name: Name,
+        config: Config,
+        out: &mut Out,
+    ) -> Result<Service<A>, NoMemory>
+        ensures gives { IfOk result
+            (λ made. MatchesMove (begin_move (new_service sid name config)) made.chart out.new) }
+        ensures tally { IfOk result (λ made. made.tally ≡ new_tally config.max_death_tally) }
+        ensures grammar { IfOk result (λ made. LeadsTo out.new.events.items made.chart) }
+        ensures agrees { (history : List Moment)
+            → IfOk result (λ made. AgreesWith made
+            (history ++ mark_moments sid out.new.events.items)) }
+    {
         let tally = Tally::new(alloc, config.max_death_tally)?;
-        let (chart, out) = ChartState::begin(sid, name, config);
+        let chart = ChartState::begin_into(sid, name, config, out);
         let status = Status::new();
-        Ok((
-            Service {
-                chart,
-                status,
-                tally,
-            },
-            out,
-        ))
+        Ok(Service {
+            chart,
+            status,
+            tally,
+        })
     }
 
     /// A copy of its state without its deaths. The copy takes the same changes.
@@ -274,7 +293,7 @@ impl<A: Allocator + Copy> Service<A> {
     {
         let out = self.chart.change(change, now);
         self.status.record_marks(out.events.as_slice(), now);
-        self.join(change.death(out.stale, now));
+        self.join(change.counted_death(out.stale, now));
         out
     }
 

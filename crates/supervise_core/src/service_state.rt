@@ -7,7 +7,7 @@ ghost use Rattle.supervise_core.specs.MatchesMove.{MatchesMove, AppendsMove, mos
 ghost use Rattle.supervise_core.specs.Service.{KeepsAgreeing};
 
 use super::change::Change;
-use super::chart::ChartState;
+use super::chart_state::ChartState;
 use super::out::Out;
 use super::row::Status;
 use s6_events::{At, Sid};

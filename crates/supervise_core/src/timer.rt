@@ -3,7 +3,7 @@ ghost use Rattle.std.specs.Prelude.{◌≡◌, ◌+◌, ◌<◌, ◌≤◌, ◌^
 ghost use Rattle.supervise_core.specs.Timer.{fire_move, timer_rule, is_due};
 ghost use Rattle.supervise_core.specs.MatchesMove.{MatchesMove, AppendsMove};
 
-use super::chart::ChartState;
+use super::chart_state::ChartState;
 use super::out::Out;
 use super::phase::Phase;
 use s6_events::{At, Order, SIGKILL};

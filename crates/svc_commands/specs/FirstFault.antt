@@ -4,9 +4,9 @@ use Rattle.std.specs.Prelude.{if◌then◌else◌, is_none, option_to_list}
 use Rattle.std.specs.List.{list_all}
 use Rattle.clap.specs.Words.{Kinds, Row}
 use Rattle.s6_events.specs.Name.{is_name}
-use Rattle.svc_commands.specs.Matches.{condition_count, mode_count, is_empty, is_bad_list, is_bad_number}
-use Rattle.svc_commands.specs.Matches.{are_bad_exits, list_given, name_given, names_of, timeout_given, secs_given}
-use Rattle.svc_commands.specs.Matches.{count_given, exits_given}
+use Rattle.svc_commands.specs.RowsGiven.{condition_count, mode_count, is_empty, is_bad_list, is_bad_number}
+use Rattle.svc_commands.specs.RowsGiven.{are_bad_exits, list_given, name_given, names_of, timeout_given, secs_given}
+use Rattle.svc_commands.specs.RowsGiven.{count_given, exits_given}
 use Rattle.svc_commands.specs.declared.usage_fault.UsageFault.{UsageFault}
 use Rattle.svc_commands.specs.declared.usage_fault.UsageFault.TheVariants.{Unknown, Missing, TooMany, BadNumber}
 use Rattle.svc_commands.specs.declared.usage_fault.UsageFault.TheVariants.{BadList, BadName, NoMemory}

@@ -5,5 +5,6 @@ pub mod LetterCommands
 pub mod Fields
 pub mod Kinds
 pub mod Matches
+pub mod RowsGiven
 pub mod FirstFault
 pub mod LineCommands

@@ -3,8 +3,8 @@ use Rattle.std.specs.Prelude.{◌≡◌, List, Some, option_map, option_and_then
 use Rattle.clap.specs.Words.{Row}
 use Rattle.servicedir.specs.Number.{number_of}
 use Rattle.death_tally.specs.DeathList.{death_list}
-use Rattle.svc_commands.specs.Matches.{condition_of, mode_of, timeout_of, names_of, fields_in, list_given, name_given}
-use Rattle.svc_commands.specs.Matches.{secs_given, count_given, exits_given}
+use Rattle.svc_commands.specs.RowsGiven.{condition_of, mode_of, timeout_of, names_of, fields_in, list_given, name_given}
+use Rattle.svc_commands.specs.RowsGiven.{secs_given, count_given, exits_given}
 use Rattle.svc_commands.specs.declared.permafailon.PermafailCommand.{PermafailCommand}
 use Rattle.svc_commands.specs.declared.svstat.StatCommand.{StatCommand}
 use Rattle.svc_commands.specs.declared.svwait.WaitCommand.{WaitCommand}

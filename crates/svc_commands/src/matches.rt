@@ -1,7 +1,8 @@
 //! What svwait, svlisten, svstat and permafailon have in common: a simple command of `clap`, and its matches.
 ghost use Rattle.std.specs.Prelude.{◌≡◌, [], true, false, None, Some, IfOk, MatchResult, map, codes, option_map, option_and_then};
 ghost use Rattle.clap.specs.Words.{app_of, with_rule, rows_of, found_of, first_of, all_of};
-ghost use Rattle.svc_commands.specs.Matches.{flag_rule, option_rule, names_rule, word_rule, plain_app, with_wait_rules, is_simple_app, rows_for, kinds_for, is_bad_number};
+ghost use Rattle.svc_commands.specs.Matches.{flag_rule, option_rule, names_rule, word_rule, plain_app, with_wait_rules, is_simple_app, rows_for, kinds_for};
+ghost use Rattle.svc_commands.specs.RowsGiven.{is_bad_number};
 ghost use Rattle.servicedir.specs.Number.{number_of};
 ghost use Rattle.svc_commands.specs.Kinds.{usage_of, IsUsageFault};
 

@@ -4,7 +4,8 @@ ghost use Rattle.clap.specs.Words.{app_of, rows_of, found_of};
 ghost use Rattle.death_tally.specs.DeathList.{death_list};
 ghost use Rattle.svc_commands.specs.FirstFault.{permafail_fault, IsTaken, IsRefusal};
 ghost use Rattle.svc_commands.specs.LineCommands.{IsPermafailCommand};
-ghost use Rattle.svc_commands.specs.Matches.{permafail_app, rows_for, kinds_for, exits_given, are_bad_exits};
+ghost use Rattle.svc_commands.specs.Matches.{permafail_app, rows_for, kinds_for};
+ghost use Rattle.svc_commands.specs.RowsGiven.{exits_given, are_bad_exits};
 
 use crate::matches::{matches_in, number_in, plain, text_of, with_word};
 use crate::names::name_of;

@@ -4,7 +4,8 @@ ghost use Rattle.std.specs.Str.{bytes_eq};
 ghost use Rattle.clap.specs.Words.{app_of};
 ghost use Rattle.svc_commands.specs.FirstFault.{wait_fault, IsTaken, IsRefusal};
 ghost use Rattle.svc_commands.specs.LineCommands.{IsWaitCommand};
-ghost use Rattle.svc_commands.specs.Matches.{listen_app, rows_for, kinds_for, is_empty, own_words, program_words};
+ghost use Rattle.svc_commands.specs.Matches.{listen_app, rows_for, kinds_for, own_words, program_words};
+ghost use Rattle.svc_commands.specs.RowsGiven.{is_empty};
 
 use crate::matches::{matches_in, plain, with_flag, with_names, with_wait_options};
 use crate::svwait::{WaitCommand, wait_command};

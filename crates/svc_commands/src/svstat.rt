@@ -5,7 +5,8 @@ ghost use Rattle.clap.specs.Words.{app_of, rows_of, found_of};
 ghost use Rattle.svc_commands.specs.Fields.{field_name, field_named};
 ghost use Rattle.svc_commands.specs.FirstFault.{stat_fault, IsTaken, IsRefusal};
 ghost use Rattle.svc_commands.specs.LineCommands.{IsStatCommand};
-ghost use Rattle.svc_commands.specs.Matches.{stat_app, rows_for, kinds_for, items_in, fields_in, is_bad_list};
+ghost use Rattle.svc_commands.specs.Matches.{stat_app, rows_for, kinds_for};
+ghost use Rattle.svc_commands.specs.RowsGiven.{items_in, fields_in, is_bad_list};
 
 use crate::matches::{matches_in, plain, text_of, with_option, with_word};
 use crate::names::name_of;

@@ -3,8 +3,9 @@ ghost use Rattle.std.specs.Prelude.{◌≡◌, true, false, None, Some, IfOk, Ma
 ghost use Rattle.clap.specs.Words.{app_of, rows_of, found_of};
 ghost use Rattle.svc_commands.specs.FirstFault.{wait_fault, IsTaken, IsRefusal};
 ghost use Rattle.svc_commands.specs.LineCommands.{IsWaitCommand};
-ghost use Rattle.svc_commands.specs.Matches.{wait_app, rows_for, kinds_for, condition_count, condition_of, mode_count, mode_of};
-ghost use Rattle.svc_commands.specs.Matches.{timeout_given, timeout_of, is_bad_number};
+ghost use Rattle.svc_commands.specs.Matches.{wait_app, rows_for, kinds_for};
+ghost use Rattle.svc_commands.specs.RowsGiven.{condition_count, condition_of, mode_count, mode_of};
+ghost use Rattle.svc_commands.specs.RowsGiven.{timeout_given, timeout_of, is_bad_number};
 
 use crate::matches::{matches_in, name_words, number_in, plain, with_names, with_wait_options};
 use crate::names::{Names, names_in};

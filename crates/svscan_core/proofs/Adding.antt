@@ -9,7 +9,7 @@ use Rattle.deadlines.specs.Timers.{is_rising}
 use Rattle.s6_events.specs.declared.moment.Moment.{Moment}
 use Rattle.s6_events.specs.declared.moment.Moment.TheVariants as moment
 use Rattle.servicedir.specs.declared.config.Config.{Config}
-use Rattle.supervise_core.specs.declared.chart.ChartState.{ChartState}
+use Rattle.supervise_core.specs.declared.chart_state.ChartState.{ChartState}
 use Rattle.supervise_core.specs.declared.out.Out.{Out}
 use Rattle.supervise_core.specs.ChartState.{new_service}
 use Rattle.supervise_core.specs.MatchesMove.{MatchesMove}

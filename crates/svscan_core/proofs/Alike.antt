@@ -1,6 +1,6 @@
 -- Listings that say the same of every name do the same to the services.
 use Rattle.std.proofs.Common.{◌≡◌, ℕ, List, [], ◌∷◌, cond, refl, ◌∙◌, ap, subst}
-use Rattle.supervise_core.specs.declared.chart.ChartState.{ChartState}
+use Rattle.supervise_core.specs.declared.chart_state.ChartState.{ChartState}
 use Rattle.supervise_core.specs.Chart.{with_activity}
 use Rattle.supervise_core.specs.ChartState.{Moved, no_move}
 use Rattle.svscan_core.specs.declared.entry.Entry.{Entry}

@@ -1,7 +1,7 @@
 -- Where no timer is due, no service takes its rule.
 use Rattle.std.proofs.Common.{◌≡◌, ◌∙◌, ℕ, zero, suc, List, [], ◌∷◌, ◌++◌, true, false, ◌==◌, cond, refl, sym, ap, subst, arith, length}
 use Rattle.std.proofs.Common.{append-nil, rules}
-use Rattle.supervise_core.specs.declared.chart.ChartState.{ChartState}
+use Rattle.supervise_core.specs.declared.chart_state.ChartState.{ChartState}
 use Rattle.supervise_core.specs.ChartState.{no_move}
 use Rattle.supervise_core.specs.Chart.{fire_move, is_due, timer_rule}
 use Rattle.svscan_core.specs.Deaths.{DeathOf, AllTallied}

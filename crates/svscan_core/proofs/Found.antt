@@ -7,7 +7,7 @@ use Rattle.std.proofs.lemmas.List.{map-set}
 use Rattle.std.specs.Prelude.{Option, Some, None, slice_get, slice_set, nat_lt, unwrap_or, All}
 use Rattle.std.specs.List.{list_any}
 use Rattle.deadlines.specs.Timers.{is_rising}
-use Rattle.supervise_core.specs.declared.chart.ChartState.{ChartState}
+use Rattle.supervise_core.specs.declared.chart_state.ChartState.{ChartState}
 use Rattle.supervise_core.specs.declared.change.Change.{Change}
 use Rattle.supervise_core.specs.declared.out.Out.{Out}
 use Rattle.supervise_core.specs.Chart.{changed_by}

@@ -3,7 +3,7 @@ use Rattle.std.proofs.Common.{ℕ, ◌+◌, ◌≤◌, ◌==◌, arith, List, []
 use Rattle.std.specs.Prelude.{All, nat_lt, length, Option, Some, None}
 use Rattle.std.proofs.lemmas.List.Elements.{All-map, All-filter, All-push}
 use Rattle.servicedir.specs.declared.config.Config.{Config}
-use Rattle.supervise_core.specs.declared.chart.ChartState.{ChartState}
+use Rattle.supervise_core.specs.declared.chart_state.ChartState.{ChartState}
 use Rattle.supervise_core.specs.declared.change.Change.TheVariants.{Control}
 use Rattle.supervise_core.specs.ChartState.{Moved, new_service}
 use Rattle.supervise_core.specs.Moves.{begin_move}

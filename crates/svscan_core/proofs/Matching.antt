@@ -1,7 +1,7 @@
 -- A change that is added to nothing is the change.
 use Rattle.std.proofs.Common.{◌≡◌, [], ◌++◌, false, ◌||◌, ap, ◌∙◌}
 use Rattle.std.proofs.Math.Bool.{or-false}
-use Rattle.supervise_core.specs.declared.chart.ChartState.{ChartState}
+use Rattle.supervise_core.specs.declared.chart_state.ChartState.{ChartState}
 use Rattle.supervise_core.specs.declared.out.Out.{Out}
 use Rattle.supervise_core.specs.ChartState.{Moved}
 use Rattle.supervise_core.specs.MatchesMove.{AppendsMove, MatchesMove}

@@ -4,7 +4,7 @@ use Rattle.std.proofs.Common.{append-nil}
 use Rattle.std.specs.Prelude.{Option, Some, None, nat_lt, slice_get, slice_set, unwrap_or}
 use Rattle.std.specs.List.{list_any, list_all}
 use Rattle.deadlines.specs.Timers.{is_rising}
-use Rattle.supervise_core.specs.declared.chart.ChartState.{ChartState}
+use Rattle.supervise_core.specs.declared.chart_state.ChartState.{ChartState}
 use Rattle.supervise_core.specs.declared.change.Change.{Change}
 use Rattle.supervise_core.specs.ChartState.{Moved, no_move}
 use Rattle.supervise_core.specs.Chart.{changed_by}

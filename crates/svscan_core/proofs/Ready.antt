@@ -8,7 +8,7 @@ use Rattle.svscan_core.specs.Registry.{Fits, PlannedStep, RegistryPrepared, Regi
 use Rattle.svscan_core.specs.Sound.{IsSound}
 use Rattle.svscan_core.specs.Table.{charts_of}
 use Rattle.supervise_core.specs.declared.change.Change.{Change}
-use Rattle.supervise_core.specs.declared.chart.ChartState.{ChartState}
+use Rattle.supervise_core.specs.declared.chart_state.ChartState.{ChartState}
 use Rattle.svscan_core.specs.Moves.{services_after}
 use Rattle.svscan_core.specs.Work.{Work, WorkResult, change_move_at, step_result, work_result}
 use Rattle.svscan_core.specs.Work.Work.{change_one}

@@ -8,7 +8,7 @@ use Rattle.deadlines.specs.declared.timer.Timer.{Timer}
 use Rattle.deadlines.specs.declared.timer.TimerChange.{TimerChange}
 use Rattle.deadlines.specs.declared.timer.TimerChange.TheVariants.{Clear}
 use Rattle.deadlines.specs.Timers.{rises, without_timer, with_timer_change, with_timer_changes, is_rising}
-use Rattle.supervise_core.specs.declared.chart.ChartState.{ChartState}
+use Rattle.supervise_core.specs.declared.chart_state.ChartState.{ChartState}
 use Rattle.svscan_core.specs.Scan.{stays, leaves}
 use Rattle.svscan_core.specs.Table.{serials_of}
 use Rattle.svscan_core.specs.Timers.{in_reach, timer_in, set_in, TimersAgree, timer_change_of}

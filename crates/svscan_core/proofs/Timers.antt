@@ -8,7 +8,7 @@ use Rattle.deadlines.specs.declared.timer.TimerChange.{TimerChange}
 use Rattle.deadlines.specs.declared.timer.TimerChange.TheVariants.{Set, Clear}
 use Rattle.deadlines.specs.Timers.{rises, below, above, with_timer, without_timer, with_timer_change, with_timer_changes, is_rising}
 use Rattle.deadlines.proofs.Rising.{rises_set_to, rises_cleared}
-use Rattle.supervise_core.specs.declared.chart.ChartState.{ChartState}
+use Rattle.supervise_core.specs.declared.chart_state.ChartState.{ChartState}
 use Rattle.svscan_core.specs.Table.{serials_of}
 use Rattle.svscan_core.specs.Timers.{in_reach, timer_in, set_in, TimersAgree, change_to, timer_change_of}
 use Rattle.svscan_core.proofs.OnePlace.{above_place}

@@ -2,7 +2,7 @@
 use Rattle.std.proofs.Common.{◌≡◌, ◌∙◌, ℕ, List, [], ◌++◌, Bool, ap, append-nil}
 use Rattle.deadlines.specs.declared.timer.TimerChange.{TimerChange}
 use Rattle.s6_events.specs.declared.order.Order.{Order}
-use Rattle.supervise_core.specs.declared.chart.ChartState.{ChartState}
+use Rattle.supervise_core.specs.declared.chart_state.ChartState.{ChartState}
 use Rattle.supervise_core.specs.ChartState.{Moved}
 use Rattle.supervise_core.specs.Service.{Supervised}
 use Rattle.svscan_core.specs.declared.entry.Listed.{Listed}

@@ -3,7 +3,7 @@ use Rattle.std.specs.Prelude.{◌≡◌, ◌<◌, ℕ, List, [], ◌++◌, map, 
 use Rattle.std.specs.List.{flat_map}
 use Rattle.death_tally.specs.LastDeaths.{Tallies}
 use Rattle.s6_events.specs.declared.exit.Exit.{Exit}
-use Rattle.supervise_core.specs.declared.chart.ChartState.{ChartState}
+use Rattle.supervise_core.specs.declared.chart_state.ChartState.{ChartState}
 use Rattle.supervise_core.specs.ChartState.{Moved}
 use Rattle.supervise_core.specs.Service.{Supervised}
 use Rattle.svscan_core.specs.Work.{Work, change_move_at}

@@ -4,7 +4,7 @@ use Rattle.std.specs.Prelude.{if◌then◌else◌, bytes_eq, Option, Some, None}
 use Rattle.std.specs.List.{list_any}
 use Rattle.s6_events.specs.declared.order.Order.{Order}
 use Rattle.servicedir.specs.declared.config.Config.{Config}
-use Rattle.supervise_core.specs.declared.chart.ChartState.{ChartState}
+use Rattle.supervise_core.specs.declared.chart_state.ChartState.{ChartState}
 use Rattle.supervise_core.specs.ChartState.{new_service, is_gone}
 use Rattle.supervise_core.specs.Moves.{begin_move}
 use Rattle.supervise_core.specs.Chart.{with_activity, with_config}

@@ -5,7 +5,7 @@ use Rattle.deadlines.specs.declared.timer.Timer.{Timer}
 use Rattle.deadlines.specs.declared.timer.TimerChange.{TimerChange}
 use Rattle.deadlines.specs.declared.timer.TimerChange.TheVariants.{Set, Clear}
 use Rattle.deadlines.specs.Timers.{rises}
-use Rattle.supervise_core.specs.declared.chart.ChartState.{ChartState}
+use Rattle.supervise_core.specs.declared.chart_state.ChartState.{ChartState}
 
 -- the moment of a timer, unless it is past the greatest moment: no clock ever reaches it then
 abbrev pub in_reach : Option ℕ → Option ℕ

@@ -1,6 +1,6 @@
 -- What each service in turn takes.
 use Rattle.std.specs.Prelude.{ℕ}
-use Rattle.supervise_core.specs.declared.chart.ChartState.{ChartState}
+use Rattle.supervise_core.specs.declared.chart_state.ChartState.{ChartState}
 use Rattle.supervise_core.specs.ChartState.{Moved, no_move}
 use Rattle.supervise_core.specs.Chart.{fire_move}
 use Rattle.svscan_core.specs.declared.visit.Visit.{Visit}

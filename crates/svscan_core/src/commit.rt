@@ -18,7 +18,7 @@ fn adopt_all<A: Allocator + Copy>(slots: &mut Slots<A>, touched: &[ChangedServic
     ensures room { slots.new.room ≡ slots.old.room }
 {
     for change in touched {
-        slots.adopt(change.place, change.standing, change.death);
+        slots.adopt(change.place, &change.standing, change.death);
     }
 }
 

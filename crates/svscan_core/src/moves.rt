@@ -2,7 +2,7 @@
 ghost use Rattle.std.specs.Prelude.{◌≡◌, ◌+◌, ◌<◌, ◌≤◌, ◌^◌, ◌*◌, ◌++◌, ◌∷◌, [], map, length, All, IfOk, OnOk, Some, slice_get, option_map, true};
 ghost use Rattle.supervise_core.specs.Service.{service_view};
 ghost use Rattle.deadlines.specs.Timers.{is_rising};
-ghost use Rattle.supervise_core.specs.declared.chart.ChartState.{ChartState};
+ghost use Rattle.supervise_core.specs.declared.chart_state.ChartState.{ChartState};
 ghost use Rattle.supervise_core.specs.Chart.{changed_by};
 ghost use Rattle.supervise_core.specs.MatchesMove.{most_orders};
 ghost use Rattle.std.specs.List.{list_any};
@@ -127,7 +127,10 @@ impl<A: Allocator + Copy> Moves<A> {
         ensures orders { OnOk result
             (self.new.orders.items ≡ self.old.orders.items ++ out.now.orders.items) }
     {
-        self.orders.extend_from_slice(out.orders.as_slice())?;
+        // Most changes order nothing.
+        if !out.orders.is_empty() {
+            self.orders.extend_from_slice(out.orders.as_slice())?;
+        }
         add_events(&mut self.events, standing.sid(), out.events.as_slice())?;
         self.touched.push(ChangedService {
             place,
@@ -240,7 +243,7 @@ impl<A: Allocator + Copy> Moves<A> {
         out.clear();
         after.change_onto(change, now, out);
         let stale = out.stale;
-        self.touch(place, &after, change.death(stale, now), out)?;
+        self.touch(place, &after, change.counted_death(stale, now), out)?;
         Ok(stale)
     }
 }

@@ -26,7 +26,7 @@ use super::entry::{Entry, Listed, ScanOrder};
 use super::event::Event;
 use super::image::{RegistryImage, images_of};
 use super::pending::Pending;
-use super::plan::{Answer, RegistryPlan};
+use super::registry_plan::{Answer, RegistryPlan};
 use super::slots::Slots;
 use super::table::{self, find_sid, nth_sid};
 use super::work::ServiceWork;

@@ -4,7 +4,7 @@ ghost use Rattle.std.specs.List.{list_any};
 ghost use Rattle.s6_events.specs.Clock.{clock_of};
 ghost use Rattle.s6_events.specs.declared.moment.Moment.{Moment};
 ghost use Rattle.supervise_core.specs.Service.{Supervised};
-ghost use Rattle.supervise_core.specs.declared.chart.ChartState.{ChartState};
+ghost use Rattle.supervise_core.specs.declared.chart_state.ChartState.{ChartState};
 ghost use Rattle.svscan_core.specs.Adding.{adding_of, state_behind, GoesOn, Grows};
 ghost use Rattle.svscan_core.specs.Deaths.{KeepTallied};
 ghost use Rattle.svscan_core.specs.Limits.{service_limit};
@@ -157,7 +157,7 @@ impl<A: Allocator + Copy> Scanning<A> {
         moves: &mut Moves<A>,
         name: &Name,
         config: Config,
-        now: At,
+        out: &mut Out,
     ) -> Result<(), NoMemory>
         requires next { self.old.next_sid + 1 < 2 ^ 64 }
         ensures state { OnOk result
@@ -178,8 +178,8 @@ impl<A: Allocator + Copy> Scanning<A> {
         ensures touched { moves.new.touched.items ≡ moves.old.touched.items }
     {
         let sid = Sid(self.next_sid);
-        let (service, out) = Service::begin(alloc, sid, *name, config, now)?;
-        moves.give(sid, &out)?;
+        let service = Service::begin_into(alloc, sid, *name, config, out)?;
+        moves.give(sid, out)?;
         self.added.push(service)?;
         self.listed.push(Listed::Added(sid, *name))?;
         self.next_sid += 1;
@@ -194,7 +194,7 @@ impl<A: Allocator + Copy> Scanning<A> {
         retained: usize,
         name: &Name,
         found: Option<Config>,
-        now: At,
+        out: &mut Out,
     ) -> Result<(), NoMemory>
         requires few { retained + length self.old.added.items ≤ service_limit }
         requires next { self.old.next_sid + 1 < 2 ^ 64 }
@@ -220,7 +220,7 @@ impl<A: Allocator + Copy> Scanning<A> {
             self.listed.push(Listed::Full(*name))?;
             return Ok(());
         }
-        self.add_service(alloc, moves, name, config, now)
+        self.add_service(alloc, moves, name, config, out)
     }
 
     // As `add_new_name`, but it passes over a name for which a service stands.
@@ -231,7 +231,7 @@ impl<A: Allocator + Copy> Scanning<A> {
         retained: usize,
         name: &Name,
         listing: &SortedListing<A>,
-        now: At,
+        out: &mut Out,
     ) -> Result<(), NoMemory>
         requires few { retained + length self.old.added.items ≤ service_limit }
         requires next { self.old.next_sid + 1 < 2 ^ 64 }
@@ -255,7 +255,7 @@ impl<A: Allocator + Copy> Scanning<A> {
             return Ok(());
         }
         let found = listing.config_of(name);
-        self.add_new_name(slots.allocator(), moves, retained, name, found, now)
+        self.add_new_name(slots.allocator(), moves, retained, name, found, out)
     }
 
     // Adds a service for one name after the other, as `add_name` does; `retained` services stay. Page `s6-svscan`.
@@ -266,7 +266,7 @@ impl<A: Allocator + Copy> Scanning<A> {
         retained: usize,
         names: &[Name],
         listing: &SortedListing<A>,
-        now: At,
+        out: &mut Out,
     ) -> Result<(), NoMemory>
         requires once { repeats_name names.now ≡ false }
         requires few { retained + length self.old.added.items ≤ service_limit }
@@ -289,7 +289,7 @@ impl<A: Allocator + Copy> Scanning<A> {
         ensures touched { moves.new.touched.items ≡ moves.old.touched.items }
     {
         for name in names {
-            self.add_name(slots, moves, retained, name, listing, now)?;
+            self.add_name(slots, moves, retained, name, listing, out)?;
         }
         Ok(())
     }
@@ -372,6 +372,6 @@ pub fn plan_scan<A: Allocator + Copy>(
     moves.visit_all(slots, Visit::Look(&sorted), now, out)?;
     let retained = plan_drops(slots, moves.touched.as_slice(), scan)?;
     let names = sorted.names(slots.allocator())?;
-    scan.add_names(slots, moves, retained, names.as_slice(), &sorted, now)?;
+    scan.add_names(slots, moves, retained, names.as_slice(), &sorted, out)?;
     Ok(())
 }

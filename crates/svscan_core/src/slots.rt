@@ -38,16 +38,16 @@ impl<A: Allocator> Model for Slots<A> {
 fn adopt_in<A: Allocator + Copy>(
     slots: &mut Slab<Service<A>, A>,
     slot: usize,
-    standing: ServiceState,
+    standing: &ServiceState,
     death: Option<(At, Exit)>,
 )
     ensures updates { (s : Supervised) → get slots.old slot ≡ Some s
-        → Updates slots.old slots.new slot (Some (with_view standing death s)) }
+        → Updates slots.old slots.new slot (Some (with_view standing.now death s)) }
     ensures count { slab_len slots.new ≡ slab_len slots.old }
     ensures capacity { slots.new.capacity ≡ slots.old.capacity }
 {
     if let Some(service) = slots.get_mut(slot) {
-        service.adopt(standing, death);
+        service.adopt(*standing, death);
     }
 }
 
@@ -104,11 +104,11 @@ impl<A: Allocator + Copy> Slots<A> {
     }
 
     /// Gives the service at this place this state and status, and adds the death to its tally, if there is one. Its name stays.
-    pub fn adopt(&mut self, place: usize, standing: ServiceState, death: Option<(At, Exit)>)
+    pub fn adopt(&mut self, place: usize, standing: &ServiceState, death: Option<(At, Exit)>)
         requires name { IsSomeAnd (slice_get self.old.services place)
-            (λ s. s.chart.name ≡ standing.chart.name) }
+            (λ s. s.chart.name ≡ standing.now.chart.name) }
         ensures services { (s : Supervised) → slice_get self.old.services place ≡ Some s
-            → self.new.services ≡ slice_set self.old.services place (with_view standing death s) }
+            → self.new.services ≡ slice_set self.old.services place (with_view standing.now death s) }
         ensures room { self.new.room ≡ self.old.room }
     {
         // For the proof: its clause says that no two names are equal.

@@ -76,7 +76,7 @@ pub fn change<A: Allocator + Copy>(
     let place = place_of(slots, sid)?;
     let mut standing = slots.nth(place)?.standing();
     let out = standing.change(change, now);
-    slots.adopt(place, standing, change.death(out.stale, now));
+    slots.adopt(place, &standing, change.counted_death(out.stale, now));
     Some(out)
 }
 

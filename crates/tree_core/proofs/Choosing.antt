@@ -5,7 +5,7 @@ use Rattle.std.specs.List.{list_any}
 use Rattle.death_tally.specs.LastDeaths.{last_deaths}
 use Rattle.death_tally.specs.PermanentFailure.{are_permanent_failure}
 use Rattle.death_tally.specs.declared.death_list.DeathItem.{DeathItem}
-use Rattle.supervise_core.specs.declared.chart.ChartState.{ChartState}
+use Rattle.supervise_core.specs.declared.chart_state.ChartState.{ChartState}
 use Rattle.supervise_core.specs.Service.{Supervised}
 use Rattle.std.specs.Prelude.{option_map, bytes_eq}
 use Rattle.event_directory.specs.Changes.DirectoryRequest.{no_directory_request}
@@ -30,8 +30,10 @@ use Rattle.tree_core.specs.declared.reply.Refusal.TheVariants.{NoService, Ended}
 use Rattle.tree_core.specs.declared.reply.Reply.TheVariants.{Done}
 use Rattle.wait_conditions.specs.Steps.{WaitRequest}
 use Rattle.wait_conditions.specs.Steps.WaitRequest.{no_wait_request}
-use Rattle.tree_core.specs.Acts.{act_refusal, asked_work, ask_of, directory_ask_of, act_reply, work_unless, reply_unless, serial_refusal}
-use Rattle.tree_core.specs.Acts.{letters_refusal, change_found, report_reply, row_reply, tally_reply, failure_reply, work_done, service_named}
+use Rattle.tree_core.specs.Acts.{asked_work, ask_of, directory_ask_of, act_reply, work_unless, reply_unless}
+use Rattle.tree_core.specs.ActRefusals.{act_refusal, serial_refusal}
+use Rattle.tree_core.specs.Acts.{change_found, report_reply, row_reply, tally_reply, failure_reply, work_done}
+use Rattle.tree_core.specs.ActRefusals.{letters_refusal, service_named}
 use Rattle.tree_core.specs.Listening.{Ask}
 use Rattle.tree_core.specs.Listening.Ask.{same}
 use Rattle.tree_core.specs.Machine.{Machine}

@@ -6,7 +6,7 @@ use Rattle.event_directory.specs.Changes.DirectoryRequest.{make_directory, unsub
 use Rattle.supervise_core.specs.declared.change.Change.{Change}
 use Rattle.s6_events.specs.declared.report.Report.TheVariants as reports
 use Rattle.supervise_core.specs.declared.change.Change.TheVariants as changes
-use Rattle.supervise_core.specs.declared.chart.ChartState.{ChartState}
+use Rattle.supervise_core.specs.declared.chart_state.ChartState.{ChartState}
 use Rattle.supervise_core.specs.Chart.{fire_move, changed_by}
 use Rattle.svscan_core.specs.declared.entry.ScanOrder.TheVariants.{Nuke, Terminate}
 use Rattle.svscan_core.specs.Moves.{orders_after}
@@ -19,8 +19,10 @@ use Rattle.tree_core.specs.declared.input.Act.TheVariants.{Permafailon, Wait, Ca
 use Rattle.tree_core.specs.declared.input.Input.{Input}
 use Rattle.tree_core.specs.declared.reply.Refusal.{Refusal}
 use Rattle.tree_core.specs.declared.reply.Reply.TheVariants.{Done}
-use Rattle.tree_core.specs.Acts.{act_result, service_named, serial_refusal, letters_refusal, wait_refusal, cancel_refusal, subscribe_refusal}
-use Rattle.tree_core.specs.Acts.{directories_refusal, message_refusal, source_named, change_found, work_unless, work_of}
+use Rattle.tree_core.specs.Acts.{act_result}
+use Rattle.tree_core.specs.ActRefusals.{service_named, serial_refusal, letters_refusal, wait_refusal, cancel_refusal, subscribe_refusal}
+use Rattle.tree_core.specs.Acts.{change_found, work_unless, work_of}
+use Rattle.tree_core.specs.ActRefusals.{directories_refusal, message_refusal, source_named}
 use Rattle.tree_core.specs.Closing.{is_run, starts_run, IsTerminated}
 use Rattle.tree_core.specs.Machine.{Machine}
 use Rattle.tree_core.specs.Run.{after, outcomes}

@@ -16,7 +16,8 @@ use Rattle.tree_core.specs.declared.input.Target.{Target}
 use Rattle.tree_core.specs.declared.input.Target.TheVariants as target
 use Rattle.tree_core.specs.declared.reply.Refusal.{Refusal}
 use Rattle.tree_core.specs.declared.reply.Reply.TheVariants as answers
-use Rattle.tree_core.specs.Acts.{reply_unless, serial_of, source_named, work_unless}
+use Rattle.tree_core.specs.Acts.{reply_unless, work_unless}
+use Rattle.tree_core.specs.ActRefusals.{serial_of, source_named}
 use Rattle.tree_core.specs.Listening.{as_refusal}
 use Rattle.tree_core.specs.Machine.{Machine, directories_of}
 use Rattle.tree_core.specs.Choices.{Chosen, subscribe_choice}

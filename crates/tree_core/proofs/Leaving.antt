@@ -5,7 +5,7 @@ use Rattle.std.proofs.lemmas.List.Folds.{list_any-append}
 use Rattle.control_letters.specs.declared.control_letter.ControlLetter.{ControlLetter}
 use Rattle.s6_events.specs.declared.exit.Exit.{Exit}
 use Rattle.supervise_core.specs.declared.change.Change.{Change}
-use Rattle.supervise_core.specs.declared.chart.ChartState.{ChartState}
+use Rattle.supervise_core.specs.declared.chart_state.ChartState.{ChartState}
 use Rattle.supervise_core.specs.declared.phase.Phase.{Phase}
 use Rattle.supervise_core.specs.declared.phase.Phase.TheVariants.{Down, Gone}
 use Rattle.supervise_core.specs.ChartState.{Moved, no_move}

@@ -2,6 +2,7 @@ pub mod Reading
 pub mod TimersDue
 pub mod RowFound
 pub mod Choosing
+pub mod ReportChosen
 pub mod Naming
 pub mod WaitChosen
 pub mod DirectoryChosen

@@ -5,9 +5,9 @@ use Rattle.std.specs.List.{cons_option}
 use Rattle.std.proofs.lemmas.List.{take_more}
 use Rattle.std.proofs.lemmas.List.Elements.{filter_map-append}
 use Rattle.std.proofs.lemmas.List.Folds.{list_all-append}
-use Rattle.supervise_core.specs.declared.chart.ChartState.{ChartState}
+use Rattle.supervise_core.specs.declared.chart_state.ChartState.{ChartState}
 use Rattle.svscan_core.proofs.Truth.{both_of}
-use Rattle.tree_core.specs.Acts.{all_named, serial_of, serials_named}
+use Rattle.tree_core.specs.ActRefusals.{all_named, serial_of, serials_named}
 
 next_name : (names : List (List ℕ)) (i : ℕ) (name : List ℕ) → i < length names → name ≡ get_or names i name
     → take (i + 1) names ≡ take i names ++ name ∷ []

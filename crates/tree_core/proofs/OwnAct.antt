@@ -8,7 +8,7 @@ use Rattle.event_directory.specs.Changes.DirectoryRequest.{make_directory, unsub
 use Rattle.supervise_core.specs.declared.change.Change.{Change}
 use Rattle.s6_events.specs.declared.report.Report.TheVariants as reports
 use Rattle.supervise_core.specs.declared.change.Change.TheVariants as service_change
-use Rattle.supervise_core.specs.declared.chart.ChartState.{ChartState}
+use Rattle.supervise_core.specs.declared.chart_state.ChartState.{ChartState}
 use Rattle.supervise_core.specs.ChartState.{no_move, is_gone}
 use Rattle.supervise_core.specs.Chart.{changed_by}
 use Rattle.svscan_core.specs.Work.{Work, WorkResult, work_result, change_move_at, command_move}
@@ -21,8 +21,10 @@ use Rattle.tree_core.specs.declared.reply.Refusal.{Refusal}
 use Rattle.tree_core.specs.declared.reply.Refusal.TheVariants.{NoService, Ended, Closing}
 use Rattle.tree_core.specs.declared.reply.Reply.{Reply}
 use Rattle.tree_core.specs.declared.reply.Reply.TheVariants.{Done}
-use Rattle.tree_core.specs.Acts.{act_result, service_named, listing_refusal, serial_refusal, letters_refusal, wait_refusal, cancel_refusal}
-use Rattle.tree_core.specs.Acts.{subscribe_refusal, directories_refusal, message_refusal, source_named, change_found, work_unless, work_of}
+use Rattle.tree_core.specs.Acts.{act_result}
+use Rattle.tree_core.specs.ActRefusals.{service_named, listing_refusal, serial_refusal, letters_refusal, wait_refusal, cancel_refusal}
+use Rattle.tree_core.specs.Acts.{change_found, work_unless, work_of}
+use Rattle.tree_core.specs.ActRefusals.{subscribe_refusal, directories_refusal, message_refusal, source_named}
 use Rattle.tree_core.specs.Acts.{reply_unless, report_reply}
 use Rattle.tree_core.specs.Machine.{Machine}
 use Rattle.tree_core.specs.Taken.{services_of, if_same, if_found, change_by_act, is_done}

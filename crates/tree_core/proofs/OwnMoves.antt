@@ -5,7 +5,7 @@ use Rattle.std.proofs.lemmas.List.Elements.{filter-append}
 use Rattle.std.proofs.lemmas.List.{map-append}
 use Rattle.s6_events.specs.declared.mark.Mark.{Mark}
 use Rattle.s6_events.specs.declared.order.Order.{Order}
-use Rattle.supervise_core.specs.declared.chart.ChartState.{ChartState}
+use Rattle.supervise_core.specs.declared.chart_state.ChartState.{ChartState}
 use Rattle.supervise_core.specs.ChartState.{Moved}
 use Rattle.svscan_core.specs.declared.event.Event.{Event}
 use Rattle.svscan_core.specs.Moves.{service_mark, events_of_move, events_after, orders_after}

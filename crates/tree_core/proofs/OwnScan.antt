@@ -4,7 +4,7 @@ use Rattle.std.specs.Prelude.{nat_lt, length, Option, Some, None}
 use Rattle.std.proofs.lemmas.Bool.{cases_lt}
 use Rattle.std.proofs.Common.{inl, inr}
 use Rattle.servicedir.specs.declared.config.Config.{Config}
-use Rattle.supervise_core.specs.declared.chart.ChartState.{ChartState}
+use Rattle.supervise_core.specs.declared.chart_state.ChartState.{ChartState}
 use Rattle.supervise_core.specs.ChartState.{Moved, new_service}
 use Rattle.supervise_core.specs.Moves.{begin_move}
 use Rattle.supervise_core.proofs.Identity.{keeps_begin}

@@ -7,7 +7,7 @@ use Rattle.s6_events.specs.declared.order.Order.{Order}
 use Rattle.servicedir.specs.declared.config.Config.{Config}
 use Rattle.supervise_core.specs.declared.change.Change.{Change}
 use Rattle.supervise_core.specs.declared.change.Change.TheVariants as changes
-use Rattle.supervise_core.specs.declared.chart.ChartState.{ChartState}
+use Rattle.supervise_core.specs.declared.chart_state.ChartState.{ChartState}
 use Rattle.supervise_core.specs.Chart.{fire_move}
 use Rattle.supervise_core.proofs.Identity.{keeps_fire, keeps_changed, keeps_begin}
 use Rattle.svscan_core.specs.Moves.{services_after, events_after, orders_after}
@@ -15,7 +15,8 @@ use Rattle.svscan_core.proofs.Names.{keeps_commanded, keeps_look}
 use Rattle.tree_core.specs.declared.input.Act.{Act}
 use Rattle.tree_core.specs.declared.input.Act.TheVariants.{Svc}
 use Rattle.tree_core.specs.declared.input.Input.{Input}
-use Rattle.tree_core.specs.Acts.{act_result, service_named}
+use Rattle.tree_core.specs.Acts.{act_result}
+use Rattle.tree_core.specs.ActRefusals.{service_named}
 use Rattle.tree_core.specs.Machine.{Machine, new_machine}
 use Rattle.tree_core.specs.Run.{after, after_all}
 use Rattle.tree_core.specs.Step.{StepResult, with_clock, with_moves, timed_step, with_listeners, spent_step, step, step_limit}

@@ -11,7 +11,7 @@ use Rattle.control_letters.specs.declared.control_letter.ControlLetter.{ControlL
 use Rattle.supervise_core.specs.declared.change.Change.{Change}
 use Rattle.s6_events.specs.declared.report.Report.TheVariants.{Started, StartFailed, Notify, Death, FinishEnded}
 use Rattle.supervise_core.specs.declared.change.Change.TheVariants.{Report, Control, Fire, SetConfig, SetActive}
-use Rattle.supervise_core.specs.declared.chart.ChartState.{ChartState}
+use Rattle.supervise_core.specs.declared.chart_state.ChartState.{ChartState}
 use Rattle.supervise_core.specs.ChartState.{Moved, no_move, is_starting}
 use Rattle.supervise_core.specs.ControlLetters.{then_move}
 use Rattle.supervise_core.specs.Chart.{started_move, start_failed_move, notify_move, death_move, finish_ended_move, control_move, letter_move}

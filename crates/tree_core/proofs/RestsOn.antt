@@ -5,7 +5,7 @@ use Rattle.std.specs.List.{list_any}
 use Rattle.std.proofs.lemmas.List.Folds.{list_any-append}
 use Rattle.std.proofs.lemmas.List.Sums.{fold-append}
 use Rattle.servicedir.specs.declared.config.Config.{Config}
-use Rattle.supervise_core.specs.declared.chart.ChartState.{ChartState}
+use Rattle.supervise_core.specs.declared.chart_state.ChartState.{ChartState}
 use Rattle.supervise_core.specs.Chart.{fire_move}
 use Rattle.svscan_core.proofs.Truth.{neither_of, neither_left, neither_right, either_right, second}
 use Rattle.tree_core.specs.declared.input.Input.{Input}

@@ -5,7 +5,7 @@ use Rattle.supervise_core.specs.declared.row.Row.{Row}
 use Rattle.std.proofs.Common.{rules, subst, map, ◌∙◌, ◌+◌, ◌++◌, ℕ, zero, sym, ap, take, ◌≡◌, List, [], ◌∷◌, Bool, true, false, cond, refl, find}
 use Rattle.std.proofs.Common.{suc, arith, Some, option_map}
 use Rattle.s6_events.specs.declared.moment.Moment.{Moment}
-use Rattle.supervise_core.specs.declared.chart.ChartState.{ChartState}
+use Rattle.supervise_core.specs.declared.chart_state.ChartState.{ChartState}
 use Rattle.supervise_core.specs.Service.{Supervised, AgreesWith}
 use Rattle.svscan_core.specs.Sound.{AllAgree}
 use Rattle.svscan_core.specs.Table.{charts_of}

@@ -6,7 +6,7 @@ use Rattle.event_directory.specs.Directories.{matches_by}
 use Rattle.event_directory.specs.Pattern.{finds}
 use Rattle.s6_events.specs.declared.moment.Moment.TheVariants.{Clock}
 use Rattle.s6_events.specs.declared.order.Order.{Order}
-use Rattle.supervise_core.specs.declared.chart.ChartState.{ChartState}
+use Rattle.supervise_core.specs.declared.chart_state.ChartState.{ChartState}
 use Rattle.supervise_core.specs.ChartState.{Moved, no_move}
 use Rattle.supervise_core.specs.Chart.{fire_move, is_due, timer_rule}
 use Rattle.svscan_core.specs.declared.event.Event.{Event}

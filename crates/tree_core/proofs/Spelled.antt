@@ -7,7 +7,7 @@ use Rattle.s6_events.specs.declared.mark.Mark.{Mark}
 use Rattle.s6_events.specs.declared.mark.Mark.TheVariants.{SupervisorEnded}
 use Rattle.servicedir.specs.declared.config.Config.{Config}
 use Rattle.supervise_core.specs.declared.change.Change.TheVariants.{Control, Fire}
-use Rattle.supervise_core.specs.declared.chart.ChartState.{ChartState}
+use Rattle.supervise_core.specs.declared.chart_state.ChartState.{ChartState}
 use Rattle.supervise_core.specs.ChartState.{no_move}
 use Rattle.supervise_core.specs.Chart.{control_move, fire_move, with_activity}
 use Rattle.supervise_core.specs.EventGrammar.{BeginsWord, step_on, walk, place_of}

@@ -20,7 +20,7 @@ use Rattle.tree_core.specs.Replies.{is_subscribed}
 use Rattle.tree_core.specs.Plan.{PresentState, present_state, IsNow, Plans}
 use Rattle.tree_core.specs.Run.{after, outcome}
 use Rattle.std.specs.Prelude.{All, get_or}
-use Rattle.supervise_core.specs.declared.chart.ChartState.{ChartState}
+use Rattle.supervise_core.specs.declared.chart_state.ChartState.{ChartState}
 use Rattle.tree_core.specs.Limits.{service_limit, moment_limit}
 use Rattle.tree_core.specs.Sound.{IsCounted, IsRecorded}
 use Rattle.tree_core.specs.Step.{step_limit}

@@ -9,7 +9,7 @@ use Rattle.deadlines.specs.Timers.{is_rising}
 use Rattle.s6_events.specs.declared.condition.Condition.{Condition}
 use Rattle.s6_events.specs.declared.condition.Mode.{Mode}
 use Rattle.s6_events.specs.declared.moment.Moment.{Moment}
-use Rattle.supervise_core.specs.declared.chart.ChartState.{ChartState}
+use Rattle.supervise_core.specs.declared.chart_state.ChartState.{ChartState}
 use Rattle.supervise_core.specs.Chart.{fire_move}
 use Rattle.supervise_core.specs.Service.{Supervised}
 use Rattle.supervise_core.proofs.Identity.{keeps_fire}
@@ -25,7 +25,7 @@ use Rattle.wait_conditions.specs.Watch.{WrittenWaiter, is_waiter_of}
 use Rattle.tree_core.specs.declared.input.Act.TheVariants.{Wait, Cancel}
 use Rattle.tree_core.specs.declared.reply.Refusal.{Refusal}
 use Rattle.tree_core.specs.declared.reply.Refusal.TheVariants.{NoService, TooMany, Repeated, Empty}
-use Rattle.tree_core.specs.Acts.{all_named, service_named, wait_refusal, serial_of, serials_named}
+use Rattle.tree_core.specs.ActRefusals.{all_named, service_named, wait_refusal, serial_of, serials_named}
 use Rattle.tree_core.specs.Machine.{Machine}
 use Rattle.tree_core.specs.Choices.{Chosen, wait_choice}
 use Rattle.tree_core.specs.Plan.{Chooses, HasFired}

@@ -6,7 +6,7 @@ use Rattle.event_directory.specs.Changes.DirectoryRequest.{subscribe, unsubscrib
 use Rattle.event_directory.specs.declared.source.Source.{Source}
 use Rattle.s6_events.specs.declared.condition.Condition.{Condition}
 use Rattle.s6_events.specs.declared.condition.Mode.{Mode}
-use Rattle.supervise_core.specs.declared.chart.ChartState.{ChartState}
+use Rattle.supervise_core.specs.declared.chart_state.ChartState.{ChartState}
 use Rattle.svscan_core.specs.Work.{Work}
 use Rattle.svscan_core.specs.Work.Work.{do_nothing, change_one, apply_listing, command}
 use Rattle.tree_core.specs.declared.choice.Choice.{Choice}
@@ -29,7 +29,7 @@ use Rattle.wait_conditions.specs.Refusal.{deadline_of}
 use Rattle.wait_conditions.specs.Steps.{WaitRequest}
 use Rattle.wait_conditions.specs.Steps.WaitRequest.{no_wait_request, add_one, cancel_one}
 use Rattle.wait_conditions.specs.Watch.{wait_terms}
-use Rattle.tree_core.specs.Acts.{all_named, serials_named}
+use Rattle.tree_core.specs.ActRefusals.{all_named, serials_named}
 
 -- what is done for an act
 pub data Chosen : Type 0 where

@@ -7,6 +7,8 @@ pub mod NextDue
 pub mod Tallies
 pub mod Listening
 pub mod Acts
+pub mod ActRefusals
+pub mod ActReports
 pub mod Effect
 pub mod Plain
 pub mod Step

@@ -2,7 +2,7 @@
 use Rattle.std.specs.Prelude.{ℕ, List, [], Bool, false}
 use Rattle.s6_events.specs.declared.moment.Moment.{Moment}
 use Rattle.s6_events.specs.declared.order.Order.{Order}
-use Rattle.supervise_core.specs.declared.chart.ChartState.{ChartState}
+use Rattle.supervise_core.specs.declared.chart_state.ChartState.{ChartState}
 use Rattle.svscan_core.specs.declared.event.Event.{Event}
 use Rattle.event_directory.specs.Directories.{WrittenDirectories, FreeDirectory, WrittenSubscription}
 use Rattle.svscan_core.specs.Deaths.{DeathOf}

@@ -1,6 +1,6 @@
 -- The next moment at which something is due.
 use Rattle.std.specs.Prelude.{ℕ, List, Option, map}
-use Rattle.supervise_core.specs.declared.chart.ChartState.{ChartState}
+use Rattle.supervise_core.specs.declared.chart_state.ChartState.{ChartState}
 use Rattle.wait_conditions.specs.NextDeadline.{earlier_of, earliest, next_deadline}
 use Rattle.tree_core.specs.Machine.{Machine, watch_of}
 

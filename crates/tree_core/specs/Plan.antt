@@ -6,7 +6,7 @@ use Rattle.event_directory.specs.Pattern.{finds}
 use Rattle.event_directory.specs.Remembered.{AreHeard, DirectoriesPrepared, DirectoriesShown, directories_after_commit}
 use Rattle.s6_events.specs.Clock.{clock_of}
 use Rattle.s6_events.specs.declared.moment.Moment.{Moment}
-use Rattle.supervise_core.specs.declared.chart.ChartState.{ChartState}
+use Rattle.supervise_core.specs.declared.chart_state.ChartState.{ChartState}
 use Rattle.supervise_core.specs.Chart.{fire_move, is_due}
 use Rattle.supervise_core.specs.Service.{Supervised}
 use Rattle.svscan_core.specs.Deaths.{AllTallied, AllBefore}

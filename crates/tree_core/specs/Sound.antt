@@ -1,7 +1,7 @@
 -- What is true of every tree.
 use Rattle.std.specs.Prelude.{ℕ, ◌+◌, ◌*◌, ◌≤◌, List, length, All}
 use Rattle.s6_events.specs.declared.moment.Moment.{Moment}
-use Rattle.supervise_core.specs.declared.chart.ChartState.{ChartState}
+use Rattle.supervise_core.specs.declared.chart_state.ChartState.{ChartState}
 use Rattle.tree_core.specs.Limits.{service_limit, moment_limit}
 use Rattle.tree_core.specs.Step.{step_limit}
 

@@ -8,6 +8,7 @@ ghost use Rattle.svscan_core.specs.Work.{closing_after};
 ghost use Rattle.wait_conditions.specs.Steps.{wait_request_of};
 ghost use Rattle.tree_core.specs.Limits.{service_limit};
 ghost use Rattle.tree_core.specs.Machine.{Machine};
+ghost use Rattle.tree_core.specs.ActReports.{report_in};
 ghost use Rattle.tree_core.specs.Choices.{chosen_of, chosen_work, chosen_change, chosen_ask, AsksNothing};
 ghost use Rattle.tree_core.specs.Plan.{Chooses, HasFired, is_reading, is_request};
 
@@ -71,6 +72,7 @@ impl Choice<'_> {
     }
 
     /// What is asked of the event directories.
+    #[inline(always)]
     pub fn directories(&self) -> DirectoryChange<'_>
         ensures { directory_request_of result ≡ chosen_ask (chosen_of self.now) }
     {
@@ -91,6 +93,29 @@ impl Choice<'_> {
             Choice::Command(order) => closing_after(*order, closing),
             _ => closing,
         }
+    }
+}
+
+// The report that an act tells, and the service that it names; None for an act that is asked for, and for a tick.
+#[inline(always)]
+fn report_in<A: Allocator>(act: &Act<A>) -> Option<(Sid, Report)>
+    ensures { result ≡ report_in act.now }
+{
+    match act {
+        Act::Started(sid, generation, pid) => {
+            Some((*sid, Report::Started(*sid, *generation, *pid)))
+        }
+        Act::StartFailed(sid, generation) => Some((*sid, Report::StartFailed(*sid, *generation))),
+        Act::Notify(sid, generation, bytes) => {
+            Some((*sid, Report::Notify(*sid, *generation, copy_of(bytes))))
+        }
+        Act::Death(sid, generation, exit) => {
+            Some((*sid, Report::Death(*sid, *generation, *exit)))
+        }
+        Act::FinishEnded(sid, generation, exit) => {
+            Some((*sid, Report::FinishEnded(*sid, *generation, *exit)))
+        }
+        _ => None,
     }
 }
 
@@ -115,37 +140,16 @@ pub fn choose<'a, A: Allocator + Copy>(
     ensures idle { is_reading act.now ≡ true
         → OnOk result (AsksNothing now (chosen_of choice.new)) }
 {
-    match act {
-        Act::Started(sid, generation, pid) => {
-            let told = Report::Started(*sid, *generation, *pid);
-            *choice = report(registry, *sid, Change::Report(told));
+    if let Act::Tick = act {
+        *choice = Choice::Nothing;
+        return Ok(());
+    }
+    match report_in(act) {
+        Some(told) => {
+            *choice = report(registry, told.0, Change::Report(told.1));
             Ok(())
         }
-        Act::StartFailed(sid, generation) => {
-            let told = Report::StartFailed(*sid, *generation);
-            *choice = report(registry, *sid, Change::Report(told));
-            Ok(())
-        }
-        Act::Notify(sid, generation, bytes) => {
-            let told = Report::Notify(*sid, *generation, copy_of(bytes));
-            *choice = report(registry, *sid, Change::Report(told));
-            Ok(())
-        }
-        Act::Death(sid, generation, exit) => {
-            let told = Report::Death(*sid, *generation, *exit);
-            *choice = report(registry, *sid, Change::Report(told));
-            Ok(())
-        }
-        Act::FinishEnded(sid, generation, exit) => {
-            let told = Report::FinishEnded(*sid, *generation, *exit);
-            *choice = report(registry, *sid, Change::Report(told));
-            Ok(())
-        }
-        Act::Tick => {
-            *choice = Choice::Nothing;
-            Ok(())
-        }
-        _ => choose_request(alloc, registry, act, closing, now, choice),
+        None => choose_request(alloc, registry, act, closing, now, choice),
     }
 }
 

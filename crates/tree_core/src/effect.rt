@@ -75,6 +75,7 @@ impl<A: Allocator + Copy> Effect<A> {
     }
 
     // Adds the marks and the orders of a step.
+    #[inline(always)]
     pub(crate) fn tell(&mut self, events: &[Event], orders: &[Order]) -> Result<(), NoMemory>
         requires { length self.old.orders.items + length orders.now ≤ order_limit }
         ensures reply { self.new.reply ≡ self.old.reply }
@@ -84,7 +85,8 @@ impl<A: Allocator + Copy> Effect<A> {
         ensures released { self.new.released.items ≡ self.old.released.items }
         ensures quiet { events.now ≡ [] → IsOk result }
     {
-        if self.orders.try_extend_from_slice(orders).is_err() {
+        // Most steps order nothing.
+        if !orders.is_empty() && self.orders.try_extend_from_slice(orders).is_err() {
             unreachable!()
         }
         self.events.extend_from_slice(events)?;
@@ -92,6 +94,7 @@ impl<A: Allocator + Copy> Effect<A> {
     }
 
     // Adds the matches of a step.
+    #[inline(always)]
     pub(crate) fn match_all(&mut self, plan: &DirectoriesPlan<A>) -> Result<(), NoMemory>
         ensures reply { self.new.reply ≡ self.old.reply }
         ensures events { self.new.events.items ≡ self.old.events.items }
@@ -126,6 +129,7 @@ impl<A: Allocator + Copy> Effect<A> {
     }
 
     // Adds the releases of a step: those by its moments, and then that of the waiter that it makes, if that is released at once.
+    #[inline(always)]
     pub(crate) fn release_all(&mut self, plan: &WaitsPlan<A>) -> Result<(), NoMemory>
         ensures reply { self.new.reply ≡ self.old.reply }
         ensures events { self.new.events.items ≡ self.old.events.items }

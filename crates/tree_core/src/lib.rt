@@ -1,7 +1,6 @@
 //! The supervision tree: one step for each input, and all that the step gives.
 #![tactic(auto)]
 
-mod ahead;
 mod choice;
 mod clock;
 mod copied;
@@ -11,6 +10,7 @@ mod input;
 pub mod laws;
 mod limits;
 mod names;
+mod next_due;
 mod plain;
 mod refusals;
 mod reply;

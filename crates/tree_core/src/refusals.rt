@@ -12,7 +12,7 @@ ghost use Rattle.supervise_core.specs.declared.change.Change.TheVariants.{Contro
 ghost use Rattle.svscan_core.specs.Moves.{moment_of, services_after, events_after};
 ghost use Rattle.svscan_core.specs.Sound.{AllAgree};
 ghost use Rattle.svscan_core.specs.Table.{charts_of};
-ghost use Rattle.tree_core.specs.Acts.{all_named, serials_named, source_named};
+ghost use Rattle.tree_core.specs.ActRefusals.{all_named, serials_named, source_named};
 ghost use Rattle.tree_core.specs.Limits.{name_limit};
 ghost use Rattle.tree_core.specs.Choices.{chosen_of, report_choice, letters_choice, row_choice, failure_choice, scan_choice, wait_choice, subscribe_choice, send_choice, AsksNothing};
 ghost use Rattle.tree_core.specs.Replies.{tally_in};

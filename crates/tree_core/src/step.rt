@@ -13,7 +13,8 @@ ghost use Rattle.tree_core.specs.Acts.{tally_reply};
 ghost use Rattle.tree_core.specs.Limits.{service_limit, moment_limit, order_limit};
 ghost use Rattle.tree_core.specs.Listening.{as_match, as_release};
 ghost use Rattle.tree_core.specs.Machine.{Machine};
-ghost use Rattle.wait_conditions.specs.Stands.{WaitsShown, FitsWaits, MakesPlan, waits_shown};
+ghost use Rattle.wait_conditions.specs.Stands.{WaitsShown, waits_shown};
+ghost use Rattle.wait_conditions.specs.WaitsPlans.{FitsWaits, MakesPlan};
 ghost use Rattle.tree_core.specs.Choices.{chosen_of, lists_more};
 ghost use Rattle.tree_core.specs.Replies.{ListenersAnswer, tally_in, chosen_reply, released_by_answer, waiter_reply, directory_reply};
 ghost use Rattle.tree_core.specs.declared.reply.Reply.TheVariants.{Done};
@@ -235,10 +236,10 @@ pub fn plan_step<A: Allocator + Copy>(
     // For the proof: its clause says that the table is sound.
     let _count = registry.len();
     let now = later(clock, input.at);
-    let due = deadlines.due(alloc, now)?;
+    deadlines.find_due(now)?;
     let mut choice = Choice::Nothing;
     choose(alloc, registry, &input.act, closing, now, &mut choice)?;
-    let services = registry.prepare(due.as_slice(), &choice.services(), now)?;
+    let services = registry.prepare(deadlines.found(), &choice.services(), now)?;
     let moments = moments_of(history.lend(), clock, input.at, registry.events())?;
     let joining = moments.as_slice();
     let waiters = waits.prepare(joining, &choice.waiters(now))?;

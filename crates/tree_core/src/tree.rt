@@ -17,11 +17,11 @@ ghost use Rattle.tree_core.specs.StandsFor.{StandsFor};
 ghost use Rattle.tree_core.specs.Run.{after, outcome};
 ghost use Rattle.tree_core.specs.Step.{step_limit};
 
-use super::ahead::{are_gone, next_timer};
 use super::effect::Effect;
 use super::image::Image;
 use super::input::{Act, Input};
 use super::limits::{SERVICE_LIMIT, is_spent};
+use super::next_due::{are_gone, next_timer};
 use super::reply::{Refusal, Reply};
 use super::rows::{fill_rows, row_of, rows_of};
 use super::step::plan_step;

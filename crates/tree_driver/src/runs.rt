@@ -145,7 +145,8 @@ pub(crate) fn refuse_and_wait<R: Wait + Clock>(context: &Context<'_, R>, lasting
     wait_for_bell(context, Some(RETRY_WAIT));
 }
 
-// Opens the office, and runs it. The run's channels name its rings and its board.
+// Opens the office, and runs it. The run's channels name its rings and its board. Where it can't be opened, `wait_or_end` says what
+// comes then. `lasting` is what outlasts a run: the clients, and what the next run begins with.
 fn run_named<
     B: Backend,
     C: Channels + Lanes,

@@ -16,8 +16,9 @@ use Rattle.wait_conditions.specs.declared.wait_change.WaitAnswer.TheVariants as 
 use Rattle.wait_conditions.specs.Kept.{StoredWaiter, standing_kept, judged, with_moments, release_seen}
 use Rattle.wait_conditions.specs.Refusal.{add_refusal}
 use Rattle.wait_conditions.specs.States.{state_in, state_over}
-use Rattle.wait_conditions.specs.Stands.{WaitsShown, stored_waiter, WaitsStandFor, MakesStep, PlansChange, AddsWaiter, new_stored_waiter}
-use Rattle.wait_conditions.specs.Stands.ListChange.{stay, join, leave}
+use Rattle.wait_conditions.specs.Stands.{WaitsShown, stored_waiter, WaitsStandFor, new_stored_waiter}
+use Rattle.wait_conditions.specs.WaitsPlans.{MakesStep, PlansChange, AddsWaiter}
+use Rattle.wait_conditions.specs.WaitsPlans.ListChange.{stay, join, leave}
 use Rattle.wait_conditions.specs.Steps.{WaitRequest, waits_after_moments, with_waiter_unless, answer_to_add}
 use Rattle.wait_conditions.specs.SupervisorState.{state_of, since_of}
 use Rattle.wait_conditions.specs.Verdict.{WaitTerms}

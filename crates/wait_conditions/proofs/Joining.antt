@@ -8,8 +8,9 @@ use Rattle.wait_conditions.specs.declared.verdict.WaitState.TheVariants.{Waiting
 use Rattle.wait_conditions.specs.declared.watched_service.WatchedService.{WatchedService}
 use Rattle.wait_conditions.specs.Kept.{StoredWaiter, watched_while}
 use Rattle.wait_conditions.specs.Refusal.{repeats_serial, waiter_limit, add_refusal}
-use Rattle.wait_conditions.specs.Stands.{ListChange, JoinsNext, new_stored_waiter}
-use Rattle.wait_conditions.specs.Stands.ListChange.{stay, join, leave}
+use Rattle.wait_conditions.specs.Stands.{new_stored_waiter}
+use Rattle.wait_conditions.specs.WaitsPlans.{ListChange, JoinsNext}
+use Rattle.wait_conditions.specs.WaitsPlans.ListChange.{stay, join, leave}
 use Rattle.wait_conditions.specs.SupervisorState.{since_of}
 use Rattle.wait_conditions.specs.Verdict.{WaitTerms}
 use Rattle.wait_conditions.specs.Watched.{watched_as}

@@ -8,7 +8,8 @@ use Rattle.s6_events.specs.declared.moment.Moment.{Moment}
 use Rattle.wait_conditions.specs.declared.waiter.Waiter.{Waiter}
 use Rattle.wait_conditions.specs.States.{state_in}
 use Rattle.wait_conditions.specs.Kept.{waiter_view, is_other, standing_stored, standing_kept}
-use Rattle.wait_conditions.specs.Stands.{WaitsShown, stored_waiter, WaitsStandFor, CancelsWaiter}
+use Rattle.wait_conditions.specs.Stands.{WaitsShown, stored_waiter, WaitsStandFor}
+use Rattle.wait_conditions.specs.WaitsPlans.{CancelsWaiter}
 use Rattle.wait_conditions.specs.Watch.{WrittenWaiter, Watch, is_waiter_of, waiter_state, state_named, after_cancel}
 
 kept_inside : {X Y : Type 0} (f : X → Y) (b : Bool) (x : X) (us : List X) → cond b (f x ∷ map f us) (map f us) ≡ map f (cond b (x ∷ us) us)

@@ -7,8 +7,9 @@ use Rattle.s6_events.specs.declared.moment.Moment.{Moment}
 use Rattle.wait_conditions.specs.declared.verdict.WaitState.{WaitState}
 use Rattle.wait_conditions.specs.declared.verdict.WaitState.TheVariants.{Waiting, Released}
 use Rattle.wait_conditions.specs.Kept.{StoredWaiter, is_waiting, still_waits, is_other, lower, older, oldest_place, NoneBegan, concerns, late_at, watched_then, judged, with_moment, with_moment_while, with_moments}
-use Rattle.wait_conditions.specs.Stands.{WaitsShown, PlannedWaits, MakesPlan, ListChange, with_list_change, JoinsAt, place_or_end}
-use Rattle.wait_conditions.specs.Stands.ListChange.{stay, join, leave}
+use Rattle.wait_conditions.specs.Stands.{WaitsShown, place_or_end}
+use Rattle.wait_conditions.specs.WaitsPlans.{PlannedWaits, MakesPlan, ListChange, with_list_change, JoinsAt}
+use Rattle.wait_conditions.specs.WaitsPlans.ListChange.{stay, join, leave}
 
 -- of two places one is taken
 takes_one : (P : ℕ → Type 0) (b : Bool) (p q : ℕ) → P p → P q → P (if b then p else q)

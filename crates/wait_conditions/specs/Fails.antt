@@ -6,8 +6,8 @@ use Rattle.s6_events.specs.declared.moment.Moment.{Moment}
 use Rattle.s6_events.specs.declared.condition.Condition.{Condition}
 use Rattle.s6_events.specs.declared.condition.Condition.TheVariants as condition
 use Rattle.s6_events.specs.Newest.{Dated, newest}
-use Rattle.wait_conditions.specs.declared.failure.Failure.{Failure}
-use Rattle.wait_conditions.specs.declared.failure.Failure.TheVariants.{Permanent, Unsupervised}
+use Rattle.wait_conditions.specs.declared.condition_fails.Failure.{Failure}
+use Rattle.wait_conditions.specs.declared.condition_fails.Failure.TheVariants.{Permanent, Unsupervised}
 use Rattle.wait_conditions.specs.Holds.{holds}
 
 -- the conditions that ask for a service that is up

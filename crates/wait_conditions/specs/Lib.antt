@@ -15,6 +15,7 @@ pub mod States
 pub mod Refusal
 pub mod Steps
 pub mod Stands
+pub mod WaitsPlans
 pub mod Planning
 pub mod WaitsFields
 pub mod PlanFields

@@ -4,8 +4,8 @@ use Rattle.wait_conditions.specs.declared.wait_plan.PlannedChange.{PlannedChange
 use Rattle.wait_conditions.specs.declared.wait_plan.PlannedChange.TheVariants.{Stay, Join, Leave}
 use Rattle.wait_conditions.specs.declared.wait_plan.WaitsPlan.TheInside.{Inside}
 use Rattle.wait_conditions.specs.Kept.{waiter_view}
-use Rattle.wait_conditions.specs.Stands.{ListChange, PlannedWaits}
-use Rattle.wait_conditions.specs.Stands.ListChange.{stay, join, leave}
+use Rattle.wait_conditions.specs.WaitsPlans.{ListChange, PlannedWaits}
+use Rattle.wait_conditions.specs.WaitsPlans.ListChange.{stay, join, leave}
 use Rattle.wait_conditions.specs.Refusal.{repeats_serial}
 use Rattle.wait_conditions.specs.WaitsFields.{IsCounted}
 

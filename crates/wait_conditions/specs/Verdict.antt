@@ -6,8 +6,8 @@ use Rattle.s6_events.specs.declared.moment.Moment.TheVariants.{Clock, Event}
 use Rattle.s6_events.specs.declared.condition.Condition.{Condition}
 use Rattle.s6_events.specs.declared.condition.Mode.{Mode}
 use Rattle.s6_events.specs.declared.condition.Mode.TheVariants as mode
-use Rattle.wait_conditions.specs.declared.failure.Failure.{Failure}
-use Rattle.wait_conditions.specs.declared.failure.Failure.TheVariants.{Permanent}
+use Rattle.wait_conditions.specs.declared.condition_fails.Failure.{Failure}
+use Rattle.wait_conditions.specs.declared.condition_fails.Failure.TheVariants.{Permanent}
 use Rattle.wait_conditions.specs.declared.verdict.Verdict.TheVariants.{Held, Failed, Gone, TimedOut}
 use Rattle.wait_conditions.specs.declared.verdict.WaitState.{WaitState}
 use Rattle.wait_conditions.specs.declared.verdict.WaitState.TheVariants.{Waiting, Released}

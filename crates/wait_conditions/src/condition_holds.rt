@@ -1,4 +1,4 @@
-//! Whether a condition holds of a service. When one fails is in `failure.rt`.
+//! Whether a condition holds of a service. When one fails is in `condition_fails.rt`.
 ghost use Rattle.std.specs.Prelude.{◌≡◌};
 ghost use Rattle.wait_conditions.specs.Holds.{suits, holds_at};
 

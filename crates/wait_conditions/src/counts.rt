@@ -5,7 +5,7 @@ ghost use Rattle.wait_conditions.specs.Counts.{recounted, counts_after, counts_o
 ghost use Rattle.wait_conditions.specs.Verdict.{is_failure_for_good};
 ghost use Rattle.wait_conditions.specs.Watched.{watched_after};
 
-use crate::failure::Failure;
+use crate::condition_fails::Failure;
 use crate::supervisor_state::mark_in;
 use crate::watched_service::WatchedService;
 use s6_events::{Condition, Moment};

@@ -2,10 +2,10 @@
 #![tactic(auto)]
 
 mod add_fault;
+mod condition_fails;
 mod condition_holds;
 mod counts;
 mod deadline;
-mod failure;
 mod image;
 pub mod laws;
 mod next_deadline;
@@ -25,7 +25,7 @@ mod watched_service;
 mod watchers;
 
 pub use add_fault::AddFault;
-pub use failure::Failure;
+pub use condition_fails::Failure;
 pub use image::{WaiterImage, WaitsImage};
 pub use next_deadline::earlier_of;
 pub use service_states::StateRun;

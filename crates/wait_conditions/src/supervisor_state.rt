@@ -5,7 +5,7 @@ ghost use Rattle.s6_events.specs.Newest.{mark_of};
 ghost use Rattle.wait_conditions.specs.OneMore.{spawned_after};
 ghost use Rattle.wait_conditions.specs.SupervisorState.{state_of, since_of, state_after, since_after};
 
-use crate::failure::{next_ended, next_failed};
+use crate::condition_fails::{next_ended, next_failed};
 use s6_events::{Mark, Moment, Sid, letter_after};
 
 /// What is known of a service: its current letter, and whether its supervisor has ended.

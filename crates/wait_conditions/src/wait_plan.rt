@@ -1,6 +1,6 @@
 //! A step of the waiters that is worked out and not made yet.
 ghost use Rattle.std.specs.Prelude.{◌≡◌, []};
-ghost use Rattle.wait_conditions.specs.Stands.ListChange.{stay};
+ghost use Rattle.wait_conditions.specs.WaitsPlans.ListChange.{stay};
 ghost use Rattle.wait_conditions.specs.declared.wait_change.WaitAnswer.TheVariants.{Nothing};
 ghost use Rattle.wait_conditions.specs.declared.wait_plan.PlannedChange.TheVariants.{Stay};
 
@@ -32,7 +32,7 @@ pub struct WaitsPlan<A: Allocator> {
 }
 
 impl<A: Allocator> Model for WaitsPlan<A> {
-    ghost use Rattle.wait_conditions.specs.Stands.{PlannedWaits};
+    ghost use Rattle.wait_conditions.specs.WaitsPlans.{PlannedWaits};
 
     ghost Value = { PlannedWaits };
 

@@ -5,8 +5,9 @@ ghost use Rattle.wait_conditions.specs.Kept.{waiter_view, standing_stored, stand
 ghost use Rattle.wait_conditions.specs.NextDeadline.{earliest, next_deadline, stored_until};
 ghost use Rattle.wait_conditions.specs.PlanFields.{list_change_of, JoinsCounted};
 ghost use Rattle.wait_conditions.specs.Refusal.{add_refusal, fault_told, deadline_of};
-ghost use Rattle.wait_conditions.specs.Stands.{WaitsFor, WaitsShown, WaitsStandFor, AddsWaiter, CancelsWaiter, FitsWaits, MakesPlan, MakesStep, PlansChange, waits_shown, needed_from, place_or_end, joining, adding, JoinsAt, JoinsNext};
-ghost use Rattle.wait_conditions.specs.Stands.ListChange.{stay};
+ghost use Rattle.wait_conditions.specs.Stands.{WaitsFor, WaitsShown, WaitsStandFor, waits_shown, needed_from, place_or_end};
+ghost use Rattle.wait_conditions.specs.WaitsPlans.{AddsWaiter, CancelsWaiter, FitsWaits, MakesPlan, MakesStep, PlansChange, joining, adding, JoinsAt, JoinsNext};
+ghost use Rattle.wait_conditions.specs.WaitsPlans.ListChange.{stay};
 ghost use Rattle.wait_conditions.specs.declared.wait_plan.PlannedChange.TheVariants.{Stay};
 ghost use Rattle.wait_conditions.specs.Steps.{wait_request_of, releases_by, waits_after_moments, waits_after_change, wait_answer};
 ghost use Rattle.wait_conditions.specs.Steps.WaitRequest.{no_wait_request, add_one, cancel_one};
@@ -264,6 +265,7 @@ impl<A: Allocator + Copy> Waits<A> {
     ///
     /// NoMemory where memory is refused, or where 2^63 moments would have come. A step with no moment and no change takes no memory,
     /// and releases nothing.
+    #[inline(always)]
     pub fn prepare(
         &mut self,
         moments: &[Moment],
@@ -287,8 +289,7 @@ impl<A: Allocator + Copy> Waits<A> {
         ensures quiet { moments.now ≡ [] → wait_request_of change.now ≡ no_wait_request
             → IsOkAnd result (λ plan. (plan.released ≡ []) × (plan.answer ≡ answer.Nothing)) }
     {
-        let plan = self.prepare_stored(moments, change)?;
-        Ok(plan)
+        self.prepare_stored(moments, change)
     }
 
     // As `prepare`; its clauses speak only of what is stored.

@@ -2,8 +2,8 @@
 ghost use Rattle.std.specs.Prelude.{◌≡◌};
 ghost use Rattle.wait_conditions.specs.Watched.{watched_as, watched_after};
 
+use crate::condition_fails::{Failure, condition_failure};
 use crate::condition_holds::condition_holds;
-use crate::failure::{Failure, condition_failure};
 use crate::supervisor_state::{SinceState, SupervisorState};
 use s6_events::{Condition, Mark, Sid};
 

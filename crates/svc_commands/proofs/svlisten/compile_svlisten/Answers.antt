@@ -3,7 +3,8 @@ use Rattle.std.proofs.Common.{◌≡◌, ◌∙◌, List, [], None, ap, ap₂, s
 use Rattle.clap.specs.Words.{Row, rows_of, found_of}
 use Rattle.svc_commands.specs.FirstFault.{wait_fault}
 use Rattle.svc_commands.specs.LineCommands.{IsWaitCommand}
-use Rattle.svc_commands.specs.Matches.{is_empty, kinds_for, listen_app, own_words, program_words, rows_for}
+use Rattle.svc_commands.specs.Matches.{kinds_for, listen_app, own_words, program_words, rows_for}
+use Rattle.svc_commands.specs.RowsGiven.{is_empty}
 use Rattle.svc_commands.proofs.Words.{texts_of}
 use Rattle.svc_commands.proofs.svlisten.compile_svlisten.Goals as goal
 

@@ -1,7 +1,7 @@
 -- An item that is a field goes on; one that is none is told.
 use Rattle.std.proofs.Common.{rules, ◌≡◌, ◌∙◌, [], true, ap, sym, get_or, refl}
 use Rattle.svc_commands.specs.Fields.{field_named}
-use Rattle.svc_commands.specs.Matches.{items_in}
+use Rattle.svc_commands.specs.RowsGiven.{items_in}
 use Rattle.svc_commands.proofs.Items.{has_strange, more_fields, still_good, is_strange}
 use Rattle.svc_commands.proofs.Words.{IsWordAt, texts_of}
 use Rattle.svc_commands.proofs.svstat.fields_of.Goals as goal

@@ -2,7 +2,7 @@ use Rattle.std.proofs.Common.{◌≡◌, ◌∙◌, ℕ, ◌+◌, ◌<◌, List,
 use Rattle.std.proofs.lemmas.List.{map-append, take_more}
 use Rattle.deadlines.specs.declared.timer.TimerChange.{TimerChange}
 use Rattle.deadlines.specs.declared.timer.TimerChange.TheVariants.{Clear}
-use Rattle.supervise_core.specs.declared.chart.ChartState.{ChartState}
+use Rattle.supervise_core.specs.declared.chart_state.ChartState.{ChartState}
 use Rattle.supervise_core.specs.Service.{Supervised}
 use Rattle.svscan_core.specs.Moving.{timers_of}
 use Rattle.svscan_core.specs.Table.{charts_of}

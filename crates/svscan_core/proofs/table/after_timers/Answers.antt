@@ -1,6 +1,6 @@
 use Rattle.std.proofs.Common.{◌∙◌, ◌+◌, ◌<◌, sym, ap}
 use Rattle.std.specs.Prelude.{Some, option_map}
-use Rattle.supervise_core.specs.declared.chart.ChartState.{ChartState}
+use Rattle.supervise_core.specs.declared.chart_state.ChartState.{ChartState}
 use Rattle.supervise_core.specs.Chart.{fire_move}
 use Rattle.supervise_core.specs.Service.{Supervised}
 use Rattle.supervise_core.proofs.Identity.{keeps_fire}

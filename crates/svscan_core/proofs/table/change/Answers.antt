@@ -1,6 +1,6 @@
 use Rattle.std.proofs.Common.{◌+◌, ◌<◌, ◌^◌, ◌∙◌, ◌++◌, List, append-nil, sym, subst, ap}
 use Rattle.std.specs.Prelude.{is_some}
-use Rattle.supervise_core.specs.declared.chart.ChartState.{ChartState}
+use Rattle.supervise_core.specs.declared.chart_state.ChartState.{ChartState}
 use Rattle.supervise_core.specs.Service.{Supervised}
 use Rattle.svscan_core.specs.Deaths.{DeathOf, AllTallied}
 use Rattle.svscan_core.specs.Table.{charts_of}
@@ -56,10 +56,10 @@ changed g c =
     let there = sym c.in_ok-nth.ensures in
     let is = c.standing-standing.ensures in
     changed_there c.args.sid c.args.now c.args.change.now services c.adopt.new.self.services c.in_ok-place.place s c.change-out.new.self
-    c.death.result
+    c.counted_death.result
     c.change-out.result c.requires.order c.in_ok-place.ensures.found there (rw is at c.change-out.ensures.gives)
     (rw is at c.change-out.ensures.agrees)
-    (rw is at c.change-out.ensures.sid) c.death.ensures (c.adopt.ensures.services s there)
+    (rw is at c.change-out.ensures.sid) c.counted_death.ensures (c.adopt.ensures.services s there)
 
 pub returns-clause-services : goal.returns-clause-services
 returns-clause-services g c = (changed g c).services

@@ -1,6 +1,6 @@
 use Rattle.std.proofs.Common.{◌≡◌, take, true, length}
 use Rattle.svscan_core.specs.Table.{charts_of}
-use Rattle.tree_core.specs.Acts.{all_named, serials_named}
+use Rattle.tree_core.specs.ActRefusals.{all_named, serials_named}
 use Rattle.tree_core.proofs.refusals.serials_of.Given as goal
 
 abbrev pub invariant-loop-name : goal.invariant-loop-name

@@ -26,19 +26,19 @@ use Rattle.tree_core.proofs.step.plan_step.Goals as goal
 pub prepare-requires-clause-due : goal.prepare-requires-clause-due
 prepare-requires-clause-due g c =
     due_now c.later-now.result c.args.registry.now.shown.next_sid _ c.args.deadlines.now.timers (charts_of c.args.registry.now.shown.services)
-    c.later-now.ensures.bound (c.as_slice.ensures.value ∙ c.in_ok-due.ensures.due) c.requires.timers c.len-count.ensures.sound.order
+    c.later-now.ensures.bound (c.found.ensures ∙ c.in_ok-find_due.ensures.due) c.requires.timers c.len-count.ensures.sound.order
 
-pub returns-in_err-due-clause-quiet : goal.returns-in_err-due-clause-quiet
-returns-in_err-due-clause-quiet g c = λ q.
-    not_ok c.due.result _ _ c.in_err-due.was
-    (c.due.ensures.quiet (none_for_quiet c.args.input.now c.args.clock c.later-now.result _ c.args.deadlines.now.timers
+pub returns-in_err-find_due-clause-quiet : goal.returns-in_err-find_due-clause-quiet
+returns-in_err-find_due-clause-quiet g c = λ q.
+    not_ok c.find_due.result _ _ c.in_err-find_due.was
+    (c.find_due.ensures.quiet (none_for_quiet c.args.input.now c.args.clock c.later-now.result _ c.args.deadlines.now.timers
     (charts_of c.args.registry.now.shown.services) c.later-now.ensures.later c.later-now.ensures.bound refl c.requires.timers q))
 
 pub returns-in_err-services-clause-quiet : goal.returns-in_err-services-clause-quiet
 returns-in_err-services-clause-quiet g c = λ q.
-    let none = none_for_quiet c.args.input.now c.args.clock c.later-now.result c.as_slice.result.now c.args.deadlines.now.timers
+    let none = none_for_quiet c.args.input.now c.args.clock c.later-now.result c.found.result.now c.args.deadlines.now.timers
     (charts_of c.args.registry.now.shown.services) c.later-now.ensures.later c.later-now.ensures.bound
-    (c.as_slice.ensures.value ∙ c.in_ok-due.ensures.due) c.requires.timers q in
+    (c.found.ensures ∙ c.in_ok-find_due.ensures.due) c.requires.timers q in
     let still = c.services.ensures ∙ (c.in_ok-choose.ensures.idle q.reading).work in
     not_ok c.prepare.result _ _ c.in_err-services.was (c.prepare.ensures.quiet none still)
 
@@ -130,9 +130,9 @@ returns-clause-count g c =
 
 pub returns-in_err-waiters-clause-quiet : goal.returns-in_err-waiters-clause-quiet
 returns-in_err-waiters-clause-quiet g c = λ q.
-    let none = none_for_quiet c.args.input.now c.args.clock c.later-now.result c.as_slice.result.now c.args.deadlines.now.timers
+    let none = none_for_quiet c.args.input.now c.args.clock c.later-now.result c.found.result.now c.args.deadlines.now.timers
     (charts_of c.args.registry.now.shown.services) c.later-now.ensures.later c.later-now.ensures.bound
-    (c.as_slice.ensures.value ∙ c.in_ok-due.ensures.due) c.requires.timers q in
+    (c.found.ensures ∙ c.in_ok-find_due.ensures.due) c.requires.timers q in
     let still = c.services.ensures ∙ (c.in_ok-choose.ensures.idle q.reading).work in
     let idle = c.in_ok-services.ensures.still none still in
     let nothing = ap (λ (p : RegistryPrepared). p.events) idle in
@@ -142,9 +142,9 @@ returns-in_err-waiters-clause-quiet g c = λ q.
 
 pub returns-in_err-letters-clause-quiet : goal.returns-in_err-letters-clause-quiet
 returns-in_err-letters-clause-quiet g c = λ q.
-    let none = none_for_quiet c.args.input.now c.args.clock c.later-now.result c.as_slice.result.now c.args.deadlines.now.timers
+    let none = none_for_quiet c.args.input.now c.args.clock c.later-now.result c.found.result.now c.args.deadlines.now.timers
     (charts_of c.args.registry.now.shown.services) c.later-now.ensures.later c.later-now.ensures.bound
-    (c.as_slice.ensures.value ∙ c.in_ok-due.ensures.due) c.requires.timers q in
+    (c.found.ensures ∙ c.in_ok-find_due.ensures.due) c.requires.timers q in
     let still = c.services.ensures ∙ (c.in_ok-choose.ensures.idle q.reading).work in
     let idle = c.in_ok-services.ensures.still none still in
     let nothing = ap (λ (p : RegistryPrepared). p.events) idle in
@@ -154,9 +154,9 @@ returns-in_err-letters-clause-quiet g c = λ q.
 
 pub returns-in_err-history-clause-quiet : goal.returns-in_err-history-clause-quiet
 returns-in_err-history-clause-quiet g c = λ q.
-    let none = none_for_quiet c.args.input.now c.args.clock c.later-now.result c.as_slice.result.now c.args.deadlines.now.timers
+    let none = none_for_quiet c.args.input.now c.args.clock c.later-now.result c.found.result.now c.args.deadlines.now.timers
     (charts_of c.args.registry.now.shown.services) c.later-now.ensures.later c.later-now.ensures.bound
-    (c.as_slice.ensures.value ∙ c.in_ok-due.ensures.due) c.requires.timers q in
+    (c.found.ensures ∙ c.in_ok-find_due.ensures.due) c.requires.timers q in
     let still = c.services.ensures ∙ (c.in_ok-choose.ensures.idle q.reading).work in
     let idle = c.in_ok-services.ensures.still none still in
     let nothing = ap (λ (p : RegistryPrepared). p.events) idle in
@@ -165,9 +165,9 @@ returns-in_err-history-clause-quiet g c = λ q.
 
 pub returns-in_err-timers-clause-quiet : goal.returns-in_err-timers-clause-quiet
 returns-in_err-timers-clause-quiet g c = λ q.
-    let none = none_for_quiet c.args.input.now c.args.clock c.later-now.result c.as_slice.result.now c.args.deadlines.now.timers
+    let none = none_for_quiet c.args.input.now c.args.clock c.later-now.result c.found.result.now c.args.deadlines.now.timers
     (charts_of c.args.registry.now.shown.services) c.later-now.ensures.later c.later-now.ensures.bound
-    (c.as_slice.ensures.value ∙ c.in_ok-due.ensures.due) c.requires.timers q in
+    (c.found.ensures ∙ c.in_ok-find_due.ensures.due) c.requires.timers q in
     let still = c.services.ensures ∙ (c.in_ok-choose.ensures.idle q.reading).work in
     let idle = c.in_ok-services.ensures.still none still in
     let nothing = ap (λ (p : RegistryPrepared). p.events) idle in
@@ -176,9 +176,9 @@ returns-in_err-timers-clause-quiet g c = λ q.
 
 pub returns-in_err-moments-clause-quiet : goal.returns-in_err-moments-clause-quiet
 returns-in_err-moments-clause-quiet g c = λ q.
-    let none = none_for_quiet c.args.input.now c.args.clock c.later-now.result c.as_slice.result.now c.args.deadlines.now.timers
+    let none = none_for_quiet c.args.input.now c.args.clock c.later-now.result c.found.result.now c.args.deadlines.now.timers
     (charts_of c.args.registry.now.shown.services) c.later-now.ensures.later c.later-now.ensures.bound
-    (c.as_slice.ensures.value ∙ c.in_ok-due.ensures.due) c.requires.timers q in
+    (c.found.ensures ∙ c.in_ok-find_due.ensures.due) c.requires.timers q in
     let still = c.services.ensures ∙ (c.in_ok-choose.ensures.idle q.reading).work in
     let idle = c.in_ok-services.ensures.still none still in
     let nothing = ap (λ (p : RegistryPrepared). p.events) idle in
@@ -186,9 +186,9 @@ returns-in_err-moments-clause-quiet g c = λ q.
 
 pub returns-in_err-fill_effect-clause-quiet : goal.returns-in_err-fill_effect-clause-quiet
 returns-in_err-fill_effect-clause-quiet g c = λ q.
-    let none = none_for_quiet c.args.input.now c.args.clock c.later-now.result c.as_slice.result.now c.args.deadlines.now.timers
+    let none = none_for_quiet c.args.input.now c.args.clock c.later-now.result c.found.result.now c.args.deadlines.now.timers
     (charts_of c.args.registry.now.shown.services) c.later-now.ensures.later c.later-now.ensures.bound
-    (c.as_slice.ensures.value ∙ c.in_ok-due.ensures.due) c.requires.timers q in
+    (c.found.ensures ∙ c.in_ok-find_due.ensures.due) c.requires.timers q in
     let asks = c.in_ok-choose.ensures.idle q.reading in
     let idle = c.in_ok-services.ensures.still none (c.services.ensures ∙ asks.work) in
     let nothing = ap (λ (p : RegistryPrepared). p.events) idle in

@@ -1,5 +1,5 @@
 use Rattle.std.proofs.Common.{◌++◌, ap, sym, subst}
-use Rattle.supervise_core.specs.declared.chart.ChartState.{ChartState}
+use Rattle.supervise_core.specs.declared.chart_state.ChartState.{ChartState}
 use Rattle.supervise_core.specs.EventGrammar.{LeadsTo}
 use Rattle.supervise_core.specs.Service.{Supervised}
 use Rattle.supervise_core.proofs.GrammarWords.{leads_after}

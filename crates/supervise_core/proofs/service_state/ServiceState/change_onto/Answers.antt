@@ -1,5 +1,5 @@
 use Rattle.std.proofs.Common.{◌∙◌, ◌++◌, ap, subst}
-use Rattle.supervise_core.specs.declared.chart.ChartState.{ChartState}
+use Rattle.supervise_core.specs.declared.chart_state.ChartState.{ChartState}
 use Rattle.supervise_core.specs.Chart.{changed_by}
 use Rattle.supervise_core.specs.EventGrammar.{LeadsTo}
 use Rattle.supervise_core.specs.Service.{ServiceView}

@@ -2,7 +2,7 @@ use Rattle.std.proofs.Common.{◌≡◌, ℕ, ◌∙◌, ◌++◌, ◌+◌, ◌<
 use Rattle.std.specs.Prelude.{All}
 use Rattle.deadlines.specs.Timers.{is_rising}
 use Rattle.s6_events.specs.declared.moment.Moment.{Moment}
-use Rattle.supervise_core.specs.declared.chart.ChartState.{ChartState}
+use Rattle.supervise_core.specs.declared.chart_state.ChartState.{ChartState}
 use Rattle.supervise_core.specs.Chart.{fire_move}
 use Rattle.svscan_core.specs.declared.event.Event.{Event}
 use Rattle.svscan_core.specs.declared.moves.ChangedService.{ChangedService}

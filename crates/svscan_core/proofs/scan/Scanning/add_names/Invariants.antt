@@ -1,7 +1,7 @@
 use Rattle.std.proofs.Common.{◌≡◌, ℕ, ◌++◌, List, length, take, true}
 use Rattle.std.specs.Prelude.{bytes_eq}
 use Rattle.std.specs.List.{list_any}
-use Rattle.supervise_core.specs.declared.chart.ChartState.{ChartState}
+use Rattle.supervise_core.specs.declared.chart_state.ChartState.{ChartState}
 use Rattle.supervise_core.specs.Service.{Supervised}
 use Rattle.svscan_core.specs.Adding.{adding_of, state_behind, GoesOn, Grows}
 use Rattle.svscan_core.specs.Names.{lists}

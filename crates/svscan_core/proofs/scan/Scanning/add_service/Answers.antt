@@ -14,6 +14,6 @@ returns-clause-goes_on g c = λ services numbered.
           c.give.new.self.events.items;
       orders = c.give.new.self.orders.items;
     })
-    c.in_ok-service.service c.args.name.now c.args.config c.in_ok-service.out c.in_ok-service.ensures.gives c.in_ok-service.ensures.agrees
+    c.in_ok-service.service c.args.name.now c.args.config c.begin_into.new.out c.in_ok-service.ensures.gives c.in_ok-service.ensures.agrees
     c.in_ok-service.ensures.tally
     c.in_ok-push.ensures.items refl c.in_ok-give.ensures.events numbered

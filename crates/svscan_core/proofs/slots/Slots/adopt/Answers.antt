@@ -13,7 +13,7 @@ use Rattle.svscan_core.proofs.slots.Slots.adopt.Goals as goal
 taken : (g : Over) (c : goal.After-adopt_in g) (s : Supervised)
     → slice_get (services_in c.self.inside.slots c.self.inside.index.entries) c.args.place ≡ Some s
     → (services_in c.adopt_in.new.slots c.self.inside.index.entries
-    ≡ slice_set (services_in c.self.inside.slots c.self.inside.index.entries) c.args.place (with_view c.args.standing c.args.death s))
+    ≡ slice_set (services_in c.self.inside.slots c.self.inside.index.entries) c.args.place (with_view c.args.standing.now c.args.death s))
     × AreHeld c.adopt_in.new.slots c.self.inside.index.entries
 taken g c s there =
     let old = c.self.inside.slots in
@@ -22,9 +22,9 @@ taken g c s there =
     let at : slice_get ps c.args.place ≡ Some pair = sym c.get_index.ensures.entry ∙ ap (option_map (λ e. (e.0.now, e.1.now))) c.in-Some.is in
     let own : get old c.in-Some.slot.now ≡ Some s =
     sym (services_in-at old ps c.args.place c.self.invariant ∙ ap (option_and_then (λ p. get old p.1)) at) ∙ there in
-    changes (with_view c.args.standing c.args.death s) old c.adopt_in.new.slots ps c.args.place pair
+    changes (with_view c.args.standing.now c.args.death s) old c.adopt_in.new.slots ps c.args.place pair
     (rw (← c.self.view_is) at c.requires.name)
-    (λ t is. subst (λ (x : Supervised). Updates old c.adopt_in.new.slots c.in-Some.slot.now (Some (with_view c.args.standing c.args.death x)))
+    (λ t is. subst (λ (x : Supervised). Updates old c.adopt_in.new.slots c.in-Some.slot.now (Some (with_view c.args.standing.now c.args.death x)))
     (same_Some t s (sym is ∙ own)) (c.adopt_in.ensures.updates t is))
     at c.len-count.ensures.unique c.self.invariant
 
@@ -35,7 +35,7 @@ there g c = by (slice_get (services_in c.self.inside.slots c.self.inside.index.e
     (rw (← c.self.view_is) at c.requires.name)
   where
     by : (o : Option Supervised) → slice_get (services_in c.self.inside.slots c.self.inside.index.entries) c.args.place ≡ o
-        → IsSomeAnd o (λ s. s.chart.name ≡ c.args.standing.chart.name)
+        → IsSomeAnd o (λ s. s.chart.name ≡ c.args.standing.now.chart.name)
         → (s : Supervised) × (slice_get (services_in c.self.inside.slots c.self.inside.index.entries) c.args.place ≡ Some s)
     by None is h = absurd h
     by (Some s) is h = (s, is)

@@ -8,7 +8,8 @@ use Rattle.event_directory.specs.Remembered.{DirectoriesShown, directories_after
 use Rattle.svscan_core.specs.Table.{Table, charts_of}
 use Rattle.svscan_core.specs.Timers.{TimersAgree}
 use Rattle.wait_conditions.specs.Kept.{NoneBegan}
-use Rattle.wait_conditions.specs.Stands.{WaitsShown, MakesPlan, waits_shown}
+use Rattle.wait_conditions.specs.Stands.{WaitsShown, waits_shown}
+use Rattle.wait_conditions.specs.WaitsPlans.{MakesPlan}
 use Rattle.wait_conditions.proofs.Oldest.{all_needed}
 use Rattle.svscan_core.specs.Registry.{registry_prepared}
 use Rattle.tree_core.specs.Machine.{Machine}

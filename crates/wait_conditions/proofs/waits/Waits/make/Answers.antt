@@ -3,7 +3,8 @@ use Rattle.std.specs.Prelude.{◌^◌}
 use Rattle.std.proofs.lemmas.List.Elements.{All-filter, All-push}
 use Rattle.wait_conditions.specs.Kept.{StoredWaiter, waiter_view, is_other}
 use Rattle.wait_conditions.specs.PlanFields.{list_change_of}
-use Rattle.wait_conditions.specs.Stands.{StoredWaits, PlannedWaits, JoinsAt, JoinsNext}
+use Rattle.wait_conditions.specs.Stands.{StoredWaits}
+use Rattle.wait_conditions.specs.WaitsPlans.{PlannedWaits, JoinsAt, JoinsNext}
 use Rattle.wait_conditions.proofs.Joining.{next_on, below_later, placed_later}
 use Rattle.wait_conditions.proofs.Ordered.{below_moments, placed_moments}
 use Rattle.wait_conditions.proofs.waits.Waits.make.Goals as goal

@@ -1,8 +1,9 @@
-use Rattle.std.proofs.Common.{◌≡◌, ◌∙◌, ◌+◌, ◌++◌, ap, sym, map, subst, filter, [], length, arith, false, true}
+use Rattle.std.proofs.Common.{◌≡◌, ◌∙◌, ◌+◌, ap, sym, map, subst, filter, [], length, arith, false, true}
 use Rattle.std.specs.Prelude.{IsOk}
 use Rattle.wait_conditions.specs.Kept.{StoredWaiter, releases_seen}
 use Rattle.wait_conditions.specs.PlanFields.{list_change_of}
-use Rattle.wait_conditions.specs.Stands.{FitsWaits, PlannedWaits, StoredWaits, WaitsShown, JoinsAt, waits_shown}
+use Rattle.wait_conditions.specs.Stands.{StoredWaits, WaitsShown, waits_shown}
+use Rattle.wait_conditions.specs.WaitsPlans.{FitsWaits, PlannedWaits, JoinsAt}
 use Rattle.wait_conditions.specs.WaitsFields.{waiters_view}
 use Rattle.wait_conditions.specs.Watchers.{serials_where, touched_by}
 use Rattle.wait_conditions.proofs.Leaving.{alike_touched, none_by_nothing}

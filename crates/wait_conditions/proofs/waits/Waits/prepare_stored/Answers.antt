@@ -1,7 +1,8 @@
 use Rattle.std.proofs.Common.{◌≡◌, ◌∙◌, ap, sym, subst, []}
 use Rattle.wait_conditions.specs.Kept.{releases_seen}
-use Rattle.wait_conditions.specs.Stands.{PlannedWaits, StoredWaits, WaitsShown, PlansChange, waits_shown}
-use Rattle.wait_conditions.specs.Stands.ListChange.{stay}
+use Rattle.wait_conditions.specs.Stands.{StoredWaits, WaitsShown, waits_shown}
+use Rattle.wait_conditions.specs.WaitsPlans.{PlannedWaits, PlansChange}
+use Rattle.wait_conditions.specs.WaitsPlans.ListChange.{stay}
 use Rattle.wait_conditions.specs.Steps.WaitRequest.{no_wait_request}
 use Rattle.wait_conditions.specs.declared.wait_change.WaitAnswer.TheVariants as answer
 use Rattle.wait_conditions.proofs.Changing.{plans_nothing}

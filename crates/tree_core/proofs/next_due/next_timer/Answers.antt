@@ -1,7 +1,7 @@
 use Rattle.std.proofs.Common.{◌∙◌, ap}
 use Rattle.wait_conditions.specs.NextDeadline.{earlier_of}
 use Rattle.tree_core.proofs.OneMoreService.{timer_more}
-use Rattle.tree_core.proofs.ahead.next_timer.Goals as goal
+use Rattle.tree_core.proofs.next_due.next_timer.Goals as goal
 
 pub loop-place-preserved : goal.loop-place-preserved
 loop-place-preserved g c =

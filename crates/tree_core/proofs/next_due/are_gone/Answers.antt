@@ -1,8 +1,8 @@
 use Rattle.std.proofs.Common.{◌∙◌, ap, sym}
-use Rattle.supervise_core.specs.declared.chart.ChartState.{ChartState}
+use Rattle.supervise_core.specs.declared.chart_state.ChartState.{ChartState}
 use Rattle.supervise_core.specs.ChartState.{is_gone}
 use Rattle.tree_core.proofs.OneMoreService.{all_more, one_not}
-use Rattle.tree_core.proofs.ahead.are_gone.Goals as goal
+use Rattle.tree_core.proofs.next_due.are_gone.Goals as goal
 
 pub returns-then-not-is_gone : goal.returns-then-not-is_gone
 returns-then-not-is_gone g c =

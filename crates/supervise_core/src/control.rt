@@ -5,7 +5,7 @@ ghost use Rattle.supervise_core.specs.MatchesMove.{MatchesMove, AppendsMove};
 ghost use Rattle.control_letters.specs.ControlLetter.{signal_of};
 ghost use Rattle.supervise_core.specs.LetterBounds.{marks_left, runs_left};
 
-use super::chart::ChartState;
+use super::chart_state::ChartState;
 use super::out::Out;
 use super::phase::Phase;
 use control_letters::{ControlLetter, Letters};

@@ -84,10 +84,21 @@ impl ChartState {
         ensures gives { MatchesMove (begin_move (new_service sid name config)) result.0 result.1 }
         ensures few { length result.1.orders.items ≤ 1 }
     {
-        let mut chart = ChartState::new(sid, name, config);
         let mut out = Out::new();
-        chart.begin_supervisor(&mut out);
+        let chart = ChartState::begin_into(sid, name, config, &mut out);
         (chart, out)
+    }
+
+    /// As `begin`, but its mark and its order are put into `out`, in place of what that held: it is large, and a scan that adds many
+    /// services fills one.
+    pub fn begin_into(sid: Sid, name: Name, config: Config, out: &mut Out) -> ChartState
+        ensures gives { MatchesMove (begin_move (new_service sid name config)) result out.new }
+        ensures few { length out.new.orders.items ≤ 1 }
+    {
+        let mut chart = ChartState::new(sid, name, config);
+        out.clear();
+        chart.begin_supervisor(out);
+        chart
     }
 
     /// Takes any of the changes.

@@ -2,7 +2,7 @@ use Rattle.std.proofs.Common.{◌≡◌, ◌+◌, ◌≤◌, ◌*◌, take, leng
 use Rattle.supervise_core.specs.ControlLetters.{control_move}
 use Rattle.supervise_core.specs.MatchesMove.{AppendsMove}
 use Rattle.supervise_core.specs.LetterBounds.{marks_left, runs_left}
-use Rattle.supervise_core.proofs.chart.ChartState.take_letters.Given as goal
+use Rattle.supervise_core.proofs.chart_state.ChartState.take_letters.Given as goal
 
 abbrev pub invariant-loop-letter : goal.invariant-loop-letter
 invariant-loop-letter l = record {
