@@ -71,6 +71,23 @@ moments_up_to v m xs d o l h =
     ))
     m xs d o l h
 
+-- what the last timer passes, all pass
+whole : (xs : List Timer) → take (length xs) xs ≡ xs
+whole [] = refl
+whole (x ∷ xs) = ap (λ ts. x ∷ ts) (whole xs)
+
+pub all_below : (sid m : ℕ) (xs : List Timer) (d : Timer) → rises xs ≡ true → m + 1 ≡ length xs → nat_lt (get_or xs m d).sid sid ≡ true
+    → list_all (λ t. nat_lt t.sid sid) xs ≡ true
+all_below sid m xs d o last h =
+    ap (λ ts. list_all (λ t. nat_lt t.sid sid) ts) (sym (whole xs))
+    ∙ (ap (λ n. list_all (λ t. nat_lt t.sid sid) (take n xs)) (sym last) ∙ sids_up_to sid m xs d o (omega (arith, last)) h)
+
+pub all_before : (v : Timer) (m : ℕ) (xs : List Timer) (d : Timer) → in_moment_order xs ≡ true → m + 1 ≡ length xs
+    → is_before (get_or xs m d) v ≡ true → list_all (λ t. is_before t v) xs ≡ true
+all_before v m xs d o last h =
+    ap (λ ts. list_all (λ t. is_before t v) ts) (sym (whole xs))
+    ∙ (ap (λ n. list_all (λ t. is_before t v) (take n xs)) (sym last) ∙ moments_up_to v m xs d o (omega (arith, last)) h)
+
 -- one more at its place
 all_with : (p : Timer → Bool) (k : ℕ) (v : Timer) (xs : List Timer) → list_all p xs ≡ true → p v ≡ true
     → list_all p (take k xs ++ v ∷ drop k xs) ≡ true

@@ -55,13 +55,42 @@ fn is_below(timer: &Timer, sid: Sid) -> bool
     timer.sid.0 < sid.0
 }
 
-// The first place of a timer whose serial is not below this one, or the end.
+// Whether the serial of the first timer, if there is one, is not below this one.
+fn comes_first(timers: &[Timer], sid: Sid) -> bool
+    ensures { result ≡ true → IfSome (slice_get timers.now 0) (λ t. nat_lt t.sid sid ≡ false) }
+{
+    let Some(first) = timers.first() else {
+        return true;
+    };
+    !is_below(first, sid)
+}
+
+// Whether the serials of all timers are below this one.
+fn comes_last(timers: &[Timer], sid: Sid) -> bool
+    requires { rises timers.now ≡ true }
+    ensures { result ≡ true → list_all (λ t. nat_lt t.sid sid) timers.now ≡ true }
+{
+    let Some(end) = timers.len().checked_sub(1) else {
+        return true;
+    };
+    let last = timers[end];
+    is_below(&last, sid)
+}
+
+// The first place of a timer whose serial is not below this one, or the end. Services that were started together die and are started
+// again in their order, so that both ends are looked at first.
 fn place_of(timers: &[Timer], sid: Sid) -> usize
     requires { rises timers.now ≡ true }
     ensures bound { result ≤ length timers.now }
     ensures before { list_all (λ t. nat_lt t.sid sid) (take result timers.now) ≡ true }
     ensures stop { IfSome (slice_get timers.now result) (λ t. nat_lt t.sid sid ≡ false) }
 {
+    if comes_first(timers, sid) {
+        return 0;
+    }
+    if comes_last(timers, sid) {
+        return timers.len();
+    }
     let mut low = 0;
     let mut high = timers.len();
     while low < high {
@@ -180,7 +209,7 @@ impl<A: Allocator + Copy> Deadlines<A> {
     }
 
     /// Finds the services that `due` gives, and keeps them for `found`: their list uses the memory of the last search. `NoMemory` where
-    /// memory is refused; never where none is due.
+    /// memory is refused, and nothing is said of `found` then; never where none is due.
     pub fn find_due(&mut self, now: At) -> Result<(), NoMemory>
         ensures due { OnOk result (self.new.found ≡ due_by now self.old.timers) }
         ensures rising { OnOk result (is_rising self.new.found ≡ true) }

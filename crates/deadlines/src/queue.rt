@@ -20,13 +20,43 @@ fn is_before(timer: &Timer, other: &Timer) -> bool
     }
 }
 
-// The first place of a timer that doesn't go off before this one, or the end.
+// Whether no timer of the queue goes off before this one.
+fn comes_first(queue: &[Timer], timer: &Timer) -> bool
+    ensures { result ≡ true
+        → IfSome (slice_get queue.now 0) (λ t. is_before t timer.now ≡ false) }
+{
+    let Some(first) = queue.first() else {
+        return true;
+    };
+    !is_before(first, timer)
+}
+
+// Whether all timers of the queue go off before this one.
+fn comes_last(queue: &[Timer], timer: &Timer) -> bool
+    requires { in_moment_order queue.now ≡ true }
+    ensures { result ≡ true → list_all (λ t. is_before t timer.now) queue.now ≡ true }
+{
+    let Some(end) = queue.len().checked_sub(1) else {
+        return true;
+    };
+    let last = queue[end];
+    is_before(&last, timer)
+}
+
+// The first place of a timer that doesn't go off before this one, or the end. Most timers are taken from the front and put at the end, so
+// that both are looked at first.
 fn place_in(queue: &[Timer], timer: &Timer) -> usize
     requires { in_moment_order queue.now ≡ true }
     ensures bound { result ≤ length queue.now }
     ensures before { list_all (λ t. is_before t timer.now) (take result queue.now) ≡ true }
     ensures stop { IfSome (slice_get queue.now result) (λ t. is_before t timer.now ≡ false) }
 {
+    if comes_first(queue, timer) {
+        return 0;
+    }
+    if comes_last(queue, timer) {
+        return queue.len();
+    }
     let mut low = 0;
     let mut high = queue.len();
     while low < high {

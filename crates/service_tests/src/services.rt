@@ -330,7 +330,7 @@ fn take_over(
     service: &mut Service<Global>,
     standing: ServiceState,
 ) {
-    service.adopt(standing, Some((at(rt, 7), Exit::Code(1))));
+    service.adopt(&standing, Some((at(rt, 7), Exit::Code(1))));
     assert_eq!(rt;
         (service.chart().pid, service.status().letter),
         (70, Mark::Spawned)
@@ -350,7 +350,7 @@ fn a_change_is_added_to_what_is_there(rt: HostRuntime) {
     let log = Name::new(b"log").expect(&rt, "log");
     let (_, mut out) = begin_plain(&rt, rt.alloc(), Sid(1), web);
     let (mut service, _) = begin_plain(&rt, rt.alloc(), Sid(2), log);
-    let mut standing = service.standing();
+    let mut standing = *service.standing();
     let begun = [first_run(web)];
     let told = [first_run(web), Order::Signal(Sid(2), 1, 1)];
     add_changes(&rt, &begun, &told, &mut standing, &mut out);

@@ -78,19 +78,8 @@ impl ChartState {
         }
     }
 
-    /// A new active service, whose supervisor starts: mark `s`, and the first run is ordered unless the directory has `down`.
-    /// Page `s6-supervise`, "Detailed operation".
-    pub fn begin(sid: Sid, name: Name, config: Config) -> (ChartState, Out)
-        ensures gives { MatchesMove (begin_move (new_service sid name config)) result.0 result.1 }
-        ensures few { length result.1.orders.items ≤ 1 }
-    {
-        let mut out = Out::new();
-        let chart = ChartState::begin_into(sid, name, config, &mut out);
-        (chart, out)
-    }
-
-    /// As `begin`, but its mark and its order are put into `out`, in place of what that held: it is large, and a scan that adds many
-    /// services fills one.
+    /// A new active service, whose supervisor starts: mark `s`, and the first run is ordered unless the directory has `down`. Both are put
+    /// into `out`, in place of what that held. Page `s6-supervise`, "Detailed operation".
     pub fn begin_into(sid: Sid, name: Name, config: Config, out: &mut Out) -> ChartState
         ensures gives { MatchesMove (begin_move (new_service sid name config)) result out.new }
         ensures few { length out.new.orders.items ≤ 1 }

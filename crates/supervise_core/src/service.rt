@@ -28,8 +28,7 @@ use std::marker::Model;
 /// A service under its supervisor, with its last deaths. No change of it takes memory.
 #[derive(Drop)]
 pub struct Service<A: Allocator> {
-    chart: ChartState,
-    status: Status,
+    standing: ServiceState,
     tally: Tally<A>,
 }
 
@@ -38,7 +37,7 @@ impl<A: Allocator> Model for Service<A> {
 
     ghost Value = { Supervised };
 
-    ghost view = { λ s. record { chart = s.chart; status = s.status; tally = s.tally } };
+    ghost view = { λ s. record { chart = s.standing.chart; status = s.standing.status; tally = s.tally } };
 }
 
 impl<A: Allocator + Copy> Service<A> {
@@ -85,41 +84,36 @@ impl<A: Allocator + Copy> Service<A> {
         let tally = Tally::new(alloc, config.max_death_tally)?;
         let chart = ChartState::begin_into(sid, name, config, out);
         let status = Status::new();
-        Ok(Service {
-            chart,
-            status,
-            tally,
-        })
+        let standing = ServiceState { chart, status };
+        Ok(Service { standing, tally })
     }
 
     /// A copy of its state without its deaths. The copy takes the same changes.
     pub fn chart(&self) -> ChartState
         ensures { result ≡ self.now.chart }
     {
-        let Service { chart, .. } = self;
-        *chart
+        self.standing.chart()
     }
 
     /// Its serial.
     pub fn sid(&self) -> Sid
         ensures { result ≡ self.now.chart.sid }
     {
-        self.chart.sid
+        self.standing.sid()
     }
 
     /// The number of the moment at which its timer goes off.
     pub fn timer(&self) -> Option<u64>
         ensures { result ≡ self.now.chart.timer }
     {
-        self.chart.timer
+        self.standing.timer()
     }
 
     /// What it stores of its marks, for its status row.
     pub fn status(&self) -> Status
         ensures { result ≡ self.now.status }
     {
-        let Service { status, .. } = self;
-        *status
+        self.standing.status()
     }
 
     /// Its tally: its last deaths, and how many it keeps at most. Page `servicedir`, `max-death-tally`.
@@ -134,18 +128,18 @@ impl<A: Allocator + Copy> Service<A> {
         ensures { IfOk result (λ image. image ≡ self.now) }
     {
         Ok(ServiceImage {
-            chart: self.chart,
-            status: self.status,
+            chart: self.standing.chart(),
+            status: self.standing.status(),
             deaths: self.tally.list(alloc)?,
             most: self.tally.most(),
         })
     }
 
-    /// A copy of its state and of what it stores of its marks. The copy takes the same changes.
-    pub fn standing(&self) -> ServiceState
-        ensures { result ≡ service_view self.now }
+    /// All of it but its tally. A copy of that takes the same changes.
+    pub fn standing(&self) -> &ServiceState
+        ensures { result.now ≡ service_view self.now }
     {
-        ServiceState::new(self.chart, self.status)
+        &self.standing
     }
 
     // Adds the death to the tally, if there is one.
@@ -159,11 +153,10 @@ impl<A: Allocator + Copy> Service<A> {
 
     /// Takes over the state and the status of `standing`, a copy of its own that took changes, and adds to its tally the death that these
     /// reported, if they did.
-    pub fn adopt(&mut self, standing: ServiceState, death: Option<(At, Exit)>)
-        ensures { self.new ≡ with_view standing death self.old }
+    pub fn adopt(&mut self, standing: &ServiceState, death: Option<(At, Exit)>)
+        ensures { self.new ≡ with_view standing.now death self.old }
     {
-        self.chart = standing.chart();
-        self.status = standing.status();
+        self.standing = *standing;
         self.join(death);
     }
 
@@ -172,7 +165,7 @@ impl<A: Allocator + Copy> Service<A> {
         ensures { (history : List Moment) → AgreesWith self.now history
             → result ≡ status_row history now self.now.chart }
     {
-        self.status.row(&self.chart, now)
+        self.standing.status.row(&self.standing.chart, now)
     }
 
     /// `run` of this generation was spawned: mark `u`. Stale unless its start was under way. Page `s6-supervise`, "Events".
@@ -183,8 +176,10 @@ impl<A: Allocator + Copy> Service<A> {
         ensures agrees { KeepsAgreeing now result.events.items (service_view self.old)
             (service_view self.new) }
     {
-        let out = self.chart.started(generation, pid, now);
-        self.status.record_marks(out.events.as_slice(), now);
+        let out = self.standing.chart.started(generation, pid, now);
+        self.standing
+            .status
+            .record_marks(out.events.as_slice(), now);
         out
     }
 
@@ -199,8 +194,10 @@ impl<A: Allocator + Copy> Service<A> {
         ensures agrees { KeepsAgreeing now result.events.items (service_view self.old)
             (service_view self.new) }
     {
-        let out = self.chart.start_failed(generation, now);
-        self.status.record_marks(out.events.as_slice(), now);
+        let out = self.standing.chart.start_failed(generation, now);
+        self.standing
+            .status
+            .record_marks(out.events.as_slice(), now);
         out
     }
 
@@ -213,8 +210,10 @@ impl<A: Allocator + Copy> Service<A> {
         ensures agrees { KeepsAgreeing now result.events.items (service_view self.old)
             (service_view self.new) }
     {
-        let out = self.chart.notify(generation, bytes, now);
-        self.status.record_marks(out.events.as_slice(), now);
+        let out = self.standing.chart.notify(generation, bytes, now);
+        self.standing
+            .status
+            .record_marks(out.events.as_slice(), now);
         out
     }
 
@@ -229,8 +228,10 @@ impl<A: Allocator + Copy> Service<A> {
         ensures agrees { KeepsAgreeing now result.events.items (service_view self.old)
             (service_view self.new) }
     {
-        let out = self.chart.death(generation, exit, now);
-        self.status.record_marks(out.events.as_slice(), now);
+        let out = self.standing.chart.death(generation, exit, now);
+        self.standing
+            .status
+            .record_marks(out.events.as_slice(), now);
         self.join(if out.stale { None } else { Some((now, exit)) });
         out
     }
@@ -245,8 +246,10 @@ impl<A: Allocator + Copy> Service<A> {
         ensures agrees { KeepsAgreeing now result.events.items (service_view self.old)
             (service_view self.new) }
     {
-        let out = self.chart.finish_ended(generation, exit, now);
-        self.status.record_marks(out.events.as_slice(), now);
+        let out = self.standing.chart.finish_ended(generation, exit, now);
+        self.standing
+            .status
+            .record_marks(out.events.as_slice(), now);
         out
     }
 
@@ -260,8 +263,10 @@ impl<A: Allocator + Copy> Service<A> {
         ensures agrees { KeepsAgreeing now result.events.items (service_view self.old)
             (service_view self.new) }
     {
-        let out = self.chart.control(letters, now);
-        self.status.record_marks(out.events.as_slice(), now);
+        let out = self.standing.chart.control(letters, now);
+        self.standing
+            .status
+            .record_marks(out.events.as_slice(), now);
         out
     }
 
@@ -273,8 +278,10 @@ impl<A: Allocator + Copy> Service<A> {
         ensures agrees { KeepsAgreeing now result.events.items (service_view self.old)
             (service_view self.new) }
     {
-        let out = self.chart.fire(now);
-        self.status.record_marks(out.events.as_slice(), now);
+        let out = self.standing.chart.fire(now);
+        self.standing
+            .status
+            .record_marks(out.events.as_slice(), now);
         out
     }
 
@@ -291,8 +298,10 @@ impl<A: Allocator + Copy> Service<A> {
         ensures agrees { KeepsAgreeing now result.events.items (service_view self.old)
             (service_view self.new) }
     {
-        let out = self.chart.change(change, now);
-        self.status.record_marks(out.events.as_slice(), now);
+        let out = self.standing.chart.change(change, now);
+        self.standing
+            .status
+            .record_marks(out.events.as_slice(), now);
         self.join(change.counted_death(out.stale, now));
         out
     }
@@ -305,7 +314,7 @@ impl<A: Allocator + Copy> Service<A> {
         ensures agrees { (history : List Moment) → AgreesWith self.old history
             → AgreesWith self.new history }
     {
-        self.chart.set_active(active, now);
+        self.standing.set_active(active, now);
         Out::new()
     }
 
@@ -317,7 +326,7 @@ impl<A: Allocator + Copy> Service<A> {
         ensures agrees { (history : List Moment) → AgreesWith self.old history
             → AgreesWith self.new history }
     {
-        self.chart.set_config(config);
+        self.standing.set_config(config);
         Out::new()
     }
 }

@@ -18,8 +18,8 @@ use std::marker::Model;
 /// does, so that a change is known before it is made. No change takes memory.
 #[derive(Clone, Copy)]
 pub struct ServiceState {
-    chart: ChartState,
-    status: Status,
+    pub(crate) chart: ChartState,
+    pub(crate) status: Status,
 }
 
 impl Model for ServiceState {

@@ -1,10 +1,10 @@
 -- A step that touches one service after the other.
-use Rattle.std.proofs.Common.{◌≡◌, ◌≢◌, ℕ, zero, suc, ◌+◌, ◌<◌, List, [], ◌∷◌, ◌++◌, refl, sym, ◌∙◌, ap, map, flat_map, get_or, subst, true, take}
+use Rattle.std.proofs.Common.{◌≡◌, ◌≢◌, ℕ, zero, suc, ◌+◌, ◌<◌, ◌≤◌, List, [], ◌∷◌, ◌++◌, refl, sym, ◌∙◌, ap, map, flat_map, get_or, subst, true, take}
 use Rattle.std.proofs.Common.{drop, append-nil, append_assoc, length, rules, arith}
 use Rattle.std.specs.Prelude.{Option, Some, None, option_map, slice_get, slice_set, IsSomeAnd, unwrap_or}
 use Rattle.std.proofs.lemmas.Option.{none-some, same_Some}
 use Rattle.s6_events.specs.declared.exit.Exit.{Exit}
-use Rattle.std.proofs.lemmas.List.{map-append, map-set}
+use Rattle.std.proofs.lemmas.List.{map-append, map-set, take-append-le}
 use Rattle.std.proofs.lemmas.List.Sums.{fold-append, fold_more}
 use Rattle.std.proofs.Math.Numerals.{add-one}
 use Rattle.deadlines.specs.declared.timer.Timer.{Timer}
@@ -36,6 +36,23 @@ use Rattle.svscan_core.proofs.Places.{get_map, set_itself, half_get, half_set, h
 pub touched_more : (services : List Supervised) (ts : List ChangedService) (t : ChangedService)
     → with_changes services (ts ++ t ∷ []) ≡ with_change (with_changes services ts) t
 touched_more services ts t = fold-append with_change services ts (t ∷ [])
+
+-- what is touched at one place leaves what stands at another
+elsewhere : (services : List Supervised) (t : ChangedService) (p : ℕ) → t.place ≢ p → slice_get (with_change services t) p ≡ slice_get services p
+elsewhere services t p apart = by (slice_get services t.place)
+  where
+    by : (o : Option Supervised) → slice_get (with_view_at t o services) p ≡ slice_get services p
+    by None = refl
+    by (Some s) = get_set_other services p t.place (with_view t.standing t.death s) apart
+
+-- a place that wasn't visited still isn't, where one below it is touched
+pub still_unvisited : (services : List Supervised) (ts : List ChangedService) (t : ChangedService) (before p : ℕ) → before ≤ length ts → t.place < p
+    → slice_get (with_changes services (take before ts)) p ≡ slice_get (with_changes services ts) p
+    → slice_get (with_changes services (take before (ts ++ t ∷ []))) p ≡ slice_get (with_changes services (ts ++ t ∷ [])) p
+still_unvisited services ts t before p within below same =
+    ap (λ us. slice_get (with_changes services us) p) (take-append-le before ts (t ∷ []) within)
+    ∙ (same ∙ (sym (elsewhere (with_changes services ts) t p (λ e. absurd (omega (arith, e, below))))
+    ∙ sym (ap (λ ss. slice_get ss p) (touched_more services ts t))))
 
 pub names_kept : (services : List Supervised) (ts : List ChangedService) (t : ChangedService) → KeepNames services ts
     → IsSomeAnd (slice_get (with_changes services ts) t.place) (λ s. s.chart.name ≡ t.standing.chart.name) → KeepNames services (ts ++ t ∷ [])

@@ -1,5 +1,5 @@
 -- A step under way: the services as it has them so far, and what it has given.
-use Rattle.std.specs.Prelude.{◌≡◌, ℕ, List, [], ◌∷◌, ◌++◌, map, fold, take, drop, slice_get, slice_set, IsSomeAnd}
+use Rattle.std.specs.Prelude.{◌≡◌, ◌≤◌, ℕ, List, [], ◌∷◌, ◌++◌, map, fold, take, drop, slice_get, slice_set, IsSomeAnd}
 use Rattle.std.specs.Prelude.{Option, None, Some}
 use Rattle.deadlines.specs.declared.timer.Timer.{Timer}
 use Rattle.deadlines.specs.declared.timer.TimerChange.{TimerChange}
@@ -40,6 +40,11 @@ abbrev pub KeepNames : List Supervised → List ChangedService → Type 0
 KeepNames services [] = Unit {0}
 KeepNames services (t ∷ touched) = IsSomeAnd (slice_get services t.place) (λ s. s.chart.name ≡ t.standing.chart.name)
     × KeepNames (with_change services t) touched
+
+-- of the changes from `before` on, none is of a service at this place or behind it
+abbrev pub AreUnvisited : List Supervised → ℕ → ℕ → List ChangedService → Type 0
+AreUnvisited services before place touched = (p : ℕ) → place ≤ p
+    → slice_get (with_changes services (take before touched)) p ≡ slice_get (with_changes services touched) p
 
 -- what the touched services do to the timers
 abbrev pub timers_of : List ChangedService → List TimerChange

@@ -8,7 +8,7 @@ ghost use Rattle.supervise_core.specs.MatchesMove.{most_orders};
 ghost use Rattle.std.specs.List.{list_any};
 ghost use Rattle.svscan_core.specs.Moves.{service_mark};
 ghost use Rattle.svscan_core.specs.Work.{change_move_at};
-ghost use Rattle.svscan_core.specs.Moving.{services_so_far, with_changes, step_so_far, KeepNames, TakesAt, Takes};
+ghost use Rattle.svscan_core.specs.Moving.{services_so_far, with_changes, step_so_far, AreUnvisited, KeepNames, TakesAt, Takes};
 ghost use Rattle.svscan_core.specs.Table.{charts_of, serials_of};
 ghost use Rattle.svscan_core.specs.Visit.{visit_move};
 ghost use Rattle.svscan_core.specs.declared.visit.Visit.TheVariants.{Fire};
@@ -40,21 +40,36 @@ pub struct Moves<A: Allocator> {
 }
 
 /// The service at a place, as the step has it so far.
-pub fn standing_at<A: Allocator + Copy>(
-    slots: &Slots<A>,
-    touched: &[ChangedService],
+pub fn standing_at<'a, A: Allocator + Copy>(
+    slots: &'a Slots<A>,
+    touched: &'a [ChangedService],
     place: usize,
-) -> Option<ServiceState>
-    ensures { result ≡ option_map service_view
+) -> Option<&'a ServiceState>
+    ensures { option_map (λ s. s.now) result ≡ option_map service_view
         (slice_get (with_changes slots.now.services touched.now) place) }
 {
     let mut standing = slots.nth(place)?.standing();
     for other in touched {
         if other.place == place {
-            standing = other.standing;
+            standing = &other.standing;
         }
     }
     Some(standing)
+}
+
+// The same, where of these changes those from `before` on are of other services, and needn't be looked at.
+fn standing_before<'a, A: Allocator + Copy>(
+    slots: &'a Slots<A>,
+    touched: &'a [ChangedService],
+    before: usize,
+    place: usize,
+) -> Option<&'a ServiceState>
+    requires earlier { before ≤ length touched.now }
+    requires unvisited { AreUnvisited slots.now.services before place touched.now }
+    ensures { option_map (λ s. s.now) result ≡ option_map service_view
+        (slice_get (with_changes slots.now.services touched.now) place) }
+{
+    standing_at(slots, &touched[..before], place)
 }
 
 // Adds the marks of a service as events.
@@ -110,20 +125,13 @@ impl<A: Allocator + Copy> Moves<A> {
         add_events(&mut self.events, sid, out.events.as_slice())
     }
 
-    // Notes that the service at this place becomes `standing`, and adds the marks, the orders and the death that led to it.
-    fn touch(
-        &mut self,
-        place: usize,
-        standing: &ServiceState,
-        death: Option<(At, Exit)>,
-        out: &Out,
-    ) -> Result<(), NoMemory>
+    // Notes how a service changes, and adds the marks and the orders that this gives.
+    fn touch(&mut self, changed: &ChangedService, out: &Out) -> Result<(), NoMemory>
         ensures touched { OnOk result
-            (self.new.touched.items ≡ self.old.touched.items
-            ++ (record { place = place; standing = standing.now; death = death }) ∷ []) }
+            (self.new.touched.items ≡ self.old.touched.items ++ changed.now ∷ []) }
         ensures events { OnOk result
             (self.new.events.items ≡ self.old.events.items
-            ++ map (service_mark standing.now.chart.sid) out.now.events.items) }
+            ++ map (service_mark changed.now.standing.chart.sid) out.now.events.items) }
         ensures orders { OnOk result
             (self.new.orders.items ≡ self.old.orders.items ++ out.now.orders.items) }
     {
@@ -131,20 +139,23 @@ impl<A: Allocator + Copy> Moves<A> {
         if !out.orders.is_empty() {
             self.orders.extend_from_slice(out.orders.as_slice())?;
         }
-        add_events(&mut self.events, standing.sid(), out.events.as_slice())?;
-        self.touched.push(ChangedService {
-            place,
-            standing: *standing,
-            death,
-        })?;
+        add_events(
+            &mut self.events,
+            changed.standing.sid(),
+            out.events.as_slice(),
+        )?;
+        self.touched.reserve(1)?;
+        self.touched.push_reserved(*changed);
         Ok(())
     }
 
-    // Applies the visit to the service at this place, unless it would change nothing.
+    // Applies the visit to the service at this place, unless it would change nothing. Of the changes so far, those from `before` on are of
+    // other services.
     fn visit_at<'a>(
         &mut self,
         slots: &'a Slots<A>,
         visit: Visit<'a, A>,
+        before: usize,
         place: usize,
         now: At,
         out: &mut Out,
@@ -154,6 +165,9 @@ impl<A: Allocator + Copy> Moves<A> {
             ≡ Some c → c.generation + 1 < 2 ^ 64 }
         requires order { is_rising (serials_of
             (services_so_far slots.now.services self.old.touched.items)) ≡ true }
+        requires earlier { before ≤ length self.old.touched.items }
+        requires unvisited { AreUnvisited slots.now.services before place
+            self.old.touched.items }
         ensures takes { OnOk result ((c : ChartState) → slice_get (services_so_far slots.now.services self.old.touched.items) place ≡ Some c
             → TakesAt now place c (visit_move visit.entry now c)
             (step_so_far slots.now.services self.old) (step_so_far slots.now.services self.new)) }
@@ -166,15 +180,25 @@ impl<A: Allocator + Copy> Moves<A> {
             ≤ length self.old.orders.items + 2) }
         ensures fires { visit.entry ≡ Fire
             → OnOk result (length self.new.orders.items ≤ length self.old.orders.items + 1) }
+        ensures more { OnOk result (length self.old.touched.items
+            ≤ length self.new.touched.items) }
+        ensures unvisited { OnOk result (AreUnvisited slots.now.services before (place + 1)
+            self.new.touched.items) }
     {
-        let Some(mut after) = standing_at(slots, self.touched.as_slice(), place) else {
+        let touched = self.touched.as_slice();
+        let Some(standing) = standing_before(slots, touched, before, place) else {
             return Ok(());
         };
-        if visit.passes(&after, now) {
+        if visit.passes(standing, now) {
             return Ok(());
         }
-        visit.make(&mut after, now, out);
-        self.touch(place, &after, None, out)?;
+        let mut changed = ChangedService {
+            place,
+            standing: *standing,
+            death: None,
+        };
+        visit.make(&mut changed.standing, now, out);
+        self.touch(&changed, out)?;
         Ok(())
     }
 
@@ -201,8 +225,9 @@ impl<A: Allocator + Copy> Moves<A> {
             → OnOk result (length self.new.orders.items
             ≤ length self.old.orders.items + length slots.now.services) }
     {
+        let before = self.touched.len();
         for place in 0..slots.len() {
-            self.visit_at(slots, visit, place, now, out)?;
+            self.visit_at(slots, visit, before, place, now, out)?;
         }
         Ok(())
     }
@@ -237,13 +262,19 @@ impl<A: Allocator + Copy> Moves<A> {
         let Some(place) = place_of(slots, sid) else {
             return Ok(false);
         };
-        let Some(mut after) = standing_at(slots, self.touched.as_slice(), place) else {
+        let Some(standing) = standing_at(slots, self.touched.as_slice(), place) else {
             return Ok(false);
         };
+        let mut changed = ChangedService {
+            place,
+            standing: *standing,
+            death: None,
+        };
         out.clear();
-        after.change_onto(change, now, out);
+        changed.standing.change_onto(change, now, out);
         let stale = out.stale;
-        self.touch(place, &after, change.counted_death(stale, now), out)?;
+        changed.death = change.counted_death(stale, now);
+        self.touch(&changed, out)?;
         Ok(stale)
     }
 }

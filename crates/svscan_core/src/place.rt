@@ -8,8 +8,20 @@ use super::slots::Slots;
 use s6_events::Sid;
 use std::alloc::Allocator;
 
-/// The place of the service of this serial; None where no service has it. Serials rise with the places, so that a search by halves
-/// finds it.
+// Whether the service at this place has this serial.
+fn is_at<A: Allocator + Copy>(slots: &Slots<A>, place: usize, sid: Sid) -> bool
+    ensures bound { result ≡ true → place < length slots.now.services }
+    ensures found { result ≡ true
+        → slice_get (serials_of (charts_of slots.now.services)) place ≡ Some sid }
+{
+    let Some(service) = slots.nth(place) else {
+        return false;
+    };
+    service.sid() == sid
+}
+
+/// The place of the service of this serial; None where no service has it. Until a service leaves, each serial is one above its place, and
+/// is looked for there first. Serials rise with the places, so that a search by halves finds it elsewhere.
 pub fn place_of<A: Allocator + Copy>(slots: &Slots<A>, sid: Sid) -> Option<usize>
     requires order { is_rising (serials_of (charts_of slots.now.services)) ≡ true }
     ensures bound { IfSome result (λ p. p < length slots.now.services) }
@@ -17,6 +29,10 @@ pub fn place_of<A: Allocator + Copy>(slots: &Slots<A>, sid: Sid) -> Option<usize
         (λ p. slice_get (serials_of (charts_of slots.now.services)) p ≡ Some sid) }
     ensures none { IfNone result (list_any (λ s. s.chart.sid == sid) slots.now.services ≡ false) }
 {
+    let guess = sid.0.wrapping_sub(1) as usize;
+    if is_at(slots, guess, sid) {
+        return Some(guess);
+    }
     let mut low = 0;
     let mut high = slots.len();
     while low < high {

@@ -47,7 +47,7 @@ fn adopt_in<A: Allocator + Copy>(
     ensures capacity { slots.new.capacity ≡ slots.old.capacity }
 {
     if let Some(service) = slots.get_mut(slot) {
-        service.adopt(*standing, death);
+        service.adopt(standing, death);
     }
 }
 

@@ -74,7 +74,7 @@ pub fn change<A: Allocator + Copy>(
     ensures room { slots.new.room ≡ slots.old.room }
 {
     let place = place_of(slots, sid)?;
-    let mut standing = slots.nth(place)?.standing();
+    let mut standing = *slots.nth(place)?.standing();
     let out = standing.change(change, now);
     slots.adopt(place, &standing, change.counted_death(out.stale, now));
     Some(out)
@@ -119,6 +119,6 @@ pub fn after_timers<A: Allocator + Copy>(
         → IfSome result (λ s. AgreesAs s
         (history ++ map moment_of (events_after (fire_move now) (charts_of slots.now.services)))) }
 {
-    let standing = slots.find(name)?.standing();
+    let standing = *slots.find(name)?.standing();
     Some(after_timer(standing, now))
 }

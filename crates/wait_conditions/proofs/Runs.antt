@@ -245,3 +245,28 @@ set_one (x ∷ xs) (suc p) sid q state within all is low =
     (λ far. set_one xs p sid q state (omega (arith, within))
     (rest_on (nat_lt x.last sid) (list_all (λ r. nat_lt r.last sid) (take p xs)) all) is
     (λ lt. ap (λ b. b || covers (take p xs) q) (sym far) ∙ low lt))
+
+grow_first : (sid last q : ℕ) (state was rest : SupervisorState) (le eq : Bool) → last + 1 ≡ sid → was ≡ state → nat_le q last ≡ le
+    → (q == sid) ≡ eq
+    → (if nat_le q sid then state else rest) ≡ (if eq then state else (if le then was else rest))
+grow_first sid last q state was rest le true next same l e =
+    let here : nat_le q sid ≡ true = grind (arith, nat_tests) in ap (λ b. if b then state else rest) here
+grow_first sid last q state was rest true false next same l e =
+    let here : nat_le q sid ≡ true = grind (arith, nat_tests) in ap (λ b. if b then state else rest) here ∙ sym same
+grow_first sid last q state was rest false false next same l e =
+    let past : nat_le q sid ≡ false = grind (arith, nat_tests) in ap (λ b. if b then state else rest) past
+
+-- a run that ends just below a serial, and says of it what is to be said, reaches up to it
+pub grow_one : (xs : List StateRun) (p sid q : ℕ) (state : SupervisorState) → p < length xs
+    → list_all (λ r. nat_lt r.last sid) (take (p + 1) xs) ≡ true → IfSome (slice_get xs p) (λ r. (r.last + 1 ≡ sid) × (r.state ≡ state))
+    → state_in (slice_set xs p (record { last = sid; state = state })) q ≡ (if q == sid then state else state_in xs q)
+grow_one [] p sid q state within all is = absurd (omega (arith, within))
+grow_one (x ∷ xs) zero sid q state within all is = grow_first sid x.last q state x.state (state_in xs q) _ _ is.0 is.1 refl refl
+grow_one (x ∷ xs) (suc p) sid q state within all is =
+    let next : suc p + 1 ≡ suc (p + 1) = omega arith in
+    let front = ap (λ n. list_all (λ r. nat_lt r.last sid) (take n (x ∷ xs))) (sym next) ∙ all in
+    let first : nat_lt x.last sid ≡ true = first_on (nat_lt x.last sid) (list_all (λ r. nat_lt r.last sid) (take (p + 1) xs)) front in
+    set_later (nat_le q x.last) (q == sid) x.state (state_in (slice_set xs p (record { last = sid; state = state })) q) (state_in xs q) state
+    (λ near. grind (arith, nat_tests))
+    (λ far. grow_one xs p sid q state (omega (arith, within))
+    (rest_on (nat_lt x.last sid) (list_all (λ r. nat_lt r.last sid) (take (p + 1) xs)) front) is)

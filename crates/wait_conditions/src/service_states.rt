@@ -127,6 +127,24 @@ fn is_of_one(runs: &[StateRun], place: usize, sid: Sid) -> bool
     place < runs.len() && ends_with(runs[place], sid.0) && is_reached_below(runs, place, sid)
 }
 
+// Whether a run says this, and ends with the serial just below this one.
+fn says_just_below(run: StateRun, sid: Sid, state: SupervisorState) -> bool
+    ensures last { result ≡ true → run.last + 1 ≡ sid }
+    ensures state { result ≡ true → run.state ≡ state }
+{
+    run.last.0 < sid.0 && run.last.0 + 1 == sid.0 && run.state == state
+}
+
+// Whether the run before this place says this, and ends with the serial just below this one.
+fn is_said_before(runs: &[StateRun], place: usize, sid: Sid, state: SupervisorState) -> bool
+    requires { place ≤ length runs.now }
+    ensures place { result ≡ true → 0 < place }
+    ensures run { result ≡ true → IfSome (slice_get runs.now (place - 1))
+        (λ r. (r.last + 1 ≡ sid) × (r.state ≡ state)) }
+{
+    place > 0 && says_just_below(runs[place - 1], sid, state)
+}
+
 // Whether there is a run at this place that is not needed: without it the same is known of each service.
 fn is_redundant(runs: &[StateRun], place: usize) -> bool
     ensures within { result ≡ true → place < length runs.now }
@@ -272,6 +290,10 @@ impl<A: Allocator> ServiceStates<A> {
         if is_of_one(&self.runs, place, sid) {
             set_run(&mut self.runs, place, sid, state);
             self.tidy_at(place);
+            return;
+        }
+        if is_said_before(&self.runs, place, sid, state) {
+            set_run(&mut self.runs, place - 1, sid, state);
             return;
         }
         let was = state_of_service(&self.runs, sid);

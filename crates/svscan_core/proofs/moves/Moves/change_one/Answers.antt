@@ -1,5 +1,5 @@
 use Rattle.std.proofs.Common.{◌≡◌, [], ◌∷◌, ◌∙◌, ◌<◌, ◌+◌, sym, ap, subst}
-use Rattle.std.specs.Prelude.{List, Option, Some, IsSomeAnd, slice_get}
+use Rattle.std.specs.Prelude.{List, Option, Some, option_map, IsSomeAnd, slice_get}
 use Rattle.std.proofs.lemmas.List.{map-append}
 use Rattle.std.proofs.lemmas.Option.{get_or_from_slice_get, slice_get_within}
 use Rattle.deadlines.specs.Timers.{is_rising}
@@ -37,8 +37,8 @@ pub change_onto-requires-clause-next : goal.change_onto-requires-clause-next
 change_onto-requires-clause-next g c =
     let ss = with_changes c.args.slots.now.services c.args.self.now.touched.items in
     let place = c.in-Some.place in
-    let before = c.in-Some-standing_at.after in
-    let old = stood (slice_get ss place) before (sym c.in-Some-standing_at.is ∙ (rw c.as_slice.ensures.value at c.standing_at.ensures)) in
+    let before = c.in-Some-standing_at.standing.now in
+    let old = stood (slice_get ss place) before (ap (option_map (λ s. s.now)) (sym c.in-Some-standing_at.is) ∙ (rw c.as_slice.ensures.value at c.standing_at.ensures)) in
     let there : slice_get (charts_of ss) place ≡ Some before.chart =
     get_map (λ (t : Supervised). t.chart) ss place old.0 old.1 ∙ ap (λ (b : ServiceView). Some b.chart) old.2 in
     subst (λ (x : ChartState). x.generation + 1 < 18446744073709551616) (get_or_from_slice_get (charts_of ss) place before.chart before.chart there)
@@ -49,10 +49,10 @@ returns-clause-takes g c =
     let ss = with_changes c.args.slots.now.services c.args.self.now.touched.items in
     let cs = charts_of ss in
     let place = c.in-Some.place in
-    let before = c.in-Some-standing_at.after in
+    let before = c.in-Some-standing_at.standing.now in
     let rising = ap is_rising c.requires.serials ∙ c.requires.order in
     let at = state_found cs place c.args.sid (ap (λ ns. slice_get ns place) c.requires.serials ∙ c.in-Some.ensures.found) in
-    let old = stood (slice_get ss place) before (sym c.in-Some-standing_at.is ∙ (rw c.as_slice.ensures.value at c.standing_at.ensures)) in
+    let old = stood (slice_get ss place) before (ap (option_map (λ s. s.now)) (sym c.in-Some-standing_at.is) ∙ (rw c.as_slice.ensures.value at c.standing_at.ensures)) in
     let is : before.chart ≡ at.state = sym (ap (λ (b : ServiceView). b.chart) old.2) ∙ chart_there ss place old.0 at.state old.1 at.there in
     let after = c.change_onto.new.self in
     let gives : MatchesMove (changed_by c.args.change.now c.args.now before.chart) after.chart c.change_onto.new.out =
@@ -82,9 +82,9 @@ returns-clause-stale g c =
     let ss = with_changes c.args.slots.now.services c.args.self.now.touched.items in
     let cs = charts_of ss in
     let place = c.in-Some.place in
-    let before = c.in-Some-standing_at.after in
+    let before = c.in-Some-standing_at.standing.now in
     let at = state_found cs place c.args.sid (ap (λ ns. slice_get ns place) c.requires.serials ∙ c.in-Some.ensures.found) in
-    let old = stood (slice_get ss place) before (sym c.in-Some-standing_at.is ∙ (rw c.as_slice.ensures.value at c.standing_at.ensures)) in
+    let old = stood (slice_get ss place) before (ap (option_map (λ s. s.now)) (sym c.in-Some-standing_at.is) ∙ (rw c.as_slice.ensures.value at c.standing_at.ensures)) in
     let is : before.chart ≡ at.state = sym (ap (λ (b : ServiceView). b.chart) old.2) ∙ chart_there ss place old.0 at.state old.1 at.there in
     let gives : MatchesMove (changed_by c.args.change.now c.args.now before.chart) c.change_onto.new.self.chart c.change_onto.new.out =
     matches_alone _ c.change_onto.new.self.chart c.clear.new.self c.change_onto.new.out c.clear.ensures.events c.clear.ensures.orders
@@ -96,8 +96,8 @@ pub returns-clause-names : goal.returns-clause-names
 returns-clause-names g c = λ h.
     let ss = with_changes c.args.slots.now.services c.args.self.now.touched.items in
     let place = c.in-Some.place in
-    let before = c.in-Some-standing_at.after in
-    let old = stood (slice_get ss place) before (sym c.in-Some-standing_at.is ∙ (rw c.as_slice.ensures.value at c.standing_at.ensures)) in
+    let before = c.in-Some-standing_at.standing.now in
+    let old = stood (slice_get ss place) before (ap (option_map (λ s. s.now)) (sym c.in-Some-standing_at.is) ∙ (rw c.as_slice.ensures.value at c.standing_at.ensures)) in
     let after = c.change_onto.new.self in
     let t : ChangedService = record { place = place; standing = after; death = c.counted_death.result } in
     subst (λ (ts : List ChangedService). KeepNames c.args.slots.now.services ts) (sym c.in_ok-touch.ensures.touched)

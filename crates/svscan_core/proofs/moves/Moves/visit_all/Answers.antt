@@ -29,6 +29,8 @@ loop-place-preserved g c =
       names = λ h. c.in_ok-visit_at.ensures.names (c.loop-place.invariant.names h);
       few = omega (arith, c.in_ok-visit_at.ensures.few, c.loop-place.invariant.few);
       fires = λ e. omega (arith, c.in_ok-visit_at.ensures.fires e, c.loop-place.invariant.fires e);
+      earlier = omega (arith, c.in_ok-visit_at.ensures.more, c.loop-place.invariant.earlier);
+      unvisited = c.in_ok-visit_at.ensures.unvisited;
     }
 
 pub returns-clause-takes : goal.returns-clause-takes

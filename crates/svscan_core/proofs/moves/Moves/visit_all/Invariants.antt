@@ -1,5 +1,5 @@
 use Rattle.std.proofs.Common.{◌≡◌, ◌≤◌, ◌+◌, ◌*◌, length}
-use Rattle.svscan_core.specs.Moving.{step_so_far, with_changes, KeepNames, TakesUpTo}
+use Rattle.svscan_core.specs.Moving.{step_so_far, with_changes, AreUnvisited, KeepNames, TakesUpTo}
 use Rattle.svscan_core.specs.Table.{charts_of, serials_of}
 use Rattle.svscan_core.specs.declared.visit.Visit.TheVariants.{Fire}
 use Rattle.svscan_core.specs.Visit.{visit_move}
@@ -13,4 +13,6 @@ invariant-loop-place g l = record {
   names : KeepNames l.slots.services l.fn.self.touched.items → KeepNames l.slots.services l.self.touched.items;
   few : length l.self.orders.items ≤ length l.fn.self.orders.items + 2 * l.place;
   fires : l.visit ≡ Fire → length l.self.orders.items ≤ length l.fn.self.orders.items + l.place;
+  earlier : l.before ≤ length l.self.touched.items;
+  unvisited : AreUnvisited l.slots.services l.before l.place l.self.touched.items;
 }
