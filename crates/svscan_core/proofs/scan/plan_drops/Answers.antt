@@ -15,14 +15,14 @@ pub loop-place-preserved : goal.loop-place-preserved
 loop-place-preserved g c =
     let ss = with_changes c.args.slots.now.services c.args.touched.now in
     let so_far = c.loop-place.invariant in
-    let at : (b : ServiceView) → c.standing_at.result ≡ Some b → slice_get (charts_of ss) c.loop-place.place ≡ Some b.chart =
+    let at : (b : ServiceView) → option_map (λ s. s.now) c.standing_at.result ≡ Some b → slice_get (charts_of ss) c.loop-place.place ≡ Some b.chart =
     λ b is.
     let old = stood (slice_get ss c.loop-place.place) b (sym is ∙ c.standing_at.ensures) in
     get_map (λ (t : Supervised). t.chart) ss c.loop-place.place old.0 old.1 ∙ ap (λ (x : ServiceView). Some x.chart) old.2 in
     elim c.match-standing_at.branch [
       | in-Some+then-is_retained w ↦
           let there : slice_get (charts_of ss) c.loop-place.place ≡ Some w.chart-chart.result =
-          at w.in-Some.standing w.in-Some.is ∙ ap Some (sym w.chart-chart.ensures) in
+          at w.in-Some.standing.now (ap (option_map (λ s. s.now)) w.in-Some.is) ∙ ap Some (sym w.chart-chart.ensures) in
           rw (w.scan-is, w.retained-is) (record {
             planned =
                 one_stays (charts_of ss) c.loop-place.place w.chart-chart.result c.args.scan.now.dropped.items c.loop-place.scan.dropped.items
@@ -34,7 +34,7 @@ loop-place-preserved g c =
           })
       | in-Some+else-is_retained+in_ok-drop_service w ↦
           let there : slice_get (charts_of ss) c.loop-place.place ≡ Some w.chart-chart.result =
-          at w.in-Some.standing w.in-Some.is ∙ ap Some (sym w.chart-chart.ensures) in
+          at w.in-Some.standing.now (ap (option_map (λ s. s.now)) w.in-Some.is) ∙ ap Some (sym w.chart-chart.ensures) in
           let ends = w.in_ok-drop_service.ensures in
           rw (w.scan-is, w.retained-is, ends.dropped, ends.dropped_sids) (record {
             planned =
@@ -51,7 +51,7 @@ loop-place-preserved g c =
           let within : c.loop-place.place < length ss = omega (arith, c.loop-place-test.true, long, count) in
           let stands = stands_at ss c.loop-place.place within in
           absurd (none-some (service_view stands.item)
-          (sym (sym c.standing_at.ensures ∙ w.in_default.is) ∙ ap (option_map service_view) stands.there))
+          (sym (sym c.standing_at.ensures ∙ ap (option_map (λ s. s.now)) w.in_default.is) ∙ ap (option_map service_view) stands.there))
     ]
 
 -- all services were looked at

@@ -44,7 +44,7 @@ pub change-out-requires : goal.change-out-requires
 change-out-requires g c =
     let services = c.args.slots.now.services in
     let s = c.in_ok-nth.field-0.now in
-    rw c.standing-standing.ensures
+    rw c.standing.ensures
     (all_at (λ (k : ChartState). k.generation + 1 < 2 ^ 64) (charts_of services) c.in_ok-place.place s.chart c.requires.generations
     (get_map (λ (t : Supervised). t.chart) services c.in_ok-place.place s (sym c.in_ok-nth.ensures)))
 
@@ -54,7 +54,7 @@ changed g c =
     let services = c.args.slots.now.services in
     let s = c.in_ok-nth.field-0.now in
     let there = sym c.in_ok-nth.ensures in
-    let is = c.standing-standing.ensures in
+    let is = c.standing.ensures in
     changed_there c.args.sid c.args.now c.args.change.now services c.adopt.new.self.services c.in_ok-place.place s c.change-out.new.self
     c.counted_death.result
     c.change-out.result c.requires.order c.in_ok-place.ensures.found there (rw is at c.change-out.ensures.gives)

@@ -61,7 +61,7 @@ returns-clause-takes g c =
     let agrees : KeepsAgreeing c.args.now c.change_onto.new.out.events.items before after =
     subst (λ (ms : List Mark). KeepsAgreeing c.args.now ms before after) (sym gives.marks) c.change_onto.ensures.agrees in
     let new = c.touch.new.self in
-    let t : ChangedService = record { place = place; standing = after; death = c.counted_death.result } in
+    let t : ChangedService = record { place = place; standing = after; death = c.counted_death-changed.result } in
     one_takes c.args.now c.args.sid c.args.change.now place (step_so_far c.args.slots.now.services c.args.self.now)
     (step_so_far c.args.slots.now.services new) at rising
     (subst (λ (x : ChartState). TakesAt c.args.now place x (changed_by c.args.change.now c.args.now x)
@@ -70,7 +70,7 @@ returns-clause-takes g c =
     new.events.items c.args.self.now.orders.items new.orders.items (timers_of c.args.self.now.touched.items) (timers_of new.touched.items)
     old.0 before after t.death (changed_by c.args.change.now c.args.now before.chart) c.change_onto.new.out old.1 old.2 rising
     gives agrees c.change_onto.ensures.sid
-    (change_joins c.args.change.now c.args.now before.chart _ c.counted_death.result gives.stale c.counted_death.ensures)
+    (change_joins c.args.change.now c.args.now before.chart _ c.counted_death-changed.result gives.stale c.counted_death-changed.ensures)
     (ap (with_changes c.args.slots.now.services) c.in_ok-touch.ensures.touched
     ∙ (touched_more c.args.slots.now.services c.args.self.now.touched.items t ∙ one_taken ss t old.0 old.1))
     c.in_ok-touch.ensures.events c.in_ok-touch.ensures.orders
@@ -99,7 +99,7 @@ returns-clause-names g c = λ h.
     let before = c.in-Some-standing_at.standing.now in
     let old = stood (slice_get ss place) before (ap (option_map (λ s. s.now)) (sym c.in-Some-standing_at.is) ∙ (rw c.as_slice.ensures.value at c.standing_at.ensures)) in
     let after = c.change_onto.new.self in
-    let t : ChangedService = record { place = place; standing = after; death = c.counted_death.result } in
+    let t : ChangedService = record { place = place; standing = after; death = c.counted_death-changed.result } in
     subst (λ (ts : List ChangedService). KeepNames c.args.slots.now.services ts) (sym c.in_ok-touch.ensures.touched)
     (names_kept c.args.slots.now.services c.args.self.now.touched.items t h
     (subst (λ (o : Option Supervised). IsSomeAnd o (λ s. s.chart.name ≡ after.chart.name)) (sym old.1)
