@@ -1,3 +1,3 @@
 pub mod NoMemory
-pub mod ServeLines
+pub mod SocketTrouble
 pub mod Usage

@@ -11,7 +11,7 @@ mod help_text;
 mod no_memory;
 mod place;
 mod program;
-mod serve_lines;
+mod socket_trouble;
 mod usage;
 
 pub use place::TreePlace;

@@ -3,7 +3,7 @@ use crate::connection::run_connection;
 use crate::descriptors::open_standard;
 use crate::front::{Asked, run_words};
 use crate::place::TreePlace;
-use crate::serve_lines::tell_fault;
+use crate::socket_trouble::tell_fault;
 use child_runner::{Keeper, ShellProbe};
 use error_notes::{NoteWriter, Notes, start_notes};
 use replay_tool::run_tool;

@@ -1,7 +1,7 @@
 //! What is told of a tree that did not run to its end: the line of its fault, and a second one that says what was wrong.
 ghost use Rattle.std.specs.Prelude.{◌≡◌, ◌++◌, OnOk};
 ghost use Rattle.s6_tools.specs.Told.{escaped};
-ghost use Rattle.tree_front.specs.ServeLines.{trouble_before, before_of, second_line};
+ghost use Rattle.tree_front.specs.SocketTrouble.{trouble_before, before_of, second_line};
 
 use crate::place::TreePlace;
 use arrayvec::{ArrayString, CapacityError};

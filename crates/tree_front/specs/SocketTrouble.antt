@@ -3,8 +3,8 @@ use Rattle.std.specs.Prelude.{ℕ, List, [], ◌∷◌, ◌++◌, codes}
 use Rattle.s6_tools.specs.Told.{escaped}
 use Rattle.server_rules.specs.declared.serve_fault.ServeFault.{ServeFault}
 use Rattle.server_rules.specs.declared.serve_fault.ServeFault.TheVariants as fault
-use Rattle.tree_front.specs.declared.serve_lines.Trouble.{Trouble}
-use Rattle.tree_front.specs.declared.serve_lines.Trouble.TheVariants as trouble
+use Rattle.tree_front.specs.declared.socket_trouble.Trouble.{Trouble}
+use Rattle.tree_front.specs.declared.socket_trouble.Trouble.TheVariants as trouble
 
 abbrev pub trouble_before : Trouble → List ℕ
 trouble_before trouble.Length = codes "path is longer than 101 bytes: "
