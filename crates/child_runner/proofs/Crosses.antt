@@ -8,7 +8,7 @@ use Rattle.std.specs.contracts.rt.LibcRuntime as LibcRuntime
 use Rattle.error_notes.proofs.Crosses.{notes_send, notes_sync}
 use Rattle.child_runner.proofs.bell.Bell.TheSendSync as bell
 use Rattle.child_runner.proofs.lane_link.LaneLink.TheSendSync as link
-use Rattle.child_runner.proofs.process.ServiceProcess.TheSendSync as process
+use Rattle.child_runner.proofs.shared_child.ServiceProcess.TheSendSync as process
 use Rattle.child_runner.proofs.roster.ChildList.TheSendSync as roster
 use Rattle.child_runner.specs.contracts.backend.ProcessBackend as ProcessBackend
 use Rattle.child_runner.specs.contracts.backend.ProcessBackend.TheInside as Inside

@@ -3,13 +3,13 @@ ghost use Rattle.std.specs.Prelude.{◌≡◌, ◌++◌, ◌∷◌, [], OnOk, On
 ghost use Rattle.child_runner.specs.Roll.{with_asked};
 
 use crate::bell::Bell;
-use crate::commands::{
+use crate::keeper::Keeper;
+use crate::order_commands::{
     directory_of, finish_command, is_executable, is_read, path_of, run_command, text_of,
 };
-use crate::keeper::Keeper;
-use crate::process::{Pipe, ServiceProcess};
 use crate::roll::Roll;
 use crate::roster::ChildList;
+use crate::shared_child::{Pipe, ServiceProcess};
 use crate::shell::{Sending, signal_child};
 use crate::started_program::{Program, Start, is_last};
 use error_notes::Notes;

@@ -1,8 +1,8 @@
 //! The keeper: the thread that starts the threads of children, and joins them.
 ghost use Rattle.std.specs.Prelude.{◌≡◌};
 
-use crate::process::ServiceProcess;
 use crate::roster::ChildList;
+use crate::shared_child::ServiceProcess;
 use crate::shell::signal_child;
 use crate::watching::{STACK, give_back, watch};
 use s6_events::SIGKILL;

@@ -3,7 +3,6 @@
 
 mod backend;
 mod bell;
-mod commands;
 mod end_mark;
 mod keeper;
 mod lane_link;
@@ -11,10 +10,11 @@ mod lane_thread;
 mod line_limit;
 mod link_queue;
 mod linked_backend;
-mod process;
+mod order_commands;
 mod progress;
 mod roll;
 mod roster;
+mod shared_child;
 mod shell;
 mod signals;
 mod started_program;

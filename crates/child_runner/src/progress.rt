@@ -28,8 +28,8 @@ pub(crate) struct Progress {
     signals: Signals,
     // What it wrote and nobody was told yet.
     written: ArrayVec<u8, 64>,
-    // Whether it is still read.
-    is_read: bool,
+    // Whether what it writes is still read.
+    is_output_read: bool,
     // Whether it wrote its first newline, after which nothing is told of what it writes.
     is_heard: bool,
     exit: Option<Exit>,
@@ -43,7 +43,7 @@ impl Progress {
             stage: Stage::Starting,
             signals: Signals::new(),
             written: ArrayVec::new(),
-            is_read: false,
+            is_output_read: false,
             is_heard: false,
             exit: None,
             is_given_up: false,
@@ -55,9 +55,9 @@ impl Progress {
         self.stage = Stage::Failed;
     }
 
-    /// It lives. `is_read` is whether its output is read.
-    pub fn begin(&mut self, program: &Program, pid: u32, is_read: bool) {
-        self.is_read = is_read;
+    /// It lives. `is_output_read` is whether what it writes is read.
+    pub fn begin(&mut self, program: &Program, pid: u32, is_output_read: bool) {
+        self.is_output_read = is_output_read;
         self.stage = match program {
             Program::Run => Stage::Fresh(pid),
             Program::Finish => Stage::Living,
@@ -90,14 +90,14 @@ impl Progress {
         self.signals.is_reaped || self.is_given_up
     }
 
-    /// Whether it is still read.
-    pub fn is_read(&self) -> bool {
-        self.is_read
+    /// Whether what it writes is still read.
+    pub fn is_output_read(&self) -> bool {
+        self.is_output_read
     }
 
-    /// Nothing more is read.
+    /// Nothing more of what it writes is read.
     pub fn stop_reading(&mut self) {
-        self.is_read = false;
+        self.is_output_read = false;
     }
 
     /// It wrote its first newline: what it writes from now on is told to nobody.
@@ -107,7 +107,7 @@ impl Progress {
 
     /// Whether its end can be told: its output is read no more, or its first newline was, or nobody listens.
     pub fn may_end(&self) -> bool {
-        !self.is_read || self.is_heard || self.is_given_up
+        !self.is_output_read || self.is_heard || self.is_given_up
     }
 
     pub fn end(&mut self, exit: Exit) {

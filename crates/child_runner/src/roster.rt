@@ -1,5 +1,5 @@
 //! The children whose threads are still to be started or still run.
-use crate::process::ServiceProcess;
+use crate::shared_child::ServiceProcess;
 use s6_events::NoMemory;
 use std::alloc::Global;
 use std::sync::{Arc, Condvar, Mutex, Wait};

@@ -1,6 +1,6 @@
 //! The shell that sends signals.
-use crate::commands::{kill_command, probe_command};
-use crate::process::ServiceProcess;
+use crate::order_commands::{kill_command, probe_command};
+use crate::shared_child::ServiceProcess;
 use order_lanes::AskFault;
 use std::alloc::Global;
 use std::io::{self, ErrorKind};

@@ -3,8 +3,8 @@ ghost use Rattle.std.specs.Prelude.{◌≤◌, length};
 
 use crate::end_mark::{Telling, telling_of};
 use crate::line_limit::LineLimit;
-use crate::process::ServiceProcess;
 use crate::roster::ChildList;
+use crate::shared_child::ServiceProcess;
 use arrayvec::ArrayVec;
 use s6_events::Exit;
 use std::alloc::Global;
@@ -42,7 +42,7 @@ fn await_end<R: Threads + Wait + Clock + Copy + Send + Drop + 'static>(
     mut child: Child<SystemProcess>,
 ) -> Option<JoinHandle<()>> {
     let mut listener = None;
-    if process.is_read(&rt) {
+    if process.is_output_read(&rt) {
         listener = start_listening(rt, process);
         if listener.is_none() {
             process.stop_reading(&rt);

@@ -21,7 +21,7 @@ pub struct ClientDesk {
     /// done.
     pub now: u64,
     /// By their seats: the act that the ring of a connection has not taken yet.
-    pub(crate) held: Vec<Option<Act<Global>>>,
+    pub(crate) untaken_acts: Vec<Option<Act<Global>>>,
     /// By seats: whether something was posted since the connection was last woken.
     pub(crate) posted: [bool; SEAT_COUNT],
     /// Whether runs are recorded.
@@ -34,16 +34,16 @@ impl ClientDesk {
     /// Nobody is connected. `NoMemory` where memory is refused.
     pub fn new(alloc: Global, has_record: bool) -> Result<ClientDesk, NoMemory> {
         let mut connections = Vec::with_capacity(alloc, SEAT_COUNT)?;
-        let mut held = Vec::with_capacity(alloc, SEAT_COUNT)?;
+        let mut untaken_acts = Vec::with_capacity(alloc, SEAT_COUNT)?;
         for _ in 0..SEAT_COUNT {
             connections.push(Connection::new(alloc))?;
-            held.push(None)?;
+            untaken_acts.push(None)?;
         }
         Ok(ClientDesk {
             connections,
             notes: StepNotes::new(alloc),
             now: 0,
-            held,
+            untaken_acts,
             posted: [false; SEAT_COUNT],
             has_record,
             recorders: ArrayVec::new(),
@@ -78,14 +78,14 @@ impl ClientDesk {
 
     /// Keeps an act of the connection on this seat, which its ring didn't take.
     pub fn hold(&mut self, seat: usize, act: Act<Global>) {
-        if let Some(held) = self.held.get_mut(seat) {
+        if let Some(held) = self.untaken_acts.get_mut(seat) {
             *held = Some(act);
         }
     }
 
     /// Takes out the act that was kept of the connection on this seat; None where none was.
     pub fn take_held(&mut self, seat: usize) -> Option<Act<Global>> {
-        match self.held.get_mut(seat) {
+        match self.untaken_acts.get_mut(seat) {
             Some(held) => held.take(),
             None => None,
         }

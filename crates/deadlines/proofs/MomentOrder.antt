@@ -5,6 +5,7 @@ use Rattle.std.proofs.lemmas.Bool.Decides.{nat_tests}
 use Rattle.std.specs.Prelude.{nat_lt, nat_le, slice_get, IfSome, length, zero, get_or, sum_by, slice_set, Some, ◌⊎◌, ◌-◌, ◌/◌}
 use Rattle.std.proofs.Common.{inl, inr}
 use Rattle.std.specs.List.{list_all, insert, remove}
+use Rattle.std.proofs.lemmas.List.Folds.{list_all_at}
 use Rattle.std.proofs.lemmas.List.Sums.{sum_by-cons, sum_by-remove, sum_by-insert, sum_by-set}
 use Rattle.deadlines.specs.declared.timer.Timer.{Timer}
 use Rattle.deadlines.specs.Timers.{rises, due_by}
@@ -76,17 +77,28 @@ whole : (xs : List Timer) → take (length xs) xs ≡ xs
 whole [] = refl
 whole (x ∷ xs) = ap (λ ts. x ∷ ts) (whole xs)
 
-pub all_below : (sid m : ℕ) (xs : List Timer) (d : Timer) → rises xs ≡ true → m + 1 ≡ length xs → nat_lt (get_or xs m d).sid sid ≡ true
+all_below : (sid m : ℕ) (xs : List Timer) (d : Timer) → rises xs ≡ true → m + 1 ≡ length xs → nat_lt (get_or xs m d).sid sid ≡ true
     → list_all (λ t. nat_lt t.sid sid) xs ≡ true
 all_below sid m xs d o last h =
     ap (λ ts. list_all (λ t. nat_lt t.sid sid) ts) (sym (whole xs))
     ∙ (ap (λ n. list_all (λ t. nat_lt t.sid sid) (take n xs)) (sym last) ∙ sids_up_to sid m xs d o (omega (arith, last)) h)
 
-pub all_before : (v : Timer) (m : ℕ) (xs : List Timer) (d : Timer) → in_moment_order xs ≡ true → m + 1 ≡ length xs
+all_before : (v : Timer) (m : ℕ) (xs : List Timer) (d : Timer) → in_moment_order xs ≡ true → m + 1 ≡ length xs
     → is_before (get_or xs m d) v ≡ true → list_all (λ t. is_before t v) xs ≡ true
 all_before v m xs d o last h =
     ap (λ ts. list_all (λ t. is_before t v) ts) (sym (whole xs))
     ∙ (ap (λ n. list_all (λ t. is_before t v) (take n xs)) (sym last) ∙ moments_up_to v m xs d o (omega (arith, last)) h)
+
+-- the last timer tells of all
+pub tells_of_sids : (sid m : ℕ) (xs : List Timer) (d : Timer) → rises xs ≡ true → m + 1 ≡ length xs
+    → (answer : Bool) → answer ≡ nat_lt (get_or xs m d).sid sid → answer ≡ list_all (λ t. nat_lt t.sid sid) xs
+tells_of_sids sid m xs d o last true h = sym (all_below sid m xs d o last (sym h))
+tells_of_sids sid m xs d o last false h = sym (list_all_at (λ t. nat_lt t.sid sid) xs m d (omega (arith, last)) (sym h))
+
+pub tells_of_moments : (v : Timer) (m : ℕ) (xs : List Timer) (d : Timer) → in_moment_order xs ≡ true → m + 1 ≡ length xs
+    → (answer : Bool) → answer ≡ is_before (get_or xs m d) v → answer ≡ list_all (λ t. is_before t v) xs
+tells_of_moments v m xs d o last true h = sym (all_before v m xs d o last (sym h))
+tells_of_moments v m xs d o last false h = sym (list_all_at (λ t. is_before t v) xs m d (omega (arith, last)) (sym h))
 
 -- one more at its place
 all_with : (p : Timer → Bool) (k : ℕ) (v : Timer) (xs : List Timer) → list_all p xs ≡ true → p v ≡ true

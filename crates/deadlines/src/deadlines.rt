@@ -1,5 +1,5 @@
 //! The timers that are set, and which of them are due.
-ghost use Rattle.std.specs.Prelude.{◌≡◌, ◌+◌, ◌<◌, ◌≤◌, [], length, IsOk, IfOk, OnOk, OnErr, IfSome, nat_lt, take, slice_get, true, false};
+ghost use Rattle.std.specs.Prelude.{◌≡◌, ◌+◌, ◌<◌, ◌≤◌, [], length, IsOk, IfOk, OnOk, OnErr, IfSome, IsSomeAnd, nat_lt, take, slice_get, true, false};
 ghost use Rattle.std.specs.List.{list_all};
 ghost use Rattle.deadlines.specs.Queue.{HaveSameTimers, in_moment_order};
 ghost use Rattle.deadlines.specs.Timers.{with_timer, without_timer, with_timer_change, with_timer_changes, due_by, is_rising, is_timer_of, rises};
@@ -57,7 +57,8 @@ fn is_below(timer: &Timer, sid: Sid) -> bool
 
 // Whether the serial of the first timer, if there is one, is not below this one.
 fn comes_first(timers: &[Timer], sid: Sid) -> bool
-    ensures { result ≡ true → IfSome (slice_get timers.now 0) (λ t. nat_lt t.sid sid ≡ false) }
+    ensures yes { result ≡ true → IfSome (slice_get timers.now 0) (λ t. nat_lt t.sid sid ≡ false) }
+    ensures no { result ≡ false → IsSomeAnd (slice_get timers.now 0) (λ t. nat_lt t.sid sid ≡ true) }
 {
     let Some(first) = timers.first() else {
         return true;
@@ -68,7 +69,7 @@ fn comes_first(timers: &[Timer], sid: Sid) -> bool
 // Whether the serials of all timers are below this one.
 fn comes_last(timers: &[Timer], sid: Sid) -> bool
     requires { rises timers.now ≡ true }
-    ensures { result ≡ true → list_all (λ t. nat_lt t.sid sid) timers.now ≡ true }
+    ensures { result ≡ list_all (λ t. nat_lt t.sid sid) timers.now }
 {
     let Some(end) = timers.len().checked_sub(1) else {
         return true;

@@ -1,5 +1,5 @@
 //! Timers in the order of their moments.
-ghost use Rattle.std.specs.Prelude.{◌≡◌, ◌+◌, ◌<◌, ◌≤◌, ℕ, [], length, not, IfSome, take, slice_get, true, false, sum_by, vec_len, vec_capacity};
+ghost use Rattle.std.specs.Prelude.{◌≡◌, ◌+◌, ◌<◌, ◌≤◌, ℕ, [], length, not, IfSome, IsSomeAnd, take, slice_get, true, false, sum_by, vec_len, vec_capacity};
 ghost use Rattle.std.specs.List.{list_all};
 ghost use Rattle.deadlines.specs.Queue.{is_before, in_moment_order, is_this};
 ghost use Rattle.deadlines.specs.Timers.{due_by};
@@ -22,8 +22,10 @@ fn is_before(timer: &Timer, other: &Timer) -> bool
 
 // Whether no timer of the queue goes off before this one.
 fn comes_first(queue: &[Timer], timer: &Timer) -> bool
-    ensures { result ≡ true
+    ensures yes { result ≡ true
         → IfSome (slice_get queue.now 0) (λ t. is_before t timer.now ≡ false) }
+    ensures no { result ≡ false
+        → IsSomeAnd (slice_get queue.now 0) (λ t. is_before t timer.now ≡ true) }
 {
     let Some(first) = queue.first() else {
         return true;
@@ -34,7 +36,7 @@ fn comes_first(queue: &[Timer], timer: &Timer) -> bool
 // Whether all timers of the queue go off before this one.
 fn comes_last(queue: &[Timer], timer: &Timer) -> bool
     requires { in_moment_order queue.now ≡ true }
-    ensures { result ≡ true → list_all (λ t. is_before t timer.now) queue.now ≡ true }
+    ensures { result ≡ list_all (λ t. is_before t timer.now) queue.now }
 {
     let Some(end) = queue.len().checked_sub(1) else {
         return true;

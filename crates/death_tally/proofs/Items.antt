@@ -5,7 +5,7 @@ use Rattle.std.specs.Prelude.{fold, Option, None, Some}
 use Rattle.std.proofs.Math.ListN.{get_or-map}
 use Rattle.std.proofs.lemmas.List.{length-map, take_more, take-append-drop}
 use Rattle.std.proofs.lemmas.List.Sums.{fold-append}
-use Rattle.death_tally.specs.declared.death_list.DeathItem.{DeathItem}
+use Rattle.death_tally.specs.declared.exit_list.DeathItem.{DeathItem}
 use Rattle.death_tally.specs.DeathList.{spelled_item, and_item, with_word, items_of, list_of}
 
 -- the words, as texts, and the text at a place

@@ -6,8 +6,8 @@ use Rattle.s6_events.specs.declared.exit.Exit.{Exit}
 use Rattle.s6_events.specs.declared.exit.Exit.TheVariants as exit_kind
 use Rattle.servicedir.specs.Number.{number_up_to}
 use Rattle.servicedir.specs.SignalName.{signal_of_word}
-use Rattle.death_tally.specs.declared.death_list.DeathItem.{DeathItem}
-use Rattle.death_tally.specs.declared.death_list.DeathItem.TheVariants.{Code, Range, Signal}
+use Rattle.death_tally.specs.declared.exit_list.DeathItem.{DeathItem}
+use Rattle.death_tally.specs.declared.exit_list.DeathItem.TheVariants.{Code, Range, Signal}
 
 -- an item names an exit
 abbrev pub item_names : DeathItem → Exit → Bool

@@ -1,7 +1,7 @@
 -- Whether enough deaths make a permanent failure.
 use Rattle.std.specs.Prelude.{ℕ, ◌+◌, ◌*◌, List, Bool, ◌&&◌, nat_le, length, filter}
 use Rattle.s6_events.specs.declared.exit.Exit.{Exit}
-use Rattle.death_tally.specs.declared.death_list.DeathItem.{DeathItem}
+use Rattle.death_tally.specs.declared.exit_list.DeathItem.{DeathItem}
 use Rattle.death_tally.specs.DeathList.{list_names}
 
 -- a death counts where it is at most `seconds` seconds ago and the list names its exit

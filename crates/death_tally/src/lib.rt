@@ -2,10 +2,10 @@
 //! `s6-permafailon`.
 #![tactic(auto)]
 
-mod death_list;
+mod exit_list;
 mod permanent_failure;
 mod tally;
 
-pub use death_list::{DeathItem, DeathList};
+pub use exit_list::{DeathItem, DeathList};
 pub use permanent_failure::permafails;
 pub use tally::Tally;

@@ -2,7 +2,7 @@
 ghost use Rattle.std.specs.Prelude.{◌≡◌, ◌≤◌, length, filter};
 ghost use Rattle.death_tally.specs.PermanentFailure.{is_counted, are_permanent_failure};
 
-use super::death_list::DeathList;
+use super::exit_list::DeathList;
 use super::tally::Tally;
 use s6_events::{At, Exit};
 use std::alloc::Allocator;

@@ -1,5 +1,5 @@
 //! A pattern, built from its text.
-ghost use Rattle.std.specs.Prelude.{◌≡◌, IfOk, IsErrOf, OnOk, ◌↔◌, true, false, IsTrue, nat_le, ◌<◌, ◌&&◌, All};
+ghost use Rattle.std.specs.Prelude.{◌≡◌, IfOk, IsErrOf, OnOk, ◌↔◌, true, false, IsTrue, nat_le, ◌<◌, ◌≤◌, ◌&&◌, length, take};
 ghost use Rattle.std.specs.List.{list_all};
 ghost use Rattle.event_directory.specs.Pattern.{is_pattern_text, is_expression, finds, pattern_fault};
 
@@ -13,11 +13,11 @@ use text_matcher::{BuildFault, Limits, TextMatcher};
 // The most letters of one text that are searched.
 pub(crate) const TEXT_LIMIT: usize = 1024;
 
-/// How large the automaton of a pattern may be. With this limit, whatever the patterns, a letter at which 256 subscriptions look is
-/// heard soon, and their matchers take little memory.
+/// How large the automaton of a pattern may be. A letter costs as much at most as with a pattern of 256 letters, which has 260 states. So a
+/// letter at which 256 subscriptions look is heard soon, whatever their patterns, and these take little memory.
 pub const PATTERN_LIMITS: Limits = Limits {
     bytes: 16_384,
-    states: 256,
+    letter_cost: 260,
 };
 
 /// A regular expression of the crate `regex`, built from a text of 1 to 256 bytes 0x20 to 0x7e, with all that a search for it
@@ -26,8 +26,6 @@ pub const PATTERN_LIMITS: Limits = Limits {
 pub struct Pattern {
     // Behind a pointer, since acts that may hold a pattern are moved about.
     matcher: Box<TextMatcher, Global>,
-    // The text that is searched.
-    bytes: Vec<u8>,
 }
 
 impl Model for Pattern {
@@ -36,9 +34,9 @@ impl Model for Pattern {
 
     ghost Value = { List ℕ };
 
-    ghost view = { λ p. p.matcher.value };
+    ghost view = { λ p. p.matcher.value.source };
 
-    ghost invariant = { λ p. IsTrue (is_pattern_text p.matcher.value) };
+    ghost invariant = { λ p. IsTrue (is_pattern_text p.matcher.value.source) };
 }
 
 impl Pattern {
@@ -52,15 +50,12 @@ impl Pattern {
         if !is_text(text) {
             return Err(PatternFault::Length);
         }
-        let matcher = match TextMatcher::build(alloc, text, PATTERN_LIMITS) {
+        let matcher = match TextMatcher::build(alloc, text, PATTERN_LIMITS, TEXT_LIMIT) {
             Ok(matcher) => matcher,
             Err(fault) => return Err(fault_of(fault)),
         };
-        let Ok(bytes) = Vec::with_capacity(alloc, TEXT_LIMIT) else {
-            return Err(PatternFault::NoMemory);
-        };
         match Box::new(alloc, matcher) {
-            Ok(matcher) => Ok(Pattern { matcher, bytes }),
+            Ok(matcher) => Ok(Pattern { matcher }),
             Err(_) => Err(PatternFault::NoMemory),
         }
     }
@@ -80,8 +75,8 @@ impl Finds for Pattern {
     ghost test = { finds };
 
     fn finds(&mut self, letters: &[Letter]) -> Result<bool, NoMemory> {
-        spell(&mut self.bytes, letters)?;
-        Ok(self.matcher.is_match(&self.bytes))
+        hear_all(&mut self.matcher, letters)?;
+        Ok(self.matcher.has_match())
     }
 }
 
@@ -95,16 +90,35 @@ fn fault_of(fault: BuildFault) -> PatternFault
     }
 }
 
-// Fills `bytes` with the bytes of these letters.
-fn spell(bytes: &mut Vec<u8>, letters: &[Letter]) -> Result<(), NoMemory>
-    ensures letters { OnOk result (bytes.new.items ≡ letters.now) }
-    ensures ascii { OnOk result (All (λ b. b < 128) bytes.new.items) }
+// The matcher hears these letters and no others. A text mostly grows by a letter, and those that it heard before it needn't hear again.
+fn hear_all(matcher: &mut TextMatcher, letters: &[Letter]) -> Result<(), NoMemory>
+    ensures heard { OnOk result (matcher.new.heard ≡ letters.now) }
+    ensures source { matcher.new.source ≡ matcher.old.source }
 {
-    bytes.clear();
-    for letter in letters {
-        bytes.push(byte_of(*letter))?;
+    if !begin_with(letters, matcher.heard()) {
+        matcher.restart();
+    }
+    let start = matcher.heard().len();
+    for letter in &letters[start..] {
+        matcher.hear(byte_of(*letter))?;
     }
     Ok(())
+}
+
+// Whether these letters begin with those that were heard.
+fn begin_with(letters: &[Letter], heard: &[u8]) -> bool
+    ensures within { result ≡ true → length heard.now ≤ length letters.now }
+    ensures same { result ≡ true → take (length heard.now) letters.now ≡ heard.now }
+{
+    if heard.len() > letters.len() {
+        return false;
+    }
+    for place in 0..heard.len() {
+        if byte_of(letters[place]) != heard[place] {
+            return false;
+        }
+    }
+    true
 }
 
 // The byte of a letter.

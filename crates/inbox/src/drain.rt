@@ -93,17 +93,16 @@ impl<C: Channels> Drain<C> {
             × (self.new.seen ≡ []) }
         ensures succeeds { 0 < length self.old.seen → IsTrue result }
     {
-        match self.consumer.pop() {
-            Ok(Submission { at, act }) => {
-                *held = Some(Input {
-                    actor: self.actor,
-                    at,
-                    act,
-                });
-                true
-            }
-            Err(_) => false,
+        if self.consumer.is_empty() {
+            return false;
         }
+        let next = self.consumer.pop_known();
+        *held = Some(Input {
+            actor: self.actor,
+            at: next.at,
+            act: next.act,
+        });
+        true
     }
 
     /// Whether all that the seat of the same actor ever submitted was taken out; None where the ring didn't tell what that is.

@@ -9,7 +9,7 @@ use crate::drain::Drain;
 use crate::finished::Finished;
 use crate::submission::Submission;
 use channel_names::Channels;
-use rtrb::{Consumer, Producer, PushError, RingBuffer};
+use rtrb::{Consumer, Producer, RingBuffer};
 use s6_events::{Actor, At, NoMemory};
 use std::alloc::Global;
 use std::marker::{Model, PhantomData};
@@ -112,6 +112,7 @@ pub struct Seat<C: Channels> {
     actor: Actor,
     count: u64,
     producer: Producer<Submission>,
+    // Names the run: a seat of another run has another type.
     channels: PhantomData<C>,
 }
 
@@ -160,16 +161,15 @@ impl<C: Channels> Seat<C> {
             × (self.new.waiting ≡ places)) }
         ensures succeeds { self.old.waiting < places → IsOk result }
     {
-        match self.producer.push(Submission { at, act }) {
-            Ok(()) => {
-                self.count += 1;
-                Ok(Ticket {
-                    actor: self.actor,
-                    number: self.count,
-                })
-            }
-            Err(PushError::Full(back)) => Err((back.act, Full)),
+        if self.producer.is_full() {
+            return Err((act, Full));
         }
+        self.producer.push_reserved(Submission { at, act });
+        self.count += 1;
+        Ok(Ticket {
+            actor: self.actor,
+            number: self.count,
+        })
     }
 
     /// Who hands in here.

@@ -15,7 +15,7 @@ pub const STACK_SIZE: usize = 256 * 1024;
 pub fn serve<W: Answers + Sync, R: Threads + Wait + Clock + Sync>(rt: &R, server: &Server<W>) {
     thread::scope(thread::scope_env(), rt, |scope| {
         if !start_last(scope, rt, server) {
-            server.last_read.end(rt);
+            server.last_seat_reader.end(rt);
         }
         accept_all(scope, rt, server);
     });
@@ -36,7 +36,7 @@ fn start_last<'s, E, W: Answers + Sync, R: Threads + Wait + Clock + Sync>(
         .spawn_scoped(scope, move || read_last(rt, server))
         .is_ok();
     if !reads {
-        server.last_written.end(rt);
+        server.last_seat_writer.end(rt);
     }
     writes && reads
 }

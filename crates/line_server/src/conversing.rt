@@ -80,25 +80,25 @@ fn start_writer<'s, E, R: Threads + Wait + Sync>(
 /// Reads the connections of the last seat, one after the other, until the server ends.
 pub fn read_last<W: Answers, R: Wait + Clock>(rt: &R, server: &Server<W>) {
     for _ in rt.forever() {
-        let Some(mailbox) = server.last_read.take(rt) else {
+        let Some(mailbox) = server.last_seat_reader.take(rt) else {
             break;
         };
         converse_last(rt, server, &mailbox);
         drop(mailbox);
-        server.last_read.finish(rt);
+        server.last_seat_reader.finish(rt);
         leave_seat(rt, server, LAST_SEAT);
     }
-    server.last_written.end(rt);
+    server.last_seat_writer.end(rt);
 }
 
 fn converse_last<W: Answers, R: Wait + Clock>(rt: &R, server: &Server<W>, mailbox: &Arc<Mailbox>) {
     let Ok(own) = mailbox.clone() else {
         return;
     };
-    if server.last_written.give(rt, own).is_ok() {
+    if server.last_seat_writer.give(rt, own).is_ok() {
         read_all(rt, server, LAST_SEAT, mailbox);
         mailbox.close(rt);
-        server.last_written.await_done(rt);
+        server.last_seat_writer.await_done(rt);
     }
     mailbox.end(rt);
 }
@@ -106,12 +106,12 @@ fn converse_last<W: Answers, R: Wait + Clock>(rt: &R, server: &Server<W>, mailbo
 /// Writes what is posted to the connections of the last seat, until the server ends.
 pub fn write_last<W: Answers, R: Wait>(rt: &R, server: &Server<W>) {
     for _ in rt.forever() {
-        let Some(mailbox) = server.last_written.take(rt) else {
+        let Some(mailbox) = server.last_seat_writer.take(rt) else {
             break;
         };
         write_all(rt, server.alloc, &mailbox);
         drop(mailbox);
-        server.last_written.finish(rt);
+        server.last_seat_writer.finish(rt);
     }
 }
 

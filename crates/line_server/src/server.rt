@@ -73,8 +73,8 @@ pub struct Server<W: Answers> {
     // Notified when a seat becomes free, and when the server is ending.
     changed: Condvar,
     // Where the two threads of the last seat get their work: one reads the connection, and one writes to it.
-    pub(crate) last_read: WorkDesk<Arc<Mailbox>>,
-    pub(crate) last_written: WorkDesk<Arc<Mailbox>>,
+    pub(crate) last_seat_reader: WorkDesk<Arc<Mailbox>>,
+    pub(crate) last_seat_writer: WorkDesk<Arc<Mailbox>>,
     pub(crate) answers: W,
 }
 
@@ -99,8 +99,8 @@ impl<W: Answers> Server<W> {
             spare: Mutex::new(Some(spare)),
             seats: Mutex::new(seats),
             changed: Condvar::new(),
-            last_read: WorkDesk::new(),
-            last_written: WorkDesk::new(),
+            last_seat_reader: WorkDesk::new(),
+            last_seat_writer: WorkDesk::new(),
             answers,
         })
     }
@@ -139,7 +139,7 @@ impl<W: Answers> Server<W> {
         if !self.seats.lock(rt).take_last(own, millis_of(rt)) {
             return Ok(false);
         }
-        if self.last_read.give(rt, read).is_err() {
+        if self.last_seat_reader.give(rt, read).is_err() {
             self.free_seat(rt, LAST_SEAT);
             return Ok(false);
         }
@@ -221,7 +221,7 @@ impl<W: Answers> Server<W> {
     pub fn end<R: Wait>(&self, rt: &R) {
         self.seats.lock(rt).end_all(rt);
         self.changed.notify_all();
-        self.last_read.end(rt);
+        self.last_seat_reader.end(rt);
         let _ = self.waker.shutdown(Shutdown::Both);
     }
 }

@@ -1,7 +1,7 @@
 -- What one step takes after others.
 use Rattle.std.proofs.Common.{◌≡◌, ℕ, ◌≤◌, ◌+◌, List, [], ◌∷◌, ◌++◌, Option, None, Some, length, option_to_list, refl, ap, sym, subst, ◌∙◌, arith}
 use Rattle.std.proofs.lemmas.Grind.{flat_map-append}
-use Rattle.std.proofs.lemmas.List.{append-nil, append_assoc, length-append}
+use Rattle.std.proofs.lemmas.List.{append-nil, append_assoc, length-append, nil_from_length}
 use Rattle.std.specs.declared.alloc.Global.{Global}
 use Rattle.inbox.specs.declared.submission.Submission.{Submission}
 use Rattle.inbox.specs.Ends.{DrainView}
@@ -81,3 +81,8 @@ pub grows_least : (n most : ℕ) (old new : List RunStep) → Grows n old new �
 grows_least n most old new grows full =
     let both = length-append old grows.0 in
     subst (λ (steps : List RunStep). most ≤ length steps) (sym grows.2) (omega (arith, both, full))
+
+-- where no step was made, the steps are as they were
+pub grows_none : (n : ℕ) (old new : List RunStep) → Grows n old new → n ≡ 0 → new ≡ old
+grows_none n old new grows none =
+    grows.2 ∙ (ap (λ (more : List RunStep). old ++ more) (nil_from_length grows.0 (grows.1 ∙ none)) ∙ append-nil old)

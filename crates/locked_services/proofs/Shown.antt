@@ -14,14 +14,14 @@ use Rattle.tree_core.specs.Rows.{all_rows}
 use Rattle.run_records.specs.Runs.{RunStep, end_of, inputs_of}
 use Rattle.locked_services.specs.Shots.{first_shot, shot_of, IsShotOf, RoomView, IsSoundRoom}
 
-pub shot_later : (m : Machine) (ts : List RunStep) (t : RunStep) (s : Shot) → IsShotOf m ts s → IsShotOf m (ts ++ t ∷ []) s
-shot_later m ts t s is =
-    let e = length-append ts (t ∷ []) in
+pub shot_later : (m : Machine) (ts more : List RunStep) (s : Shot) → IsShotOf m ts s → IsShotOf m (ts ++ more) s
+shot_later m ts more s is =
+    let e = length-append ts more in
     let below = is.1 in
-    (is.0, omega arith, is.2 ∙ ap (λ (xs : List RunStep). shot_of (end_of m xs)) (sym (take-append-le is.0 ts (t ∷ []) is.1)))
+    (is.0, omega arith, is.2 ∙ ap (λ (xs : List RunStep). shot_of (end_of m xs)) (sym (take-append-le is.0 ts more is.1)))
 
-pub shots_later : (m : Machine) (ts : List RunStep) (t : RunStep) (ss : List Shot) → All (IsShotOf m ts) ss → All (IsShotOf m (ts ++ t ∷ [])) ss
-shots_later m ts t ss all k d below = shot_later m ts t _ (all k d below)
+pub shots_later : (m : Machine) (ts more : List RunStep) (ss : List Shot) → All (IsShotOf m ts) ss → All (IsShotOf m (ts ++ more)) ss
+shots_later m ts more ss all k d below = shot_later m ts more _ (all k d below)
 
 take_all : (ts : List RunStep) → take (length ts) ts ≡ ts
 take_all [] = refl
@@ -91,13 +91,14 @@ pub first_more : (x s : Shot) (xs : List Shot) → first_shot xs ≡ Some x → 
 first_more x s [] e = absurd (cc (e))
 first_more x s (y ∷ ys) e = e
 
-pub shows_step : (o : StoredTree) (v w : RoomView) (t : RunStep) → IsSoundRoom o v → w.running.opening ≡ v.running.opening → w.shots ≡ v.shots → w.running.steps ≡ v.running.steps ++ t ∷ [] → w.is_shown ≡ false → IsSoundRoom o w
-shows_step o v w t k opening shots steps hidden = record {
+-- after some more steps, which were not published
+pub shows_steps : (o : StoredTree) (v w : RoomView) (more : List RunStep) → IsSoundRoom o v → w.running.opening ≡ v.running.opening → w.shots ≡ v.shots → w.running.steps ≡ v.running.steps ++ more → w.is_shown ≡ false → IsSoundRoom o w
+shows_steps o v w more k opening shots steps hidden = record {
   begins = opening ∙ k.begins;
   first = λ m s. ap first_shot shots ∙ k.first m (subst (λ (o : StoredTree). StandsFor o m) opening s);
   each = λ m s.
       subst (λ (ss : List Shot). All (IsShotOf m w.running.steps) ss) (sym shots)
-      (subst (λ (ts : List RunStep). All (IsShotOf m ts) v.shots) (sym steps) (shots_later m v.running.steps t v.shots (k.each m (subst (λ (o : StoredTree). StandsFor o m) opening s))));
+      (subst (λ (ts : List RunStep). All (IsShotOf m ts) v.shots) (sym steps) (shots_later m v.running.steps more v.shots (k.each m (subst (λ (o : StoredTree). StandsFor o m) opening s))));
   rising = subst (λ (ss : List Shot). NeverFalls ss) (sym shots) k.rising;
   last = λ shown m s. absurd (cc (shown, hidden));
 }

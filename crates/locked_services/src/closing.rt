@@ -55,7 +55,7 @@ fn are_known<C: Channels>(finishes: &Vec<Finished<C>>, seats: usize) -> bool
     true
 }
 
-// Whether there is just one finish for each of so many seats, and no other.
+// Whether each of so many seats has ended, once, and no other one has: what is left of a seat at its end is its finish.
 fn has_one_each<C: Channels>(finishes: &Vec<Finished<C>>, seats: usize) -> bool
     ensures known { result ≡ true → AreKnown seats finishes.now.items }
     ensures one { result ≡ true → (actor : ℕ) → actor < seats

@@ -259,20 +259,12 @@ impl<C: Channels + Lanes, D: Board<C>> Room<C, D> {
         ensures rings { TakeMost (most_taken result.stop result.steps) self.old.running
             self.new.running }
     {
-        for steps in 0..most {
-            let stop = match self.step_one(rt) {
-                Stop::Done => continue,
-                Stop::Idle => DriveStop::Idle,
-                Stop::Blocked(lane) => DriveStop::Blocked(lane),
-                Stop::RunFull => DriveStop::RunFull,
-                Stop::NoMemory => DriveStop::NoMemory,
-            };
-            return Driven { steps, stop };
+        let driven = self.running.step_many(most);
+        if driven.steps > 0 {
+            self.is_shown = false;
+            keep::<Brand, C, R>(rt, &mut self.history, &self.running);
         }
-        Driven {
-            steps: most,
-            stop: DriveStop::Count,
-        }
+        driven
     }
 
     /// Makes at most `most` steps, and then publishes the state, if it made any. Where an earlier drive could not publish, this one

@@ -8,20 +8,21 @@ ghost use Rattle.tree_core.specs.NextDue.{next_due};
 ghost use Rattle.tree_core.specs.StandsFor.{StandsFor};
 ghost use Rattle.run_records.specs.Runs.{RunStep, end_of, actor_at, moment_at, outcome_at, IsFilled, reply_at};
 ghost use Rattle.run_records.specs.RunText.{IsWritten, StopsWriting};
-ghost use Rattle.locked_services.specs.Rings.{TakesBy};
+ghost use Rattle.locked_services.specs.Rings.{TakeMost, TakesBy, most_taken};
 ghost use Rattle.locked_services.specs.Submissions.{AreNumbered, Give, NoneSeen, taken_from};
 ghost use Rattle.locked_services.specs.Running.{run_limit, IsSoundRunning};
 ghost use Rattle.locked_services.specs.Closing.{AreComplete, AreDone, AreSameDesks, AreServed, IsFault, IsInputLeft, IsOrderLeft, IsSameRunning};
 ghost use Rattle.locked_services.specs.declared.closing.CloseFault.TheVariants.{Missing, Left};
-ghost use Rattle.locked_services.specs.Shots.{shot_of};
+ghost use Rattle.locked_services.specs.Shots.{shot_of, Grows};
 ghost use Rattle.locked_services.specs.declared.stop.Stop.TheVariants.{Done, Idle, RunFull, Blocked};
+ghost use Rattle.locked_services.specs.declared.stop.DriveStop.TheVariants as ended;
 ghost use Rattle.order_lanes.specs.Lane.{HaveRoom, IsBlocked, sent_in};
 
 use crate::beginning::Beginning;
 use crate::closing::{CloseFault, input_fault};
 use crate::next_input::take_next;
 use crate::serving::are_served;
-use crate::stop::Stop;
+use crate::stop::{DriveStop, Driven, Stop};
 use channel_names::Channels;
 use inbox::{Drain, Finished, Ticket};
 use order_lanes::{Backend, Desk, Lane, Lanes, blocked_lane, send_all};
@@ -31,6 +32,7 @@ use status_board::StandingRows;
 use std::alloc::Global;
 use std::io::Write;
 use std::marker::Model;
+use step_codes::{KeptInput, told_of};
 use tree_core::{Effect, Image, Input, ORDER_LIMIT, Reply, Tree};
 
 /// A tree with its run so far, the ends of the rings that it takes inputs from, an input that was taken and isn't done, and the lanes
@@ -133,10 +135,11 @@ impl<C: Channels + Lanes> RunningTree<C> {
         blocked_lane(&mut self.lanes, ORDER_LIMIT)
     }
 
-    // Makes the step of the input that is held. `NoMemory` where memory is refused: the input is then still held, and the tree and the
-    // steps are as they were.
-    fn make_step(&mut self) -> Result<(), NoMemory>
-        requires held { IsSome self.old.held }
+    // Makes the step of the input that is held, which a record can keep as `kept`. `NoMemory` where memory is refused: the input is then
+    // still held, and the tree and the steps are as they were.
+    #[inline(always)]
+    fn make_kept<I: KeptInput>(&mut self, kept: I) -> Result<(), NoMemory>
+        requires held { self.old.held ≡ Some (I.input kept) }
         requires few { length self.old.steps < run_limit }
         requires room { HaveRoom order_limit self.old.lanes }
         ensures opening { self.new.opening ≡ self.old.opening }
@@ -150,15 +153,59 @@ impl<C: Channels + Lanes> RunningTree<C> {
         let Some(input) = &mut self.held else {
             unreachable!()
         };
-        let plain = input.plain(self.alloc)?;
-        self.run.reserve(plain.actor)?;
+        self.run.reserve(kept.actor())?;
         let effect = &mut *self.effect;
         self.tree.apply_in_place(input, effect)?;
         self.held = None;
         let _count = effect.orders.len();
         send_all(&mut self.lanes, effect.orders.as_slice());
-        self.run.add(plain, effect);
+        self.run.add(kept, effect);
         Ok(())
+    }
+
+    // Makes the step of the input that is held, of any kind. It stands apart, since most inputs are ticks and reports.
+    #[inline(never)]
+    fn make_any(&mut self) -> Result<(), NoMemory>
+        requires held { IsSome self.old.held }
+        requires few { length self.old.steps < run_limit }
+        requires room { HaveRoom order_limit self.old.lanes }
+        ensures opening { self.new.opening ≡ self.old.opening }
+        ensures drains { self.new.drains ≡ self.old.drains }
+        ensures made { OnOk result ((self.new.held ≡ None)
+            × ((s : RunStep) × (self.old.held ≡ Some s.input)
+            × (self.new.steps ≡ self.old.steps ++ s ∷ []))) }
+        ensures refused { OnErr result ((self.new.held ≡ self.old.held)
+            × (self.new.tree ≡ self.old.tree) × (self.new.steps ≡ self.old.steps)) }
+    {
+        let Some(input) = &self.held else {
+            unreachable!()
+        };
+        let plain = input.plain(self.alloc)?;
+        self.make_kept(plain)
+    }
+
+    // Makes the step of the input that is held. `NoMemory` where memory is refused: the input is then still held, and the tree and the
+    // steps are as they were.
+    #[inline(always)]
+    fn make_step(&mut self) -> Result<(), NoMemory>
+        requires held { IsSome self.old.held }
+        requires few { length self.old.steps < run_limit }
+        requires room { HaveRoom order_limit self.old.lanes }
+        ensures opening { self.new.opening ≡ self.old.opening }
+        ensures drains { self.new.drains ≡ self.old.drains }
+        ensures made { OnOk result ((self.new.held ≡ None)
+            × ((s : RunStep) × (self.old.held ≡ Some s.input)
+            × (self.new.steps ≡ self.old.steps ++ s ∷ []))) }
+        ensures refused { OnErr result ((self.new.held ≡ self.old.held)
+            × (self.new.tree ≡ self.old.tree) × (self.new.steps ≡ self.old.steps)) }
+    {
+        let Some(input) = &self.held else {
+            unreachable!()
+        };
+        match told_of(input) {
+            Some(told) => self.make_kept(told),
+            None => self.make_any(),
+        }
     }
 
     /// Makes one step, of the input that is held or, where none is held, of one that it takes from the rings. Before that it looks for what
@@ -188,6 +235,37 @@ impl<C: Channels + Lanes> RunningTree<C> {
         match self.make_step() {
             Ok(()) => Stop::Done,
             Err(NoMemory) => Stop::NoMemory,
+        }
+    }
+
+    /// Makes at most `most` steps.
+    pub fn step_many(&mut self, most: u64) -> Driven
+        ensures opening { self.new.opening ≡ self.old.opening }
+        ensures steps { Grows result.steps self.old.steps self.new.steps }
+        ensures most { result.steps ≤ most }
+        ensures count { result.stop ≡ ended.Count → result.steps ≡ most }
+        ensures blocked { (k : ℕ) → result.stop ≡ ended.Blocked k
+            → IsBlocked order_limit k self.new.lanes }
+        ensures full { result.stop ≡ ended.RunFull → run_limit ≤ length self.new.steps }
+        ensures limit { run_limit ≤ length self.old.steps → 1 ≤ most
+            → result.stop ≡ ended.RunFull }
+        ensures idle { result.stop ≡ ended.Idle → (self.new.held ≡ None)
+            × NoneSeen self.new.drains × HaveRoom order_limit self.new.lanes }
+        ensures rings { TakeMost (most_taken result.stop result.steps) self.old self.new }
+    {
+        for steps in 0..most {
+            let stop = match self.step_one() {
+                Stop::Done => continue,
+                Stop::Idle => DriveStop::Idle,
+                Stop::Blocked(lane) => DriveStop::Blocked(lane),
+                Stop::RunFull => DriveStop::RunFull,
+                Stop::NoMemory => DriveStop::NoMemory,
+            };
+            return Driven { steps, stop };
+        }
+        Driven {
+            steps: most,
+            stop: DriveStop::Count,
         }
     }
 

@@ -5,6 +5,7 @@ mod fault;
 mod figures;
 mod office_steps;
 mod rounds;
+mod taker;
 mod tree_steps;
 mod words;
 

@@ -4,37 +4,36 @@ ghost use Rattle.office.specs.Names.{ring_of, lane_ring_of, asked_of};
 
 use crate::fault::Fault;
 use crate::rounds::{ROUND, end_of, input_of, scan_of};
+use crate::taker::Taker;
 use crate::tree_steps::new_tree;
 use crate::words::Load;
 use channel_names::Channels;
 use inbox::Seat;
 use locked_services::DriveStop;
 use office::{NewOffice, Office, Opened};
-use order_lanes::probe::Probe;
 use order_lanes::{Backend, Lanes};
 use run_history::KnownHistory;
 use s6_events::NoMemory;
 use status_board::Board;
 use std::alloc::Global;
 use std::marker::Brand;
-use std::sync::{Arc, Mutex, Wait};
+use std::sync::Wait;
 use tree_core::{Input, Tree};
 
 /// How many orders a lane holds.
 const LANE: u64 = 4_096;
 
-// One probe, without reports.
-fn one_probe<R: Drop>(rt: R, alloc: Global) -> Result<Vec<Probe<R>>, NoMemory> {
-    let log = Arc::new(alloc, Mutex::new(Vec::new(alloc)))?;
+// One backend, which only takes orders.
+fn one_taker(alloc: Global) -> Result<Vec<Taker>, NoMemory> {
     let mut backends = Vec::new(alloc);
-    backends.push(Probe::new(rt, alloc, Vec::new(alloc), 0, log))?;
+    backends.push(Taker::new(alloc))?;
     Ok(backends)
 }
 
-/// The office of a new tree, with one lane whose backend is a probe, takes the scan and then all acts, which one thread submits and drives
-/// in turn.
+/// The office of a new tree, with one lane whose backend takes each order, takes the scan and then all acts, which one thread submits and
+/// drives in turn.
 pub fn drive_all<R: Wait>(rt: &R, alloc: Global, load: Load) -> Result<(), Fault> {
-    match one_probe(rt, alloc) {
+    match one_taker(alloc) {
         Ok(backends) => drive_lanes(rt, alloc, backends, load),
         Err(refused) => Err(Fault::NoMemory(refused)),
     }

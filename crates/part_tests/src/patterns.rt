@@ -33,13 +33,16 @@ fn builds_what_it_can(rt: HostRuntime) {
     wants_pattern(&rt, alloc, &long, None);
 }
 
-// A pattern has at most 256 states that read a letter, and its tables take at most 16,384 bytes: `.` takes some 200 of them.
+// A pattern has at most 260 states in which letters may stand, where an assertion counts four times, and its tables take at most 16,384 bytes:
+// `.` takes some 200 of them.
 #[test]
 fn a_pattern_past_the_limits_is_refused(rt: HostRuntime) {
     let alloc = rt.alloc();
     wants_pattern(&rt, alloc, "a{256}", None);
     wants_pattern(&rt, alloc, "a{257}", Some(PatternFault::Refused));
     wants_pattern(&rt, alloc, "((a?){30}){30}b", Some(PatternFault::Refused));
+    wants_pattern(&rt, alloc, "(?:\\b|a){20}", None);
+    wants_pattern(&rt, alloc, "(?:\\b|a){50}", Some(PatternFault::Refused));
     wants_pattern(&rt, alloc, ".{64}", None);
     wants_pattern(&rt, alloc, ".{128}", Some(PatternFault::Refused));
     wants_pattern(&rt, alloc, "\\w", None);

@@ -32,8 +32,11 @@ impl Whole for Brand {
 
 /// What a pass knows: that of the whole history all inputs, that of a known one a beginning of them. No value of this type is made.
 pub struct View {
+    /// Whether it is that of the whole history.
     pub keeps: bool,
+    /// All inputs, where it is that of the whole history.
     pub all: LinkedList<Input<Global>>,
+    /// A beginning of all inputs, where it is that of a known one.
     pub claim: LinkedList<Input<Global>>,
 }
 

@@ -38,7 +38,7 @@ pub struct Recorder<W> {
     // How many steps the recorded runs have.
     steps: u64,
     // How many bytes of the present run were written by calls that were refused memory.
-    written: u64,
+    already_written: u64,
     // Memory that is set aside, and given back just before a run is written, so that there is some for its text.
     reserve: Vec<u8>,
 }
@@ -51,7 +51,7 @@ impl<W: Write + Drop> Recorder<W> {
             writer,
             is_begun: false,
             steps: 0,
-            written: 0,
+            already_written: 0,
             reserve: Vec::new(alloc),
         }
     }
@@ -87,7 +87,7 @@ impl<W: Write + Drop> Recorder<W> {
         self.reserve = Vec::new(self.alloc);
         let mut rest = RestWriter {
             writer,
-            to_pass: self.written,
+            to_pass: self.already_written,
             written: 0,
         };
         let recorded = office.write_run(rt, known, !self.is_begun, &mut rest);
@@ -96,11 +96,11 @@ impl<W: Write + Drop> Recorder<W> {
             Ok(count) if writer.flush().is_ok() => {
                 self.is_begun = true;
                 self.steps = self.steps.saturating_add(count);
-                self.written = 0;
+                self.already_written = 0;
                 Ok(())
             }
             Err(RunFault::NoMemory) => {
-                self.written = self.written.saturating_add(written);
+                self.already_written = self.already_written.saturating_add(written);
                 Err(RecordFault::NoMemory)
             }
             _ => Err(RecordFault::Write),

@@ -12,7 +12,8 @@ use s6_events::{Actor, At, NoMemory};
 use std::alloc::Global;
 use std::io::Write;
 use std::marker::Model;
-use tree_core::{Effect, PlainInput, Reply};
+use step_codes::KeptInput;
+use tree_core::{Effect, Reply};
 
 /// How many actors there may be.
 const ACTORS: usize = 16;
@@ -77,13 +78,14 @@ impl Run {
     }
 
     /// Adds a step of this input and this effect, for which there is room. The effect has to be filled anew before it is read again.
-    pub fn add(&mut self, input: PlainInput<Global>, effect: &mut Effect<Global>)
-        requires room { HasRoom input.actor self.old }
+    #[inline(always)]
+    pub fn add<I: KeptInput>(&mut self, input: I, effect: &mut Effect<Global>)
+        requires room { HasRoom (I.input input).actor self.old }
         requires orders { length effect.old.orders.items ≤ order_limit }
-        ensures { self.new.steps
-            ≡ self.old.steps ++ record { input = input; outcome = outcome_of effect.old } ∷ [] }
+        ensures { self.new.steps ≡ self.old.steps
+            ++ record { input = I.input input; outcome = outcome_of effect.old } ∷ [] }
     {
-        self.places[usize::from(input.actor.number())].push(self.log.len());
+        self.places[usize::from(input.actor().number())].push(self.log.len());
         self.log.push(input, effect);
     }
 

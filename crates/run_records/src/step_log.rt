@@ -10,7 +10,7 @@ use crate::whole_steps::WholeSteps;
 use s6_events::{Actor, At, NoMemory};
 use std::alloc::Global;
 use std::marker::Model;
-use step_codes::{Code, push_step, take_head, take_outcome, take_reply};
+use step_codes::{Code, KeptInput, take_head, take_outcome, take_reply};
 use tree_core::{Effect, PlainInput, Reply};
 
 /// Where a step stands.
@@ -95,10 +95,11 @@ impl StepLog {
     }
 
     // Adds the code of a step, if it has one and there is memory for it. Whether it was added.
-    fn push_code(&mut self, input: &PlainInput<Global>, effect: &Effect<Global>) -> bool
+    #[inline(always)]
+    fn push_code<I: KeptInput>(&mut self, input: &I, effect: &Effect<Global>) -> bool
         requires { 1 ≤ self.old.room }
-        ensures yes { IsTrue result → self.new.steps
-            ≡ self.old.steps ++ record { input = input.now; outcome = outcome_of effect.now } ∷ [] }
+        ensures yes { IsTrue result → self.new.steps ≡ self.old.steps
+            ++ record { input = I.input input.now; outcome = outcome_of effect.now } ∷ [] }
         ensures no { IsFalse result → self.new ≡ self.old }
     {
         let start = self.codes.len();
@@ -106,7 +107,7 @@ impl StepLog {
             return false;
         }
         self.scratch.clear();
-        match push_step(&mut self.scratch, input, effect) {
+        match input.push_step(&mut self.scratch, effect) {
             Ok(true) => {}
             _ => return false,
         }
@@ -122,17 +123,29 @@ impl StepLog {
     }
 
     /// Adds a step of this input and this effect, for which there is room. The effect has to be filled anew before it is read again.
-    pub fn push(&mut self, input: PlainInput<Global>, effect: &mut Effect<Global>)
+    #[inline(always)]
+    pub fn push<I: KeptInput>(&mut self, input: I, effect: &mut Effect<Global>)
+        requires room { LogHasRoom self.old }
+        requires orders { length effect.old.orders.items ≤ order_limit }
+        ensures { self.new.steps ≡ self.old.steps
+            ++ record { input = I.input input; outcome = outcome_of effect.old } ∷ [] }
+    {
+        if !self.push_code(&input, effect) {
+            self.push_whole(input.into_plain(), effect);
+        }
+    }
+
+    // Adds a step as it is, for which there is room. It stands apart, since most steps have a code.
+    #[inline(never)]
+    fn push_whole(&mut self, input: PlainInput<Global>, effect: &mut Effect<Global>)
         requires room { LogHasRoom self.old }
         requires orders { length effect.old.orders.items ≤ order_limit }
         ensures { self.new.steps
             ≡ self.old.steps ++ record { input = input; outcome = outcome_of effect.old } ∷ [] }
     {
-        if !self.push_code(&input, effect) {
-            let place = self.whole.len() as u32;
-            self.whole.push(input, effect);
-            self.starts.push_reserved(Start::Whole(place));
-        }
+        let place = self.whole.len() as u32;
+        self.whole.push(input, effect);
+        self.starts.push_reserved(Start::Whole(place));
     }
 
     /// The step at this place, as it is kept.

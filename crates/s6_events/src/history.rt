@@ -140,7 +140,10 @@ impl<A: Allocator + Copy> History<A> {
         ensures room { self.old.spare_capacity ≤ self.new.spare_capacity }
     {
         let kept = self.moments.len() - self.skipped;
-        self.moments.rotate_left(self.skipped);
+        // Where nobody waits, a step forgets all of its moments.
+        if kept > 0 {
+            self.moments.rotate_left(self.skipped);
+        }
         self.moments.truncate(kept);
         self.dropped += self.skipped as u64;
         self.skipped = 0;

@@ -14,8 +14,8 @@ use Rattle.std.proofs.lemmas.List.Elements.{All-head, All-tail, All-nil, All-pus
 use Rattle.std.proofs.lemmas.List.Folds.{list_all-append}
 use Rattle.std.proofs.lemmas.List.Splits.{length-slice_split}
 use Rattle.std.proofs.lemmas.Option.{same_Some, none-some, slice_get_within, slice_get-get_or}
-use Rattle.death_tally.specs.declared.death_list.DeathItem.{DeathItem}
-use Rattle.death_tally.specs.declared.death_list.DeathItem.TheVariants.{Code, Range, Signal}
+use Rattle.death_tally.specs.declared.exit_list.DeathItem.{DeathItem}
+use Rattle.death_tally.specs.declared.exit_list.DeathItem.TheVariants.{Code, Range, Signal}
 use Rattle.death_tally.specs.DeathList.{spelled_exit, spelled_range, item_with_dash, spelled_item, and_item, with_word, items_of, list_of}
 use Rattle.death_tally.specs.DeathList.{death_list}
 use Rattle.death_tally.proofs.Items.{none_stays}

@@ -6,7 +6,7 @@ use Rattle.std.proofs.lemmas.List.Splits.{slice_split_none, slice_split_at, slic
 use Rattle.std.proofs.lemmas.List.Splits.{join_with_byte-slice_split}
 use Rattle.std.specs.List.{join_with_byte, flat_map, slice_split, onto_first, list_all}
 use Rattle.std.proofs.lemmas.Bool.{and_parts}
-use Rattle.death_tally.specs.declared.death_list.DeathItem.{DeathItem}
+use Rattle.death_tally.specs.declared.exit_list.DeathItem.{DeathItem}
 use Rattle.tree_core.specs.declared.input.Act.{Act}
 use Rattle.svscan_core.specs.declared.entry.Entry.{Entry}
 use Rattle.s6_script.specs.DeathList.{item_text, list_text}

@@ -3,7 +3,7 @@ use Rattle.std.proofs.Common.{◌≡◌, ℕ, ◌^◌, ◌<◌, ◌≤◌, List,
 use Rattle.std.specs.Prelude.{Some, None, true, codes, ◌==◌, decimal, slice_index_or, Result, Ok, Err, IfOk}
 use Rattle.std.specs.List.{slice_split, list_all}
 use Rattle.std.proofs.lemmas.Option.{same_Some, none-some}
-use Rattle.death_tally.specs.declared.death_list.DeathItem.{DeathItem}
+use Rattle.death_tally.specs.declared.exit_list.DeathItem.{DeathItem}
 use Rattle.death_tally.specs.DeathList.{death_list}
 use Rattle.s6_events.specs.Name.{is_name}
 use Rattle.s6_events.specs.declared.exit.Exit.{Exit}

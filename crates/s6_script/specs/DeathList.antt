@@ -1,8 +1,8 @@
 -- How a list of exits is spelled.
 use Rattle.std.specs.Prelude.{ℕ, ◌≤◌, List, [], ◌∷◌, ◌++◌, All, codes, decimal, length, map, unwrap_or}
 use Rattle.std.specs.List.{join_with_byte}
-use Rattle.death_tally.specs.declared.death_list.DeathItem.{DeathItem}
-use Rattle.death_tally.specs.declared.death_list.DeathItem.TheVariants.{Code, Range, Signal}
+use Rattle.death_tally.specs.declared.exit_list.DeathItem.{DeathItem}
+use Rattle.death_tally.specs.declared.exit_list.DeathItem.TheVariants.{Code, Range, Signal}
 use Rattle.servicedir.specs.SignalName.{name_of_signal}
 
 -- an exit code, a range of them with a dash, or the name of a signal with SIG

@@ -88,22 +88,22 @@ abbrev pub unread_head : List ℕ → List ℕ
 unread_head name =
     key_text (codes "name") ++ quoted name ++ null_member (codes "serial") ++ member (codes "state") (quoted (codes "unread"))
 
-abbrev pub no_truths_text : List ℕ
-no_truths_text =
+abbrev pub null_truths_text : List ℕ
+null_truths_text =
     null_member (codes "up") ++ null_member (codes "wantedup") ++ null_member (codes "normallyup")
     ++ null_member (codes "ready") ++ null_member (codes "paused")
 
-abbrev pub no_run_text : List ℕ
-no_run_text = null_member (codes "pid") ++ null_member (codes "exitcode") ++ null_member (codes "signal")
+abbrev pub null_run_text : List ℕ
+null_run_text = null_member (codes "pid") ++ null_member (codes "exitcode") ++ null_member (codes "signal")
 
-abbrev pub no_ages_text : List ℕ
-no_ages_text = null_member (codes "updownfor") ++ null_member (codes "readyfor")
+abbrev pub null_ages_text : List ℕ
+null_ages_text = null_member (codes "updownfor") ++ null_member (codes "readyfor")
 
-abbrev pub no_times_text : List ℕ
-no_times_text = no_ages_text ++ null_member (codes "since")
+abbrev pub null_times_text : List ℕ
+null_times_text = null_ages_text ++ null_member (codes "since")
 
 unfoldable pub unread_line : List ℕ → List ℕ → List ℕ
-unread_line name fault = (123 ∷ unread_head name) ++ no_truths_text ++ no_run_text ++ no_times_text ++ end_text (Some fault)
+unread_line name fault = (123 ∷ unread_head name) ++ null_truths_text ++ null_run_text ++ null_times_text ++ end_text (Some fault)
 
 abbrev pub json_line : ListEntry → List ℕ
 json_line (Service s) = service_line s

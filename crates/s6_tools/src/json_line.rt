@@ -1,7 +1,7 @@
 //! The services as lines of JSON.
 ghost use Rattle.std.specs.Prelude.{◌≡◌, ◌++◌, ◌∷◌, IfOk, OnOk, option_map};
 ghost use Rattle.std.specs.List.{flat_map};
-ghost use Rattle.s6_tools.specs.JsonLines.{truth_text, number_text, key_text, quoted, truth_member, number_member, exit_code, signal_number, head_text, truths_text, run_text, ages_text, word_text, times_text, end_text, service_line, unread_head, no_truths_text, no_run_text, no_ages_text, no_times_text, unread_line, json_line};
+ghost use Rattle.s6_tools.specs.JsonLines.{truth_text, number_text, key_text, quoted, truth_member, number_member, exit_code, signal_number, head_text, truths_text, run_text, ages_text, word_text, times_text, end_text, service_line, unread_head, null_truths_text, null_run_text, null_ages_text, null_times_text, unread_line, json_line};
 
 use crate::list_entry::{ListEntry, ListedService};
 use crate::told_word::ToldWord;
@@ -171,8 +171,8 @@ fn push_unread_head(text: &mut Vec<u8>, name: &Name) -> Result<(), AllocError>
 }
 
 // Adds the members that are true or false for a service, as null.
-fn push_no_truths(text: &mut Vec<u8>) -> Result<(), AllocError>
-    ensures { OnOk result (text.new.items ≡ text.old.items ++ no_truths_text) }
+fn push_null_truths(text: &mut Vec<u8>) -> Result<(), AllocError>
+    ensures { OnOk result (text.new.items ≡ text.old.items ++ null_truths_text) }
 {
     push_member(text, b"up", None)?;
     push_member(text, b"wantedup", None)?;
@@ -182,8 +182,8 @@ fn push_no_truths(text: &mut Vec<u8>) -> Result<(), AllocError>
 }
 
 // Adds the members for the run of a service, as null.
-fn push_no_run(text: &mut Vec<u8>) -> Result<(), AllocError>
-    ensures { OnOk result (text.new.items ≡ text.old.items ++ no_run_text) }
+fn push_null_run(text: &mut Vec<u8>) -> Result<(), AllocError>
+    ensures { OnOk result (text.new.items ≡ text.old.items ++ null_run_text) }
 {
     push_member(text, b"pid", None)?;
     push_member(text, b"exitcode", None)?;
@@ -191,18 +191,18 @@ fn push_no_run(text: &mut Vec<u8>) -> Result<(), AllocError>
 }
 
 // Adds the members for the ages of a service, as null.
-fn push_no_ages(text: &mut Vec<u8>) -> Result<(), AllocError>
-    ensures { OnOk result (text.new.items ≡ text.old.items ++ no_ages_text) }
+fn push_null_ages(text: &mut Vec<u8>) -> Result<(), AllocError>
+    ensures { OnOk result (text.new.items ≡ text.old.items ++ null_ages_text) }
 {
     push_member(text, b"updownfor", None)?;
     push_member(text, b"readyfor", None)
 }
 
 // Adds the members for the times of a service, as null.
-fn push_no_times(text: &mut Vec<u8>) -> Result<(), AllocError>
-    ensures { OnOk result (text.new.items ≡ text.old.items ++ no_times_text) }
+fn push_null_times(text: &mut Vec<u8>) -> Result<(), AllocError>
+    ensures { OnOk result (text.new.items ≡ text.old.items ++ null_times_text) }
 {
-    push_no_ages(text)?;
+    push_null_ages(text)?;
     push_member(text, b"since", None)
 }
 
@@ -213,9 +213,9 @@ fn push_unread_line(text: &mut Vec<u8>, name: &Name, fault: &ToldWord) -> Result
 {
     text.push(b'{')?;
     push_unread_head(text, name)?;
-    push_no_truths(text)?;
-    push_no_run(text)?;
-    push_no_times(text)?;
+    push_null_truths(text)?;
+    push_null_run(text)?;
+    push_null_times(text)?;
     push_end(text, Some(fault))
 }
 

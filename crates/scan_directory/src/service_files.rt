@@ -40,6 +40,7 @@ pub struct ServiceFiles {
     timeout_finish: Reading,
     max_death_tally: Reading,
     down_signal: Reading,
+    // How many readings failed, how many were refused memory, and of which file the last of both was.
     failures: u64,
     refused: u64,
     failed: Option<ServiceFile>,

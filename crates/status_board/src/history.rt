@@ -126,6 +126,7 @@ impl<C: Channels> Published<C> {
         ensures yes { IsTrue result → (self.new ≡ other.now) × IsPrefix self.old self.new }
         ensures no { IsFalse result → (self.new ≡ self.old) × IsPrefix other.now self.old }
     {
+        // It exists in proofs alone: what is known of both lies in one history, so that one of them begins the other.
         let mut both = self.log.again();
         both.learn(&other.log);
         if other.count < self.count {
@@ -159,6 +160,7 @@ impl<C: Channels> Published<C> {
             &mut offer,
             &mut pen,
         );
+        // Not where the word counts more shots: then somebody else published one.
         if found != count {
             return false;
         }

@@ -5,6 +5,7 @@ pub mod ReadingActs
 pub mod NumberCodes
 pub mod NameCodes
 pub mod MarkCodes
+pub mod ToldActs
 pub mod ToldCodes
 pub mod OrderCodes
 pub mod ListCodes

@@ -13,10 +13,13 @@ ghost use Rattle.step_codes.specs.NumberCodes.{number_onto};
 ghost use Rattle.step_codes.specs.NameCodes.{bytes_onto};
 ghost use Rattle.step_codes.specs.ListCodes.{list_onto, AllFit};
 ghost use Rattle.step_codes.specs.RequestCodes.{condition_byte, letter_onto, mode_byte};
+ghost use Rattle.step_codes.specs.ToldActs.{act_of_told};
 ghost use Rattle.step_codes.specs.ActCodes.{act_onto, has_act_code, letters_onto, AreBytes, FitsAct};
 
 use crate::coded::{Code, Coded};
+use crate::kept_input::ToldAct;
 use crate::lists::{push_list, take_list};
+use crate::numbers::put_number;
 use s6_events::{Condition, Exit, Mode, Name, Sid, SubId, WaitId};
 use std::alloc::{AllocError, Global};
 use tree_core::{PlainAct, ScanOrder, Target};
@@ -50,9 +53,36 @@ fn push_life(code: &mut Vec<u8>, kind: u8, sid: Sid, generation: u64) -> Result<
     ensures sid { OnOk result (sid < 2 ^ 64) }
     ensures generation { OnOk result (generation < 2 ^ 64) }
 {
-    code.push(kind)?;
-    sid.0.push(code)?;
-    generation.push(code)?;
+    code.reserve(19)?;
+    code.push_reserved(kind);
+    put_number(code, sid.0);
+    put_number(code, generation);
+    Ok(())
+}
+
+/// Adds the code of a tick or a report. An error where memory is refused.
+#[inline(always)]
+pub fn push_told(code: &mut Vec<u8>, act: ToldAct) -> Result<(), AllocError>
+    ensures added { OnOk result
+        (Adds code.old.items code.new.items (act_onto (act_of_told act))) }
+    ensures fits { OnOk result (FitsAct (act_of_told act)) }
+{
+    match act {
+        ToldAct::Tick => code.push(0)?,
+        ToldAct::Started(sid, generation, pid) => {
+            push_life(code, 1, sid, generation)?;
+            pid.push(code)?;
+        }
+        ToldAct::StartFailed(sid, generation) => push_life(code, 2, sid, generation)?,
+        ToldAct::Death(sid, generation, exit) => {
+            push_life(code, 4, sid, generation)?;
+            exit.push(code)?;
+        }
+        ToldAct::FinishEnded(sid, generation, exit) => {
+            push_life(code, 5, sid, generation)?;
+            exit.push(code)?;
+        }
+    }
     Ok(())
 }
 

@@ -1,5 +1,5 @@
 //! Numbers.
-ghost use Rattle.std.specs.Prelude.{◌≡◌, ◌<◌, ◌≤◌, ◌^◌, ◌++◌, ◌∷◌, List, ℕ, OnOk};
+ghost use Rattle.std.specs.Prelude.{◌≡◌, ◌+◌, ◌<◌, ◌≤◌, ◌^◌, ◌++◌, ◌∷◌, List, ℕ, OnOk, length, vec_len, vec_capacity};
 ghost use Rattle.step_codes.specs.Adding.{Adds};
 ghost use Rattle.step_codes.specs.NumberCodes.{number_onto};
 
@@ -7,30 +7,64 @@ use crate::coded::{Code, Coded};
 use byteorder::{ByteOrder, LittleEndian};
 use std::alloc::AllocError;
 
-// Adds a byte, and these behind it.
-fn push_behind(code: &mut Vec<u8>, first: u8, bytes: &[u8]) -> Result<(), AllocError>
-    ensures { OnOk result (Adds code.old.items code.new.items (λ rest. first ∷ (bytes.now ++ rest))) }
+// Adds a byte, and these behind it, for which there is room. Inlined, the copy of so few bytes is one word.
+#[inline(always)]
+fn put_behind(code: &mut Vec<u8>, first: u8, bytes: &[u8])
+    requires { vec_len code.old + (length bytes.now + 1) ≤ vec_capacity code.old }
+    ensures added { Adds code.old.items code.new.items (λ rest. first ∷ (bytes.now ++ rest)) }
+    ensures len { vec_len code.new ≡ vec_len code.old + (length bytes.now + 1) }
+    ensures capacity { vec_capacity code.old ≤ vec_capacity code.new }
 {
-    code.push(first)?;
-    code.extend_from_slice(bytes)?;
-    Ok(())
+    code.push_reserved(first);
+    if code.extend_from_slice(bytes).is_err() {
+        unreachable!()
+    }
 }
 
-// Adds a number that is more than one byte: a byte that tells its size, and its bytes. It stands apart, since most numbers are small.
+// Adds a number that is more than one byte, for which there is room: a byte that tells its size, and its bytes.
+#[inline(always)]
+fn put_wide(code: &mut Vec<u8>, number: u64)
+    requires wide { 251 ≤ number }
+    requires room { vec_len code.old + 9 ≤ vec_capacity code.old }
+    ensures added { Adds code.old.items code.new.items (number_onto number) }
+    ensures len { vec_len code.new ≤ vec_len code.old + 9 }
+    ensures capacity { vec_capacity code.old ≤ vec_capacity code.new }
+{
+    if number < 0x1_0000_0000 {
+        let mut bytes = [0; 4];
+        LittleEndian::write_u32(&mut bytes, number as u32);
+        put_behind(code, 251, &bytes);
+    } else {
+        let mut bytes = [0; 8];
+        LittleEndian::write_u64(&mut bytes, number);
+        put_behind(code, 252, &bytes);
+    }
+}
+
+// Adds a number, for which there is room.
+#[inline(always)]
+pub(crate) fn put_number(code: &mut Vec<u8>, number: u64)
+    requires { vec_len code.old + 9 ≤ vec_capacity code.old }
+    ensures added { Adds code.old.items code.new.items (number_onto number) }
+    ensures len { vec_len code.new ≤ vec_len code.old + 9 }
+    ensures capacity { vec_capacity code.old ≤ vec_capacity code.new }
+{
+    if number < 251 {
+        code.push_reserved(number as u8);
+    } else {
+        put_wide(code, number);
+    }
+}
+
+// Adds a number that is more than one byte. It stands apart, since most numbers are small.
 #[inline(never)]
 fn push_wide(code: &mut Vec<u8>, number: u64) -> Result<(), AllocError>
     requires { 251 ≤ number }
     ensures { OnOk result (Adds code.old.items code.new.items (number_onto number)) }
 {
-    if number < 0x1_0000_0000 {
-        let mut bytes = [0; 4];
-        LittleEndian::write_u32(&mut bytes, number as u32);
-        push_behind(code, 251, &bytes)
-    } else {
-        let mut bytes = [0; 8];
-        LittleEndian::write_u64(&mut bytes, number);
-        push_behind(code, 252, &bytes)
-    }
+    code.reserve(9)?;
+    put_wide(code, number);
+    Ok(())
 }
 
 impl Coded for u64 {

@@ -13,9 +13,11 @@ ghost use Rattle.step_codes.specs.OrderCodes.{order_onto, FitsOrder};
 ghost use Rattle.step_codes.specs.ReplyCodes.{has_reply_code};
 ghost use Rattle.step_codes.specs.StepCodes.{outcome_onto, step_onto, FitsOutcome, FitsStep};
 
-use crate::acts::{has_act_code, push_act};
+use crate::acts::{has_act_code, push_act, push_told};
 use crate::coded::{Code, Coded};
+use crate::kept_input::ToldInput;
 use crate::lists::{push_list, take_list};
+use crate::numbers::put_number;
 use crate::replies::{has_reply_code, push_reply, take_reply};
 use arrayvec::ArrayVec;
 use s6_events::{Actor, At, Order};
@@ -35,6 +37,20 @@ fn push_outcome(code: &mut Vec<u8>, effect: &Effect<Global>) -> Result<(), Alloc
     push_list(code, effect.released.as_slice())
 }
 
+// Adds the actor and the moment of a step.
+#[inline(always)]
+fn push_head(code: &mut Vec<u8>, actor: Actor, at: At) -> Result<(), AllocError>
+    ensures added { OnOk result
+        (Adds code.old.items code.new.items (λ rest. actor ∷ number_onto at rest)) }
+    ensures actor { actor ≤ 15 }
+    ensures at { at ≤ last_moment }
+{
+    code.reserve(10)?;
+    code.push_reserved(actor.number());
+    put_number(code, at.millis());
+    Ok(())
+}
+
 /// Adds the code of a step, if it has one. Whether it has. An error where memory is refused.
 pub fn push_step(
     code: &mut Vec<u8>,
@@ -49,10 +65,30 @@ pub fn push_step(
     if !has_act_code(&input.act) || !has_reply_code(&effect.reply) || !effect.matched.is_empty() {
         return Ok(false);
     }
-    code.push(input.actor.number())?;
-    input.at.millis().push(code)?;
+    push_head(code, input.actor, input.at)?;
     push_outcome(code, effect)?;
     push_act(code, &input.act)?;
+    Ok(true)
+}
+
+/// The same of a tick or a report.
+#[inline(always)]
+pub fn push_told_step(
+    code: &mut Vec<u8>,
+    input: &ToldInput,
+    effect: &Effect<Global>,
+) -> Result<bool, AllocError>
+    ensures added { IfOk result (λ has_code. IsTrue has_code → Adds code.old.items code.new.items
+        (step_onto input.now (outcome_of effect.now))) }
+    ensures fits { IfOk result
+        (λ has_code. IsTrue has_code → FitsStep input.now (outcome_of effect.now)) }
+{
+    if !has_reply_code(&effect.reply) || !effect.matched.is_empty() {
+        return Ok(false);
+    }
+    push_head(code, input.actor, input.at)?;
+    push_outcome(code, effect)?;
+    push_told(code, input.act)?;
     Ok(true)
 }
 

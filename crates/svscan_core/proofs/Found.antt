@@ -4,7 +4,7 @@ use Rattle.std.proofs.Common.{is_lt, nat_cmp, inl, inr, lit<, ◌++◌, Bool, �
 use Rattle.std.proofs.lemmas.Bool.{cases_lt}
 use Rattle.std.proofs.Math.Nat.{div-lt_self}
 use Rattle.std.proofs.lemmas.List.{map-set}
-use Rattle.std.specs.Prelude.{Option, Some, None, slice_get, slice_set, nat_lt, unwrap_or, All}
+use Rattle.std.specs.Prelude.{Option, Some, None, slice_get, slice_set, nat_eq, nat_lt, unwrap_or, All}
 use Rattle.std.specs.List.{list_any}
 use Rattle.deadlines.specs.Timers.{is_rising}
 use Rattle.supervise_core.specs.declared.chart_state.ChartState.{ChartState}
@@ -14,13 +14,12 @@ use Rattle.supervise_core.specs.Chart.{changed_by}
 use Rattle.supervise_core.specs.MatchesMove.{MatchesMove}
 use Rattle.supervise_core.specs.Service.{Supervised, ServiceView, service_view, with_view, death_by, AgreesWith, KeepsAgreeing}
 use Rattle.s6_events.specs.declared.exit.Exit.{Exit}
-use Rattle.s6_events.specs.Clock.{clock_of}
 use Rattle.s6_events.specs.declared.moment.Moment.{Moment}
 use Rattle.s6_events.specs.declared.moment.Moment.TheVariants as moment
-use Rattle.svscan_core.specs.Deaths.{DeathOf, deaths_after, AllTallied}
-use Rattle.svscan_core.specs.Moves.{service_mark, moment_of, services_after, events_after, orders_after}
+use Rattle.svscan_core.specs.Changed.{GivesChange, TakesChange}
+use Rattle.svscan_core.specs.Deaths.{DeathOf, AllTallied}
+use Rattle.svscan_core.specs.Moves.{service_mark}
 use Rattle.svscan_core.specs.Sound.{AllAgree}
-use Rattle.svscan_core.specs.Work.{change_move_at}
 use Rattle.svscan_core.specs.Table.{charts_of, serials_of}
 use Rattle.svscan_core.proofs.Truth.{both_left, both_right, neither_of, neither_left, neither_right}
 use Rattle.svscan_core.proofs.Places.{get_map}
@@ -64,6 +63,9 @@ serial_there services p s e =
 pub serial_read : (services : List Supervised) (p sid : ℕ) (s : Supervised) → Some s ≡ slice_get services p → sid ≡ s.chart.sid
     → slice_get (serials_of (charts_of services)) p ≡ Some sid
 serial_read services p sid s e own = serial_there services p s (sym e) ∙ ap Some (sym own)
+
+pub is_the_serial : (own sid read : ℕ) (answer : Bool) → answer ≡ nat_eq read sid → read ≡ own → Some own ≡ Some sid → answer ≡ true
+is_the_serial own sid read answer e r s = search rules
 
 -- up to a place whose serial is lower, all are; from a place whose serial is higher, all are
 pub lower_up_to : (ns : List ℕ) (p m sid : ℕ) → is_rising ns ≡ true → slice_get ns p ≡ Some m → m < sid
@@ -155,46 +157,41 @@ all_at P (y ∷ xs) zero x h e = subst P (ap (λ o. unwrap_or o y) e) (h 0 y (om
 all_at P (y ∷ xs) (suc p) x h e = all_at P xs p x (all_later P y xs h) e
 
 -- the service of a serial took a change
-pub record IsChanged (sid now : ℕ) (change : Change) (old new : List Supervised) (out : Out) : Type 0 where
-  pub services : charts_of new ≡ services_after (change_move_at sid change now) (charts_of old)
-  pub events : map (service_mark sid) out.events.items ≡ events_after (change_move_at sid change now) (charts_of old)
-  pub orders : out.orders.items ≡ orders_after (change_move_at sid change now) (charts_of old)
-  pub stale : out.stale ≡ list_any (λ c. (change_move_at sid change now c).stale) (charts_of old)
-  pub agrees : (history : List Moment) → clock_of history ≡ now → AllAgree old history
-      → AllAgree new (history ++ map moment_of (map (service_mark sid) out.events.items))
-  pub tallies : (deaths : List DeathOf) → AllTallied old deaths
-      → AllTallied new (deaths ++ deaths_after (change_move_at sid change now) (charts_of old))
-
 set_there : (sid now : ℕ) (change : Change) (services : List Supervised) (p : ℕ) (before : Supervised) (after : ServiceView)
     (death : Option (ℕ × Exit)) (out : Out)
     → is_rising (serials_of (charts_of services)) ≡ true → slice_get (serials_of (charts_of services)) p ≡ Some sid
     → slice_get services p ≡ Some before
     → MatchesMove (changed_by change now before.chart) after.chart out → KeepsAgreeing now out.events.items (service_view before) after
     → after.chart.sid ≡ before.chart.sid
-    → death ≡ death_by change out.stale now → IsChanged sid now change services (slice_set services p (with_view after death before)) out
+    → death ≡ death_by change out.stale now
+    → TakesChange sid change now services (slice_set services p (with_view after death before))
+    × GivesChange sid change now services (slice_set services p (with_view after death before)) out
 set_there sid now change services p before after death out r e there gives keeps same told =
     let now_there = with_view after death before in
     let own : before.chart.sid ≡ sid = own_serial services p sid before e there in
     let one = one_reported sid change now (charts_of services) p before.chart r
     (get_map (λ (s : Supervised). s.chart) services p before there) own in
-    let marks = out.events.items in
-    record {
-      services = map-set (λ (s : Supervised). s.chart) services p now_there
-          ∙ (ap (λ c. slice_set (charts_of services) p c) gives.chart ∙ sym one.services);
-      events = ap (λ ms. map (service_mark sid) ms) gives.marks
-          ∙ (ap (λ n. map (service_mark n) (changed_by change now before.chart).marks) (sym own) ∙ sym one.events);
-      orders = gives.orders ∙ sym one.orders;
-      stale = gives.stale ∙ sym one.stale;
-      agrees = λ h at all.
-          subst (λ (ms : List Moment). AllAgree (slice_set services p now_there) (h ++ ms))
-          (ap (λ n. map (λ mark. moment.Event n mark) marks) own ∙ sym (moments_of_marks sid marks))
-          (place_agrees now p services before now_there marks h there same r
-          (keeps h at (all_at (λ (s : Supervised). AgreesWith s h) services p before all there)) all);
-      tallies = λ deaths all.
-          subst (λ (ds : List DeathOf). AllTallied (slice_set services p now_there) (deaths ++ ds)) (sym one.deaths)
-          (place_tallied p services before after (changed_by change now before.chart) death deaths there gives.chart same
-          (change_joins change now before.chart out.stale death gives.stale told) r all);
-    }
+    let marks = out.events.items in (
+      record {
+        services = map-set (λ (s : Supervised). s.chart) services p now_there
+            ∙ (ap (λ c. slice_set (charts_of services) p c) gives.chart ∙ sym one.services);
+        tallies = λ deaths all.
+            subst (λ (ds : List DeathOf). AllTallied (slice_set services p now_there) (deaths ++ ds)) (sym one.deaths)
+            (place_tallied p services before after (changed_by change now before.chart) death deaths there gives.chart same
+            (change_joins change now before.chart out.stale death gives.stale told) r all);
+      },
+      record {
+        events = ap (λ ms. map (service_mark sid) ms) gives.marks
+            ∙ (ap (λ n. map (service_mark n) (changed_by change now before.chart).marks) (sym own) ∙ sym one.events);
+        orders = gives.orders ∙ sym one.orders;
+        stale = gives.stale ∙ sym one.stale;
+        agrees = λ h at all.
+            subst (λ (ms : List Moment). AllAgree (slice_set services p now_there) (h ++ ms))
+            (ap (λ n. map (λ mark. moment.Event n mark) marks) own ∙ sym (moments_of_marks sid marks))
+            (place_agrees now p services before now_there marks h there same r
+            (keeps h at (all_at (λ (s : Supervised). AgreesWith s h) services p before all there)) all);
+      },
+    )
 
 pub changed_there : (sid now : ℕ) (change : Change) (services new : List Supervised) (p : ℕ) (before : Supervised) (after : ServiceView)
     (death : Option (ℕ × Exit)) (out : Out)
@@ -202,7 +199,8 @@ pub changed_there : (sid now : ℕ) (change : Change) (services new : List Super
     → slice_get services p ≡ Some before
     → MatchesMove (changed_by change now before.chart) after.chart out → KeepsAgreeing now out.events.items (service_view before) after
     → after.chart.sid ≡ before.chart.sid
-    → death ≡ death_by change out.stale now → new ≡ slice_set services p (with_view after death before) → IsChanged sid now change services new out
+    → death ≡ death_by change out.stale now → new ≡ slice_set services p (with_view after death before)
+    → TakesChange sid change now services new × GivesChange sid change now services new out
 changed_there sid now change services new p before after death out r e there gives keeps same told is =
-    subst (λ (x : List Supervised). IsChanged sid now change services x out) (sym is)
+    subst (λ (x : List Supervised). TakesChange sid change now services x × GivesChange sid change now services x out) (sym is)
     (set_there sid now change services p before after death out r e there gives keeps same told)

@@ -51,14 +51,14 @@ fits_as r p services is names room sound = record {
 pub blank_idle : {A : Type 0} (services : List Supervised) (next : ℕ) (p : Pending A) → IsBlank next p
     → registry_prepared services (planned_of p) ≡ idle_of (record { services = services; next_sid = next })
 blank_idle services next p b = λ i. record {
-  services = (nothing_dropped (with_changes services p.moves.touched.items) p.scan.dropped.items p.scan.added.items b.dropped b.added
+  services = (nothing_dropped (with_changes services p.moves.touched.items) p.scan.dropped.items p.scan.added.items b.scan.dropped b.scan.added
       ∙ ap (λ ts. with_changes services ts) b.touched) i;
   next_sid = b.next_sid i;
   events = b.events i;
   orders = b.orders i;
   stale = b.stale i;
-  dropped = b.dropped_sids i;
-  listed = b.listed i;
+  dropped = b.scan.dropped_sids i;
+  listed = b.scan.listed i;
   timers = b.timers i;
 }
 

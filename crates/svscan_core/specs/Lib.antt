@@ -18,4 +18,8 @@ pub mod Adding
 pub mod Asked
 pub mod Registry
 pub mod Pending
+pub mod SoFar
+pub mod Additions
+pub mod Worked
+pub mod Changed
 pub mod RegistryFields

@@ -1,15 +1,15 @@
 //! The services that a step has changed so far, and what it has given.
-ghost use Rattle.std.specs.Prelude.{◌≡◌, ◌+◌, ◌<◌, ◌≤◌, ◌^◌, ◌*◌, ◌++◌, ◌∷◌, [], map, length, All, IfOk, OnOk, Some, slice_get, option_map, true};
+ghost use Rattle.std.specs.Prelude.{◌≡◌, ◌+◌, ◌<◌, ◌≤◌, ◌^◌, ◌*◌, ◌++◌, ◌∷◌, [], map, length, IfOk, OnOk, Some, slice_get, option_map};
 ghost use Rattle.supervise_core.specs.Service.{service_view};
-ghost use Rattle.deadlines.specs.Timers.{is_rising};
 ghost use Rattle.supervise_core.specs.declared.chart_state.ChartState.{ChartState};
 ghost use Rattle.supervise_core.specs.Chart.{changed_by};
 ghost use Rattle.supervise_core.specs.MatchesMove.{most_orders};
 ghost use Rattle.std.specs.List.{list_any};
 ghost use Rattle.svscan_core.specs.Moves.{service_mark};
 ghost use Rattle.svscan_core.specs.Work.{change_move_at};
-ghost use Rattle.svscan_core.specs.Moving.{services_so_far, with_changes, step_so_far, AreUnvisited, KeepNames, TakesAt, Takes};
-ghost use Rattle.svscan_core.specs.Table.{charts_of, serials_of};
+ghost use Rattle.svscan_core.specs.Moving.{services_so_far, with_changes, step_so_far, AreUnvisited, KeepNames, Takes};
+ghost use Rattle.svscan_core.specs.SoFar.{AreInOrder, HaveGenerations, IsVisited, KeepSerials};
+ghost use Rattle.svscan_core.specs.Table.{charts_of};
 ghost use Rattle.svscan_core.specs.Visit.{visit_move};
 ghost use Rattle.svscan_core.specs.declared.visit.Visit.TheVariants.{Fire};
 
@@ -163,25 +163,16 @@ impl<A: Allocator + Copy> Moves<A> {
         requires next { (c : ChartState)
             → slice_get (services_so_far slots.now.services self.old.touched.items) place
             ≡ Some c → c.generation + 1 < 2 ^ 64 }
-        requires order { is_rising (serials_of
-            (services_so_far slots.now.services self.old.touched.items)) ≡ true }
+        requires order { AreInOrder (services_so_far slots.now.services self.old.touched.items) }
         requires earlier { before ≤ length self.old.touched.items }
         requires unvisited { AreUnvisited slots.now.services before place
             self.old.touched.items }
-        ensures takes { OnOk result ((c : ChartState) → slice_get (services_so_far slots.now.services self.old.touched.items) place ≡ Some c
-            → TakesAt now place c (visit_move visit.entry now c)
-            (step_so_far slots.now.services self.old) (step_so_far slots.now.services self.new)) }
-        ensures serials { OnOk result
-            (serials_of (services_so_far slots.now.services self.new.touched.items)
-            ≡ serials_of (services_so_far slots.now.services self.old.touched.items)) }
-        ensures names { KeepNames slots.now.services self.old.touched.items
-            → OnOk result (KeepNames slots.now.services self.new.touched.items) }
+        ensures visited { OnOk result (IsVisited visit.entry now place slots.now.services
+            self.old self.new) }
         ensures few { OnOk result (length self.new.orders.items
             ≤ length self.old.orders.items + 2) }
         ensures fires { visit.entry ≡ Fire
             → OnOk result (length self.new.orders.items ≤ length self.old.orders.items + 1) }
-        ensures more { OnOk result (length self.old.touched.items
-            ≤ length self.new.touched.items) }
         ensures unvisited { OnOk result (AreUnvisited slots.now.services before (place + 1)
             self.new.touched.items) }
     {
@@ -210,10 +201,9 @@ impl<A: Allocator + Copy> Moves<A> {
         now: At,
         out: &mut Out,
     ) -> Result<(), NoMemory>
-        requires generations { All (λ c. c.generation + 1 < 2 ^ 64)
+        requires generations { HaveGenerations 1
             (services_so_far slots.now.services self.old.touched.items) }
-        requires order { is_rising (serials_of
-            (services_so_far slots.now.services self.old.touched.items)) ≡ true }
+        requires order { AreInOrder (services_so_far slots.now.services self.old.touched.items) }
         ensures takes { OnOk result
             (Takes now (visit_move visit.entry now) (step_so_far slots.now.services self.old)
             (step_so_far slots.now.services self.new)) }
@@ -242,12 +232,10 @@ impl<A: Allocator + Copy> Moves<A> {
         now: At,
         out: &mut Out,
     ) -> Result<bool, NoMemory>
-        requires generations { All (λ c. c.generation + 1 < 2 ^ 64)
+        requires generations { HaveGenerations 1
             (services_so_far slots.now.services self.old.touched.items) }
-        requires order { is_rising (serials_of (charts_of slots.now.services)) ≡ true }
-        requires serials { serials_of
-            (services_so_far slots.now.services self.old.touched.items)
-            ≡ serials_of (charts_of slots.now.services) }
+        requires order { AreInOrder (charts_of slots.now.services) }
+        requires serials { KeepSerials slots.now.services self.old.touched.items }
         ensures takes { OnOk result
             (Takes now (change_move_at sid change.now now) (step_so_far slots.now.services self.old)
             (step_so_far slots.now.services self.new)) }

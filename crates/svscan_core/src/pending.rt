@@ -1,26 +1,18 @@
 //! A step that is worked out before anything is changed.
-ghost use Rattle.std.specs.Prelude.{◌≡◌, ◌+◌, ◌*◌, ◌<◌, ◌≤◌, ◌^◌, ◌++◌, [], List, map, length, All, IfOk, IsOk, OnOk, false, true};
-ghost use Rattle.std.specs.List.{list_any};
-ghost use Rattle.deadlines.specs.declared.timer.Timer.{Timer};
-ghost use Rattle.deadlines.specs.Timers.{with_timer_changes, is_rising};
-ghost use Rattle.s6_events.specs.Clock.{clock_of};
-ghost use Rattle.s6_events.specs.declared.moment.Moment.{Moment};
+ghost use Rattle.std.specs.Prelude.{◌≡◌, ◌+◌, ◌≤◌, [], length, IsOk, OnOk, false, true};
 ghost use Rattle.supervise_core.specs.Chart.{fire_move};
-ghost use Rattle.supervise_core.specs.MatchesMove.{most_orders};
 ghost use Rattle.svscan_core.specs.Asked.{work_asked, IsOrderly};
-ghost use Rattle.svscan_core.specs.Deaths.{deaths_given, KeepTallied};
-ghost use Rattle.svscan_core.specs.Limits.{order_limit, service_limit};
-ghost use Rattle.svscan_core.specs.Moves.{moment_of, services_after};
-ghost use Rattle.svscan_core.specs.Moving.{services_so_far, with_changes, timers_of, step_so_far, KeepNames, Takes};
-ghost use Rattle.svscan_core.specs.Names.{repeats_name};
-ghost use Rattle.svscan_core.specs.Pending.{planned_of, step_timers, IsBlank};
-ghost use Rattle.svscan_core.specs.Registry.{registry_prepared, result_of};
-ghost use Rattle.svscan_core.specs.Sound.{AllAgree, IsNumbered};
-ghost use Rattle.svscan_core.specs.Table.{charts_of, names_of, serials_of};
-ghost use Rattle.deadlines.specs.declared.timer.TimerChange.TheVariants.{Clear};
-ghost use Rattle.svscan_core.specs.Timers.{in_reach, timer_change_of, TimersAgree};
-ghost use Rattle.svscan_core.specs.Work.{AreDue, work_result, with_earlier, step_result};
+ghost use Rattle.svscan_core.specs.Limits.{service_limit};
+ghost use Rattle.svscan_core.specs.Moving.{services_so_far, step_so_far, KeepNames, Takes};
+ghost use Rattle.svscan_core.specs.Pending.{planned_of, prepared_of, step_timers, IsBlank, IsEmptyScan, KeepsLimits};
+ghost use Rattle.svscan_core.specs.Registry.{registry_prepared};
+ghost use Rattle.svscan_core.specs.SoFar.{AreInOrder, HaveGenerations, IsSoundSoFar, KeepSerials};
+ghost use Rattle.svscan_core.specs.Sound.{IsSound};
+ghost use Rattle.svscan_core.specs.Table.{charts_of};
+ghost use Rattle.svscan_core.specs.Timers.{in_reach, timer_change_of};
+ghost use Rattle.svscan_core.specs.Work.{AreDue};
 ghost use Rattle.svscan_core.specs.Work.Work.{do_nothing};
+ghost use Rattle.svscan_core.specs.Worked.{IsStepOf, IsWorkOf, WorkIsDone};
 
 use super::moves::Moves;
 use super::scan::{Scanning, plan_scan};
@@ -131,44 +123,19 @@ impl<A: Allocator + Copy> Pending<A> {
         now: At,
         out: &mut Out,
     ) -> Result<(), NoMemory>
-        requires dropped { self.old.scan.dropped.items ≡ [] }
-        requires dropped_sids { self.old.scan.dropped_sids.items ≡ [] }
-        requires added { self.old.scan.added.items ≡ [] }
-        requires listed { self.old.scan.listed.items ≡ [] }
+        requires empty { IsEmptyScan self.old.scan }
         requires stale { self.old.stale ≡ false }
-        requires few { length slots.now.services ≤ service_limit }
-        requires room { length self.old.moves.orders.items ≤ service_limit }
-        requires generations { All (λ c. c.generation + 1 < 2 ^ 64)
-            (services_so_far slots.now.services self.old.moves.touched.items) }
-        requires order { IsNumbered self.old.scan.next_sid
-            (services_so_far slots.now.services self.old.moves.touched.items) }
-        requires names { repeats_name
-            (names_of (services_so_far slots.now.services self.old.moves.touched.items))
-            ≡ false }
-        requires rising { is_rising (serials_of (charts_of slots.now.services)) ≡ true }
-        requires serials { serials_of
-            (services_so_far slots.now.services self.old.moves.touched.items)
-            ≡ serials_of (charts_of slots.now.services) }
-        requires stand { names_of
-            (services_so_far slots.now.services self.old.moves.touched.items)
-            ≡ names_of (charts_of slots.now.services) }
+        requires few { length self.old.moves.orders.items ≤ service_limit }
+        requires sound { IsSoundSoFar self.old.scan.next_sid slots.now.services
+            self.old.moves.touched.items }
+        requires serials { KeepSerials slots.now.services self.old.moves.touched.items }
         requires listing { IsOrderly self.old.scan.next_sid (work_asked work.now) }
-        ensures worked { OnOk result (result_of (registry_prepared slots.now.services (planned_of self.new)) ≡ with_earlier self.old.moves.events.items self.old.moves.orders.items
-            (work_result (work_asked work.now) now (services_so_far slots.now.services self.old.moves.touched.items) self.old.scan.next_sid)) }
-        ensures agrees { OnOk result ((history : List Moment) → clock_of history ≡ now
-            → AllAgree (with_changes slots.now.services self.old.moves.touched.items)
-            (history ++ map moment_of self.old.moves.events.items)
-            → AllAgree (registry_prepared slots.now.services (planned_of self.new)).services
-            (history ++ map moment_of self.new.moves.events.items)) }
-        ensures tallies { OnOk result (KeepTallied self.old.scan.next_sid (with_changes slots.now.services self.old.moves.touched.items) (registry_prepared slots.now.services (planned_of self.new)).services
-            (deaths_given (work_asked work.now) now (services_so_far slots.now.services self.old.moves.touched.items))) }
-        ensures timers { OnOk result ((timers : List Timer) → TimersAgree (with_timer_changes (timers_of self.old.moves.touched.items) timers) (services_so_far slots.now.services self.old.moves.touched.items)
-            → TimersAgree (with_timer_changes (step_timers self.new.moves self.new.scan) timers)
-            (charts_of (registry_prepared slots.now.services (planned_of self.new)).services)) }
+        ensures worked { OnOk result (WorkIsDone (work_asked work.now) now self.old.scan.next_sid
+            (step_so_far slots.now.services self.old.moves)
+            (prepared_of slots.now.services self.new.moves self.new.scan self.new.stale)) }
         ensures touched { KeepNames slots.now.services self.old.moves.touched.items
             → OnOk result (KeepNames slots.now.services self.new.moves.touched.items) }
-        ensures added { OnOk result (length self.new.scan.added.items ≤ service_limit) }
-        ensures most { OnOk result (length self.new.moves.orders.items ≤ order_limit) }
+        ensures limits { OnOk result (KeepsLimits self.new) }
         ensures quiet { work_asked work.now ≡ do_nothing → IsOk result }
         ensures still { work_asked work.now ≡ do_nothing → self.new ≡ self.old }
     {
@@ -199,28 +166,14 @@ impl<A: Allocator + Copy> Pending<A> {
         now: At,
         out: &mut Out,
     ) -> Result<(), NoMemory>
-        requires few { length slots.now.services ≤ service_limit }
-        requires generations { All (λ c. c.generation + 1 < 2 ^ 64) (charts_of slots.now.services) }
-        requires order { IsNumbered next_sid (charts_of slots.now.services) }
-        requires names { repeats_name (names_of (charts_of slots.now.services)) ≡ false }
+        requires sound { IsSound next_sid (charts_of slots.now.services) }
+        requires generations { HaveGenerations 1 (charts_of slots.now.services) }
         requires listing { IsOrderly next_sid (work_asked work.now) }
-        ensures worked { OnOk result
-            (result_of (registry_prepared slots.now.services (planned_of self.new))
-            ≡ work_result (work_asked work.now) now (charts_of slots.now.services) next_sid) }
-        ensures agrees { OnOk result ((history : List Moment) → clock_of history ≡ now → AllAgree slots.now.services history
-            → AllAgree (registry_prepared slots.now.services (planned_of self.new)).services
-            (history ++ map moment_of self.new.moves.events.items)) }
-        ensures tallies { OnOk result
-            (KeepTallied next_sid slots.now.services
-            (registry_prepared slots.now.services (planned_of self.new)).services
-            (deaths_given (work_asked work.now) now (charts_of slots.now.services))) }
-        ensures timers { OnOk result ((timers : List Timer) → TimersAgree timers (charts_of slots.now.services)
-            → TimersAgree (with_timer_changes
-            (registry_prepared slots.now.services (planned_of self.new)).timers timers)
-            (charts_of (registry_prepared slots.now.services (planned_of self.new)).services)) }
+        ensures prepared { OnOk result (IsWorkOf (work_asked work.now) now
+            (record { services = slots.now.services; next_sid = next_sid })
+            (registry_prepared slots.now.services (planned_of self.new))) }
         ensures touched { OnOk result (KeepNames slots.now.services self.new.moves.touched.items) }
-        ensures added { OnOk result (length self.new.scan.added.items ≤ service_limit) }
-        ensures most { OnOk result (length self.new.moves.orders.items ≤ order_limit) }
+        ensures limits { OnOk result (KeepsLimits self.new) }
     {
         self.clear(next_sid);
         self.do_work(slots, work, now, out)?;
@@ -238,27 +191,15 @@ impl<A: Allocator + Copy> Pending<A> {
         now: At,
         out: &mut Out,
     ) -> Result<(), NoMemory>
-        requires few { length slots.now.services ≤ service_limit }
-        requires generations { All (λ c. c.generation + 2 < 2 ^ 64) (charts_of slots.now.services) }
-        requires order { IsNumbered next_sid (charts_of slots.now.services) }
-        requires names { repeats_name (names_of (charts_of slots.now.services)) ≡ false }
+        requires sound { IsSound next_sid (charts_of slots.now.services) }
+        requires generations { HaveGenerations 2 (charts_of slots.now.services) }
         requires due { AreDue due.now now (charts_of slots.now.services) }
         requires listing { IsOrderly next_sid (work_asked work.now) }
-        ensures worked { OnOk result
-            (result_of (registry_prepared slots.now.services (planned_of self.new))
-            ≡ step_result (work_asked work.now) now (charts_of slots.now.services) next_sid) }
-        ensures agrees { OnOk result ((history : List Moment) → clock_of history ≡ now → AllAgree slots.now.services history
-            → AllAgree (registry_prepared slots.now.services (planned_of self.new)).services
-            (history ++ map moment_of self.new.moves.events.items)) }
-        ensures tallies { OnOk result (KeepTallied next_sid slots.now.services (registry_prepared slots.now.services (planned_of self.new)).services
-            (deaths_given (work_asked work.now) now (services_after (fire_move now) (charts_of slots.now.services)))) }
-        ensures timers { OnOk result ((timers : List Timer) → TimersAgree timers (charts_of slots.now.services)
-            → TimersAgree (with_timer_changes
-            (registry_prepared slots.now.services (planned_of self.new)).timers timers)
-            (charts_of (registry_prepared slots.now.services (planned_of self.new)).services)) }
+        ensures prepared { OnOk result (IsStepOf (work_asked work.now) now
+            (record { services = slots.now.services; next_sid = next_sid })
+            (registry_prepared slots.now.services (planned_of self.new))) }
         ensures touched { OnOk result (KeepNames slots.now.services self.new.moves.touched.items) }
-        ensures added { OnOk result (length self.new.scan.added.items ≤ service_limit) }
-        ensures most { OnOk result (length self.new.moves.orders.items ≤ order_limit) }
+        ensures limits { OnOk result (KeepsLimits self.new) }
         ensures quiet { due.now ≡ [] → work_asked work.now ≡ do_nothing → IsOk result }
         ensures blank { due.now ≡ [] → work_asked work.now ≡ do_nothing
             → OnOk result (IsBlank next_sid self.new) }
@@ -281,10 +222,9 @@ fn fire_due<A: Allocator + Copy>(
 ) -> Result<(), NoMemory>
     requires due { AreDue due.now now
         (services_so_far slots.now.services moves.old.touched.items) }
-    requires generations { All (λ c. c.generation + 1 < 2 ^ 64)
+    requires generations { HaveGenerations 1
         (services_so_far slots.now.services moves.old.touched.items) }
-    requires order { is_rising (serials_of
-        (services_so_far slots.now.services moves.old.touched.items)) ≡ true }
+    requires order { AreInOrder (services_so_far slots.now.services moves.old.touched.items) }
     ensures takes { OnOk result (Takes now (fire_move now)
         (step_so_far slots.now.services moves.old) (step_so_far slots.now.services moves.new)) }
     ensures names { KeepNames slots.now.services moves.old.touched.items

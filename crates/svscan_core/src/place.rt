@@ -13,6 +13,8 @@ fn is_at<A: Allocator + Copy>(slots: &Slots<A>, place: usize, sid: Sid) -> bool
     ensures bound { result ≡ true → place < length slots.now.services }
     ensures found { result ≡ true
         → slice_get (serials_of (charts_of slots.now.services)) place ≡ Some sid }
+    ensures other { slice_get (serials_of (charts_of slots.now.services)) place ≡ Some sid
+        → result ≡ true }
 {
     let Some(service) = slots.nth(place) else {
         return false;

@@ -1,25 +1,23 @@
 //! The table of services: a step is prepared, then committed.
-ghost use Rattle.std.specs.Prelude.{◌≡◌, ◌==◌, ◌+◌, ◌<◌, ◌≤◌, ◌^◌, ◌++◌, ◌∷◌, [], List, map, find, length, slice_get, bytes_eq, is_some, option_map, All, IfSome, IfNone, IfOk, IsOk, OnOk, OnErr, false, true};
+ghost use Rattle.std.specs.Prelude.{◌≡◌, ◌==◌, ◌+◌, ◌<◌, ◌≤◌, ◌^◌, ◌++◌, [], List, map, find, length, slice_get, bytes_eq, is_some, option_map, IfSome, IfNone, IfOk, IsOk, OnOk, OnErr, false};
 ghost use Rattle.std.specs.List.{list_any};
-ghost use Rattle.deadlines.specs.declared.timer.Timer.{Timer};
-ghost use Rattle.deadlines.specs.Timers.{with_timer_changes};
 ghost use Rattle.s6_events.specs.Clock.{clock_of};
 ghost use Rattle.s6_events.specs.declared.moment.Moment.{Moment};
 ghost use Rattle.supervise_core.specs.Chart.{fire_move};
 ghost use Rattle.supervise_core.specs.Service.{AgreesAs};
 ghost use Rattle.svscan_core.specs.Asked.{work_asked, IsOrderly};
-ghost use Rattle.svscan_core.specs.Deaths.{deaths_after, deaths_given, KeepTallied};
-ghost use Rattle.svscan_core.specs.Moves.{service_mark, moment_of, services_after, events_after, orders_after};
+ghost use Rattle.svscan_core.specs.Changed.{GivesChange, TakesChange};
 ghost use Rattle.svscan_core.specs.Limits.{order_limit, service_limit};
 ghost use Rattle.svscan_core.specs.Listing.{names_in};
+ghost use Rattle.svscan_core.specs.Moves.{moment_of, services_after, events_after};
 ghost use Rattle.svscan_core.specs.Names.{repeats_name};
-ghost use Rattle.svscan_core.specs.Scan.{after_scan, dropped_by};
-ghost use Rattle.svscan_core.specs.Registry.{registry_prepared, table_of, result_of, idle_of, IsPlanOf};
+ghost use Rattle.svscan_core.specs.Registry.{registry_prepared, table_of, idle_of, IsPlanOf};
+ghost use Rattle.svscan_core.specs.SoFar.{HaveGenerations};
 ghost use Rattle.svscan_core.specs.Sound.{AllAgree, IsSound};
 ghost use Rattle.svscan_core.specs.Table.{new_table, charts_of};
-ghost use Rattle.svscan_core.specs.Timers.{TimersAgree};
-ghost use Rattle.svscan_core.specs.Work.{AreDue, change_move_at, command_move, step_result, work_result};
-ghost use Rattle.svscan_core.specs.Work.Work.{do_nothing};
+ghost use Rattle.svscan_core.specs.Work.{AreDue};
+ghost use Rattle.svscan_core.specs.Work.Work.{apply_listing, command, do_nothing};
+ghost use Rattle.svscan_core.specs.Worked.{IsStepOf, IsWorkOf, WorkIsMade};
 
 use super::commit::commit_changes;
 use super::entry::{Entry, Listed, ScanOrder};
@@ -151,7 +149,7 @@ impl<A: Allocator + Copy> Registry<A> {
     /// What the service of this name would be if all due timers went off now; None where no service has the name. Nothing is changed. Each
     /// history that agrees with all services agrees with this one too, once the marks of all these timers have joined it.
     pub fn after_timers(&self, name: Name, now: At) -> Option<ServiceState>
-        requires { All (λ c. c.generation + 1 < 2 ^ 64) (charts_of self.now.shown.services) }
+        requires { HaveGenerations 1 (charts_of self.now.shown.services) }
         ensures chart { option_map (λ s. s.chart) result
             ≡ find (λ c. bytes_eq name c.name)
             (services_after (fire_move now) (charts_of self.now.shown.services)) }
@@ -166,30 +164,15 @@ impl<A: Allocator + Copy> Registry<A> {
     /// The service of this serial takes a change at once, and no other one does. None where no service has the serial: nothing changes
     /// then.
     pub fn change(&mut self, sid: Sid, change: &Change, now: At) -> Option<Out>
-        requires { All (λ c. c.generation + 1 < 2 ^ 64) (charts_of self.old.shown.services) }
-        ensures services { charts_of self.new.shown.services
-            ≡ services_after (change_move_at sid change.now now)
-            (charts_of self.old.shown.services) }
+        requires { HaveGenerations 1 (charts_of self.old.shown.services) }
+        ensures takes { TakesChange sid change.now now self.old.shown.services
+            self.new.shown.services }
         ensures next_sid { self.new.shown.next_sid ≡ self.old.shown.next_sid }
         ensures known { is_some result
             ≡ list_any (λ c. c.sid == sid) (charts_of self.old.shown.services) }
         ensures unknown { IfNone result (self.new.shown ≡ self.old.shown) }
-        ensures events { IfSome result
-            (λ out. map (service_mark sid) out.events.items
-            ≡ events_after (change_move_at sid change.now now)
-            (charts_of self.old.shown.services)) }
-        ensures orders { IfSome result
-            (λ out. out.orders.items ≡ orders_after (change_move_at sid change.now now)
-            (charts_of self.old.shown.services)) }
-        ensures stale { IfSome result
-            (λ out. out.stale ≡ list_any (λ c. (change_move_at sid change.now now c).stale)
-            (charts_of self.old.shown.services)) }
-        ensures agrees { (history : List Moment) → clock_of history ≡ now → AllAgree self.old.shown.services history
-            → IfSome result (λ out. AllAgree self.new.shown.services
-            (history ++ map moment_of (map (service_mark sid) out.events.items))) }
-        ensures tallies { KeepTallied self.old.shown.next_sid self.old.shown.services
-            self.new.shown.services (deaths_after (change_move_at sid change.now now)
-            (charts_of self.old.shown.services)) }
+        ensures gives { IfSome result (GivesChange sid change.now now
+            self.old.shown.services self.new.shown.services) }
     {
         table::change(&mut self.slots, sid, change, now)
     }
@@ -206,27 +189,12 @@ impl<A: Allocator + Copy> Registry<A> {
     ) -> Result<RegistryPlan, NoMemory>
         requires due { AreDue due.now now (charts_of self.old.shown.services) }
         requires listing { IsOrderly self.old.shown.next_sid (work_asked work.now) }
-        requires generations { All (λ c. c.generation + 2 < 2 ^ 64)
-            (charts_of self.old.shown.services) }
+        requires generations { HaveGenerations 2 (charts_of self.old.shown.services) }
         ensures shown { self.new.shown ≡ self.old.shown }
         ensures fits { IfOk result (λ plan. IsPlanOf self.new plan) }
         ensures few { OnOk result (length self.new.planned.orders ≤ order_limit) }
-        ensures prepared { OnOk result
-            (result_of (registry_prepared self.new.shown.services self.new.planned)
-            ≡ step_result (work_asked work.now) now
-            (charts_of self.old.shown.services) self.old.shown.next_sid) }
-        ensures agrees { OnOk result ((history : List Moment) → clock_of history ≡ now
-            → AllAgree self.old.shown.services history
-            → AllAgree (registry_prepared self.new.shown.services self.new.planned).services
-            (history ++ map moment_of self.new.planned.events)) }
-        ensures tallies { OnOk result (KeepTallied self.old.shown.next_sid
-            self.old.shown.services (registry_prepared self.new.shown.services self.new.planned).services
-            (deaths_given (work_asked work.now) now
-            (services_after (fire_move now) (charts_of self.old.shown.services)))) }
-        ensures timers { OnOk result ((timers : List Timer)
-            → TimersAgree timers (charts_of self.old.shown.services)
-            → TimersAgree (with_timer_changes self.new.planned.timers timers)
-            (charts_of (registry_prepared self.new.shown.services self.new.planned).services)) }
+        ensures prepared { OnOk result (IsStepOf (work_asked work.now) now self.old.shown
+            (registry_prepared self.new.shown.services self.new.planned)) }
         ensures quiet { due.now ≡ [] → work_asked work.now ≡ do_nothing → IsOk result }
         ensures still { due.now ≡ [] → work_asked work.now ≡ do_nothing
             → OnOk result (registry_prepared self.new.shown.services self.new.planned
@@ -318,21 +286,11 @@ impl<A: Allocator + Copy> Registry<A> {
     // Works out the work alone: no timer goes off.
     fn prepare_alone(&mut self, work: &ServiceWork, now: At) -> Result<RegistryPlan, NoMemory>
         requires listing { IsOrderly self.old.shown.next_sid (work_asked work.now) }
-        requires generations { All (λ c. c.generation + 1 < 2 ^ 64)
-            (charts_of self.old.shown.services) }
+        requires generations { HaveGenerations 1 (charts_of self.old.shown.services) }
         ensures shown { self.new.shown ≡ self.old.shown }
         ensures fits { IfOk result (λ plan. IsPlanOf self.new plan) }
-        ensures prepared { OnOk result
-            (result_of (registry_prepared self.new.shown.services self.new.planned)
-            ≡ work_result (work_asked work.now) now
-            (charts_of self.old.shown.services) self.old.shown.next_sid) }
-        ensures agrees { OnOk result ((history : List Moment) → clock_of history ≡ now
-            → AllAgree self.old.shown.services history
-            → AllAgree (registry_prepared self.new.shown.services self.new.planned).services
-            (history ++ map moment_of self.new.planned.events)) }
-        ensures tallies { OnOk result (KeepTallied self.old.shown.next_sid
-            self.old.shown.services (registry_prepared self.new.shown.services self.new.planned).services
-            (deaths_given (work_asked work.now) now (charts_of self.old.shown.services))) }
+        ensures prepared { OnOk result (IsWorkOf (work_asked work.now) now self.old.shown
+            (registry_prepared self.new.shown.services self.new.planned)) }
     {
         let out = &mut self.out;
         self.pending
@@ -345,38 +303,9 @@ impl<A: Allocator + Copy> Registry<A> {
     // Does the work at once.
     fn make(&mut self, work: &ServiceWork, now: At) -> Result<Answer<A>, NoMemory>
         requires listing { IsOrderly self.old.shown.next_sid (work_asked work.now) }
-        requires generations { All (λ c. c.generation + 1 < 2 ^ 64)
-            (charts_of self.old.shown.services) }
-        ensures services { OnOk result
-            (charts_of self.new.shown.services
-            ≡ (work_result (work_asked work.now) now
-            (charts_of self.old.shown.services) self.old.shown.next_sid).services) }
-        ensures next_sid { OnOk result
-            (self.new.shown.next_sid ≡
-            (work_result (work_asked work.now) now
-            (charts_of self.old.shown.services) self.old.shown.next_sid).next_sid) }
-        ensures events { IfOk result
-            (λ answer. answer.events.items
-            ≡ (work_result (work_asked work.now) now
-            (charts_of self.old.shown.services) self.old.shown.next_sid).events) }
-        ensures orders { IfOk result
-            (λ answer. answer.orders.items
-            ≡ (work_result (work_asked work.now) now
-            (charts_of self.old.shown.services) self.old.shown.next_sid).orders) }
-        ensures dropped { IfOk result
-            (λ answer. answer.dropped.items
-            ≡ (work_result (work_asked work.now) now
-            (charts_of self.old.shown.services) self.old.shown.next_sid).dropped) }
-        ensures listed { IfOk result
-            (λ answer. answer.listed.items
-            ≡ (work_result (work_asked work.now) now
-            (charts_of self.old.shown.services) self.old.shown.next_sid).listed) }
-        ensures agrees { (history : List Moment) → clock_of history ≡ now → AllAgree self.old.shown.services history
-            → IfOk result (λ answer. AllAgree self.new.shown.services
-            (history ++ map moment_of answer.events.items)) }
-        ensures tallies { OnOk result
-            (KeepTallied self.old.shown.next_sid self.old.shown.services self.new.shown.services
-            (deaths_given (work_asked work.now) now (charts_of self.old.shown.services))) }
+        requires generations { HaveGenerations 1 (charts_of self.old.shown.services) }
+        ensures made { IfOk result
+            (WorkIsMade (work_asked work.now) now self.old.shown self.new.shown) }
         ensures unchanged { OnErr result (self.new.shown ≡ self.old.shown) }
     {
         let plan = self.prepare_alone(work, now)?;
@@ -392,38 +321,10 @@ impl<A: Allocator + Copy> Registry<A> {
     /// `s6-svscan`.
     pub fn scan(&mut self, listing: &[Entry], now: At) -> Result<Answer<A>, NoMemory>
         requires listing { repeats_name (names_in listing.now) ≡ false }
-        requires generations { All (λ c. c.generation + 1 < 2 ^ 64)
-            (charts_of self.old.shown.services) }
+        requires generations { HaveGenerations 1 (charts_of self.old.shown.services) }
         requires next { self.old.shown.next_sid + (service_limit + 1) < 2 ^ 64 }
-        ensures services { OnOk result
-            (charts_of self.new.shown.services
-            ≡ (after_scan listing.now now
-            (charts_of self.old.shown.services) self.old.shown.next_sid).services) }
-        ensures next_sid { OnOk result
-            (self.new.shown.next_sid ≡
-            (after_scan listing.now now
-            (charts_of self.old.shown.services) self.old.shown.next_sid).next_sid) }
-        ensures events { IfOk result
-            (λ answer. answer.events.items
-            ≡ (after_scan listing.now now
-            (charts_of self.old.shown.services) self.old.shown.next_sid).events) }
-        ensures orders { IfOk result
-            (λ answer. answer.orders.items
-            ≡ (after_scan listing.now now
-            (charts_of self.old.shown.services) self.old.shown.next_sid).orders) }
-        ensures dropped { IfOk result
-            (λ answer. answer.dropped.items
-            ≡ dropped_by listing.now now (charts_of self.old.shown.services)) }
-        ensures listed { IfOk result
-            (λ answer. answer.listed.items
-            ≡ (after_scan listing.now now
-            (charts_of self.old.shown.services) self.old.shown.next_sid).listed) }
-        ensures agrees { (history : List Moment) → clock_of history ≡ now → AllAgree self.old.shown.services history
-            → IfOk result (λ answer. AllAgree self.new.shown.services
-            (history ++ map moment_of answer.events.items)) }
-        ensures tallies { OnOk result
-            (KeepTallied self.old.shown.next_sid self.old.shown.services self.new.shown.services
-            []) }
+        ensures made { IfOk result
+            (WorkIsMade (apply_listing listing.now) now self.old.shown self.new.shown) }
         ensures unchanged { OnErr result (self.new.shown ≡ self.old.shown) }
     {
         let work = ServiceWork::Listing(listing);
@@ -434,26 +335,9 @@ impl<A: Allocator + Copy> Registry<A> {
     /// service inactive and gives it both. `NoMemory` where memory is refused: nothing that is shown changes then. Page
     /// `s6-svscanctl`; which letters they get is chosen here.
     pub fn control(&mut self, order: ScanOrder, now: At) -> Result<Answer<A>, NoMemory>
-        requires generations { All (λ c. c.generation + 1 < 2 ^ 64)
-            (charts_of self.old.shown.services) }
-        ensures services { OnOk result
-            (charts_of self.new.shown.services
-            ≡ services_after (command_move order now) (charts_of self.old.shown.services)) }
-        ensures next_sid { OnOk result (self.new.shown.next_sid ≡ self.old.shown.next_sid) }
-        ensures events { IfOk result
-            (λ answer. answer.events.items
-            ≡ events_after (command_move order now) (charts_of self.old.shown.services)) }
-        ensures orders { IfOk result
-            (λ answer. answer.orders.items
-            ≡ orders_after (command_move order now) (charts_of self.old.shown.services)) }
-        ensures none { IfOk result (λ answer. (answer.dropped.items ≡ [])
-            × (answer.listed.items ≡ [])) }
-        ensures agrees { (history : List Moment) → clock_of history ≡ now → AllAgree self.old.shown.services history
-            → IfOk result (λ answer. AllAgree self.new.shown.services
-            (history ++ map moment_of answer.events.items)) }
-        ensures tallies { OnOk result
-            (KeepTallied self.old.shown.next_sid self.old.shown.services self.new.shown.services
-            []) }
+        requires generations { HaveGenerations 1 (charts_of self.old.shown.services) }
+        ensures made { IfOk result
+            (WorkIsMade (command order) now self.old.shown self.new.shown) }
         ensures unchanged { OnErr result (self.new.shown ≡ self.old.shown) }
     {
         self.make(&ServiceWork::Command(order), now)

@@ -1,25 +1,18 @@
 //! A scan, worked out before anything is changed: what the listing makes of each service, which are dropped, which names are added.
-ghost use Rattle.std.specs.Prelude.{◌≡◌, ℕ, ◌+◌, ◌*◌, ◌<◌, ◌≤◌, ◌^◌, ◌++◌, ◌∷◌, [], List, map, filter, length, bytes_eq, All, IfOk, OnOk, true, false};
-ghost use Rattle.std.specs.List.{list_any};
-ghost use Rattle.s6_events.specs.Clock.{clock_of};
-ghost use Rattle.s6_events.specs.declared.moment.Moment.{Moment};
-ghost use Rattle.supervise_core.specs.Service.{Supervised};
+ghost use Rattle.std.specs.Prelude.{◌≡◌, ℕ, ◌+◌, ◌<◌, ◌≤◌, ◌^◌, ◌++◌, ◌∷◌, [], List, filter, length, IfOk, OnOk, true, false};
 ghost use Rattle.supervise_core.specs.declared.chart_state.ChartState.{ChartState};
-ghost use Rattle.svscan_core.specs.Adding.{adding_of, state_behind, GoesOn, Grows};
-ghost use Rattle.svscan_core.specs.Deaths.{KeepTallied};
+ghost use Rattle.svscan_core.specs.Adding.{adding_of, state_behind, Grows};
+ghost use Rattle.svscan_core.specs.Additions.{AdditionsGoOn, OnlyAdds, StandsAsBefore};
 ghost use Rattle.svscan_core.specs.Limits.{service_limit};
 ghost use Rattle.svscan_core.specs.Listing.{names_in};
-ghost use Rattle.svscan_core.specs.Moves.{moment_of};
-ghost use Rattle.svscan_core.specs.Moving.{services_so_far, with_changes, timers_of, KeepNames};
+ghost use Rattle.svscan_core.specs.Moving.{services_so_far, step_so_far, KeepNames};
 ghost use Rattle.svscan_core.specs.Names.{lists, repeats_name};
-ghost use Rattle.svscan_core.specs.Scan.{after_look, after_scan, dropped_by, stays, leaves, stands, with_service, with_new_name, with_name, with_names};
-ghost use Rattle.deadlines.specs.declared.timer.Timer.{Timer};
-ghost use Rattle.deadlines.specs.declared.timer.TimerChange.TheVariants.{Clear};
-ghost use Rattle.deadlines.specs.Timers.{with_timer_changes};
-ghost use Rattle.svscan_core.specs.Timers.{timer_change_of, TimersAgree};
-ghost use Rattle.svscan_core.specs.Scanning.{prepared_services};
-ghost use Rattle.svscan_core.specs.Sound.{AllAgree, IsNumbered};
+ghost use Rattle.svscan_core.specs.Pending.{prepared_of, IsEmptyScan};
+ghost use Rattle.svscan_core.specs.Scan.{after_look, stays, leaves, with_service, with_new_name, with_name, with_names};
+ghost use Rattle.svscan_core.specs.SoFar.{IsSoundSoFar};
 ghost use Rattle.svscan_core.specs.Table.{charts_of, names_of, serials_of};
+ghost use Rattle.svscan_core.specs.Work.Work.{apply_listing};
+ghost use Rattle.svscan_core.specs.Worked.{WorkIsDone};
 
 use super::entry::{Entry, Listed};
 use super::limits::SERVICE_LIMIT;
@@ -105,10 +98,7 @@ pub fn plan_drops<A: Allocator + Copy>(
 impl<A: Allocator + Copy> Scanning<A> {
     /// Nothing is dropped or added yet, and this is the next serial.
     pub fn new(alloc: A, next_sid: u64) -> Scanning<A>
-        ensures dropped { result.dropped.items ≡ [] }
-        ensures dropped_sids { result.dropped_sids.items ≡ [] }
-        ensures added { result.added.items ≡ [] }
-        ensures listed { result.listed.items ≡ [] }
+        ensures empty { IsEmptyScan result }
         ensures next_sid { result.next_sid ≡ next_sid }
     {
         Scanning {
@@ -122,10 +112,7 @@ impl<A: Allocator + Copy> Scanning<A> {
 
     /// Empties the lists, and keeps their memory; this is the next serial.
     pub fn clear(&mut self, next_sid: u64)
-        ensures dropped { self.new.dropped.items ≡ [] }
-        ensures dropped_sids { self.new.dropped_sids.items ≡ [] }
-        ensures added { self.new.added.items ≡ [] }
-        ensures listed { self.new.listed.items ≡ [] }
+        ensures empty { IsEmptyScan self.new }
         ensures next_sid { self.new.next_sid ≡ next_sid }
     {
         self.dropped.clear();
@@ -164,18 +151,14 @@ impl<A: Allocator + Copy> Scanning<A> {
             ((retained : List ChartState)
             → state_behind retained (adding_of self.new moves.new)
             ≡ with_service config (state_behind retained (adding_of self.old moves.old)) name.now) }
-        ensures goes_on { (services : List Supervised)
-            → IsNumbered self.old.next_sid (charts_of (services ++ self.old.added.items))
-            → OnOk result (GoesOn services (adding_of self.old moves.old)
+        ensures goes_on { OnOk result (AdditionsGoOn (adding_of self.old moves.old)
             (adding_of self.new moves.new)) }
         ensures count { OnOk result
             (length self.new.added.items ≡ length self.old.added.items + 1) }
         ensures orders { OnOk result
             (length moves.new.orders.items ≤ length moves.old.orders.items + 1) }
         ensures next { OnOk result (self.new.next_sid ≡ self.old.next_sid + 1) }
-        ensures dropped { self.new.dropped.items ≡ self.old.dropped.items }
-        ensures dropped_sids { self.new.dropped_sids.items ≡ self.old.dropped_sids.items }
-        ensures touched { moves.new.touched.items ≡ moves.old.touched.items }
+        ensures only { OnlyAdds self.old self.new moves.old moves.new }
     {
         let sid = Sid(self.next_sid);
         let service = Service::begin_into(alloc, sid, *name, config, out)?;
@@ -202,15 +185,11 @@ impl<A: Allocator + Copy> Scanning<A> {
             ((services : List ChartState) → length services ≡ retained
             → state_behind services (adding_of self.new moves.new)
             ≡ with_new_name found (state_behind services (adding_of self.old moves.old)) name.now) }
-        ensures goes_on { (services : List Supervised)
-            → IsNumbered self.old.next_sid (charts_of (services ++ self.old.added.items))
-            → OnOk result (GoesOn services (adding_of self.old moves.old)
+        ensures goes_on { OnOk result (AdditionsGoOn (adding_of self.old moves.old)
             (adding_of self.new moves.new)) }
         ensures grows { OnOk result
             (Grows retained (adding_of self.old moves.old) (adding_of self.new moves.new)) }
-        ensures dropped { self.new.dropped.items ≡ self.old.dropped.items }
-        ensures dropped_sids { self.new.dropped_sids.items ≡ self.old.dropped_sids.items }
-        ensures touched { moves.new.touched.items ≡ moves.old.touched.items }
+        ensures only { OnlyAdds self.old self.new moves.old moves.new }
     {
         let Some(config) = found else {
             self.listed.push(Listed::Unread(*name))?;
@@ -236,20 +215,16 @@ impl<A: Allocator + Copy> Scanning<A> {
         requires few { retained + length self.old.added.items ≤ service_limit }
         requires next { self.old.next_sid + 1 < 2 ^ 64 }
         ensures state { OnOk result ((services : List ChartState) → length services ≡ retained
-            → stands name.now (services ++ charts_of self.old.added.items)
-            ≡ list_any (λ s. bytes_eq name.now s.chart.name) slots.now.services
+            → StandsAsBefore slots.now.services
+            (services ++ charts_of self.old.added.items) name.now
             → state_behind services (adding_of self.new moves.new)
             ≡ with_name listing.now (state_behind services (adding_of self.old moves.old))
             name.now) }
-        ensures goes_on { (services : List Supervised)
-            → IsNumbered self.old.next_sid (charts_of (services ++ self.old.added.items))
-            → OnOk result (GoesOn services (adding_of self.old moves.old)
+        ensures goes_on { OnOk result (AdditionsGoOn (adding_of self.old moves.old)
             (adding_of self.new moves.new)) }
         ensures grows { OnOk result
             (Grows retained (adding_of self.old moves.old) (adding_of self.new moves.new)) }
-        ensures dropped { self.new.dropped.items ≡ self.old.dropped.items }
-        ensures dropped_sids { self.new.dropped_sids.items ≡ self.old.dropped_sids.items }
-        ensures touched { moves.new.touched.items ≡ moves.old.touched.items }
+        ensures only { OnlyAdds self.old self.new moves.old moves.new }
     {
         if slots.has(name) {
             return Ok(());
@@ -273,20 +248,15 @@ impl<A: Allocator + Copy> Scanning<A> {
         requires next { self.old.next_sid + (service_limit + 1) < 2 ^ 64 }
         ensures state { OnOk result ((services : List ChartState) → length services ≡ retained
             → ((name : List ℕ) → lists names.now name ≡ true
-            → stands name (services ++ charts_of self.old.added.items)
-            ≡ list_any (λ s. bytes_eq name s.chart.name) slots.now.services)
+            → StandsAsBefore slots.now.services (services ++ charts_of self.old.added.items) name)
             → state_behind services (adding_of self.new moves.new)
             ≡ with_names listing.now (state_behind services (adding_of self.old moves.old))
             names.now) }
-        ensures goes_on { (services : List Supervised)
-            → IsNumbered self.old.next_sid (charts_of (services ++ self.old.added.items))
-            → OnOk result (GoesOn services (adding_of self.old moves.old)
+        ensures goes_on { OnOk result (AdditionsGoOn (adding_of self.old moves.old)
             (adding_of self.new moves.new)) }
         ensures grows { OnOk result
             (Grows retained (adding_of self.old moves.old) (adding_of self.new moves.new)) }
-        ensures dropped { self.new.dropped.items ≡ self.old.dropped.items }
-        ensures dropped_sids { self.new.dropped_sids.items ≡ self.old.dropped_sids.items }
-        ensures touched { moves.new.touched.items ≡ moves.old.touched.items }
+        ensures only { OnlyAdds self.old self.new moves.old moves.new }
     {
         for name in names {
             self.add_name(slots, moves, retained, name, listing, out)?;
@@ -307,61 +277,13 @@ pub fn plan_scan<A: Allocator + Copy>(
     now: At,
     out: &mut Out,
 ) -> Result<(), NoMemory>
-    requires dropped { scan.old.dropped.items ≡ [] }
-    requires dropped_sids { scan.old.dropped_sids.items ≡ [] }
-    requires added { scan.old.added.items ≡ [] }
-    requires listed { scan.old.listed.items ≡ [] }
-    requires names { repeats_name
-        (names_of (services_so_far slots.now.services moves.old.touched.items)) ≡ false }
-    requires order { IsNumbered scan.old.next_sid
-        (services_so_far slots.now.services moves.old.touched.items) }
-    requires few { length slots.now.services ≤ service_limit }
-    requires stand { names_of (services_so_far slots.now.services moves.old.touched.items)
-        ≡ names_of (charts_of slots.now.services) }
+    requires empty { IsEmptyScan scan.old }
+    requires sound { IsSoundSoFar scan.old.next_sid slots.now.services moves.old.touched.items }
     requires listing { repeats_name (names_in listing.now) ≡ false }
     requires next { scan.old.next_sid + (service_limit + 1) < 2 ^ 64 }
-    requires generations { All (λ c. c.generation + 1 < 2 ^ 64)
-        (services_so_far slots.now.services moves.old.touched.items) }
-    ensures services { OnOk result (charts_of (prepared_services slots.now.services moves.new.touched.items scan.new.dropped.items scan.new.added.items)
-        ≡ (after_scan listing.now now
-        (services_so_far slots.now.services moves.old.touched.items)
-        scan.old.next_sid).services) }
-    ensures next_sid { OnOk result
-        (scan.new.next_sid ≡ (after_scan listing.now now
-        (services_so_far slots.now.services moves.old.touched.items)
-        scan.old.next_sid).next_sid) }
-    ensures events { OnOk result
-        (moves.new.events.items ≡ moves.old.events.items
-        ++ (after_scan listing.now now
-        (services_so_far slots.now.services moves.old.touched.items)
-        scan.old.next_sid).events) }
-    ensures orders { OnOk result
-        (moves.new.orders.items ≡ moves.old.orders.items
-        ++ (after_scan listing.now now
-        (services_so_far slots.now.services moves.old.touched.items)
-        scan.old.next_sid).orders) }
-    ensures dropped { OnOk result
-        (scan.new.dropped_sids.items
-        ≡ dropped_by listing.now now
-        (services_so_far slots.now.services moves.old.touched.items)) }
-    ensures listed { OnOk result
-        (scan.new.listed.items ≡ (after_scan listing.now now
-        (services_so_far slots.now.services moves.old.touched.items)
-        scan.old.next_sid).listed) }
-    ensures agrees { OnOk result ((history : List Moment) → clock_of history ≡ now → AllAgree (with_changes slots.now.services moves.old.touched.items) (history ++ map moment_of moves.old.events.items)
-        → AllAgree (prepared_services slots.now.services moves.new.touched.items
-        scan.new.dropped.items scan.new.added.items)
-        (history ++ map moment_of moves.new.events.items)) }
-    ensures tallies { OnOk result
-        (KeepTallied scan.old.next_sid (with_changes slots.now.services moves.old.touched.items)
-        (prepared_services slots.now.services moves.new.touched.items scan.new.dropped.items
-        scan.new.added.items) []) }
-    ensures timers { OnOk result ((timers : List Timer) → TimersAgree (with_timer_changes (timers_of moves.old.touched.items) timers) (services_so_far slots.now.services moves.old.touched.items)
-        → TimersAgree (with_timer_changes
-        (timers_of moves.new.touched.items
-        ++ (map (λ sid. Clear sid) scan.new.dropped_sids.items
-        ++ map timer_change_of (charts_of scan.new.added.items))) timers)
-        (charts_of (prepared_services slots.now.services moves.new.touched.items scan.new.dropped.items scan.new.added.items))) }
+    ensures worked { OnOk result (WorkIsDone (apply_listing listing.now) now scan.old.next_sid
+        (step_so_far slots.now.services moves.old)
+        (prepared_of slots.now.services moves.new scan.new false)) }
     ensures names { KeepNames slots.now.services moves.old.touched.items
         → OnOk result (KeepNames slots.now.services moves.new.touched.items) }
     ensures few { OnOk result (length scan.new.added.items ≤ service_limit) }

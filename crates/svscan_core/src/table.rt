@@ -1,16 +1,15 @@
 //! Questions to the table, and a change of one service in it.
-ghost use Rattle.std.specs.Prelude.{◌≡◌, ◌+◌, ◌<◌, ◌^◌, ◌++◌, ◌==◌, List, All, true, map, find, bytes_eq, is_some, option_map, slice_get, IfSome, IfNone};
+ghost use Rattle.std.specs.Prelude.{◌≡◌, ◌+◌, ◌<◌, ◌^◌, ◌++◌, ◌==◌, List, map, find, bytes_eq, is_some, option_map, slice_get, IfSome, IfNone};
 ghost use Rattle.std.specs.List.{list_any};
-ghost use Rattle.deadlines.specs.Timers.{is_rising};
 ghost use Rattle.s6_events.specs.Clock.{clock_of};
 ghost use Rattle.s6_events.specs.declared.moment.Moment.{Moment};
 ghost use Rattle.supervise_core.specs.Chart.{fire_move};
 ghost use Rattle.supervise_core.specs.Service.{AgreesAs, KeepsAgreeing};
-ghost use Rattle.svscan_core.specs.Deaths.{DeathOf, deaths_after, AllTallied};
-ghost use Rattle.svscan_core.specs.Moves.{service_mark, moment_of, services_after, events_after, orders_after};
+ghost use Rattle.svscan_core.specs.Changed.{GivesChange, TakesChange};
+ghost use Rattle.svscan_core.specs.Moves.{moment_of, services_after, events_after};
+ghost use Rattle.svscan_core.specs.SoFar.{AreInOrder, HaveGenerations};
 ghost use Rattle.svscan_core.specs.Sound.{AllAgree};
-ghost use Rattle.svscan_core.specs.Table.{charts_of, serials_of};
-ghost use Rattle.svscan_core.specs.Work.{change_move_at};
+ghost use Rattle.svscan_core.specs.Table.{charts_of};
 
 use super::place::place_of;
 use super::slots::Slots;
@@ -35,7 +34,7 @@ pub fn nth_sid<A: Allocator + Copy>(slots: &Slots<A>, place: usize) -> Option<Si
 
 /// The service of this serial; None where no service has it.
 pub fn get<A: Allocator + Copy>(slots: &Slots<A>, sid: Sid) -> Option<&Service<A>>
-    requires { is_rising (serials_of (charts_of slots.now.services)) ≡ true }
+    requires { AreInOrder (charts_of slots.now.services) }
     ensures { option_map (λ s. s.now) result ≡ find (λ s. s.chart.sid == sid) slots.now.services }
 {
     slots.nth(place_of(slots, sid)?)
@@ -49,28 +48,13 @@ pub fn change<A: Allocator + Copy>(
     change: &Change,
     now: At,
 ) -> Option<Out>
-    requires order { is_rising (serials_of (charts_of slots.old.services)) ≡ true }
-    requires generations { All (λ c. c.generation + 1 < 2 ^ 64) (charts_of slots.old.services) }
-    ensures services { charts_of slots.new.services
-        ≡ services_after (change_move_at sid change.now now) (charts_of slots.old.services) }
+    requires order { AreInOrder (charts_of slots.old.services) }
+    requires generations { HaveGenerations 1 (charts_of slots.old.services) }
+    ensures takes { TakesChange sid change.now now slots.old.services slots.new.services }
     ensures known { is_some result ≡ list_any (λ c. c.sid == sid) (charts_of slots.old.services) }
     ensures unknown { IfNone result (slots.new.services ≡ slots.old.services) }
-    ensures events { IfSome result
-        (λ out. map (service_mark sid) out.events.items
-        ≡ events_after (change_move_at sid change.now now) (charts_of slots.old.services)) }
-    ensures orders { IfSome result
-        (λ out. out.orders.items ≡ orders_after (change_move_at sid change.now now)
-        (charts_of slots.old.services)) }
-    ensures stale { IfSome result
-        (λ out. out.stale ≡ list_any (λ c. (change_move_at sid change.now now c).stale)
-        (charts_of slots.old.services)) }
-    ensures agrees { (history : List Moment) → clock_of history ≡ now → AllAgree slots.old.services history
-        → IfSome result (λ out. AllAgree slots.new.services
-        (history ++ map moment_of (map (service_mark sid) out.events.items))) }
-    ensures tallies { (deaths : List DeathOf) → AllTallied slots.old.services deaths
-        → AllTallied slots.new.services
-        (deaths ++ deaths_after (change_move_at sid change.now now)
-        (charts_of slots.old.services)) }
+    ensures gives { IfSome result
+        (GivesChange sid change.now now slots.old.services slots.new.services) }
     ensures room { slots.new.room ≡ slots.old.room }
 {
     let place = place_of(slots, sid)?;
@@ -110,8 +94,8 @@ pub fn after_timers<A: Allocator + Copy>(
     name: &Name,
     now: At,
 ) -> Option<ServiceState>
-    requires order { is_rising (serials_of (charts_of slots.now.services)) ≡ true }
-    requires generations { All (λ c. c.generation + 1 < 2 ^ 64) (charts_of slots.now.services) }
+    requires order { AreInOrder (charts_of slots.now.services) }
+    requires generations { HaveGenerations 1 (charts_of slots.now.services) }
     ensures chart { option_map (λ s. s.chart) result
         ≡ find (λ c. bytes_eq name.now c.name)
         (services_after (fire_move now) (charts_of slots.now.services)) }

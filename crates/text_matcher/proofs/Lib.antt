@@ -1,2 +1,4 @@
-pub mod Searching
 pub mod Crosses
+pub mod Searching
+pub mod ListedStates
+pub mod Walking

@@ -10,7 +10,6 @@ use Rattle.regex_hir.specs.Find.{first_from, find}
 use Rattle.regex_hir.specs.Meaning.{meaning}
 use Rattle.regex_hir.specs.declared.hir.Hir.{Hir}
 use Rattle.regex_compile.specs.Implements.{Implements}
-use Rattle.regex_dfa.specs.Search.{end_from}
 use Rattle.regex_nfa.specs.Run.{run, find_in}
 use Rattle.regex_nfa.specs.declared.nfa.Nfa.{Nfa}
 use Rattle.regex_nfa.proofs.SearchLemmas.{run_unanchored}
@@ -75,19 +74,12 @@ pub are_bytes : (bytes : List ℕ) → ((i : ℕ) → Fits w8 (get_or bytes i 0)
 are_bytes bytes h = All-from_get_or (λ b. b < 256) bytes 0 (λ i _. omega (arith, h i))
 
 module _ (nfa : Nfa) (text bytes : List ℕ) (built : ∥ Matches nfa text ∥₁) (fit : All (λ b. b < 256) bytes) where
-  pub found_by_states : is_some (first_match nfa bytes (length bytes) 0 (length bytes)) ≡ has_match text bytes
+  found_by_states : is_some (first_match nfa bytes (length bytes) 0 (length bytes)) ≡ has_match text bytes
   unfolding has_match find
   found_by_states =
       same_searches _ _ (length bytes + 1 - 0) 0 (λ j. ∥∥₁_elim built (Bool-set _ _) (λ h. h bytes fit j))
 
-  by_rows : is_some (end_from nfa bytes (length bytes) nfa.unanchored 0) ≡ has_match text bytes
+  pub found_by_walk : is_some (run nfa bytes (length bytes) nfa.unanchored 0) ≡ has_match text bytes
   unfolding find_in
-  by_rows =
-      some_of_map _ (run nfa bytes (length bytes) nfa.unanchored 0)
-      ∙ (ap is_some (run_unanchored nfa bytes (length bytes) 0 fit (omega arith) (omega arith)) ∙ (some_of_map _ _ ∙ found_by_states))
-
-  pub found_by_rows : IsSome (end_from nfa bytes (length bytes) nfa.unanchored 0) → true ≡ has_match text bytes
-  found_by_rows h = sym h ∙ by_rows
-
-  pub none_by_rows : end_from nfa bytes (length bytes) nfa.unanchored 0 ≡ None → false ≡ has_match text bytes
-  none_by_rows e = sym (ap is_some e) ∙ by_rows
+  found_by_walk =
+      ap is_some (run_unanchored nfa bytes (length bytes) 0 fit (omega arith) (omega arith)) ∙ (some_of_map _ _ ∙ found_by_states)

@@ -1,4 +1,6 @@
 pub mod Expression
 pub mod Matching
 pub mod BuildFault
+pub mod StateLists
+pub mod Walks
 pub mod MatcherFields

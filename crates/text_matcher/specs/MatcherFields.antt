@@ -1,17 +1,21 @@
 -- What a `TextMatcher` holds.
-use Rattle.std.specs.Prelude.{◌≡◌, ℕ, List, vec_len, string_bytes}
-use Rattle.std.specs.Option.{ForSome}
-use Rattle.regex_bits.specs.Sound.{IsFor}
-use Rattle.regex_dfa.specs.Search.{IsForwardFor}
+use Rattle.std.specs.Prelude.{◌≡◌, ℕ, ◌<◌, List, All, length, vec_len, string_bytes}
 use Rattle.text_matcher.specs.Matching.{Matches}
+use Rattle.text_matcher.specs.Walks.{HasWalked}
 use Rattle.text_matcher.specs.declared.text_matcher.TextMatcher.TheInside.{Inside}
 
-abbrev pub source_text : Inside → List ℕ
-source_text m = string_bytes m.source
+-- the text of the expression, and the letters that it heard
+pub record MatcherView : Type 0 where
+  pub source : List ℕ
+  pub heard : List ℕ
 
--- its automaton is that of its text, and each engine is made for it
+abbrev pub matcher_view : Inside → MatcherView
+matcher_view m = record { source = string_bytes m.source; heard = m.heard.items }
+
+-- its automaton is that of its text, and it has walked over the letters that it heard
 pub record IsBuilt (m : Inside) : Type 0 where
-  pub matches : ∥ Matches m.dfa.nfa (string_bytes m.source) ∥₁
-  pub bits : ∥ ForSome m.bits (λ b. IsFor b m.dfa.nfa) ∥₁
-  pub forward : IsForwardFor m.forward m.dfa
-  pub states : m.pikevm.states ≡ vec_len m.dfa.nfa.states
+  pub matches : ∥ Matches m.nfa (string_bytes m.source) ∥₁
+  pub ascii : All (λ b. b < 128) m.heard.items
+  pub behind : m.behind.count ≡ vec_len m.nfa.states
+  pub reached : m.reached.count ≡ vec_len m.nfa.states
+  pub walked : HasWalked m.nfa m.heard.items (length m.heard.items) m.behind.items m.has_matched

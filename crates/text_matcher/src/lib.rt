@@ -1,8 +1,10 @@
-//! A regular expression with all that a search for it needs, in one value that owns it.
+//! A regular expression, and a text that it hears letter by letter.
 #![tactic(auto)]
 
 mod build_fault;
+mod state_list;
 mod text_matcher;
+mod walk;
 
 pub use build_fault::BuildFault;
 pub use text_matcher::{Limits, TextMatcher};

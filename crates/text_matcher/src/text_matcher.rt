@@ -1,55 +1,44 @@
-//! A matcher: an expression, its automaton, and what searches write to.
-ghost use Rattle.std.specs.Prelude.{◌≡◌, IfOk, IfSome, None, true, false, length, vec_len, is_some};
-ghost use Rattle.std.specs.Option.{ForSome};
-ghost use Rattle.regex_bits.specs.Sound.{IsFor};
-ghost use Rattle.regex_vm.specs.Found.{first_match};
+//! A matcher: an expression, its automaton, and a text that it hears letter by letter.
+ghost use Rattle.std.specs.Prelude.{◌≡◌, ◌++◌, ◌∷◌, ◌<◌, [], All, IfOk, OnOk, OnErr, true};
 ghost use Rattle.text_matcher.specs.Expression.{is_expression, has_match};
 ghost use Rattle.text_matcher.specs.Matching.{Matches};
 
 use crate::build_fault::BuildFault;
-use regex_bits::Bits;
+use crate::state_list::StateList;
+use crate::walk::{has_matched_now, read_over, stand};
 use regex_compile::compile;
-use regex_dfa::{Dfa, End, Forward};
-use regex_nfa::{BuildError, Nfa, State};
+use regex_nfa::{Nfa, State};
 use regex_syntax::{Config, Parsed, parse};
-use regex_vm::PikeVm;
-use std::alloc::Global;
+use std::alloc::{AllocError, Global};
 use std::marker::Model;
 
-// The most bytes that the rows of the automaton take, which are made while it runs.
-const ROW_BYTES: usize = 0x8000;
-
-// How long the making of rows may have taken in all, in eighths of a nanosecond, before a search asks the sets of states first: 0.1 ms.
-const ROW_TIME: u64 = 800_000;
-
-// The most states of an automaton for which sets of states are made. For a larger one they would take too much memory.
-const BITS_STATES: usize = 256;
+// What an assertion costs, which looks at both sides of a place.
+const ASSERTION_COST: usize = 4;
 
 /// How large the automaton of an expression may be.
 #[derive(Clone, Copy, Debug, PartialEq, Eq)]
 pub struct Limits {
     /// The most bytes of its tables, which the compiler may exceed by 24.
     pub bytes: usize,
-    /// The most states that read a byte below 128. A search of such bytes never reaches the other ones, however many there are.
-    pub states: usize,
+    /// The most that a letter below 128 may cost: one for each state in which a search of such letters may stand, and four for an assertion.
+    /// The other states are never reached, however many there are.
+    pub letter_cost: usize,
 }
 
-/// A regular expression of the crate `regex`, with all that a search for it needs. It owns its automaton and the engines that run
-/// it, so it can be kept as long as searches are made. The rows that one search makes are there for the next one.
+/// A regular expression of the crate `regex`, and a text of letters that it hears one by one, with all that a search of that text needs. A
+/// letter costs a look at each state of the automaton in which a search stands, however long the text is.
 ///
-/// A clause sees it as its text.
+/// A clause sees it as the text of the expression, and the letters that it heard.
 pub struct TextMatcher {
     source: String,
-    dfa: Dfa,
-    // Runs the automaton by rows that it makes as it goes, and gives up where there is no room for them.
-    forward: Forward,
-    // Where making rows takes long, this may tell sooner that there is no match. Where it doesn't tell so, there may be a match or none.
-    bits: Option<Bits>,
-    // Whether `bits` was made, or could not be made.
-    is_strained: bool,
-    alloc: Global,
-    // Runs the automaton state by state where `forward` gives up. It takes no memory, and never fails.
-    pikevm: PikeVm,
+    nfa: Nfa,
+    heard: Vec<u8>,
+    // The states to which the last letter led.
+    behind: StateList,
+    // Whether a match ended before the last letter.
+    has_matched: bool,
+    // The states in which a search stands at one place.
+    reached: StateList,
 }
 
 // Written out, so that its holder drops it by one call.
@@ -57,166 +46,137 @@ impl Drop for TextMatcher {
     fn drop(self) {
         let TextMatcher {
             source: _source,
-            dfa: _dfa,
-            bits: _bits,
-            is_strained: _is_strained,
-            alloc: _alloc,
-            forward: _forward,
-            pikevm: _pikevm,
+            nfa: _nfa,
+            heard: _heard,
+            behind: _behind,
+            has_matched: _has_matched,
+            reached: _reached,
         } = self;
     }
 }
 
 impl Model for TextMatcher {
-    ghost use Rattle.std.specs.Prelude.{List, ℕ};
+    ghost use Rattle.text_matcher.specs.MatcherFields.{MatcherView, matcher_view, IsBuilt};
 
-    ghost Value = { List ℕ };
+    ghost Value = { MatcherView };
 
-    ghost use Rattle.text_matcher.specs.MatcherFields.{source_text, IsBuilt};
-
-    ghost view = { source_text };
+    ghost view = { matcher_view };
 
     ghost invariant = { IsBuilt };
 }
 
 impl TextMatcher {
-    /// The matcher of this text, with the default options of `regex`. Refused: the text is no expression, nests too deep, or its
-    /// automaton is larger than the limits say. NoMemory: memory was refused.
-    pub fn build(alloc: Global, text: &str, limits: Limits) -> Result<TextMatcher, BuildFault>
-        ensures text { IfOk result (λ m. m ≡ text.now) }
+    /// The matcher of this text, with the default options of `regex`; it has room for so many letters. Refused: the text is no expression,
+    /// nests too deep, or its automaton is larger than the limits say. NoMemory: memory was refused.
+    pub fn build(
+        alloc: Global,
+        text: &str,
+        limits: Limits,
+        letters: usize,
+    ) -> Result<TextMatcher, BuildFault>
+        ensures text { IfOk result (λ m. m ≡ record { source = text.now; heard = [] }) }
         ensures expression { IfOk result (λ _. is_expression text.now ≡ true) }
     {
         let nfa = automaton_of(alloc, text, limits.bytes)?;
-        if ascii_states(&nfa) > limits.states {
+        if letter_cost(&nfa) > limits.letter_cost {
             return Err(BuildFault::Refused);
         }
-        let dfa = match Dfa::new(alloc, nfa) {
-            Ok(dfa) => dfa,
-            Err(BuildError::OutOfMemory) => return Err(BuildFault::NoMemory),
-            Err(BuildError::Malformed) => return Err(BuildFault::Refused),
-        };
-        let forward = Forward::with_budget(alloc, &dfa, false, ROW_BYTES)?;
-        let pikevm = PikeVm::new(alloc, &dfa.nfa)?;
+        let states = nfa.states.len();
+        let mut behind = StateList::new(alloc, states)?;
+        behind.add(nfa.unanchored);
+        let reached = StateList::new(alloc, states)?;
+        let heard = Vec::with_capacity(alloc, letters)?;
         let source = String::from_str(alloc, text)?;
         Ok(TextMatcher {
             source,
-            dfa,
-            bits: None,
-            is_strained: false,
-            alloc,
-            forward,
-            pikevm,
+            nfa,
+            heard,
+            behind,
+            has_matched: false,
+            reached,
         })
     }
 
     /// The text that it was built from.
     pub fn source(&self) -> &str
-        ensures text { result.now ≡ self.now }
+        ensures text { result.now ≡ self.now.source }
     {
         self.source.as_str()
     }
 
-    /// Whether there is a match somewhere in these bytes.
-    pub fn is_match(&mut self, bytes: &[u8]) -> bool
-        ensures found { result ≡ has_match self.old bytes.now }
+    /// The letters that it heard.
+    pub fn heard(&self) -> &[u8]
+        ensures { result.now ≡ self.now.heard }
+    {
+        &self.heard
+    }
+
+    /// Forgets the letters that it heard.
+    pub fn restart(&mut self)
+        ensures { self.new ≡ record self.old { heard = [] } }
+    {
+        self.heard.clear();
+        self.behind.clear();
+        self.behind.add(self.nfa.unanchored);
+        self.has_matched = false;
+    }
+
+    /// Hears one letter more. An error where memory is refused, which is never while there is room: it heard nothing then.
+    pub fn hear(&mut self, letter: u8) -> Result<(), AllocError>
+        requires { letter < 128 }
+        ensures ok { OnOk result (self.new ≡ record self.old {
+          heard = self.old.heard ++ letter ∷ [];
+        }) }
+        ensures err { OnErr result (self.new ≡ self.old) }
+    {
+        let place = self.heard.len();
+        self.heard.push(letter)?;
+        stand(
+            &self.nfa,
+            &self.heard,
+            place,
+            &self.behind,
+            &mut self.reached,
+        );
+        self.has_matched = has_matched_now(&self.nfa, &self.reached, self.has_matched);
+        read_over(&self.nfa, letter, &self.reached, &mut self.behind);
+        Ok(())
+    }
+
+    /// Whether there is a match somewhere in the letters that it heard. Each of them is below 128.
+    pub fn has_match(&mut self) -> bool
+        ensures found { result ≡ has_match self.old.source self.old.heard }
+        ensures ascii { All (λ b. b < 128) self.old.heard }
         ensures same { self.new ≡ self.old }
     {
-        if self.is_hopeless(bytes) {
-            return false;
-        }
-        self.finds_by_rows(bytes)
-    }
-
-    // Whether making rows has taken long, and the sets of states say that there is no match.
-    fn is_hopeless(&mut self, bytes: &[u8]) -> bool
-        ensures none { result ≡ true → has_match self.old bytes.now ≡ false }
-        ensures same { self.new ≡ self.old }
-    {
-        if self.forward.work().built <= ROW_TIME {
-            return false;
-        }
-        self.make_bits();
-        none_by_bits(&self.bits, &self.dfa, bytes)
-    }
-
-    // Whether there is a match, by rows, or state by state where these give up.
-    fn finds_by_rows(&mut self, bytes: &[u8]) -> bool
-        ensures found { result ≡ has_match self.old bytes.now }
-        ensures same { self.new ≡ self.old }
-    {
-        let end = bytes.len();
-        match self.forward.find_end(&self.dfa, bytes, 0, end, false, true) {
-            End::At(_) => true,
-            End::NoMatch => false,
-            End::Idle(_) | End::GaveUp => finds_by_states(&mut self.pikevm, &self.dfa, bytes),
-        }
-    }
-
-    // Makes the sets of states, the first time that they are wanted.
-    fn make_bits(&mut self)
-        ensures { self.new ≡ self.old }
-    {
-        if !self.is_strained {
-            self.is_strained = true;
-            self.bits = bits_of(self.alloc, &self.dfa);
-        }
+        let end = self.heard.len();
+        stand(&self.nfa, &self.heard, end, &self.behind, &mut self.reached);
+        has_matched_now(&self.nfa, &self.reached, self.has_matched)
     }
 }
 
-// The sets of states of an automaton, if it is small enough and there is memory.
-fn bits_of(alloc: Global, dfa: &Dfa) -> Option<Bits>
-    ensures { IfSome result (λ bits. IsFor bits dfa.now.nfa) }
-{
-    if dfa.nfa.states.len() > BITS_STATES {
-        return None;
+// How much a letter below 128 costs at most: one for each state in which a search of such letters may stand, and four for an assertion.
+fn letter_cost(nfa: &Nfa) -> usize {
+    let mut cost: usize = 0;
+    for state in &nfa.states {
+        cost = cost.saturating_add(state_cost(nfa, *state));
     }
-    match Bits::new(alloc, &dfa.nfa) {
-        Ok(bits) => bits,
-        Err(_) => None,
-    }
+    cost
 }
 
-// Whether the sets of states say that there is no match.
-fn none_by_bits(bits: &Option<Bits>, dfa: &Dfa, bytes: &[u8]) -> bool
-    requires { ∥ ForSome bits.now (λ b. IsFor b dfa.now.nfa) ∥₁ }
-    ensures { result ≡ true →
-        first_match dfa.now.nfa bytes.now (length bytes.now) 0 (length bytes.now) ≡ None }
-{
-    match bits {
-        Some(bits) => bits.window(&dfa.nfa, bytes, 0, bytes.len()).is_none(),
-        None => false,
-    }
-}
-
-// Whether the automaton finds a match, run state by state.
-fn finds_by_states(pikevm: &mut PikeVm, dfa: &Dfa, bytes: &[u8]) -> bool
-    requires { pikevm.old.states ≡ vec_len dfa.now.nfa.states }
-    ensures found { result ≡ is_some
-        (first_match dfa.now.nfa bytes.now (length bytes.now) 0 (length bytes.now)) }
-    ensures same { pikevm.new ≡ pikevm.old }
-{
-    let end = bytes.len();
-    pikevm.is_match(&dfa.nfa, bytes, 0, end, end)
-}
-
-// How many states read a byte below 128, not counting the one that passes over what comes before a match.
-fn ascii_states(nfa: &Nfa) -> usize {
-    let all = nfa
-        .states
-        .iter()
-        .filter(|state| reads_ascii(nfa, **state))
-        .count();
-    all.saturating_sub(1)
-}
-
-// The transitions of a state ascend, so its first one tells.
-fn reads_ascii(nfa: &Nfa, state: State) -> bool {
+// How much a state costs where a search of letters below 128 stands in it: nothing where it reads only bytes from 128 on, since such a search
+// never does. The transitions of a state ascend, so its first one tells.
+fn state_cost(nfa: &Nfa, state: State) -> usize {
     let first = match state {
         State::ByteRange(transition) => Some(transition),
         State::Sparse { from, .. } => nfa.transitions.get(from as usize).copied(),
+        State::Look { .. } => return ASSERTION_COST,
         _ => None,
     };
-    first.is_some_and(|transition| transition.start < 128)
+    match first {
+        Some(transition) if transition.start >= 128 => 0,
+        _ => 1,
+    }
 }
 
 // The automaton of the expression in this text.

@@ -2,7 +2,7 @@
 use Rattle.std.specs.Prelude.{ℕ, List, Bool, Option, option_map, find, bytes_eq}
 use Rattle.death_tally.specs.LastDeaths.{last_deaths}
 use Rattle.death_tally.specs.PermanentFailure.{are_permanent_failure}
-use Rattle.death_tally.specs.declared.death_list.DeathItem.{DeathItem}
+use Rattle.death_tally.specs.declared.exit_list.DeathItem.{DeathItem}
 use Rattle.s6_events.specs.declared.exit.Exit.{Exit}
 use Rattle.supervise_core.specs.declared.chart_state.ChartState.{ChartState}
 use Rattle.svscan_core.specs.Deaths.{deaths_of}

@@ -36,7 +36,7 @@ pub fn drive_run<C: Channels + Lanes, D: Board<C>, B: Backend, R: Wait + Clock, 
         }
         let halt = drive_some(context, office, state);
         let round = round_after(context, office, state, halt, now, is_open, is_full);
-        tell_lines(state.lasting, errors);
+        write_error_lines(state.lasting, errors);
         match state.pace.after(&round) {
             After::GoOn => {}
             After::Wait(time) => wait_for_bell(context, time),
@@ -46,8 +46,8 @@ pub fn drive_run<C: Channels + Lanes, D: Board<C>, B: Backend, R: Wait + Clock, 
     RunEnd::Full
 }
 
-/// Tells the lines that are still to be told.
-pub fn tell_lines<E: Write>(lasting: &mut Lasting, errors: &mut E) {
+/// Writes the lines that still wait for standard error.
+pub fn write_error_lines<E: Write>(lasting: &mut Lasting, errors: &mut E) {
     if !lasting.lines.is_empty() {
         let _ = errors.write_all(lasting.lines.as_slice());
         lasting.lines.clear();

@@ -1,6 +1,6 @@
 //! When a run is recorded: at its end, which comes early where somebody waits for a record.
 use crate::driver_state::DriverState;
-use crate::driving::{drive_run, tell_lines};
+use crate::driving::{drive_run, write_error_lines};
 use crate::ending_services::end_services;
 use crate::runs::{RunSettings, refuse_and_wait};
 use channel_names::Channels;
@@ -36,7 +36,7 @@ pub(crate) fn drive_to_end<
         (RunEnd::Handover, Ok(())) => None,
         (RunEnd::Handover, Err(fault)) => {
             end_services(context, office, state);
-            tell_lines(state.lasting, errors);
+            write_error_lines(state.lasting, errors);
             Some(Err(fault))
         }
         (RunEnd::Ended, recorded) => Some(recorded),

@@ -201,11 +201,11 @@ fn run_opened<
         return AfterRun::Over(Err(ServeFault::NoMemory));
     };
     lasting.clients.notes.begin_run();
-    let finishes = take_memory(context, lasting, &mut settings.recorder);
+    let finish_room = take_memory(context, lasting, &mut settings.recorder);
     let pace = Pace::new(settings.handover);
     let mut state = DriverState::new(context.alloc(), seats, reader, known, lasting, pace);
     match drive_to_end(context, settings, errors, &office, &mut state) {
-        None => close(context, office, state, finishes),
+        None => close(context, office, state, finish_room),
         Some(done) => AfterRun::Over(done),
     }
 }
@@ -220,8 +220,8 @@ fn take_memory<C: Channels, R: Wait + Clock, W: Write + Drop>(
     let alloc = context.alloc();
     for _ in context.rt.forever() {
         if recorder.prepare().is_ok() {
-            if let Ok(finishes) = Vec::with_capacity(alloc, ACTOR_COUNT) {
-                return finishes;
+            if let Ok(finish_room) = Vec::with_capacity(alloc, ACTOR_COUNT) {
+                return finish_room;
             }
         }
         refuse_and_wait(context, lasting);
@@ -234,9 +234,9 @@ fn close<C: Channels + Lanes, D: Board<C>, B: Backend, R: Wait>(
     context: &Context<'_, R>,
     office: Office<C, D, B>,
     state: DriverState<'_, C>,
-    finishes: Vec<Finished<C>>,
+    finish_room: Vec<Finished<C>>,
 ) -> AfterRun<B> {
-    let mut finishes = finishes;
+    let mut finishes = finish_room;
     for seat in state.seats {
         // There is room for each.
         let _ = finishes.push(seat.finish());

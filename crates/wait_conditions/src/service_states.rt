@@ -1,5 +1,5 @@
 //! What is known of every service, for waiters to come.
-ghost use Rattle.std.specs.Prelude.{◌≡◌, ◌==◌, ◌≤◌, ◌<◌, ◌+◌, ◌-◌, ◌*◌, ◌++◌, [], ◌∷◌, ℕ, true, false, length, take, drop, slice_get, slice_set, nat_le, nat_lt, vec_len, vec_capacity, if◌then◌else◌, IsOk, IfSome, OnOk, OnErr};
+ghost use Rattle.std.specs.Prelude.{◌≡◌, ◌==◌, ◌≤◌, ◌<◌, ◌+◌, ◌-◌, ◌*◌, ◌++◌, [], ◌∷◌, ℕ, true, false, length, take, drop, slice_get, slice_set, nat_le, nat_lt, vec_len, vec_capacity, if◌then◌else◌, IsOk, IfSome, IsSomeAnd, OnOk, OnErr};
 ghost use Rattle.std.specs.List.{list_all, list_any, remove};
 ghost use Rattle.s6_events.specs.Newest.{mark_of};
 ghost use Rattle.wait_conditions.specs.States.{state_in, state_over};
@@ -131,6 +131,7 @@ fn is_of_one(runs: &[StateRun], place: usize, sid: Sid) -> bool
 fn says_just_below(run: StateRun, sid: Sid, state: SupervisorState) -> bool
     ensures last { result ≡ true → run.last + 1 ≡ sid }
     ensures state { result ≡ true → run.state ≡ state }
+    ensures other { run.last + 1 ≡ sid → run.state ≡ state → result ≡ true }
 {
     run.last.0 < sid.0 && run.last.0 + 1 == sid.0 && run.state == state
 }
@@ -141,6 +142,8 @@ fn is_said_before(runs: &[StateRun], place: usize, sid: Sid, state: SupervisorSt
     ensures place { result ≡ true → 0 < place }
     ensures run { result ≡ true → IfSome (slice_get runs.now (place - 1))
         (λ r. (r.last + 1 ≡ sid) × (r.state ≡ state)) }
+    ensures other { 0 < place → IsSomeAnd (slice_get runs.now (place - 1))
+        (λ r. (r.last + 1 ≡ sid) × (r.state ≡ state)) → result ≡ true }
 {
     place > 0 && says_just_below(runs[place - 1], sid, state)
 }

@@ -135,6 +135,9 @@ impl<A: Allocator> WaiterList<A> {
         ensures waiters { self.new.waiters ≡ map (with_moments moments.now) self.old.waiters }
         ensures room { self.old.spare ≤ self.new.spare }
     {
+        if self.waiters.is_empty() {
+            return;
+        }
         change_touched(&mut self.waiters, &mut self.watchers, touched, moments);
         if is_reached(self.due, moments) {
             self.due = least_deadline(&self.waiters);

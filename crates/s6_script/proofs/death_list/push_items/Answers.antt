@@ -1,6 +1,6 @@
 use Rattle.std.proofs.Common.{◌≡◌, List, ◌∷◌, ◌++◌, ◌∙◌, sym, ap, append_assoc}
 use Rattle.std.specs.List.{flat_map}
-use Rattle.death_tally.specs.declared.death_list.DeathItem.{DeathItem}
+use Rattle.death_tally.specs.declared.exit_list.DeathItem.{DeathItem}
 use Rattle.s6_script.specs.DeathList.{item_text, list_text}
 use Rattle.s6_script.proofs.Joined.{join_items}
 use Rattle.s6_script.proofs.death_list.push_items.Goals as goal

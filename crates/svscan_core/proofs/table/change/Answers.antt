@@ -2,38 +2,33 @@ use Rattle.std.proofs.Common.{◌+◌, ◌<◌, ◌^◌, ◌∙◌, ◌++◌, Li
 use Rattle.std.specs.Prelude.{is_some}
 use Rattle.supervise_core.specs.declared.chart_state.ChartState.{ChartState}
 use Rattle.supervise_core.specs.Service.{Supervised}
+use Rattle.svscan_core.specs.Changed.{GivesChange, TakesChange}
 use Rattle.svscan_core.specs.Deaths.{DeathOf, AllTallied}
 use Rattle.svscan_core.specs.Table.{charts_of}
 use Rattle.svscan_core.proofs.OnePlace.{none_reported}
 use Rattle.svscan_core.proofs.Places.{get_map}
-use Rattle.svscan_core.proofs.Found.{not_empty, any_chart, all_at, IsChanged, changed_there}
+use Rattle.svscan_core.proofs.Found.{not_empty, any_chart, all_at, changed_there}
 use Rattle.svscan_core.proofs.Reported.{any_found}
 use Rattle.svscan_core.proofs.table.change.Given.{Over}
 use Rattle.svscan_core.proofs.table.change.Goals as goal
 
-pub returns-in_err-place-clause-services : goal.returns-in_err-place-clause-services
-returns-in_err-place-clause-services g c =
+pub returns-in_err-place-clause-takes : goal.returns-in_err-place-clause-takes
+returns-in_err-place-clause-takes g c =
     let services = c.args.slots.now.services in
-    sym (none_reported c.args.sid c.args.change.now c.args.now (charts_of services)
-    (any_chart services c.args.sid ∙ c.in_err-place.ensures.none)).services
+    let none = none_reported c.args.sid c.args.change.now c.args.now (charts_of services)
+    (any_chart services c.args.sid ∙ c.in_err-place.ensures.none) in
+    record {
+      services = sym none.services;
+      tallies = λ deaths all.
+          subst (λ (ds : List DeathOf). AllTallied services ds) (sym (ap (λ ds. deaths ++ ds) none.deaths ∙ append-nil deaths)) all;
+    }
 
 pub returns-in_err-place-clause-known : goal.returns-in_err-place-clause-known
 returns-in_err-place-clause-known g c =
     ap is_some c.from_residual.ensures ∙ sym (any_chart c.args.slots.now.services c.args.sid ∙ c.in_err-place.ensures.none)
 
-pub returns-in_err-place-clause-tallies : goal.returns-in_err-place-clause-tallies
-returns-in_err-place-clause-tallies g c = λ deaths all.
-    let services = c.args.slots.now.services in
-    let none = none_reported c.args.sid c.args.change.now c.args.now (charts_of services)
-    (any_chart services c.args.sid ∙ c.in_err-place.ensures.none) in
-    subst (λ (ds : List DeathOf). AllTallied services ds) (sym (ap (λ ds. deaths ++ ds) none.deaths ∙ append-nil deaths)) all
-
-pub returns-in_err-nth-clause-services : goal.returns-in_err-nth-clause-services
-returns-in_err-nth-clause-services g c =
-    absurd (not_empty c.args.slots.now.services c.in_ok-place.place c.args.sid c.in_ok-place.ensures.found c.in_err-nth.ensures)
-
-pub returns-in_err-nth-clause-tallies : goal.returns-in_err-nth-clause-tallies
-returns-in_err-nth-clause-tallies g c =
+pub returns-in_err-nth-clause-takes : goal.returns-in_err-nth-clause-takes
+returns-in_err-nth-clause-takes g c =
     absurd (not_empty c.args.slots.now.services c.in_ok-place.place c.args.sid c.in_ok-place.ensures.found c.in_err-nth.ensures)
 
 pub returns-in_err-nth-clause-known : goal.returns-in_err-nth-clause-known
@@ -49,7 +44,8 @@ change-out-requires g c =
     (get_map (λ (t : Supervised). t.chart) services c.in_ok-place.place s (sym c.in_ok-nth.ensures)))
 
 changed : (g : Over) (c : goal.After-adopt g)
-    → IsChanged c.args.sid c.args.now c.args.change.now c.args.slots.now.services c.adopt.new.self.services c.change-out.result
+    → TakesChange c.args.sid c.args.change.now c.args.now c.args.slots.now.services c.adopt.new.self.services
+    × GivesChange c.args.sid c.args.change.now c.args.now c.args.slots.now.services c.adopt.new.self.services c.change-out.result
 changed g c =
     let services = c.args.slots.now.services in
     let s = c.in_ok-nth.field-0.now in
@@ -61,23 +57,11 @@ changed g c =
     (rw is at c.change-out.ensures.agrees)
     (rw is at c.change-out.ensures.sid) c.counted_death.ensures (c.adopt.ensures.services s there)
 
-pub returns-clause-services : goal.returns-clause-services
-returns-clause-services g c = (changed g c).services
+pub returns-clause-takes : goal.returns-clause-takes
+returns-clause-takes g c = (changed g c).0
 
-pub returns-clause-events : goal.returns-clause-events
-returns-clause-events g c = (changed g c).events
-
-pub returns-clause-orders : goal.returns-clause-orders
-returns-clause-orders g c = (changed g c).orders
-
-pub returns-clause-stale : goal.returns-clause-stale
-returns-clause-stale g c = (changed g c).stale
-
-pub returns-clause-agrees : goal.returns-clause-agrees
-returns-clause-agrees g c = (changed g c).agrees
-
-pub returns-clause-tallies : goal.returns-clause-tallies
-returns-clause-tallies g c = (changed g c).tallies
+pub returns-clause-gives : goal.returns-clause-gives
+returns-clause-gives g c = (changed g c).1
 
 pub returns-clause-known : goal.returns-clause-known
 returns-clause-known g c =

@@ -64,7 +64,7 @@ returns-clause-step g c = λ steps left m is later made.
       answered = refl;
       now_is = refl;
       closes = c.closing.ensures;
-      works = c.in_ok-services.ensures.prepared ∙ ap (λ w. step_result w c.later-now.result (charts_of services) next) c.services.ensures;
+      works = c.in_ok-services.ensures.prepared.worked ∙ ap (λ w. step_result w c.later-now.result (charts_of services) next) c.services.ensures;
       chooses = λ n history fired. c.in_ok-choose.ensures.chosen n history fired;
       reply = c.in_ok-fill_effect.ensures.reply
           ∙ ap (λ (t : Table). chosen_reply (chosen_of c.choose.new.choice) t.services (result_of prepared) told) c.prepare.ensures.shown;
@@ -92,23 +92,23 @@ returns-clause-step g c = λ steps left m is later made.
           (subst (λ (x : List Moment). HearsLetters heard hearing x (directory_request_of c.directories.result) matches told.directories)
           c.as_slice-joining.ensures.value
           (record { stands = c.in_ok-letters.ensures.prepared; matched = c.in_ok-letters.ensures.matches; answer = c.in_ok-letters.ensures.answer })));
-      agrees = c.in_ok-services.ensures.agrees;
+      agrees = c.in_ok-services.ensures.prepared.agrees;
       tallies = subst (λ (w : Work). KeepTallied next services prepared.services
           (deaths_given w c.later-now.result (services_after (fire_move c.later-now.result) (charts_of services)))) c.services.ensures
-          c.in_ok-services.ensures.tallies;
+          c.in_ok-services.ensures.prepared.tallies;
       sound = c.len-count.ensures.sound;
     }) m is
 
 pub returns-clause-grows : goal.returns-clause-grows
 returns-clause-grows g c = λ n below.
-    let works = c.in_ok-services.ensures.prepared in
+    let works = c.in_ok-services.ensures.prepared.worked in
     subst (λ (w : WorkResult). Below (n + 2) w.services) (sym works)
     (step_grows (work_asked c.services.result) c.later-now.result
     (charts_of c.args.registry.now.shown.services) c.args.registry.now.shown.next_sid n below)
 
 pub returns-clause-next : goal.returns-clause-next
 returns-clause-next g c =
-    let works = ap (λ (w : WorkResult). w.next_sid) c.in_ok-services.ensures.prepared in
+    let works = ap (λ (w : WorkResult). w.next_sid) c.in_ok-services.ensures.prepared.worked in
     let few = step_next (work_asked c.services.result) c.later-now.result
     (charts_of c.args.registry.now.shown.services) c.args.registry.now.shown.next_sid c.len-count.ensures.sound.few in
     omega (arith, works, few)
@@ -117,11 +117,11 @@ pub returns-clause-timers : goal.returns-clause-timers
 returns-clause-timers g c = λ timers agree.
     subst (λ cs. TimersAgree (with_timer_changes cs timers)
     (charts_of (registry_prepared c.prepare.new.self.shown.services c.prepare.new.self.planned).services))
-    (sym (c.in_ok-timers.ensures.ok ∙ c.timers.ensures)) (c.in_ok-services.ensures.timers timers agree)
+    (sym (c.in_ok-timers.ensures.ok ∙ c.timers.ensures)) (c.in_ok-services.ensures.prepared.timers timers agree)
 
 pub returns-clause-count : goal.returns-clause-count
 returns-clause-count g c =
-    let events = ap (λ (w : WorkResult). length w.events) c.in_ok-services.ensures.prepared in
+    let events = ap (λ (w : WorkResult). length w.events) c.in_ok-services.ensures.prepared.worked in
     let few = step_events (work_asked c.services.result) c.later-now.result
     (charts_of c.args.registry.now.shown.services) c.args.registry.now.shown.next_sid c.len-count.ensures.sound.few in
     let seen = ap length c.events.ensures in

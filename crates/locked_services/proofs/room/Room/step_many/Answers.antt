@@ -1,41 +1,34 @@
-use Rattle.std.proofs.Common.{sym, subst, ◌∙◌}
-use Rattle.locked_services.specs.Rings.{TakeMost, most_taken}
-use Rattle.locked_services.specs.Running.{run_limit}
-use Rattle.locked_services.specs.declared.stop.DriveStop.{DriveStop}
-use Rattle.locked_services.specs.declared.stop.Stop.TheVariants as stop
-use Rattle.locked_services.proofs.Rings.{grows_least, grows_more, same_drains, take_one, take_same, takes_as}
+use Rattle.std.proofs.Common.{false, ◌≡◌, List, refl, ap, sym, subst, ◌∙◌, arith}
+use Rattle.std.proofs.lemmas.Bool.Decides.{nat_tests}
+use Rattle.std.proofs.lemmas.List.{map-append}
+use Rattle.std.specs.declared.alloc.Global.{Global}
+use mathlib.Core.List.{IsPrefix}
+use Rattle.tree_core.specs.declared.input.Input.{Input}
+use Rattle.run_records.specs.Runs.{RunStep, inputs_of}
+use Rattle.locked_services.specs.Shots.{RoomView}
+use Rattle.locked_services.proofs.Rings.{grows_none}
+use Rattle.locked_services.proofs.Shown.{shows_steps, shows_same}
 use Rattle.locked_services.proofs.room.Room.step_many.Goals as goal
-use Rattle.locked_services.proofs.room.Room.step_many.Goals.{in-Idle, in-Blocked, in-RunFull, in-NoMemory}
 
-pub loop-steps-preserved : goal.loop-steps-preserved
-loop-steps-preserved g c =
-    let u = c.args.self.now.running in
-    let v = c.loop-steps.self.running in
-    let w = c.step_one.new.self.running in
-    let inv = c.loop-steps.invariant in
-    let done = c.step_one.ensures.done c.in-Done.is in
-    record {
-      opening = c.step_one.ensures.opening ∙ inv.opening;
-      shots = c.step_one.ensures.shots ∙ inv.shots;
-      made = grows_more c.loop-steps.steps u.steps v.steps w.steps done.0 inv.made done.1;
-      taken = take_one c.loop-steps.steps u v w inv.taken (takes_as c.step_one.result stop.Done v w c.in-Done.is c.step_one.ensures.rings);
-      full = λ full.
-          let limit = c.step_one.ensures.limit (grows_least c.loop-steps.steps run_limit u.steps v.steps inv.made full) in
-          absurd (cc (limit, c.in-Done.is));
-    }
+pub invariant_of-self : goal.invariant_of-self
+invariant_of-self g c =
+    let v : RoomView = record { running = c.self.inside.running; shots = g.D.Board.shots c.self.inside.board; is_shown = c.self.inside.is_shown } in
+    let more = c.step_many-driven.ensures.steps in
+    (shows_steps g.C.Lanes.opening v (record { running = c.step_many-driven.new.self; shots = g.D.Board.shots c.self.inside.board; is_shown = false }) more.0 c.self.invariant.0 c.step_many-driven.ensures.opening refl more.2 refl, c.keep.ensures)
 
-pub returns-in-loop-steps-clause-rings : goal.returns-in-loop-steps-clause-rings
-returns-in-loop-steps-clause-rings g c =
-    let n = c.loop-steps.steps in
-    let u = c.args.self.now.running in
-    let v = c.loop-steps.self.running in
-    let w = c.step_one.new.self.running in
-    let taken = c.loop-steps.invariant.taken in
-    let rings = c.step_one.ensures.rings in
-    let ends = λ (s : DriveStop). TakeMost (most_taken s n) u w in
-    elim c.match-step_one.branch [
-      | in-Idle b ↦ subst ends (sym b.stop-is) (take_same n u v w taken (takes_as c.step_one.result stop.Idle v w b.in-Idle.is rings))
-      | in-Blocked b ↦ subst ends (sym b.stop-is) (same_drains n u v w taken (takes_as c.step_one.result (stop.Blocked b.in-Blocked.lane) v w b.in-Blocked.is rings).0)
-      | in-RunFull b ↦ subst ends (sym b.stop-is) (same_drains n u v w taken (takes_as c.step_one.result stop.RunFull v w b.in-RunFull.is rings).0)
-      | in-NoMemory b ↦ subst ends (sym b.stop-is) (take_one n u v w taken (takes_as c.step_one.result stop.NoMemory v w b.in-NoMemory.is rings))
-    ]
+pub invariant_of-self-else-driven-gt0 : goal.invariant_of-self-else-driven-gt0
+invariant_of-self-else-driven-gt0 g c =
+    let v : RoomView = record { running = c.self.inside.running; shots = g.D.Board.shots c.self.inside.board; is_shown = c.self.inside.is_shown } in
+    let more = c.step_many-driven.ensures.steps in
+    let none : c.step_many-driven.result.steps ≡ 0 = let high = c.if-driven-gt0.false in grind (arith, nat_tests) in
+    let same = grows_none c.step_many-driven.result.steps v.running.steps c.step_many-driven.new.self.steps more none in (
+      shows_same g.C.Lanes.opening v (record { running = c.step_many-driven.new.self; shots = g.D.Board.shots c.self.inside.board; is_shown = c.self.inside.is_shown }) c.self.invariant.0 c.step_many-driven.ensures.opening refl same refl,
+      c.self.invariant.1 ∙ sym (ap inputs_of same),
+    )
+
+pub keep-requires-clause-longer : goal.keep-requires-clause-longer
+keep-requires-clause-longer g c =
+    let more = c.step_many-driven.ensures.steps in
+    let old = c.self.inside.running.steps in
+    subst (λ (l : List (Input Global)). IsPrefix l (inputs_of c.step_many-driven.new.self.steps)) (sym c.self.invariant.1)
+    (inputs_of more.0, sym (map-append (λ (s : RunStep). s.input) old more.0) ∙ sym (ap inputs_of more.2))

@@ -24,12 +24,12 @@ loop-place-preserved g c =
       takes =
           takes_more c.args.now (visit_move c.args.visit c.args.now) p at.item (step_so_far services c.args.self.now)
           (step_so_far services c.loop-place.self) (step_so_far services c.visit_at.new.self)
-          at.there c.loop-place.invariant.takes (λ there. c.in_ok-visit_at.ensures.takes at.item there);
-      serials = c.in_ok-visit_at.ensures.serials ∙ c.loop-place.invariant.serials;
-      names = λ h. c.in_ok-visit_at.ensures.names (c.loop-place.invariant.names h);
+          at.there c.loop-place.invariant.takes (λ there. c.in_ok-visit_at.ensures.visited.takes at.item there);
+      serials = c.in_ok-visit_at.ensures.visited.serials ∙ c.loop-place.invariant.serials;
+      names = λ h. c.in_ok-visit_at.ensures.visited.names (c.loop-place.invariant.names h);
       few = omega (arith, c.in_ok-visit_at.ensures.few, c.loop-place.invariant.few);
       fires = λ e. omega (arith, c.in_ok-visit_at.ensures.fires e, c.loop-place.invariant.fires e);
-      earlier = omega (arith, c.in_ok-visit_at.ensures.more, c.loop-place.invariant.earlier);
+      earlier = omega (arith, c.in_ok-visit_at.ensures.visited.more, c.loop-place.invariant.earlier);
       unvisited = c.in_ok-visit_at.ensures.unvisited;
     }
 

@@ -15,17 +15,14 @@ change-requires-clause-generations g c = rw (← c.self.view_is) at c.requires
 
 pub invariant_of-self : goal.invariant_of-self
 invariant_of-self g c =
-    subst (λ (cs : List ChartState). IsSound c.self.inside.next_sid cs) (sym c.change.ensures.services)
+    subst (λ (cs : List ChartState). IsSound c.self.inside.next_sid cs) (sym c.change.ensures.takes.services)
     (sound_change c.args.sid c.args.change.now c.args.now c.self.inside.next_sid (charts_of c.self.inside.slots.services) c.self.invariant)
 
-pub returns-clause-stale : goal.returns-clause-stale
-returns-clause-stale g c = rw (← c.self.view_is) c.change.ensures.stale
+pub returns-clause-takes : goal.returns-clause-takes
+returns-clause-takes g c = rw (← c.self.view_is) c.change.ensures.takes
 
-pub returns-clause-agrees : goal.returns-clause-agrees
-returns-clause-agrees g c = λ h at all. c.change.ensures.agrees h at (rw (← c.self.view_is) at all)
-
-pub returns-clause-tallies : goal.returns-clause-tallies
-returns-clause-tallies g c = rw (← c.self.view_is) (λ deaths before all. c.change.ensures.tallies deaths all)
+pub returns-clause-gives : goal.returns-clause-gives
+returns-clause-gives g c = rw (← c.self.view_is) c.change.ensures.gives
 
 pub returns-clause-known : goal.returns-clause-known
 returns-clause-known g c = rw (← c.self.view_is) c.change.ensures.known

@@ -1,12 +1,12 @@
-use Rattle.std.proofs.Common.{sym, subst}
 use Rattle.svscan_core.specs.Asked.{work_asked}
-use Rattle.svscan_core.specs.Deaths.{deaths_given, KeepTallied}
-use Rattle.svscan_core.specs.Table.{Table, charts_of}
+use Rattle.svscan_core.specs.Registry.{registry_prepared}
+use Rattle.svscan_core.proofs.WorkDone.{made_at_once}
 use Rattle.svscan_core.proofs.registry.Registry.make.Goals as goal
 
-pub returns-clause-tallies : goal.returns-clause-tallies
-returns-clause-tallies g c =
-    let old = c.args.self.now.shown in
-    subst (λ (t : Table). KeepTallied old.next_sid old.services t.services
-    (deaths_given (work_asked c.args.work.now) c.args.now (charts_of old.services))) (sym c.commit.ensures)
-    c.in_ok-plan.ensures.tallies
+pub returns-clause-made : goal.returns-clause-made
+returns-clause-made g c =
+    let mid = c.prepare_alone.new.self in
+    let gives = c.in_ok-answer.ensures in
+    made_at_once (work_asked c.args.work.now) c.args.now c.args.self.now.shown c.commit.new.self.shown
+    (registry_prepared mid.shown.services mid.planned) c.in_ok-answer.answer c.commit.ensures gives.events gives.orders gives.dropped gives.listed
+    c.in_ok-plan.ensures.prepared

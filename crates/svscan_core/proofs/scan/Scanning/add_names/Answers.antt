@@ -17,7 +17,9 @@ loop-name-preserved g c =
       goes_on = λ services numbered.
           let before = so_far.goes_on services numbered in goes_on_twice services old mid new before (one.goes_on services before.order);
       grows = grows_twice c.args.retained old mid new so_far.grows one.grows;
-      dropped = one.dropped ∙ so_far.dropped;
-      dropped_sids = one.dropped_sids ∙ so_far.dropped_sids;
-      touched = one.touched ∙ so_far.touched;
+      only = record {
+        dropped = one.only.dropped ∙ so_far.only.dropped;
+        dropped_sids = one.only.dropped_sids ∙ so_far.only.dropped_sids;
+        touched = one.only.touched ∙ so_far.only.touched;
+      };
     }

@@ -1,0 +1,180 @@
+//! A child, as its backend and its threads share it.
+use crate::bell::Bell;
+use crate::end_mark::END_MARK;
+use crate::progress::Progress;
+use crate::started_program::Start;
+use order_lanes::Report;
+use s6_events::{Exit, Name};
+use std::alloc::Global;
+use std::io::{PipeReader, PipeWriter, Write};
+use std::process::{Child, SystemProcess};
+use std::sync::{Arc, Condvar, Mutex, Wait};
+use std::time::{Clock, Duration};
+
+/// How long the report of an end waits at most for all that the child wrote to be read, in milliseconds.
+const LAST_WORDS: u64 = 1000;
+
+/// The pipe by which a child's output is read: the end that is read, and a second writing end beside the child's.
+#[derive(Drop)]
+pub(crate) struct Pipe {
+    pub reader: PipeReader,
+    pub writer: PipeWriter,
+}
+
+/// A child: what is known of it, and what its threads are to take over.
+#[derive(Drop)]
+pub(crate) struct ServiceProcess {
+    pub number: u64,
+    pub start: Start,
+    pub name: Name,
+    bell: Arc<Bell, Global>,
+    progress: Mutex<Progress>,
+    changed: Condvar,
+    // What the thread that waits for the child takes over.
+    child: Mutex<Option<Child<SystemProcess>>>,
+    // What the thread that reads its output takes over.
+    reader: Mutex<Option<PipeReader>>,
+    // Where the end mark is written, once.
+    writer: Mutex<Option<PipeWriter>>,
+}
+
+impl ServiceProcess {
+    /// A child that is about to start.
+    pub fn new(number: u64, start: &Start, name: &Name, bell: Arc<Bell, Global>) -> ServiceProcess {
+        ServiceProcess {
+            number,
+            start: start.copied(),
+            name: *name,
+            bell,
+            progress: Mutex::new(Progress::new()),
+            changed: Condvar::new(),
+            child: Mutex::new(None),
+            reader: Mutex::new(None),
+            writer: Mutex::new(None),
+        }
+    }
+
+    /// The child could not be started.
+    pub fn fail<R: Wait>(&self, rt: &R) {
+        self.progress.lock(rt).fail();
+        self.bell.ring(rt);
+    }
+
+    /// The child runs.
+    pub fn begin<R: Wait>(&self, rt: &R, child: Child<SystemProcess>, pipe: Option<Pipe>) {
+        self.progress
+            .lock(rt)
+            .begin(&self.start.program, child.id(), pipe.is_some());
+        if let Some(Pipe { reader, writer }) = pipe {
+            *self.reader.lock(rt) = Some(reader);
+            *self.writer.lock(rt) = Some(writer);
+        }
+        *self.child.lock(rt) = Some(child);
+        self.bell.ring(rt);
+    }
+
+    /// The child, for the thread that waits for it; None the second time.
+    pub fn take_child<R: Wait>(&self, rt: &R) -> Option<Child<SystemProcess>> {
+        self.child.lock(rt).take()
+    }
+
+    /// The reading end of the pipe, for the thread that reads it; None the second time.
+    pub fn take_reader<R: Wait>(&self, rt: &R) -> Option<PipeReader> {
+        self.reader.lock(rt).take()
+    }
+
+    /// The child's process number, if a signal may be sent to it now; then `end_signal` has to follow. It waits first until no other shell
+    /// is under way.
+    pub fn begin_signal<R: Wait>(&self, rt: &R) -> Option<u32> {
+        let progress = self.progress.lock(rt);
+        let mut progress = self
+            .changed
+            .wait_while(rt, progress, |known| known.is_shell_out());
+        progress.begin_signal()
+    }
+
+    /// The shell that sent the signal has ended.
+    pub fn end_signal<R: Wait>(&self, rt: &R) {
+        self.progress.lock(rt).end_signal();
+        self.changed.notify_all();
+        self.bell.ring(rt);
+    }
+
+    /// The child wrote these bytes, at most 64. It waits until there is room for them, or they are wanted no more.
+    pub fn write<R: Wait>(&self, rt: &R, bytes: &[u8]) {
+        let count = bytes.len();
+        let progress = self.progress.lock(rt);
+        let mut progress = self.changed.wait_while(
+            rt,
+            progress,
+            |known| !known.has_room(count) && !known.is_over(),
+        );
+        progress.write(bytes);
+        drop(progress);
+        self.bell.ring(rt);
+    }
+
+    /// Nothing more of what the child writes is read. Closes the ends of the pipe that are still here.
+    pub fn stop_reading<R: Wait>(&self, rt: &R) {
+        let writer = self.writer.lock(rt).take();
+        drop(writer);
+        let reader = self.reader.lock(rt).take();
+        drop(reader);
+        self.progress.lock(rt).stop_reading();
+        self.changed.notify_all();
+    }
+
+    /// The child wrote its first newline, and what it wrote up to there was taken in: the report of its end waits for no more.
+    pub fn stop_hearing<R: Wait>(&self, rt: &R) {
+        self.progress.lock(rt).stop_hearing();
+        self.changed.notify_all();
+    }
+
+    /// The child ended with `exit`, and was waited for: no signal begins from now on. Its end can be reported once all that it wrote, up to
+    /// its first newline, was read, or after a second, and not while a shell is under way.
+    pub fn end<R: Wait + Clock>(&self, rt: &R, exit: Exit) {
+        self.progress.lock(rt).begin_to_end();
+        self.write_end_mark(rt);
+        let time = Duration::from_millis(LAST_WORDS);
+        let progress = self.progress.lock(rt);
+        let (mut progress, _late) = self
+            .changed
+            .wait_timeout_while(rt, progress, time, |known| !known.may_end());
+        progress.end(exit);
+        drop(progress);
+        self.changed.notify_all();
+        self.bell.ring(rt);
+    }
+
+    /// Whether the end mark counts by now.
+    pub fn is_mark_due<R: Wait>(&self, rt: &R) -> bool {
+        self.progress.lock(rt).is_mark_due()
+    }
+
+    /// Whether its output is still read.
+    pub fn is_output_read<R: Wait>(&self, rt: &R) -> bool {
+        self.progress.lock(rt).is_output_read()
+    }
+
+    /// Writes the end mark, if it wasn't written yet, so that the thread that reads stops behind what the child wrote before.
+    pub fn write_end_mark<R: Wait>(&self, rt: &R) {
+        let writer = self.writer.lock(rt).take();
+        if let Some(mut writer) = writer {
+            let _ = writer.write_all(&END_MARK);
+        }
+    }
+
+    /// Nobody listens to the child any more. Returns whether that is new.
+    pub fn give_up<R: Wait>(&self, rt: &R) -> bool {
+        let is_new = self.progress.lock(rt).give_up();
+        self.changed.notify_all();
+        is_new
+    }
+
+    /// The next report of the child; None where there is nothing to report.
+    pub fn next_report<R: Wait>(&self, rt: &R) -> Option<Report> {
+        let report = self.progress.lock(rt).next_report(&self.start)?;
+        self.changed.notify_all();
+        Some(report)
+    }
+}
