@@ -16,7 +16,7 @@ use Rattle.regex_nfa.specs.declared.nfa.Nfa.{Nfa}
 use Rattle.regex_nfa.specs.declared.state.State.TheVariants.{Match}
 use Rattle.regex_nfa.proofs.PathsLemmas.{IsSome-run_of_Accepts, run_none_of_no_path}
 use Rattle.regex_nfa.proofs.RunLemmas.{byte_below_some, byte_below_inside}
-use Rattle.text_matcher.specs.Walks.{Stands, begun, skipped, consumed, AllStand, ComesTo, EndsBefore, HasWalked}
+use Rattle.text_matcher.specs.Walks.{Stands, begun, skipped, consumed, AllStand, ComesTo, EndsBefore, HasWalked, IsReached, HasNoAssertion}
 
 -- it stands within the bytes, or at their end
 pub stands_within : (nfa : Nfa) (hay : List ℕ) (i q : ℕ) → Stands nfa hay i q → i ≤ length hay
@@ -98,6 +98,23 @@ module _ (nfa : Nfa) (hay other : List ℕ) (n : ℕ)
   same_end : EndsBefore nfa hay n → EndsBefore nfa other n
   same_end w = (w.0, w.1, w.2, same_stand w.0 w.1 w.2 w.3, w.4)
 
+-- without assertions, where it stands behind some letters doesn't depend on those to come
+module _ (nfa : Nfa) (plain : HasNoAssertion nfa) where
+  plain_edge : (hay other : List ℕ) (i q r : ℕ) → EmptyEdge nfa hay i q r → EmptyEdge nfa other i q r
+  plain_edge hay other i q r (by_first second is) = by_first second is
+  plain_edge hay other i q r (by_second first is) = by_second first is
+  plain_edge hay other i q r (by_save slot is) = by_save slot is
+  plain_edge hay other i q r (by_look l is ok) = absurd (plain q l r is)
+
+  plain_stand : (hay other : List ℕ) (n : ℕ) → ((i : ℕ) → i < n → byte_below hay (length hay) i ≡ byte_below other (length other) i)
+      → (i q : ℕ) → i ≤ n → Stands nfa hay i q → Stands nfa other i q
+  plain_stand hay other n same i q le (begun _ _ here first) = begun i q here first
+  plain_stand hay other n same i q le (skipped _ p _ s edge) =
+      skipped i p q (plain_stand hay other n same i p le s) (plain_edge hay other i p q edge)
+  plain_stand hay other n same i q le (consumed _ k p _ next s edge) =
+      let before : k < n = omega (arith, le, next) in
+      consumed i k p q next (plain_stand hay other n same k p (omega (arith, before)) s) (edge.0, sym (same k before) ∙ edge.1, edge.2)
+
 -- a text that goes on, of letters below 128
 module _ (xs ys : List ℕ) (ascii : All (λ b. b < 128) (xs ++ ys)) where
   there : (i : ℕ) → i < length xs → slice_get (xs ++ ys) i ≡ Some (get_or xs i 0)
@@ -144,6 +161,15 @@ module _ (xs ys : List ℕ) (ascii : All (λ b. b < 128) (xs ++ ys)) where
     found = λ e. same_end nfa xs (xs ++ ys) (length xs) keeps_byte keeps_looks (walked.found e);
     none = λ e ends.
         walked.none e (same_end nfa (xs ++ ys) xs (length xs) (λ i lt. sym (keeps_byte i lt)) (λ i lt l. sym (keeps_looks i lt l)) ends);
+  }
+
+  pub reach_goes_on : (nfa : Nfa) (behind reached : List ℕ) → HasNoAssertion nfa → IsReached nfa xs (length xs) behind reached
+      → IsReached nfa (xs ++ ys) (length xs) behind reached
+  reach_goes_on nfa behind reached plain known = record {
+    all = known.all;
+    closed = λ q r has edge. known.closed q r has (plain_edge nfa plain (xs ++ ys) xs (length xs) q r edge);
+    only = λ stand q has. plain_stand nfa plain xs (xs ++ ys) (length xs) keeps_byte (length xs) q (omega arith)
+        (known.only (λ p comes. plain_stand nfa plain (xs ++ ys) xs (length xs) (λ i lt. sym (keeps_byte i lt)) (length xs) p (omega arith) (stand p comes)) q has);
   }
 
 -- where it comes to a place, it stands there

@@ -3,7 +3,8 @@ use Rattle.std.specs.Prelude.{◌≡◌, ◌⊎◌, ℕ, ◌+◌, ◌<◌, Bool,
 use Rattle.regex_nfa.specs.Paths.{EmptyEdge, ByteEdge}
 use Rattle.regex_nfa.specs.Run.{state_of}
 use Rattle.regex_nfa.specs.declared.nfa.Nfa.{Nfa}
-use Rattle.regex_nfa.specs.declared.state.State.TheVariants.{Match}
+use Rattle.regex_hir.specs.declared.look.Look as look
+use Rattle.regex_nfa.specs.declared.state.State.TheVariants.{Look, Match}
 
 -- the search stands in the state q at place i: it begins there, or an edge led there from where it stands
 pub data Stands (nfa : Nfa) (hay : List ℕ) : ℕ → ℕ → Type 0 where
@@ -14,6 +15,16 @@ pub data Stands (nfa : Nfa) (hay : List ℕ) : ℕ → ℕ → Type 0 where
 -- it stands in each of these states at place i
 abbrev pub AllStand : Nfa → List ℕ → ℕ → List ℕ → Type 0
 AllStand nfa hay i states = (q : ℕ) → Contains states q → Stands nfa hay i q
+
+-- these are the states in which it stands at place i, where it comes there in those of `behind`
+pub record IsReached (nfa : Nfa) (hay : List ℕ) (i : ℕ) (behind reached : List ℕ) : Type 0 where
+  pub all : (q : ℕ) → Contains behind q → Contains reached q
+  pub closed : (q r : ℕ) → Contains reached q → EmptyEdge nfa hay i q r → Contains reached r
+  pub only : AllStand nfa hay i behind → AllStand nfa hay i reached
+
+-- no state is an assertion, so that where it stands doesn't depend on what comes
+abbrev pub HasNoAssertion : Nfa → Type 0
+HasNoAssertion nfa = (q : ℕ) (l : look.Look) (r : ℕ) → state_of nfa q ≡ Look l r → ⊥
 
 -- it comes to place i in the state r: it begins there, or a byte led there
 abbrev pub ComesTo : Nfa → List ℕ → ℕ → ℕ → Type 0

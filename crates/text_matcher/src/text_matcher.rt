@@ -5,7 +5,7 @@ ghost use Rattle.text_matcher.specs.Matching.{Matches};
 
 use crate::build_fault::BuildFault;
 use crate::state_list::StateList;
-use crate::walk::{has_matched_now, read_over, stand};
+use crate::walk::{has_assertion, has_matched_now, read_over, stand_once};
 use regex_compile::compile;
 use regex_nfa::{Nfa, State};
 use regex_syntax::{Config, Parsed, parse};
@@ -39,6 +39,10 @@ pub struct TextMatcher {
     has_matched: bool,
     // The states in which a search stands at one place.
     reached: StateList,
+    // Whether it stands in these behind the last letter, whatever comes.
+    is_standing: bool,
+    // Whether an assertion may look at what comes.
+    has_assertions: bool,
 }
 
 // Written out, so that its holder drops it by one call.
@@ -51,6 +55,8 @@ impl Drop for TextMatcher {
             behind: _behind,
             has_matched: _has_matched,
             reached: _reached,
+            is_standing: _,
+            has_assertions: _,
         } = self;
     }
 }
@@ -82,6 +88,7 @@ impl TextMatcher {
             return Err(BuildFault::Refused);
         }
         let states = nfa.states.len();
+        let has_assertions = has_assertion(&nfa);
         let mut behind = StateList::new(alloc, states)?;
         behind.add(nfa.unanchored);
         let reached = StateList::new(alloc, states)?;
@@ -94,6 +101,8 @@ impl TextMatcher {
             behind,
             has_matched: false,
             reached,
+            is_standing: false,
+            has_assertions,
         })
     }
 
@@ -119,6 +128,7 @@ impl TextMatcher {
         self.behind.clear();
         self.behind.add(self.nfa.unanchored);
         self.has_matched = false;
+        self.is_standing = false;
     }
 
     /// Hears one letter more. An error where memory is refused, which is never while there is room: it heard nothing then.
@@ -131,15 +141,17 @@ impl TextMatcher {
     {
         let place = self.heard.len();
         self.heard.push(letter)?;
-        stand(
+        stand_once(
             &self.nfa,
             &self.heard,
             place,
             &self.behind,
             &mut self.reached,
+            self.is_standing,
         );
         self.has_matched = has_matched_now(&self.nfa, &self.reached, self.has_matched);
         read_over(&self.nfa, letter, &self.reached, &mut self.behind);
+        self.is_standing = false;
         Ok(())
     }
 
@@ -150,7 +162,15 @@ impl TextMatcher {
         ensures same { self.new ≡ self.old }
     {
         let end = self.heard.len();
-        stand(&self.nfa, &self.heard, end, &self.behind, &mut self.reached);
+        stand_once(
+            &self.nfa,
+            &self.heard,
+            end,
+            &self.behind,
+            &mut self.reached,
+            self.is_standing,
+        );
+        self.is_standing = !self.has_assertions;
         has_matched_now(&self.nfa, &self.reached, self.has_matched)
     }
 }

@@ -3,9 +3,11 @@ ghost use Rattle.std.specs.Prelude.{◌≡◌, ℕ, ◌+◌, ◌<◌, ◌≤◌,
 ghost use Rattle.regex_nfa.specs.Paths.{EmptyEdge};
 ghost use Rattle.regex_nfa.specs.Run.{state_of};
 ghost use Rattle.regex_nfa.specs.States.{next_on};
+ghost use Rattle.regex_hir.specs.declared.look.Look.{Look};
+ghost use Rattle.regex_nfa.specs.declared.state.State.TheVariants as state;
 ghost use Rattle.regex_nfa.specs.declared.state.State.TheVariants.{Match};
 ghost use Rattle.text_matcher.specs.StateLists.{Grows};
-ghost use Rattle.text_matcher.specs.Walks.{AllStand};
+ghost use Rattle.text_matcher.specs.Walks.{AllStand, IsReached, HasNoAssertion};
 
 use crate::state_list::StateList;
 use regex_nfa::{Nfa, State, StateId, holds};
@@ -72,14 +74,45 @@ pub fn stand(nfa: &Nfa, bytes: &[u8], at: usize, behind: &StateList, reached: &m
     requires behind { behind.now.count ≡ vec_len nfa.now.states }
     requires reached { reached.old.count ≡ vec_len nfa.now.states }
     ensures count { reached.new.count ≡ reached.old.count }
-    ensures all { (q : ℕ) → Contains behind.now.items q → Contains reached.new.items q }
-    ensures closed { (q r : ℕ) → Contains reached.new.items q
-        → EmptyEdge nfa.now bytes.now at q r → Contains reached.new.items r }
-    ensures only { AllStand nfa.now bytes.now at behind.now.items
-        → AllStand nfa.now bytes.now at reached.new.items }
+    ensures reached { IsReached nfa.now bytes.now at behind.now.items reached.new.items }
 {
     copy_states(behind, reached);
     close(nfa, bytes, at, reached);
+}
+
+/// The same, unless they are these states already.
+pub fn stand_once(
+    nfa: &Nfa,
+    bytes: &[u8],
+    at: usize,
+    behind: &StateList,
+    reached: &mut StateList,
+    is_standing: bool,
+)
+    requires behind { behind.now.count ≡ vec_len nfa.now.states }
+    requires reached { reached.old.count ≡ vec_len nfa.now.states }
+    requires standing { is_standing ≡ true
+        → IsReached nfa.now bytes.now at behind.now.items reached.old.items }
+    ensures count { reached.new.count ≡ reached.old.count }
+    ensures reached { IsReached nfa.now bytes.now at behind.now.items reached.new.items }
+{
+    if !is_standing {
+        stand(nfa, bytes, at, behind, reached);
+    }
+}
+
+/// Whether a state of the automaton is an assertion, which looks at both sides of a place.
+pub fn has_assertion(nfa: &Nfa) -> bool
+    ensures yes { result ≡ true
+        → (q : ℕ) × (l : Look) × (r : ℕ) × (state_of nfa.now q ≡ state.Look l r) }
+    ensures no { result ≡ false → HasNoAssertion nfa.now }
+{
+    for place in 0..nfa.states.len() {
+        if let State::Look { .. } = nfa.states[place] {
+            return true;
+        }
+    }
+    false
 }
 
 // Whether one of these states says that there is a match.

@@ -1,4 +1,4 @@
-use Rattle.std.proofs.Common.{◌≡◌, ◌∙◌, [], List, ℕ, sym, ap, subst, arith, length, false}
+use Rattle.std.proofs.Common.{◌≡◌, ◌∙◌, [], List, ℕ, sym, ap, subst, arith, length, true, false}
 use Rattle.text_matcher.specs.Matching.{Matches}
 use Rattle.text_matcher.specs.StateLists.{StatesListed}
 use Rattle.text_matcher.specs.Walks.{HasWalked}
@@ -21,4 +21,6 @@ invariant_of-result c =
           (begins nfa [] states c.add.ensures.listed
           (λ q has. first_added c.in_ok-behind.behind.items states nfa.unanchored q (ap (λ (l : StatesListed). l.items) c.in_ok-behind.ensures)
           c.add.ensures.items has));
+      plain = c.has_assertion-has_assertions.ensures.no;
+      standing = λ e. let bad : false ≡ true = e in cc;
     }

@@ -12,14 +12,15 @@ returns-clause-found c =
     let bytes = c.deref.result.now in
     let end = c.len-end.result in
     let behind = c.self.inside.behind.items in
-    let reached = c.stand.new.reached.items in
+    let reached = c.stand_once.new.reached.items in
     let matched = c.self.inside.has_matched in
     let is : bytes ≡ heard = c.deref.ensures.value in
     let here : end ≡ length bytes = c.len-end.ensures ∙ sym c.deref.ensures.len in
     let walked : HasWalked nfa bytes (length bytes) behind matched =
     subst (λ (h : List ℕ). HasWalked nfa h (length h) behind matched) (sym is) c.self.invariant.walked in
     let at_end : HasWalked nfa bytes end behind matched = subst (λ (n : ℕ). HasWalked nfa bytes n behind matched) (sym here) walked in
-    let stands = it_stands nfa bytes end behind reached matched at_end c.stand.ensures.all c.stand.ensures.closed c.stand.ensures.only in
+    let stands = it_stands nfa bytes end behind reached matched at_end c.stand_once.ensures.reached.all c.stand_once.ensures.reached.closed
+    c.stand_once.ensures.reached.only in
     let ascii : All (λ b. b < 128) bytes = subst (All (λ b. b < 128)) (sym is) c.self.invariant.ascii in
     let bytes_fit : All (λ b. b < 256) bytes = λ k d lt. let small = ascii k d lt in omega (arith, small) in
     rw (← c.self.view_is)
