@@ -12,3 +12,4 @@ pub mod Parts
 pub mod Hearing
 pub mod Register
 pub mod RegisterChanges
+pub mod HeardStep

@@ -5,6 +5,7 @@ ghost use Rattle.event_directory.specs.Changes.DirectoryRequest.{no_directory_re
 ghost use Rattle.event_directory.specs.Directories.{WrittenDirectories, new_directories, list_named, matches_by, directories_after_moments};
 ghost use Rattle.event_directory.specs.Hearing.{heard_moments, hits_of_moments};
 ghost use Rattle.event_directory.specs.RegisterChanges.{prepared_change, given_change, told_change, after_step, view_in};
+ghost use Rattle.event_directory.specs.HeardStep.{HearsStep};
 ghost use Rattle.event_directory.specs.Remembered.{AreHeard, directories_after_commit, nothing_prepared, plan_number};
 ghost use Rattle.event_directory.specs.declared.directory_change.DirectoryAnswer.TheVariants as answer;
 ghost use Rattle.event_directory.specs.declared.pending.Pending.TheVariants.{Nothing};
@@ -101,20 +102,8 @@ impl<F: Finds, A: Allocator + Copy> Directories<F, A> {
         change: &DirectoryChange<'_>,
     ) -> Result<DirectoriesPlan<A>, NoMemory>
         requires { self.old.shown.next < 2 ^ 63 }
-        ensures matches { IfOk result
-            (λ plan. (d : WrittenDirectories) → AreHeard F.test self.old.shown d →
-            plan.matches.items ≡ matches_by F.test d moments.now
-            ++ matches_of F.test (directory_request_of change.now)
-            (directories_after_moments d moments.now)) }
-        ensures answer { IfOk result
-            (λ plan. (d : WrittenDirectories) → AreHeard F.test self.old.shown d →
-            plan.answer ≡ directory_answer (directory_request_of change.now)
-            (directories_after_moments d moments.now)) }
-        ensures prepared { OnOk result ((offer : Offer) → (d : WrittenDirectories) →
-            AreHeard F.test self.old.shown d →
-            AreHeard F.test (directories_after_commit self.new.prepared offer)
-            (directories_after_change (directory_request_of change.now) offer
-            (directories_after_moments d moments.now))) }
+        ensures hears { IfOk result (λ plan. HearsStep F.test self.old.shown moments.now
+            (directory_request_of change.now) plan.matches.items plan.answer self.new.prepared) }
         ensures number { IfOk result (λ plan. plan_number plan ≡ self.new.number) }
         ensures serials { OnOk result
             ((offer : Offer) → (directories_after_commit self.new.prepared offer).next
@@ -293,6 +282,7 @@ fn is_nothing<F: Finds, A: Allocator + Copy>(pending: &Pending<F, A>) -> bool
     matches!(pending, Pending::Nothing)
 }
 
+// Whether this is no change: the step asks nothing of the event directories.
 fn asks_nothing(change: &DirectoryChange<'_>) -> bool
     ensures nothing { result ≡ true → directory_request_of change.now ≡ no_directory_request }
     ensures any { directory_request_of change.now ≡ no_directory_request → result ≡ true }

@@ -4,6 +4,7 @@ use Rattle.std.proofs.Common.{get_or, append-nil, append_assoc}
 use Rattle.std.specs.Prelude.{nat_lt, Option, None, Some, Result, Ok, Err, IfOk, IsOk, IsOkAnd}
 use Rattle.std.proofs.lemmas.Bool.Decides.{nat_tests}
 use Rattle.std.proofs.lemmas.List.{map-append}
+use Rattle.event_directory.specs.HeardStep.{HearsStep}
 use Rattle.event_directory.specs.Changes.{DirectoryRequest, Offer, directories_after_change, directory_answer, directory_refusal, matches_of}
 use Rattle.event_directory.specs.Changes.{refused_or, subscribed_to, unless}
 use Rattle.event_directory.specs.Changes.DirectoryRequest.{no_directory_request, make_directory, send, subscribe, unsubscribe}
@@ -101,15 +102,6 @@ pub record Listens (old new : WaitsShown) (ms : List Moment) (change : WaitReque
   pub released : (w : Watch) → WaitsStandFor old w → given ≡ releases_by w ms
   pub answer : (w : Watch) → WaitsStandFor old w → told ≡ wait_answer (waits_after_moments w ms) change
 
--- what the event directories tell of a step, and what they have heard then
-pub record HearsLetters (old : DirectoriesShown) (new : DirectoriesPrepared) (ms : List Moment) (ask : DirectoryRequest) (matches : List (ℕ × Hit))
-    (told : DirectoryAnswer) : Type 0 where
-  pub stands : (offer : Offer) (d : WrittenDirectories) → AreHeard finds old d
-      → AreHeard finds (directories_after_commit new offer) (directories_after_change ask offer (directories_after_moments d ms))
-  pub matched : (d : WrittenDirectories) → AreHeard finds old d
-      → matches ≡ matches_by finds d ms ++ matches_of finds ask (directories_after_moments d ms)
-  pub answer : (d : WrittenDirectories) → AreHeard finds old d → told ≡ directory_answer ask (directories_after_moments d ms)
-
 -- the parts of a step at this moment
 pub record Makes {A : Type 0} (now : ℕ) (pr : PresentState) (input : Input A) (plan : StepPlan A) (prepared : RegistryPrepared) (later : WaitsShown)
     (directories : DirectoriesPrepared) (effect : Effect A) (choice : Chosen) : Type 0 where
@@ -128,7 +120,7 @@ pub record Makes {A : Type 0} (now : ℕ) (pr : PresentState) (input : Input A) 
   pub released : effect.released.items ≡ map as_release given ++ map as_release (released_by_answer told.waiters)
   pub moments : plan.history ≡ clock_moments pr.clock input.at ++ map moment_of prepared.events
   pub listens : Listens pr.waits later plan.history (chosen_change now choice) given told.waiters
-  pub hears_letters : HearsLetters pr.directories directories plan.history (chosen_ask choice) matches told.directories
+  pub hears_letters : HearsStep finds pr.directories plan.history (chosen_ask choice) matches told.directories directories
   pub agrees : (history : List Moment) → clock_of history ≡ now → AllAgree pr.services history
       → AllAgree prepared.services (history ++ map moment_of prepared.events)
   pub tallies : KeepTallied pr.next_sid pr.services prepared.services

@@ -275,16 +275,10 @@ impl<A: Allocator + Copy> Waits<A> {
         ensures released { IfOk result
             (λ plan. (w : Watch) → WaitsFor self.old w
             → plan.released ≡ releases_by w moments.now) }
-        ensures answer { IfOk result (λ plan. (w : Watch) → WaitsFor self.old w →
-            plan.answer ≡ wait_answer (waits_after_moments w moments.now)
-            (wait_request_of change.now)) }
-        ensures prepared { IfOk result
-            (λ plan. (w : Watch) → WaitsFor self.old w → (new : WaitsShown) →
-            MakesPlan plan (waits_shown self.old) new
-            → WaitsStandFor new (waits_after_change (waits_after_moments w moments.now)
-            (wait_request_of change.now))) }
+        ensures moments { IfOk result (λ plan. plan.moments ≡ moments.now) }
+        ensures change { IfOk result (λ plan. PlansChange (waits_shown self.old) moments.now
+            (wait_request_of change.now) plan.answer plan.change plan.next) }
         ensures fits { IfOk result (λ plan. FitsWaits plan self.new) }
-        ensures serials { IfOk result (λ plan. plan.next ≤ self.old.next + 1) }
         ensures shown { waits_shown self.new ≡ waits_shown self.old }
         ensures quiet { moments.now ≡ [] → wait_request_of change.now ≡ no_wait_request
             → IsOkAnd result (λ plan. (plan.released ≡ []) × (plan.answer ≡ answer.Nothing)) }

@@ -11,13 +11,16 @@ use Rattle.svscan_core.proofs.Few.{step_next}
 use Rattle.svscan_core.proofs.Marks.{step_events}
 use Rattle.svscan_core.proofs.Growing.{Below, step_grows}
 use Rattle.s6_events.specs.declared.moment.Moment.{Moment}
+use Rattle.event_directory.specs.HeardStep.{HearsStep}
+use Rattle.event_directory.specs.Pattern.{finds}
 use Rattle.wait_conditions.specs.Stands.{waits_shown}
+use Rattle.wait_conditions.specs.WaitsPlans.{MakesStep}
 use Rattle.wait_conditions.specs.Steps.{WaitRequest, wait_request_of}
 use Rattle.tree_core.specs.Choices.{chosen_of, chosen_change, chosen_ask}
 use Rattle.tree_core.specs.Replies.{chosen_reply, released_by_answer, ListenersAnswer}
 use Rattle.tree_core.specs.Plan.{present_state}
 use Rattle.tree_core.specs.Step.{clock_moments}
-use Rattle.tree_core.proofs.PlanMakes.{HearsLetters, Listens, plans_all, not_ok, not_ok_and}
+use Rattle.tree_core.proofs.PlanMakes.{Listens, plans_all, not_ok, not_ok_and}
 use Rattle.tree_core.proofs.TimersDue.{due_now, none_for_quiet}
 use Rattle.svscan_core.specs.Timers.{TimersAgree}
 use Rattle.deadlines.specs.Timers.{with_timer_changes}
@@ -81,17 +84,18 @@ returns-clause-step g c = λ steps left m is later made.
           (subst (λ (x : List Moment). Listens kept later x (wait_request_of c.waiters.result) given told.waiters)
           c.as_slice-joining.ensures.value
           (record {
-            stands = λ w st. c.in_ok-waiters.ensures.prepared w st later made;
+            stands = λ w st. c.in_ok-waiters.ensures.change.stands w st later
+                (subst (λ (x : List Moment). MakesStep x c.in_ok-waiters.waiters.change c.in_ok-waiters.waiters.next kept later)
+                c.in_ok-waiters.ensures.moments made);
             released = c.in_ok-waiters.ensures.released;
-            answer = c.in_ok-waiters.ensures.answer;
+            answer = c.in_ok-waiters.ensures.change.answer;
           })));
       hears_letters =
-          subst (λ (x : List Moment). HearsLetters heard hearing x (chosen_ask (chosen_of c.choose.new.choice)) matches told.directories)
+          subst (λ (x : List Moment). HearsStep finds heard x (chosen_ask (chosen_of c.choose.new.choice)) matches told.directories hearing)
           (sym planned)
-          (subst (λ (x : DirectoryRequest). HearsLetters heard hearing moments x matches told.directories) c.directories.ensures
-          (subst (λ (x : List Moment). HearsLetters heard hearing x (directory_request_of c.directories.result) matches told.directories)
-          c.as_slice-joining.ensures.value
-          (record { stands = c.in_ok-letters.ensures.prepared; matched = c.in_ok-letters.ensures.matches; answer = c.in_ok-letters.ensures.answer })));
+          (subst (λ (x : DirectoryRequest). HearsStep finds heard moments x matches told.directories hearing) c.directories.ensures
+          (subst (λ (x : List Moment). HearsStep finds heard x (directory_request_of c.directories.result) matches told.directories hearing)
+          c.as_slice-joining.ensures.value c.in_ok-letters.ensures.hears));
       agrees = c.in_ok-services.ensures.prepared.agrees;
       tallies = subst (λ (w : Work). KeepTallied next services prepared.services
           (deaths_given w c.later-now.result (services_after (fire_move c.later-now.result) (charts_of services)))) c.services.ensures
