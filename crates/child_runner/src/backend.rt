@@ -255,6 +255,8 @@ impl<R: Processes<Started = SystemProcess> + Files + Wait + Drop> ProcessBackend
         })
     }
 
+    // Carries out an order: starts the `run` or the `finish` of a service, or sends a signal to one that still lives. `Busy` where no signal can
+    // be sent now, `NoMemory` where memory is refused: then the order is to be asked again.
     fn carry_out(&mut self, order: &Order) -> Result<(), AskFault>
         ensures added { OnOk result (self.new ≡ with_asked order.now self.old) }
         ensures same { OnErr result (self.new ≡ self.old) }

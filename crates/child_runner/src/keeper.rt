@@ -53,7 +53,7 @@ impl<R: Threads + Wait + Clock + Copy + Send + Sync + Drop + 'static> Keeper<R> 
         let theirs = Arc::try_clone(&roster)?;
         match Builder::new()
             .stack_size(STACK)
-            .spawn(&rt, move || keep(rt, theirs))
+            .spawn(&rt, move || run_keeper(rt, theirs))
         {
             Ok(thread) => Ok(Keeper {
                 rt,
@@ -93,7 +93,8 @@ fn stop<R: Processes + Wait>(rt: &R, alloc: Global, process: &ServiceProcess) {
     process.write_end_mark(rt);
 }
 
-fn keep<R: Threads + Wait + Clock + Copy + Send + Sync + Drop + 'static>(
+// The body of the keeper's thread: starts and joins the threads of the children on `roster`, until the keeper is ended and no child is left.
+fn run_keeper<R: Threads + Wait + Clock + Copy + Send + Sync + Drop + 'static>(
     rt: R,
     roster: Arc<ChildList, Global>,
 ) {
@@ -105,10 +106,16 @@ fn watch_all<R: Threads + Wait + Clock + Copy + Send + Sync + Drop + 'static>(
     rt: &R,
     roster: &ChildList,
 ) {
-    thread::scope(thread::scope_env(), rt, |scope| watch_in(scope, rt, roster));
+    thread::scope(
+        thread::scope_env(),
+        rt,
+        |scope| start_watches(scope, rt, roster),
+    );
 }
 
-fn watch_in<'s, E, R: Threads + Wait + Clock + Copy + Send + Sync + Drop + 'static>(
+// Starts the thread of each child that comes to `roster`, within this scope, until no more will come. A child without a thread is killed, and
+// leaves the roster.
+fn start_watches<'s, E, R: Threads + Wait + Clock + Copy + Send + Sync + Drop + 'static>(
     scope: &Scope<'s, E>,
     rt: &'s R,
     roster: &'s ChildList,

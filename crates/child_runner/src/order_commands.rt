@@ -41,6 +41,7 @@ fn redirection_of(alloc: Global, fd: u8) -> Result<String, NoMemory>
     Ok(format!(in alloc; "exec \"$0\" \"$1\" {fd}>&1 1>&2")?)
 }
 
+// The command that starts `run` in `directory` without a shell; `name`, the service's name, is its only argument.
 fn plain_command(alloc: Global, directory: &str, name: &Name) -> Result<Command, NoMemory>
     ensures { IfOk result (λ c. line_of c ≡ plain_line directory.now name.now) }
 {
@@ -52,6 +53,8 @@ fn plain_command(alloc: Global, directory: &str, name: &Name) -> Result<Command,
     Ok(command)
 }
 
+// The command of a shell in `directory` that becomes `run`, after it redirected what is written to descriptor `fd` to where the child's output
+// is read. `name`, the service's name, is the only argument of `run`.
 fn shell_command(alloc: Global, directory: &str, name: &Name, fd: u8) -> Result<Command, NoMemory>
     ensures { IfOk result (λ c. line_of c ≡ shell_line directory.now name.now fd) }
 {

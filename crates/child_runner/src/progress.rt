@@ -110,6 +110,7 @@ impl Progress {
         !self.is_output_read || self.is_heard || self.is_given_up
     }
 
+    /// It ended in this way: from now on `next_report` may tell its end, and what it writes is wanted no more.
     pub fn end(&mut self, exit: Exit) {
         self.exit = Some(exit);
     }
@@ -153,6 +154,8 @@ impl Progress {
         }
     }
 
+    // The next report of a child whose start was told: what it wrote and nobody was told yet, else its end; None where neither can be told now.
+    // `start` is the start that the report names.
     fn later_report(&mut self, start: &Start) -> Option<Report>
         ensures { IfSome result (λ r. IsTrue (is_end r) → self.old.signals.is_shell_out ≡ false) }
     {

@@ -13,6 +13,7 @@ struct Entry {
 }
 
 impl Entry {
+    // Whether the child runs and no thread has taken it yet, so that its thread is to be started.
     fn needs_thread(&self) -> bool {
         self.is_running && self.for_thread.is_some()
     }
@@ -33,6 +34,7 @@ pub(crate) struct ChildList {
 }
 
 impl Entries {
+    // The index of the child with this number, which `take_number` gave; None where it isn't on the list.
     fn place(&self, number: u64) -> Option<usize> {
         self.entries
             .as_slice()
@@ -40,6 +42,7 @@ impl Entries {
             .position(|entry| entry.process.number == number)
     }
 
+    // The index of the first child whose thread is to be started; None where there is none.
     fn place_of_next(&self) -> Option<usize> {
         self.entries
             .as_slice()
@@ -52,11 +55,14 @@ impl Entries {
         self.place_of_next().is_some() || (self.is_ending && self.entries.is_empty())
     }
 
+    // The first child whose thread is to be started, for that thread; None where there is none. The child stays on the list, but is never given
+    // again.
     fn take_next(&mut self) -> Option<Arc<ServiceProcess, Global>> {
         let place = self.place_of_next()?;
         self.entries.get_mut(place)?.for_thread.take()
     }
 
+    // Takes the child with this number off the list, if it is there.
     fn remove(&mut self, number: u64) {
         if let Some(place) = self.place(number) {
             if place < self.entries.len() {
@@ -65,6 +71,7 @@ impl Entries {
         }
     }
 
+    // Notes that the child with this number runs, so that its thread is to be started.
     fn set_running(&mut self, number: u64) {
         let Some(place) = self.place(number) else {
             return;

@@ -19,6 +19,7 @@ pub(crate) enum Sending {
 /// A shell that tries whether signals can be sent here, while its caller goes on.
 #[derive(Drop)]
 pub struct ShellProbe {
+    // None where no shell could be started.
     shell: Option<Child<SystemProcess>>,
 }
 
@@ -58,6 +59,8 @@ pub(crate) fn signal_child<R: Processes + Wait>(
     sent
 }
 
+// Has a shell send `signal` to the process of this number, and waits for the shell. `NoShell` where no shell can do that, `Busy` where the
+// system has no room for one now, `NoMemory` where memory is refused.
 fn run_kill<R: Processes>(
     rt: &R,
     alloc: Global,

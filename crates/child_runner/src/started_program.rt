@@ -21,6 +21,7 @@ pub(crate) struct Start {
 }
 
 impl Start {
+    /// The start of the `run` of this generation, of the service of this serial.
     pub fn of_run(sid: Sid, generation: u64) -> Start {
         Start {
             sid,
@@ -29,6 +30,7 @@ impl Start {
         }
     }
 
+    /// The start of the `finish` after the `run` of this generation, of the service of this serial.
     pub fn of_finish(sid: Sid, generation: u64) -> Start {
         Start {
             sid,
@@ -37,6 +39,7 @@ impl Start {
         }
     }
 
+    /// A copy of this start.
     pub fn copied(&self) -> Start {
         Start {
             sid: self.sid,

@@ -110,6 +110,7 @@ fn listen<R: Wait + Drop>(rt: R, process: Arc<ServiceProcess, Global>) {
     }
 }
 
+// Reads the child's output until the end mark or the end of the pipe, and tells what the child writes up to its first newline.
 fn listen_to<R: Wait>(rt: &R, process: &ServiceProcess, reader: &mut PipeReader) {
     let mut hearing = Hearing {
         heard: ArrayVec::new(),

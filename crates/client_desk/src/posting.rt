@@ -13,6 +13,7 @@ use std::mem;
 use std::sync::Wait;
 use tree_core::Reply;
 
+// Posts a text to the connection on this seat. Where memory for the text was refused, the connection is ended.
 fn post_text<R: Wait>(context: &Context<'_, R>, seat: usize, text: &Result<Vec<u8>, AllocError>) {
     match text {
         Ok(text) => context.post(seat, Ok(text.as_slice())),
@@ -63,6 +64,7 @@ impl ClientDesk {
         seat: usize,
         subject: &Subject,
     ) {
+        // States are told only where the board and the roster have the last step.
         if !self.notes.tells_of(subject, board.made, board.is_shown) {
             return self.post_answer(context, seat, OwnAnswer::NoMemory.text());
         }
@@ -124,9 +126,10 @@ impl ClientDesk {
         self.note_answer(context, seat);
     }
 
+    // Posts news (a match, a release or a letter) to the connection on this seat, and notes whether it may still be told more.
     fn post_news<R: Wait>(&mut self, context: &Context<'_, R>, seat: usize, news: &News) {
         post_text(context, seat, &news_lines(context.alloc(), news));
-        self.note_posted(seat);
+        self.mark_to_be_woken(seat);
         if let Some(caller) = context.caller(seat) {
             caller.keep(context.rt, self.is_told_more(seat));
         }
@@ -134,14 +137,14 @@ impl ClientDesk {
 
     // Notes that a request of the connection is answered.
     fn note_answer<R: Wait>(&mut self, context: &Context<'_, R>, seat: usize) {
-        self.note_posted(seat);
+        self.mark_to_be_woken(seat);
         if let Some(caller) = context.caller(seat) {
             caller.note_answer(context.rt, self.is_told_more(seat));
         }
     }
 
     // Notes that something was posted to the connection, so that it is woken.
-    fn note_posted(&mut self, seat: usize) {
+    fn mark_to_be_woken(&mut self, seat: usize) {
         if let Some(posted) = self.posted.get_mut(seat) {
             *posted = true;
         }

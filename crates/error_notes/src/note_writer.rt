@@ -20,7 +20,7 @@ pub struct NoteWriter<'a, R> {
     notes: &'a Notes,
     // What was written and isn't posted yet, and whether some of it was lost.
     line: Vec<u8>,
-    is_torn: bool,
+    has_lost_some: bool,
 }
 
 impl<'a, R: Wait> NoteWriter<'a, R> {
@@ -30,7 +30,7 @@ impl<'a, R: Wait> NoteWriter<'a, R> {
             rt,
             notes,
             line: Vec::new(notes.alloc),
-            is_torn: false,
+            has_lost_some: false,
         }
     }
 
@@ -38,19 +38,19 @@ impl<'a, R: Wait> NoteWriter<'a, R> {
     fn add(&mut self, part: &[u8]) {
         let fits = part.len() <= NOTES_LIMIT.saturating_sub(self.line.len());
         if !fits || self.line.extend_from_slice(part).is_err() {
-            self.is_torn = true;
+            self.has_lost_some = true;
         }
     }
 
     // Posts the lines, or counts them as one note that was lost.
     fn post_lines(&mut self) {
-        if self.is_torn {
+        if self.has_lost_some {
             self.notes.lose(self.rt);
         } else {
             self.notes.post(self.rt, self.line.as_slice());
         }
         self.line.clear();
-        self.is_torn = false;
+        self.has_lost_some = false;
     }
 }
 

@@ -11,7 +11,7 @@ pub struct Notes {
     pub(crate) alloc: Global,
     list: Mutex<NoteList<Global>>,
     changed: Condvar,
-    is_written: Mutex<bool>,
+    all_written: Mutex<bool>,
     written: Condvar,
 }
 
@@ -22,7 +22,7 @@ impl Notes {
             alloc,
             list: Mutex::new(NoteList::new(alloc)),
             changed: Condvar::new(),
-            is_written: Mutex::new(false),
+            all_written: Mutex::new(false),
             written: Condvar::new(),
         }
     }
@@ -48,11 +48,11 @@ impl Notes {
 
     /// Waits until all that was posted before `close` was written, but at most for `time`. Returns whether it was.
     pub fn await_written<R: Wait + Clock>(&self, rt: &R, time: Duration) -> bool {
-        let is_written = self.is_written.lock(rt);
-        let (is_written, _late) = self
+        let all_written = self.all_written.lock(rt);
+        let (all_written, _late) = self
             .written
-            .wait_timeout_while(rt, is_written, time, |is_written| !*is_written);
-        *is_written
+            .wait_timeout_while(rt, all_written, time, |all_written| !*all_written);
+        *all_written
     }
 
     /// Waits until there is something to tell, moves the notes into `text`, and returns how many were lost. None once the list was closed
@@ -71,7 +71,7 @@ impl Notes {
 
     /// All was written.
     pub(crate) fn finish<R: Wait>(&self, rt: &R) {
-        *self.is_written.lock(rt) = true;
+        *self.all_written.lock(rt) = true;
         self.written.notify_all();
     }
 }

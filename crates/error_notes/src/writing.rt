@@ -41,6 +41,7 @@ fn write_loss<E: Write>(errors: &mut E, lost: u64) {
     let _ = errors.write_all(line.as_bytes());
 }
 
+// The body of the thread that writes notes to `errors`: it ends once the notes were closed and all were written.
 fn write_to<R: Wait + Drop, E: Write + Drop>(rt: R, notes: Arc<Notes, Global>, mut errors: E) {
     write_notes(&rt, &notes, &mut errors);
 }

@@ -52,6 +52,7 @@ impl Message {
     }
 }
 
+// Whether each of these bytes is a letter of an event directory: 0x21 to 0x7e.
 fn are_letters(bytes: &[u8]) -> bool
     ensures { result ≡ list_all is_letter bytes.now }
 {

@@ -47,7 +47,7 @@ impl Pattern {
         ensures expression { IfOk result (λ _. is_expression text.now ≡ true) }
         ensures length { IsErrOf result PatternFault.Length ↔ (is_pattern_text text.now ≡ false) }
     {
-        if !is_text(text) {
+        if !is_pattern_text(text) {
             return Err(PatternFault::Length);
         }
         let matcher = match TextMatcher::build(alloc, text, PATTERN_LIMITS, TEXT_LIMIT) {
@@ -129,8 +129,9 @@ fn byte_of(letter: Letter) -> u8
     letter.byte()
 }
 
+// Whether this may be the text of a pattern: 1 to 256 bytes, each 0x20 to 0x7e.
 #[tactic(auto, unfolding(crate::specs::Pattern::is_pattern_text))]
-fn is_text(text: &str) -> bool
+fn is_pattern_text(text: &str) -> bool
     ensures { result ≡ is_pattern_text text.now }
 {
     if text.is_empty() || text.len() > 256 {
@@ -139,6 +140,7 @@ fn is_text(text: &str) -> bool
     are_printable(text.as_bytes())
 }
 
+// Whether each of these bytes is printable ASCII: 0x20, the space, to 0x7e.
 fn are_printable(text: &[u8]) -> bool
     ensures { result ≡ list_all (λ b. nat_le 0x20 b && nat_le b 0x7E) text.now }
 {

@@ -15,12 +15,14 @@ const MOST_DIRECTORIES: usize = 256;
 // The most subscriptions.
 const MOST_SUBSCRIPTIONS: usize = 256;
 
+// Whether a free directory has this name; `names` are those of all free directories.
 fn has_name(names: &[Name], name: Name) -> bool
     ensures { result ≡ list_any (bytes_eq name) names.now }
 {
     names.iter().any(|other| name == *other)
 }
 
+// Whether the source of a subscription is there: a service always is, and a free directory if it is among `names`, those of all.
 fn is_there(names: &[Name], source: Source) -> bool
     ensures { result ≡ is_source_named source names.now }
 {
@@ -30,12 +32,15 @@ fn is_there(names: &[Name], source: Source) -> bool
     }
 }
 
+// Whether there is a subscription of this serial; `subscribers` are all subscriptions, each with its source.
 fn has_subscriber(subscribers: &[(SubId, Source)], id: SubId) -> bool
     ensures { result ≡ list_any (λ s. s.0 == id) subscribers.now }
 {
     subscribers.iter().any(|subscriber| subscriber.0 == id)
 }
 
+// Why no free directory of this name can be made: `Exists` where `names`, those of all free directories, have it, `TooMany` where there are
+// 256; None where it can be made.
 fn make_refusal(names: &[Name], name: Name) -> Option<DirectoryFault>
     ensures { result ≡ stored_refusal (make_directory name) names.now [] }
 {
@@ -48,6 +53,8 @@ fn make_refusal(names: &[Name], name: Name) -> Option<DirectoryFault>
     }
 }
 
+// Why no message can be sent to the free directory of this name: `NoSuch` where `names`, those of all free directories, don't have it; None
+// where it can be sent.
 fn send_refusal(names: &[Name], name: Name) -> Option<DirectoryFault>
     ensures { result ≡ stored_refusal (send name []) names.now [] }
 {
@@ -58,6 +65,8 @@ fn send_refusal(names: &[Name], name: Name) -> Option<DirectoryFault>
     }
 }
 
+// Why no subscription to this source can be made: `NoSuch` where the source isn't there, `TooMany` where there are 256 subscriptions; None
+// where it can be made. `names` are those of all free directories, `subscribers` all subscriptions.
 fn subscribe_refusal(
     names: &[Name],
     subscribers: &[(SubId, Source)],
@@ -74,6 +83,7 @@ fn subscribe_refusal(
     }
 }
 
+// Why the subscription of this serial can't be ended: `NoSuch` where it isn't among `subscribers`, all subscriptions; None where it can be.
 fn unsubscribe_refusal(subscribers: &[(SubId, Source)], id: SubId) -> Option<DirectoryFault>
     ensures { result ≡ stored_refusal (unsubscribe id) [] subscribers.now }
 {

@@ -25,6 +25,7 @@ pub fn same_source(one: Source, other: Source) -> bool
     }
 }
 
+// Whether the source is the service of this serial.
 fn is_service(sid: Sid, source: Source) -> bool
     ensures { result ≡ is_same_source (Service sid) source }
 {
@@ -34,6 +35,7 @@ fn is_service(sid: Sid, source: Source) -> bool
     }
 }
 
+// Whether the source is the free directory of this name.
 fn is_directory(name: Name, source: Source) -> bool
     ensures { result ≡ is_same_source (Directory name) source }
 {

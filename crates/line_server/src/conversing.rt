@@ -91,6 +91,7 @@ pub fn read_last<W: Answers, R: Wait + Clock>(rt: &R, server: &Server<W>) {
     server.last_seat_writer.end(rt);
 }
 
+// Serves the connection on the last seat to its end: reads and answers its lines, while the seat's other thread writes what is posted.
 fn converse_last<W: Answers, R: Wait + Clock>(rt: &R, server: &Server<W>, mailbox: &Arc<Mailbox>) {
     let Ok(own) = mailbox.clone() else {
         return;

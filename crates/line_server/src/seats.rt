@@ -63,6 +63,8 @@ impl Seats {
         self.take_at(LAST_SEAT, mailbox, now)
     }
 
+    // Gives the connection this seat; it counts as silent since the moment `now`, in milliseconds. False where the seat is not free, or the
+    // server is ending.
     fn take_at(&mut self, seat: usize, mailbox: Arc<Mailbox>, now: u64) -> bool {
         if self.is_ending {
             return false;

@@ -127,10 +127,12 @@ impl<W: Answers> Server<W> {
 
     // Gives a connection the last seat, whose threads begin to serve it. False where that seat is not free.
     pub(crate) fn take_last_seat<R: Wait + Clock>(&self, rt: &R, mailbox: &Arc<Mailbox>) -> bool {
-        matches!(self.begin_last_seat(rt, mailbox), Ok(true))
+        matches!(self.try_last_seat(rt, mailbox), Ok(true))
     }
 
-    fn begin_last_seat<R: Wait + Clock>(
+    // Gives a connection the last seat, and hands it to the thread that reads there. False where the seat is not free, or the thread takes no
+    // connection; an error where memory is refused.
+    fn try_last_seat<R: Wait + Clock>(
         &self,
         rt: &R,
         mailbox: &Arc<Mailbox>,

@@ -91,6 +91,7 @@ fn is_drained<C: Channels>(drains: &mut Vec<Drain<C>>, finished: &mut Finished<C
     drain.is_drained(finished)
 }
 
+// Whether both are true; `are_drained` asks it of the seats that it looked at before, and of the next one.
 fn both(one: bool, other: bool) -> bool
     ensures yes { result ≡ true → (one ≡ true) × (other ≡ true) }
     ensures no { result ≡ false → (one ≡ false) ⊎ (other ≡ false) }

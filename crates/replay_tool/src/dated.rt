@@ -51,6 +51,7 @@ impl<W: Write> Write for Dated<W> {
                     self.moment = None;
                 }
                 Some(moment) => self.moment = Some(read_further(moment, *byte)),
+                // Behind its moment a line goes on as it is.
                 None => self.writer.write_all(&[*byte])?,
             }
             if *byte == b'\n' {

@@ -19,6 +19,7 @@ pub const NO_TOOL: &[u8] = b"s6_tree: unknown tool\n";
 /// The line where the words after `replay` are wrong.
 pub const REPLAY_USAGE: &[u8] = b"replay: usage\n";
 
+// Writes the line that tells a fault of `replay`, with its newline. The error is the writer's.
 fn write_line<W: Write>(fault: &ReplayFault, writer: &mut W) -> io::Result<()>
     ensures { OnOk result (Appends (W.contents writer.old) (W.contents writer.new)
         (fault_line fault.now)) }

@@ -97,6 +97,7 @@ fn asked_of_replay(env: &impl Env) -> Asked {
     }
 }
 
+// What the command line asks for: `replay`, with the words behind it, or `--help` or `--version` alone; `Unknown` for any other words.
 fn asked_tool(env: &impl Env) -> Asked {
     if is_word(env, 1, b"replay") {
         return asked_of_replay(env);

@@ -32,11 +32,11 @@ impl Whole for Brand {
 
 /// What a pass knows: that of the whole history all inputs, that of a known one a beginning of them. No value of this type is made.
 pub struct View {
-    /// Whether it is that of the whole history.
+    /// Whether the pass knows the whole history.
     pub keeps: bool,
-    /// All inputs, where it is that of the whole history.
+    /// All inputs, if it does.
     pub all: LinkedList<Input<Global>>,
-    /// A beginning of all inputs, where it is that of a known one.
+    /// The beginning of all inputs that the pass of a known history knows.
     pub claim: LinkedList<Input<Global>>,
 }
 
@@ -101,7 +101,9 @@ pub type Receipt = Pass<[u64; 1], View>;
 /// A history with no input, which no run has named yet. Contracts see it as its name.
 #[derive(Drop)]
 pub struct NewHistory {
+    // Where what each pass knows is told.
     cell: Cell,
+    // The pass that knows all inputs.
     pass: Receipt,
 }
 
@@ -129,6 +131,7 @@ impl NewHistory {
 /// All inputs that were done up to some moment: a beginning of the run's one history. It has no bytes.
 #[derive(Drop)]
 pub struct KnownHistory<C: Lanes> {
+    // One of the two keys to the history's cell, which exists in proofs alone.
     pass: Receipt,
     of: PhantomData<C>,
 }

@@ -108,11 +108,13 @@ impl<W: Write + Drop> Recorder<W> {
     }
 }
 
-/// Skips the first bytes, which were written before, and writes the others.
+/// A writer of what of a run was not written yet: it skips the first bytes, which were written before, and writes the others.
 #[derive(Drop)]
 struct RestWriter<'a, W: Write> {
     writer: &'a mut W,
+    // How many of the bytes to come were written before.
     to_pass: u64,
+    // How many bytes it wrote, without those that it skipped.
     written: u64,
 }
 

@@ -71,6 +71,7 @@ fn push_target<A: Allocator>(text: &mut Vec<u8, A>, target: &Target) -> Result<(
     }
 }
 
+// The words of a waiter's mode, with a space behind them: whether it waits for all of its services or for one of them.
 fn mode_bytes(mode: Mode) -> &'static [u8]
     ensures { result.now ≡ mode_words mode }
 {
@@ -80,6 +81,7 @@ fn mode_bytes(mode: Mode) -> &'static [u8]
     }
 }
 
+// The words of a waiter's condition, with a space before them: what its services are to be.
 fn condition_bytes(condition: Condition) -> &'static [u8]
     ensures { result.now ≡ condition_words condition }
 {

@@ -172,6 +172,7 @@ pub fn push_service_line<A: Allocator>(
     text.extend_from_slice(b"\n")
 }
 
+// Adds the line of an event: the moment, its service, which is named by these rows, and its words. `cause` is what the step's act told.
 fn push_event<A: Allocator>(
     text: &mut Vec<u8, A>,
     now: At,
@@ -263,7 +264,7 @@ fn push_order<A: Allocator>(
     }
 }
 
-// Adds a line for each order.
+// Adds a line for each order. The rows are those of the last scan: they name its service.
 fn push_orders<A: Allocator>(
     text: &mut Vec<u8, A>,
     now: At,
@@ -323,6 +324,7 @@ fn push_matches<A: Allocator>(
     Ok(())
 }
 
+// The words of a waiter's verdict, with which the line of its release ends.
 fn verdict_bytes(verdict: Verdict) -> &'static [u8]
     ensures { result.now ≡ verdict_words verdict }
 {

@@ -47,6 +47,7 @@ fn note<A: Allocator>(
 }
 
 impl<A: Allocator + Copy> TimelineLanes<A> {
+    /// A timeline that has no lane yet.
     pub fn new(alloc: A) -> TimelineLanes<A> {
         TimelineLanes {
             lanes: Vec::new(alloc),

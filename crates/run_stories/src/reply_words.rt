@@ -11,6 +11,7 @@ use std::alloc::{AllocError, Allocator};
 use supervise_core::Row;
 use tree_core::{Listed, Refusal, Reply};
 
+// The word by which a story says why an act was refused.
 fn reason_bytes(refusal: Refusal) -> &'static [u8]
     ensures { result.now ≡ reason_word refusal }
 {

@@ -36,6 +36,7 @@ struct Teller<A: Allocator> {
 }
 
 impl<A: Allocator + Copy> Teller<A> {
+    // A teller that has told no step: it has no rows by which to name services, and its memory is empty.
     fn new(alloc: A) -> Teller<A>
         ensures { result.rows.items ≡ [] }
     {

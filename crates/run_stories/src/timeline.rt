@@ -26,6 +26,7 @@ struct Watcher<A: Allocator> {
 }
 
 impl<A: Allocator + Copy> Watcher<A> {
+    // A watcher that has seen no step: it has no lanes, no rows by which to name services, and its memory is empty.
     fn new(alloc: A) -> Watcher<A> {
         Watcher {
             lanes: TimelineLanes::new(alloc),

@@ -76,6 +76,7 @@ impl Name {
     }
 }
 
+// Whether these bytes are a name: 1 to 64 bytes that a name may have, the first of them no dot.
 #[tactic(auto, unfolding(crate::specs::Name::is_name))]
 fn is_name_text(text: &[u8]) -> bool
     ensures value { result ≡ is_name text.now }
@@ -84,16 +85,18 @@ fn is_name_text(text: &[u8]) -> bool
     if text.is_empty() || text.len() > NAME_LIMIT || text[0] == b'.' {
         return false;
     }
-    are_name_letters(text)
+    are_name_bytes(text)
 }
 
-fn are_name_letters(text: &[u8]) -> bool
+// Whether a name may have each of these bytes.
+fn are_name_bytes(text: &[u8]) -> bool
     ensures { result ≡ list_all is_name_byte text.now }
 {
-    text.iter().all(|b| is_name_letter(*b))
+    text.iter().all(|b| is_name_byte(*b))
 }
 
-fn is_name_letter(b: u8) -> bool
+// Whether a name may have this byte: an ASCII letter or digit, or one of `._-@`.
+fn is_name_byte(b: u8) -> bool
     ensures { result ≡ is_name_byte b }
 {
     matches!(b, b'A'..=b'Z' | b'a'..=b'z' | b'0'..=b'9' | b'.' | b'_' | b'-' | b'@')

@@ -8,6 +8,7 @@ use s6_script::{push_number, push_spaced};
 use std::alloc::{AllocError, Allocator};
 use tree_core::{Event, Hit, Match, Release, Verdict};
 
+// Adds the line of an event, with its newline: `e`, the serial of its service, and the letter of its mark.
 fn push_event<A: Allocator>(text: &mut Vec<u8, A>, event: &Event) -> Result<(), AllocError>
     ensures { OnOk result (text.new.items ≡ text.old.items ++ event_line event.now) }
 {
@@ -81,6 +82,7 @@ pub fn push_orders<A: Allocator>(text: &mut Vec<u8, A>, orders: &[Order]) -> Res
     Ok(())
 }
 
+// Adds the end of a match's line: the letter at which a text matched, or that the text grew too long.
 fn push_hit<A: Allocator>(text: &mut Vec<u8, A>, hit: Hit) -> Result<(), AllocError>
     ensures { OnOk result (text.new.items ≡ text.old.items ++ hit_text hit) }
 {
@@ -117,6 +119,7 @@ pub fn push_matches<A: Allocator>(
     Ok(())
 }
 
+// The word of a waiter's verdict and a newline, with which the line of its release ends.
 fn verdict_bytes(verdict: Verdict) -> &'static str
     ensures { result.now ≡ verdict_text verdict }
 {

@@ -29,6 +29,7 @@ pub struct Scratch<A: Allocator> {
 }
 
 impl<A: Allocator + Copy> Scratch<A> {
+    /// Memory in which no step was read yet. Until one is, its input is a tick.
     pub fn new(alloc: A) -> Scratch<A> {
         Scratch {
             line: Vec::new(alloc),

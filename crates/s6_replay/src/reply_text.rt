@@ -9,6 +9,7 @@ use std::alloc::{AllocError, Allocator};
 use supervise_core::Row;
 use tree_core::{Listed, Refusal, Reply};
 
+// The word by which a reply says why an act was refused.
 fn reason_text(refusal: Refusal) -> &'static str
     ensures { result.now ≡ reason refusal }
 {
@@ -27,6 +28,7 @@ fn reason_text(refusal: Refusal) -> &'static str
     }
 }
 
+// Adds a service that a scan dropped: a space, a minus and its serial.
 fn push_dropped<A: Allocator>(text: &mut Vec<u8, A>, sid: Sid) -> Result<(), AllocError>
     ensures { OnOk result (text.new.items ≡ text.old.items ++ dropped_text sid) }
 {
@@ -34,6 +36,7 @@ fn push_dropped<A: Allocator>(text: &mut Vec<u8, A>, sid: Sid) -> Result<(), All
     push_number(text, sid.0)
 }
 
+// Adds each service that a scan dropped, by its serial.
 fn push_all_dropped<A: Allocator>(text: &mut Vec<u8, A>, sids: &[Sid]) -> Result<(), AllocError>
     ensures { OnOk result (text.new.items ≡ text.old.items ++ flat_map dropped_text sids.now) }
 {
@@ -43,6 +46,7 @@ fn push_all_dropped<A: Allocator>(text: &mut Vec<u8, A>, sids: &[Sid]) -> Result
     Ok(())
 }
 
+// Adds, behind a space, what became of a name that a scan found: its new service, that there was no place, or that it couldn't be read.
 fn push_listed<A: Allocator>(text: &mut Vec<u8, A>, listed: &Listed) -> Result<(), AllocError>
     ensures { OnOk result (text.new.items ≡ text.old.items ++ listed_text listed.now) }
 {
@@ -65,6 +69,7 @@ fn push_listed<A: Allocator>(text: &mut Vec<u8, A>, listed: &Listed) -> Result<(
     Ok(())
 }
 
+// Adds what became of each name that a scan found and for which no service stood.
 fn push_all_listed<A: Allocator>(text: &mut Vec<u8, A>, all: &[Listed]) -> Result<(), AllocError>
     ensures { OnOk result (text.new.items ≡ text.old.items ++ flat_map listed_text all.now) }
 {
@@ -74,6 +79,7 @@ fn push_all_listed<A: Allocator>(text: &mut Vec<u8, A>, all: &[Listed]) -> Resul
     Ok(())
 }
 
+// The word of a field of a row that is true or false.
 fn truth_bytes(truth: bool) -> &'static str
     ensures { result.now ≡ truth_text truth }
 {
@@ -98,6 +104,7 @@ fn push_field<A: Allocator>(text: &mut Vec<u8, A>, number: Option<u64>) -> Resul
     }
 }
 
+// The exit code of a program's end; None where there was no end, or a signal killed it.
 fn code_of(exit: Option<Exit>) -> Option<u64>
     ensures { result ≡ exit_code exit }
 {
@@ -107,6 +114,7 @@ fn code_of(exit: Option<Exit>) -> Option<u64>
     }
 }
 
+// The number of the signal that killed a program; None where there was no end, or none killed it.
 fn signal_of(exit: Option<Exit>) -> Option<u64>
     ensures { result ≡ signal_number exit }
 {
@@ -116,6 +124,7 @@ fn signal_of(exit: Option<Exit>) -> Option<u64>
     }
 }
 
+// The process number in a row, as `push_field` takes it; None where there is none.
 fn pid_of(pid: Option<u32>) -> Option<u64>
     ensures { result ≡ pid }
 {
@@ -188,6 +197,7 @@ fn push_death<A: Allocator>(text: &mut Vec<u8, A>, death: (At, Exit)) -> Result<
     push_end(text, exit)
 }
 
+// Adds each death of a service's tally, behind a space: its moment, and how the run ended.
 fn push_deaths<A: Allocator>(text: &mut Vec<u8, A>, deaths: &[(At, Exit)]) -> Result<(), AllocError>
     ensures { OnOk result (text.new.items ≡ text.old.items ++ flat_map death_text deaths.now) }
 {

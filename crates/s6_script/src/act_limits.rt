@@ -23,6 +23,7 @@ use tree_core::{Entry, PlainAct, PlainInput, Target};
 /// The greatest process number.
 const PID_LIMIT: u32 = 2_147_483_647;
 
+// Whether a script can spell how a program ended: by any code, or by a signal of at most 64.
 fn is_exit(exit: Exit) -> bool
     ensures { Tells result (IsExit exit) }
 {
@@ -32,6 +33,7 @@ fn is_exit(exit: Exit) -> bool
     }
 }
 
+// Whether a script can spell this item of a list of exits: a code, a range that doesn't fall, or a signal from 1 to 31.
 fn is_item(item: &DeathItem) -> bool
     ensures { Tells result (IsItem item.now) }
 {
@@ -42,6 +44,7 @@ fn is_item(item: &DeathItem) -> bool
     }
 }
 
+// Whether a script can spell each of these items of a list of exits.
 fn are_items(items: &[DeathItem]) -> bool
     ensures { Tells result (All IsItem items.now) }
 {
@@ -53,6 +56,7 @@ fn are_items(items: &[DeathItem]) -> bool
     true
 }
 
+// Whether a script can spell this list of exits: it has 1 to 32 items, and can spell each.
 fn is_death_list(items: &[DeathItem]) -> bool
     ensures { Tells result (IsDeathList items.now) }
 {
@@ -79,6 +83,7 @@ fn is_time(millis: u32) -> bool
     millis <= u32::MAX
 }
 
+// Whether a script can spell this configuration of a service: its descriptor, times, at most 4096 deaths, and a signal from 1 to 64.
 fn is_config(config: &Config) -> bool
     ensures { Tells result (IsConfig config.now) }
 {
@@ -102,6 +107,7 @@ fn is_named(name: &Name) -> bool
     true
 }
 
+// Whether each of these names is valid; each `Name` is.
 fn are_named(names: &[Name]) -> bool
     ensures { Tells result (All (λ name. IsTrue (is_name name)) names.now) }
 {
@@ -120,6 +126,7 @@ fn is_number(number: u64) -> bool
     number <= u64::MAX
 }
 
+// Whether a script can spell this entry of a listing: its name, and the configuration of its service, if that was read.
 fn is_entry(entry: &Entry) -> bool
     ensures { Tells result (IsEntry entry.now) }
 {
@@ -132,6 +139,7 @@ fn is_entry(entry: &Entry) -> bool
     }
 }
 
+// Whether a script can spell each of these entries of a listing.
 fn are_entries(entries: &[Entry]) -> bool
     ensures { Tells result (All IsEntry entries.now) }
 {
@@ -143,6 +151,7 @@ fn are_entries(entries: &[Entry]) -> bool
     true
 }
 
+// Whether this may be the text of a pattern: 1 to 256 bytes, each 0x20 to 0x7e.
 #[tactic(auto, unfolding(event_directory::specs::Pattern::is_pattern_text))]
 fn is_pattern(text: &str) -> bool
     ensures { result ≡ is_pattern_text text.now }
@@ -153,13 +162,15 @@ fn is_pattern(text: &str) -> bool
     are_printable(text.as_bytes())
 }
 
+// Whether each of these bytes is printable ASCII: 0x20, the space, to 0x7e.
 fn are_printable(text: &[u8]) -> bool
     ensures { result ≡ list_all (λ b. nat_le 0x20 b && nat_le b 0x7E) text.now }
 {
     text.iter().all(|b| 0x20 <= *b && *b <= 0x7e)
 }
 
-fn is_run(sid: u64, generation: u64) -> bool
+// Whether the serial and the generation by which a report names a start have 64 bits; both always have.
+fn has_start_numbers(sid: u64, generation: u64) -> bool
     ensures { Tells result ((sid < 2 ^ 64) × (generation < 2 ^ 64)) }
 {
     is_number(sid) && is_number(generation)
@@ -172,6 +183,7 @@ fn is_notice(bytes: &[u8]) -> bool
     1 <= bytes.len() && bytes.len() <= 64
 }
 
+// Whether the name of the event directory that is meant is valid; each `Name` is.
 fn is_target(target: &Target) -> bool
     ensures { Tells result (IsTrue (is_name (target_name target.now))) }
 {
@@ -191,15 +203,16 @@ fn is_within<A: Allocator>(act: &PlainAct<A>) -> bool
             is_named(name) && 1 <= letters.len() && letters.len() <= 63
         }
         PlainAct::Started(sid, generation, pid) => {
-            is_run(sid.0, *generation) && 1 <= *pid && *pid <= PID_LIMIT
+            has_start_numbers(sid.0, *generation) && 1 <= *pid && *pid <= PID_LIMIT
         }
-        PlainAct::StartFailed(sid, generation) => is_run(sid.0, *generation),
+        PlainAct::StartFailed(sid, generation) => has_start_numbers(sid.0, *generation),
         PlainAct::Notify(sid, generation, bytes) => {
-            is_run(sid.0, *generation) && is_notice(bytes.as_slice())
+            has_start_numbers(sid.0, *generation) && is_notice(bytes.as_slice())
         }
-        PlainAct::Death(sid, generation, exit) => is_run(sid.0, *generation) && is_exit(*exit),
+        PlainAct::Death(sid, generation, exit) => has_start_numbers(sid.0, *generation)
+            && is_exit(*exit),
         PlainAct::FinishEnded(sid, generation, exit) => {
-            is_run(sid.0, *generation) && is_exit(*exit)
+            has_start_numbers(sid.0, *generation) && is_exit(*exit)
         }
         PlainAct::Permafailon(name, seconds, count, items) => {
             is_named(name)

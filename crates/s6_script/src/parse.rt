@@ -437,6 +437,7 @@ pub fn parse_line<A: Allocator + Copy>(
     ensures pattern { result ≡ Err LineFault.Pattern → SpellsButForPattern A line.now }
 {
     let mut text = Vec::new(alloc);
+    // What the line spells takes the place of each of these.
     let mut input = Input {
         actor: Actor::default(),
         at: At::zero(),

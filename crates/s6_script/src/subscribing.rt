@@ -89,6 +89,7 @@ pub fn send_of<A: Allocator + Copy>(words: &mut Words<'_>) -> Act<A>
     Act::Send(target, message_of(words.take_next()))
 }
 
+// The word for which kind of event directory is meant: that of a service, or a free one.
 fn target_bytes(target: &Target) -> &'static str
     ensures { result.now ≡ target_word target.now }
 {
@@ -98,6 +99,7 @@ fn target_bytes(target: &Target) -> &'static str
     }
 }
 
+// The name of the event directory that is meant: that of its service, or of the free directory.
 fn name_in(target: &Target) -> &Name
     ensures { result.now ≡ target_name target.now }
 {
@@ -107,6 +109,7 @@ fn name_in(target: &Target) -> &Name
     }
 }
 
+// The word for whether a subscription goes on after a match: `repeat` where it does, else `once`.
 fn how_bytes(repeats: bool) -> &'static str
     ensures { result.now ≡ how_word repeats }
 {

@@ -74,6 +74,7 @@ pub fn wait_of<A: Allocator + Copy>(alloc: A, words: &mut Words<'_>) -> Result<A
     Ok(Act::Wait(condition, mode, timeout, Names::new(names)))
 }
 
+// The letter by which a script spells the condition of a wait, as on the command line.
 fn condition_bytes(condition: Condition) -> &'static str
     ensures { result.now ≡ condition_word condition }
 {
@@ -87,6 +88,7 @@ fn condition_bytes(condition: Condition) -> &'static str
     }
 }
 
+// The letter by which a script spells whether a wait is for all of its services or for one, as on the command line.
 fn mode_bytes(mode: Mode) -> &'static str
     ensures { result.now ≡ mode_word mode }
 {

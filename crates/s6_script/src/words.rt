@@ -137,6 +137,7 @@ fn digits_at_front(text: &[u8]) -> (usize, u64)
     (count, value)
 }
 
+// Whether the byte is an ASCII digit.
 fn is_digit(byte: u8) -> bool
     ensures { result ≡ is_digit byte }
 {

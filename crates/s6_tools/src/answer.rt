@@ -72,6 +72,7 @@ fn is_done(word: &[u8]) -> bool
         || is_word(word, b"clock")
 }
 
+// The kind of a server's line, by `word`, the first word of the line; Strange where none of the other kinds begins with it.
 fn kind_of(word: &[u8]) -> Kind
     ensures { result ≡ kind_of word.now }
 {
@@ -98,6 +99,7 @@ fn kind_of(word: &[u8]) -> Kind
     }
 }
 
+// How a waiter was released, by `word`, the third word of a line `r WAIT OUTCOME`; None where that is no outcome.
 fn outcome_of(word: &[u8]) -> Option<Outcome>
     ensures { result ≡ outcome_of word.now }
 {

@@ -120,6 +120,8 @@ impl ToolConnection {
         Ok(entries)
     }
 
+    // Reads the server's reply to `states` up to its empty line. Each line gives an entry: a service, or a directory that the last scan
+    // could not read.
     fn read_entries(&mut self, alloc: Global) -> Result<Vec<ListEntry>, ToolFault> {
         let mut entries = Vec::new(alloc);
         for _ in 0..u64::MAX {
@@ -186,6 +188,7 @@ impl ToolConnection {
     }
 }
 
+// Adds one more entry to those that were read of the reply to `states`; NoMemory where memory is refused.
 fn push_entry(entries: &mut Vec<ListEntry>, entry: ListEntry) -> Result<(), ToolFault> {
     entries.push(entry).map_err(|_| ToolFault::NoMemory)
 }

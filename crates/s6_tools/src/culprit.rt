@@ -103,6 +103,7 @@ fn seen_by<'a>(clue: Clue, words: &'a [&'a str]) -> Option<&'a str>
     }
 }
 
+// The kind of a word with an option, or a letter behind a dash, that this tool doesn't have; by this kind the wrong word is found.
 fn strange_of(tool: Tool) -> Wrong
     ensures { result ≡ strange_of tool }
 {
@@ -124,6 +125,7 @@ fn spare_of(tool: Tool) -> Clue
     }
 }
 
+// Where to look on the tool's command line for the first word that is one too many, as a second name behind `svc`, and where else.
 fn excess_of(tool: Tool) -> (Clue, Clue)
     ensures { result ≡ excess_of tool }
 {
@@ -139,6 +141,8 @@ fn excess_of(tool: Tool) -> (Clue, Clue)
     }
 }
 
+// Where to look for the word that should be a number and is none, and where else: for `permafailon` SECS or else COUNT, for the others the
+// value of `-t`, in one word with it or in the next.
 fn number_clues(tool: Tool) -> (Clue, Clue)
     ensures { result ≡ number_clues tool }
 {
@@ -151,6 +155,8 @@ fn number_clues(tool: Tool) -> (Clue, Clue)
     }
 }
 
+// Where to look for the word that should be a list and is none, and where else: for `permafailon` LIST, for `svstat` the value of `-o`, in
+// one word with it or in the next.
 fn list_clues(tool: Tool) -> (Clue, Clue)
     ensures { result ≡ list_clues tool }
 {
@@ -163,6 +169,8 @@ fn list_clues(tool: Tool) -> (Clue, Clue)
     }
 }
 
+// Where to look on the tool's command line for the word that should name a service or an event directory and doesn't; there is no second
+// place.
 fn name_clues(tool: Tool) -> (Clue, Clue)
     ensures { result ≡ name_clues tool }
 {
@@ -190,6 +198,7 @@ fn clues_of(tool: Tool, misuse: Misuse) -> (Clue, Clue)
     }
 }
 
+// The place of the first `--`, behind which the program of `svlisten` stands; None where no word is `--`.
 fn dashes_in(words: &[&str]) -> Option<usize>
     ensures place { result ≡ position (λ w. bytes_eq w.now (codes "--")) words.now }
     ensures bound { IfSome result (λ place. place < length words.now) }
@@ -234,6 +243,8 @@ pub fn culprit_of<'a>(tool: Tool, misuse: Misuse, words: &'a [&'a str]) -> Optio
     seen_by_either(clues_of(tool, misuse), own_words(tool, words))
 }
 
+// Where to look on a tool's command line for the word that names the service or the event directory that it asks about, and where else. A
+// tool that may have several names has such a word only where just one is given.
 fn subject_clues(tool: Tool) -> (Clue, Clue)
     ensures { result ≡ subject_clues tool }
 {

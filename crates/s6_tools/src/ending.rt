@@ -45,6 +45,8 @@ pub fn tell_fault<E: Write>(
     status_of(tool, fault)
 }
 
+// The exit status of a tool that failed by this fault: 100 for wrong words, 1 for a refusal of the server (111 for `svwait` and
+// `svlisten`), else 111.
 fn status_of(tool: Tool, fault: &ToolFault) -> u8
     ensures { result ≡ status_of_fault tool fault.now }
 {
@@ -77,6 +79,7 @@ fn told_of(
     Ok(told)
 }
 
+// Adds the first of the two lines about a fault, the one for programs: the name of the tool, and the reason in few words, as `svc: busy`.
 fn add_first_line(told: &mut Told, tool: Tool, fault: &ToolFault) -> Result<(), CapacityError>
     ensures { OnOk result (told.new.items ≡ told.old.items ++ fault_line tool fault.now) }
 {
@@ -86,6 +89,7 @@ fn add_first_line(told: &mut Told, tool: Tool, fault: &ToolFault) -> Result<(), 
     told.try_extend_from_slice(b"\n")
 }
 
+// Adds the reason of a fault to the line for programs, in few words, as `usage`, `busy` or `refused NoService`.
 fn add_reason(told: &mut Told, fault: &ToolFault) -> Result<(), CapacityError>
     ensures { OnOk result (told.new.items ≡ told.old.items ++ reason_of fault.now) }
 {

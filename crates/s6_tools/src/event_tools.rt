@@ -36,10 +36,12 @@ fn target_of(word: &[u8]) -> Option<Target>
     Some(Target::Service(name))
 }
 
+// The event directory that a word of the command line names: NAME is a free one, NAME/event that of a service. BadName where it names none.
 fn read_target(word: &str) -> Result<Target, ToolFault> {
     target_of(word.as_bytes()).ok_or(ToolFault::Usage(Misuse::BadName))
 }
 
+// The name that `mkfifodir` gives to a new event directory, from the word of the command line; BadName where that is no name.
 fn name_of(word: &str) -> Result<Name, ToolFault> {
     Name::new(word.as_bytes()).ok_or(ToolFault::Usage(Misuse::BadName))
 }

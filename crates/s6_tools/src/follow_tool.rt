@@ -50,6 +50,8 @@ fn follow<R: Net + Clock>(
     Err(ToolFault::Busy)
 }
 
+// Asks once, with no further try, to be told the letters, on a new connection. Returns that connection, and the time of day at which the
+// tree's clock was 0, in milliseconds since 1970.
 fn follow_once<R: Net>(
     rt: &R,
     alloc: Global,

@@ -10,6 +10,8 @@ use s6_script::push_number;
 use std::alloc::{AllocError, Global};
 use supervise_core::Row;
 
+// The exit code with which a service's last run ended; None where a signal killed it, while the service is up, and before any run has
+// ended.
 fn exit_code(exit: Option<Exit>) -> Option<u64>
     ensures { result ≡ exit_code exit }
 {
@@ -19,6 +21,8 @@ fn exit_code(exit: Option<Exit>) -> Option<u64>
     }
 }
 
+// The number of the signal that killed a service's last run; None where it ended with a code, while the service is up, and before any run
+// has ended.
 fn signal_number(exit: Option<Exit>) -> Option<u64>
     ensures { result ≡ signal_number exit }
 {
@@ -28,6 +32,7 @@ fn signal_number(exit: Option<Exit>) -> Option<u64>
     }
 }
 
+// The process number of a service's run in 64 bits, as `push_member` takes numbers; None where there is no process.
 fn pid_of(pid: Option<u32>) -> Option<u64>
     ensures { result ≡ pid }
 {
@@ -219,6 +224,7 @@ fn push_unread_line(text: &mut Vec<u8>, name: &Name, fault: &ToldWord) -> Result
     push_end(text, Some(fault))
 }
 
+// Adds the line of an entry, one object of JSON: that of a service, or of a directory that the last scan could not read.
 fn push_json_line(text: &mut Vec<u8>, entry: &ListEntry) -> Result<(), AllocError>
     ensures { OnOk result (text.new.items ≡ text.old.items ++ json_line entry.now) }
 {

@@ -29,14 +29,16 @@ pub fn compile_list(alloc: Global, words: &[&str]) -> Result<ListCommand, ToolFa
         } else if *word == "--" {
             are_options_over = true;
         } else {
-            command.add_word(word)?;
+            command.read_word(word)?;
         }
     }
     Ok(command)
 }
 
 impl ListCommand {
-    fn add_word(&mut self, word: &str) -> Result<(), ToolFault> {
+    // Takes a word that stands before any `--`: the option `--json`, or the name of a service. Unknown for any other option, BadName where
+    // it is no name.
+    fn read_word(&mut self, word: &str) -> Result<(), ToolFault> {
         if word == "--json" {
             self.is_json = true;
             return Ok(());
@@ -47,6 +49,7 @@ impl ListCommand {
         self.add_name(word)
     }
 
+    // Adds a word to the names of the services that are asked for; BadName where it is no name, NoMemory where memory is refused.
     fn add_name(&mut self, word: &str) -> Result<(), ToolFault> {
         let name = Name::new(word.as_bytes()).ok_or(ToolFault::Usage(Misuse::BadName))?;
         self.names.push(name).map_err(|_| ToolFault::NoMemory)
@@ -74,6 +77,7 @@ pub fn keep_asked(entries: &mut Vec<ListEntry>, names: &[Name])
     entries.retain(|entry| is_asked(names, entry));
 }
 
+// Whether one of the entries, those that the server told, has this name.
 fn is_there(entries: &[ListEntry], name: &Name) -> bool
     ensures { result ≡ is_there entries.now name.now }
 {

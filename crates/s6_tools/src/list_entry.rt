@@ -75,6 +75,7 @@ pub fn entry_of(line: &[u8]) -> Option<ListEntry>
     }
 }
 
+// The service that a line `state WORD SINCE row ..` tells of; None where what stands behind SINCE can't be read as a `row` line.
 fn service_of(line: &[u8]) -> Option<ListEntry>
     ensures { IfSome result (λ entry. Tells entry line.now) }
 {
@@ -87,6 +88,7 @@ fn service_of(line: &[u8]) -> Option<ListEntry>
     }))
 }
 
+// The directory that a line `unread NAME FAULT` tells of, which the last scan could not read; None where NAME is no name.
 fn unread_of(line: &[u8]) -> Option<ListEntry>
     ensures { IfSome result (λ entry. Tells entry line.now) }
 {

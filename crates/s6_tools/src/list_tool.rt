@@ -66,11 +66,13 @@ pub fn ask_states_once<R: Net>(
 // Notes the time of day since which a service is up or down. `start` is that at which the tree's clock was 0, in milliseconds since 1970.
 fn note_since(entry: &mut ListEntry, start: u64) {
     if let ListEntry::Service(service) = entry {
-        service.since = day_of(start, service.at);
+        service.since = day_text_at(start, service.at);
     }
 }
 
-fn day_of(start: u64, at: Option<u64>) -> Option<ToldWord> {
+// The time of day when the tree's clock was `at`, as text; None without `at`, or past the year 9999. `start` is the time of day at which
+// that clock was 0, in milliseconds since 1970.
+fn day_text_at(start: u64, at: Option<u64>) -> Option<ToldWord> {
     let text = day_second(start.saturating_add(at?))?;
     Some(ToldWord::new(text.as_bytes()))
 }

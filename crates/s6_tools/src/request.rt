@@ -72,6 +72,7 @@ pub fn make_directory_request(alloc: Global, name: &Name) -> Result<Vec<u8>, All
     named_request(alloc, "mkdir", name)
 }
 
+// A request of two words: a verb, as `status`, and the name of what it is about.
 fn named_request(alloc: Global, verb: &str, name: &Name) -> Result<Vec<u8>, AllocError>
     ensures { IfOk result (λ text. text.items ≡ join_with_byte 32 (verb.now ∷ name.now ∷ [])) }
 {

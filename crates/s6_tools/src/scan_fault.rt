@@ -19,12 +19,13 @@ pub fn with_scan_fault<R: Net>(
     name: Option<&str>,
     fault: ToolFault,
 ) -> ToolFault {
-    match why_refused(rt, alloc, socket, name, &fault) {
+    match ask_why_unread(rt, alloc, socket, name, &fault) {
         Some(why) => ToolFault::Unread(why),
         None => fault,
     }
 }
 
+// Whether the server refused a tool's request because it has no service of the name in it.
 fn is_no_service(fault: &ToolFault) -> bool {
     match fault {
         ToolFault::Refused(reason) => is_word(reason.as_bytes(), b"NoService"),
@@ -32,7 +33,9 @@ fn is_no_service(fault: &ToolFault) -> bool {
     }
 }
 
-fn why_refused<R: Net>(
+// Asks the server once for what fault the last scan could not read the directory of this name. None where `fault`, with which the tool
+// failed, isn't NoService, where no name is known, or where the server tells no such fault.
+fn ask_why_unread<R: Net>(
     rt: &R,
     alloc: Global,
     socket: &str,

@@ -8,6 +8,7 @@ use crate::tool::Tool;
 use crate::tool_fault::ToolFault;
 use crate::words::is_word;
 
+// What the second line about a fault says behind a word that should be a number and is none.
 fn number_complaint(tool: Tool) -> &'static str
     ensures { result.now ≡ number_complaint tool }
 {
@@ -17,6 +18,8 @@ fn number_complaint(tool: Tool) -> &'static str
     }
 }
 
+// What the second line about a fault says behind a word that should be a list and is none: of exits for `permafailon`, of fields for
+// `svstat`.
 fn list_complaint(tool: Tool) -> &'static str
     ensures { result.now ≡ list_complaint tool }
 {
@@ -26,6 +29,8 @@ fn list_complaint(tool: Tool) -> &'static str
     }
 }
 
+// What the second line about a fault says behind a word that should be a name and is none; for `ftrig-notify` and `ftrig-wait` it should
+// name an event directory.
 fn name_complaint(tool: Tool) -> &'static str
     ensures { result.now ≡ name_complaint tool }
 {
@@ -75,6 +80,7 @@ fn form_of(tool: Tool) -> &'static str
     }
 }
 
+// How a list has to be written for this tool: one of exits for `permafailon`, one of fields for `svstat`.
 fn list_form(tool: Tool) -> &'static str
     ensures { result.now ≡ list_form tool }
 {
@@ -86,6 +92,8 @@ fn list_form(tool: Tool) -> &'static str
     }
 }
 
+// How a name has to be written for this tool: for `ftrig-notify` and `ftrig-wait` that of an event directory, free or a service's, else a
+// plain name.
 fn name_form(tool: Tool) -> &'static str
     ensures { result.now ≡ name_form tool }
 {

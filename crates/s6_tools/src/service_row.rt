@@ -32,6 +32,7 @@ struct Numbers {
     ready_for: Option<u32>,
 }
 
+// What the word of a field says, `true` or `false`; None where it is neither.
 fn truth_of(word: &[u8]) -> Option<bool>
     ensures { result ≡ truth_of word.now }
 {
@@ -58,6 +59,7 @@ fn number_of(word: &[u8], most: u32) -> Option<Option<u32>>
     }
 }
 
+// The number that a word of a `row` line spells, by its place, counted from 0; no number where the word is -1. None for any other word.
 fn number_in(line: &[u8], place: usize) -> Option<Option<u32>>
     ensures { result ≡ number_in line.now place }
 {
@@ -78,6 +80,7 @@ fn exit_in(line: &[u8]) -> Option<Option<Exit>>
     }
 }
 
+// The five fields of a `row` line that are true or false, its words 3 to 7, counted from 0; None where one of them is neither.
 fn truths_in(line: &[u8]) -> Option<Truths>
     ensures { result ≡ truths_in line.now }
 {
@@ -90,6 +93,8 @@ fn truths_in(line: &[u8]) -> Option<Truths>
     })
 }
 
+// The process number, the last exit and the two ages of a `row` line, its words 8 to 12, counted from 0; None where one of them can't be
+// read.
 fn numbers_in(line: &[u8]) -> Option<Numbers>
     ensures { result ≡ numbers_in line.now }
 {
@@ -101,6 +106,7 @@ fn numbers_in(line: &[u8]) -> Option<Numbers>
     })
 }
 
+// The serial of the service of a `row` line, which is its second word; None where that is no number.
 fn sid_in(line: &[u8]) -> Option<Sid>
     ensures { result ≡ sid_in line.now }
 {
@@ -134,6 +140,7 @@ pub fn row_of(line: &[u8]) -> Option<Row>
     })
 }
 
+// An age in seconds, as a line spelled it, in the 64 bits that it has in a `Row`; None where there is none.
 fn seconds_of(number: Option<u32>) -> Option<u64>
     ensures { result ≡ number }
 {

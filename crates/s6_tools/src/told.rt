@@ -44,6 +44,7 @@ pub fn add_escaped(told: &mut Told, most: usize, bytes: &[u8]) -> Result<(), Cap
     add_escaped_bytes(told, first)
 }
 
+// Adds all of these bytes; one that isn't printable is escaped, as `\x0a`.
 fn add_escaped_bytes(told: &mut Told, bytes: &[u8]) -> Result<(), CapacityError>
     ensures { OnOk result (told.new.items ≡ told.old.items ++ flat_map escaped_byte bytes.now) }
 {
@@ -53,6 +54,7 @@ fn add_escaped_bytes(told: &mut Told, bytes: &[u8]) -> Result<(), CapacityError>
     Ok(())
 }
 
+// The hexadecimal digit of a number below 16, in lower case, as an ASCII byte.
 fn hex_digit(digit: u8) -> u8
     requires { digit < 16 }
     ensures { result ≡ hex_digit digit }
@@ -60,6 +62,7 @@ fn hex_digit(digit: u8) -> u8
     if digit < 10 { b'0' + digit } else { 87 + digit }
 }
 
+// Adds a byte as it is where it is printable or a space, else escaped: `\x` and two hexadecimal digits.
 fn add_escaped_byte(told: &mut Told, byte: u8) -> Result<(), CapacityError>
     ensures { OnOk result (told.new.items ≡ told.old.items ++ escaped_byte byte) }
 {

@@ -123,6 +123,7 @@ fn asks_help(words: &[&str]) -> bool {
     }
 }
 
+// Prints the help text of a tool. Returns the exit status 0; the fault is Write where the text can't be written.
 fn print_help<W: Write>(tool: Tool, output: &mut W) -> Result<u8, ToolFault> {
     let text = help_of(tool).as_bytes();
     if output.write_all(text).is_err() || output.flush().is_err() {
@@ -131,6 +132,8 @@ fn print_help<W: Write>(tool: Tool, output: &mut W) -> Result<u8, ToolFault> {
     Ok(0)
 }
 
+// Does what the words ask of a tool, or prints its help text, and returns its exit status. `words` are those behind the tool's name: the
+// path of the socket first, or a word that asks for help; Missing where there is none.
 fn run<R: Net + Processes + Clock, W: Write>(
     rt: &R,
     alloc: Global,

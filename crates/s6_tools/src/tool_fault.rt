@@ -16,8 +16,8 @@ pub enum ToolFault {
     Usage(Misuse),
     /// The server refused the request, for this reason. Status 1; for `svwait` and `svlisten` 111.
     Refused(ToldWord),
-    /// The server refused the request as NoService, and the last scan could not read the service's directory, for this fault. The status is
-    /// that of a refusal.
+    /// The server refused the request as NoService, since the last scan could not read the service's directory: this is the word for why.
+    /// The status is that of a refusal.
     Unread(ToldWord),
     /// The server had no seat for one more connection, however often it was tried. Status 111.
     Busy,

@@ -62,13 +62,16 @@ fn valued_of(tool: Tool) -> u8
     }
 }
 
+// Whether a word begins with a dash, as options do.
 fn is_dashed(word: &[u8]) -> bool
     ensures { result ≡ is_dashed word.now }
 {
     word.first() == Some(&b'-')
 }
 
-fn is_letter(letters: &[u8], byte: u8) -> bool
+// Whether a byte is one of these. `letters` are those that a tool takes behind a dash, or the bytes of a word in which a comma is looked
+// for.
+fn has_byte(letters: &[u8], byte: u8) -> bool
     ensures { result ≡ list_any (λ l. l == byte) letters.now }
 {
     letters.iter().any(|letter| *letter == byte)
@@ -81,9 +84,10 @@ fn has_strange_letter(letters: &[u8], valued: u8, word: &[u8]) -> bool
     word.iter()
         .skip(1)
         .take_while(|byte| **byte != valued)
-        .any(|byte| !is_letter(letters, *byte))
+        .any(|byte| !has_byte(letters, *byte))
 }
 
+// Whether a word is a dash and letters, one of which this tool doesn't have; the value of an option doesn't count. False for `-` and `--`.
 fn is_strange(tool: Tool, word: &[u8]) -> bool
     ensures { result ≡ is_strange tool word.now }
 {
@@ -92,24 +96,28 @@ fn is_strange(tool: Tool, word: &[u8]) -> bool
         && has_strange_letter(letters_of(tool), valued_of(tool), word)
 }
 
+// Whether a word is an option that `list` and `follow` have: `--json`, or `--`, behind which each word is a name.
 fn is_list_option(word: &[u8]) -> bool
     ensures { result ≡ is_list_option word.now }
 {
     is_word(word, b"--") || is_word(word, b"--json")
 }
 
+// Whether a word is neither an option nor a name.
 fn is_no_name(word: &[u8]) -> bool
     ensures { result ≡ is_no_name word.now }
 {
     !is_dashed(word) && Name::new(word).is_none()
 }
 
+// Whether a word is an option that says what `svwait` or `svlisten` waits for: a dash, and one of the letters u, U, d, D, r, R.
 fn is_condition(word: &[u8]) -> bool
     ensures { result ≡ is_condition word.now }
 {
-    word.len() == 2 && is_dashed(word) && is_letter(b"uUdDrR", word[1])
+    word.len() == 2 && is_dashed(word) && has_byte(b"uUdDrR", word[1])
 }
 
+// Whether a word is an option that says for how many services a wait is: `-a` for all of them, `-o` for one.
 fn is_mode(word: &[u8]) -> bool
     ensures { result ≡ is_mode word.now }
 {
@@ -141,7 +149,7 @@ pub fn is_wrong(wrong: Wrong, word: &[u8]) -> bool
         Wrong::StrangeOption => is_dashed(word) && !is_list_option(word),
         Wrong::Plain => !is_dashed(word),
         Wrong::NoName => is_no_name(word),
-        Wrong::NoSingleName => is_no_name(word) && !is_letter(word, b','),
+        Wrong::NoSingleName => is_no_name(word) && !has_byte(word, b','),
         Wrong::NoNumber => parse_number(word).is_none(),
         Wrong::Condition => is_condition(word),
         Wrong::Mode => is_mode(word),

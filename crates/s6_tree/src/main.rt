@@ -26,6 +26,7 @@ fn handover<R: Env + Alloc>(rt: &R) -> u64
     }
 }
 
+// The program: does what the command line asks for, and returns the exit status. Where that is a tree, it runs the tree to its end.
 fn main(rt: HostRuntime) -> ExitCode {
     let alloc = rt.alloc();
     let standard = Standard {

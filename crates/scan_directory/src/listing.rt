@@ -198,6 +198,7 @@ fn push_escaped(line: &mut Vec<u8>, bytes: &[u8]) -> Result<(), AllocError>
     Ok(())
 }
 
+// Adds a byte; one that isn't printable is escaped, and so are quotes and the backslash.
 fn push_escaped_byte(line: &mut Vec<u8>, byte: u8) -> Result<(), AllocError>
     ensures { OnOk result (line.new.items ≡ line.old.items ++ escape_ascii byte) }
 {
@@ -235,6 +236,7 @@ fn read_service<R: Files, E: Write>(
     Ok(config)
 }
 
+// Tells on `errors` by one line what is wrong in the directory of the service of this name. An error where memory for the line is refused.
 fn tell_fault<E: Write>(
     alloc: Global,
     name: &str,

@@ -65,6 +65,7 @@ impl ServiceFiles {
         }
     }
 
+    // What reading this file of the service directory gave.
     fn found(&self, file: ServiceFile) -> &Reading
         ensures { result.now ≡ found_of self.now file }
     {

@@ -121,12 +121,14 @@ impl Connection {
         }
     }
 
+    // Begins a step with this act. For a waiter too many, one that was released is ended first, if there is one, and the act put off; else, and
+    // for a subscription too many, the answer is `Busy`.
     fn begin_step(&mut self, act: Act<Global>) -> Todo
         ensures next { self.new ≡ (begin_admitted (admission_of act self.old.made) act self.old).next }
         ensures todo { result ≡ (begin_admitted (admission_of act self.old.made) act self.old).todo }
     {
         match self.standing.admission(&act) {
-            Admission::Admitted => self.step_in(StandingChange::of(&act), act),
+            Admission::Admitted => self.hand_in_step(StandingChange::of(&act), act),
             Admission::AfterReleased => match self.standing.take_released() {
                 Some(id) => {
                     self.standing.put_off(act);
@@ -138,7 +140,8 @@ impl Connection {
         }
     }
 
-    fn step_in(&mut self, change: StandingChange, act: Act<Global>) -> Todo
+    // Hands in an act; `change` is what it makes or ends. Where that is no waiter and no subscription, further such steps may go on beside it.
+    fn hand_in_step(&mut self, change: StandingChange, act: Act<Global>) -> Todo
         requires { has_room_for change self.old.made ≡ true }
         ensures next { self.new ≡ (steps_in change 0 act self.old).next }
         ensures todo { result ≡ (steps_in change 0 act self.old).todo }
@@ -192,6 +195,8 @@ impl Connection {
         }
     }
 
+    // Begins a request for the status of services: answers it at once where the last step, at the moment `last_step`, is recent at `now`, and
+    // else hands in a tick first. Both are in milliseconds.
     fn begin_status(&mut self, subject: Subject, last_step: u64, now: u64) -> Todo
         ensures next { self.new ≡ (begin_request (request.Status subject) last_step now self.old).next }
         ensures todo { result ≡ (begin_request (request.Status subject) last_step now self.old).todo }
@@ -202,6 +207,7 @@ impl Connection {
         self.hand_in(Errand::Status(subject), Act::Tick)
     }
 
+    // Hands in an act as the only thing that is under way for the connection; `errand` says what its reply is for.
     fn hand_in(&mut self, errand: Errand, act: Act<Global>) -> Todo
         requires { has_room_on errand self.old.made ≡ true }
         ensures next { self.new ≡ (hands_in errand act self.old).next }

@@ -43,6 +43,7 @@ impl FullServices {
     }
 }
 
+// Adds the line of a service for which a scan had no room.
 fn push_full(lines: &mut Vec<u8>, name: &Name) -> Result<(), AllocError> {
     lines.extend_from_slice(b"svscan: ")?;
     lines.extend_from_slice(name.as_bytes())?;

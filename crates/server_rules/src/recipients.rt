@@ -205,6 +205,7 @@ fn tell_seat(seat: usize, news: &News, connections: &mut Vec<Connection>, posts:
     add_post(seat, connection.told(news), Some(*news), posts);
 }
 
+// Each match of a step goes to the connection that made its subscription. `posts` has room for what is added.
 fn tell_matches(matched: &[Match], connections: &mut Vec<Connection>, posts: &mut Vec<Post>)
     requires { length posts.old.items + length matched.now ≤ vec_capacity posts.old }
     ensures connections { connections.new.items
@@ -219,6 +220,7 @@ fn tell_matches(matched: &[Match], connections: &mut Vec<Connection>, posts: &mu
     }
 }
 
+// Each release of a step goes to the connection that made its waiter. `posts` has room for what is added.
 fn tell_releases(released: &[Release], connections: &mut Vec<Connection>, posts: &mut Vec<Post>)
     requires { length posts.old.items + length released.now ≤ vec_capacity posts.old }
     ensures connections { connections.new.items

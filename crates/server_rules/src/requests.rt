@@ -96,6 +96,7 @@ fn follow_request(line: &[u8]) -> Option<Request>
     }
 }
 
+// The request to be told the letters of the service of this name, which is the rest of the line; None where it is no name.
 fn follow_one(name: &[u8]) -> Option<Request>
     ensures { result ≡ follow_one name.now }
 {

@@ -253,6 +253,7 @@ fn members_of(alloc: Global, listed: &[Listed]) -> Result<Vec<Member>, NoMemory>
     Ok(members)
 }
 
+// Adds the new service of a listed name; nothing where a scan added none for it.
 fn push_member(members: &mut Vec<Member>, listed: &Listed) -> Result<(), NoMemory>
     ensures { OnOk result (members.new.items ≡ members.old.items ++ member_of listed.now) }
 {
@@ -279,6 +280,7 @@ fn dash() -> Name
     name
 }
 
+// Whether one of these rows is that of this service.
 fn has_row(rows: &[Row], member: &Member) -> bool
     ensures { result ≡ has_row rows.now member.now }
 {

@@ -45,7 +45,7 @@ impl StandingChange {
 pub enum Admission {
     /// It is done.
     Admitted,
-    /// The connection has as many waiters as it may have: the act is done once one of them that was released is cancelled.
+    /// The connection has as many waiters as it may have: one of them that was released is cancelled first, and then the act is done.
     AfterReleased,
     /// It is refused: the connection has as many as it may have of what the act makes.
     Refused,
@@ -126,6 +126,7 @@ impl Standing {
         }
     }
 
+    // Whether, and when, the connection may make one more waiter: those that wait and those that were released may be 64 together.
     fn admission_of_waiter(&self) -> Admission
         ensures { result ≡ waiter_admission self.now }
     {

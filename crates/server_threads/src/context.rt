@@ -18,6 +18,7 @@ impl<'a, R: Wait> Context<'a, R> {
         self.server.answers()
     }
 
+    /// The allocator that the threads of a running tree share.
     pub fn alloc(&self) -> Global {
         self.server.answers().alloc
     }

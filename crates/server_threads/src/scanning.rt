@@ -19,7 +19,7 @@ pub fn attend<R: Files + Wait + Copy + Drop, E: Write>(
     for _ in rt.forever() {
         match shared.scans.await_task(rt) {
             Task::Read => {
-                let found = find(rt, shared, directory, errors);
+                let found = read_scan(rt, shared, directory, errors);
                 shared.scans.leave(rt, found);
                 shared.driver.ring(rt);
             }
@@ -29,7 +29,9 @@ pub fn attend<R: Files + Wait + Copy + Drop, E: Write>(
     }
 }
 
-fn find<R: Files + Copy + Drop, E: Write>(
+// Reads the scan directory, and tells faults of its services' directories on `errors`. Where that gives no listing, the error is the answer
+// for those who asked for a scan.
+fn read_scan<R: Files + Copy + Drop, E: Write>(
     rt: &R,
     shared: &Shared,
     directory: &str,

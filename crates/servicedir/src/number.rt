@@ -49,6 +49,7 @@ pub(crate) fn without_newline(text: &[u8]) -> &[u8]
     }
 }
 
+// Whether each byte is an ASCII digit; so it is of an empty text.
 fn all_are_digits(text: &[u8]) -> bool
     ensures { result ≡ list_all is_digit text.now }
 {

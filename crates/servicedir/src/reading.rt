@@ -49,6 +49,7 @@ pub fn read<A: Allocator + Copy, F: Files>(
     read_found(alloc, files, name)
 }
 
+// Looks whether the directory of the service of this name has a `run`; `NoRun` where it has none.
 fn look_for_run<F: Files>(files: &mut F, name: Name) -> Result<(), DirFault>
     ensures run { OnOk result (fault_of_run (F.gives files.old name ServiceFile.Run) ≡ None) }
     ensures same { F.gives files.new ≡ F.gives files.old }
@@ -67,6 +68,7 @@ fn look_for_run<F: Files>(files: &mut F, name: Name) -> Result<(), DirFault>
     }
 }
 
+// Looks at the file `type` of the service of this name; `NotLongrun` where it is there and says something else than `longrun`.
 fn look_at_type<A: Allocator + Copy, F: Files>(
     alloc: A,
     files: &mut F,
@@ -89,6 +91,7 @@ fn look_at_type<A: Allocator + Copy, F: Files>(
     }
 }
 
+// Reads the configuration of the service of this name, after its `run` and its `type` were looked at.
 #[tactic(auto, unfolding(crate::specs::Config::config_of))]
 fn read_found<A: Allocator + Copy, F: Files>(
     alloc: A,

@@ -50,7 +50,7 @@ impl<A: Allocator + Copy> StandingRows<A> {
 
 impl<A: Allocator> StandingRows<A> {
     // Copies the rows and the number of steps into a shot.
-    fn fill(&self, shot: &mut Shot)
+    fn copy_into(&self, shot: &mut Shot)
         ensures { shot.new ≡ self.now }
     {
         shot.at = self.at;
@@ -94,10 +94,10 @@ impl<C: Channels, A: Allocator> Change<C, A> {
     }
 
     // Copies the one that was published last into a shot.
-    pub(crate) fn fill(&self, shot: &mut Shot)
+    pub(crate) fn copy_into(&self, shot: &mut Shot)
         ensures { last_shot self.now ≡ Some shot.new }
     {
-        self.rows.fill(shot);
+        self.rows.copy_into(shot);
     }
 
     // All that were published.

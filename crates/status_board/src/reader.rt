@@ -98,7 +98,7 @@ fn take_shot<C: Channels, A: Allocator>(
     ensures none { IsFalse result → (known.new ≡ known.old) × (shot.new ≡ shot.old) }
 {
     if known.follow(change.published()) {
-        change.fill(shot);
+        change.copy_into(shot);
         true
     } else {
         false

@@ -103,6 +103,7 @@ where
     Shown<C, A>: Absorb<Next<C, A>, State = ()>,
 {
     alloc: A,
+    // Two copies of what is shown; the one that nobody reads is brought up to date by what is to come (`Next`), and then shown.
     handle: WriteHandle<Shown<C, A>, Next<C, A>, R, A>,
     word: Count,
     published: Published<C>,
@@ -159,13 +160,14 @@ impl<C: Channels, R: Wait + Drop, A: Allocator + Copy> BoardWriter<C, R, A> {
         if self.handle.append(theirs).is_err() {
             return Err(NoMemory);
         }
-        // All memory is there. There is one writer, so the history has no shot that it doesn't know.
+        // All memory is there. There is one writer, so what it knows of the history is all of it; the shot is added to a copy of that.
         let mut published = self.published.copied();
         if !published.add(&self.word, &rows) {
             return Err(NoMemory);
         }
         self.published = published.copied();
         let _set = next.try_set(Change::new(rows, published));
+        // It never fails: a copy can take any `Change` over.
         let _shown = self.handle.publish();
         Ok(())
     }

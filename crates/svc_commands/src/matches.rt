@@ -13,7 +13,7 @@ use servicedir::parse_number;
 use std::alloc::{AllocError, Global};
 
 // A command with no option, and with no help of its own.
-pub fn plain<'a>(alloc: Global, name: &'a str) -> Command<'a>
+pub fn bare_command<'a>(alloc: Global, name: &'a str) -> Command<'a>
     ensures { app_of result ≡ plain_app name.entry.now }
 {
     Command::new(alloc, name)
@@ -129,6 +129,7 @@ pub fn number_in(matches: &ArgMatches<'_>, id: &str) -> Result<Option<u32>, Usag
     }
 }
 
+// The number from 0 to 4294967295 that a text spells in digits; BadNumber where it spells none.
 fn number_written(text: &[u8]) -> Result<u32, UsageFault>
     ensures { MatchResult result (λ number. number_of text.now ≡ Some number)
         (λ fault. (number_of text.now ≡ None) × (fault ≡ UsageFault.BadNumber)) }

@@ -35,6 +35,7 @@ pub(crate) fn names_in(words: &[&str]) -> Result<Names, UsageFault>
     Ok(names)
 }
 
+// Adds one more name to those of the command line; TooMany where there are 16 already.
 fn add_name(names: &mut Names, name: Name) -> Result<(), UsageFault>
     ensures { MatchResult result (λ _. (names.new.items ≡ names.old.items ++ name ∷ []) × (length names.new.items ≤ 16))
         (λ fault. (16 ≤ length names.old.items) × (fault ≡ UsageFault.TooMany)) }
@@ -42,6 +43,7 @@ fn add_name(names: &mut Names, name: Name) -> Result<(), UsageFault>
     names.try_push(name).map_err(|_| UsageFault::TooMany)
 }
 
+// Whether each of these words can be the name of a service.
 fn are_names(words: &[&str]) -> bool
     ensures { result ≡ list_all (λ w. is_name w.now) words.now }
 {

@@ -7,7 +7,7 @@ ghost use Rattle.svc_commands.specs.LineCommands.{IsPermafailCommand};
 ghost use Rattle.svc_commands.specs.Matches.{permafail_app, rows_for, kinds_for};
 ghost use Rattle.svc_commands.specs.RowsGiven.{exits_given, are_bad_exits};
 
-use crate::matches::{matches_in, number_in, plain, text_of, with_word};
+use crate::matches::{bare_command, matches_in, number_in, text_of, with_word};
 use crate::names::name_of;
 use crate::usage_fault::UsageFault;
 use clap::{ArgMatches, Command};
@@ -52,7 +52,7 @@ pub fn compile_permafailon<'a>(
 fn permafailon_command<'a>(alloc: Global) -> Result<Command<'a>, AllocError>
     ensures { IfOk result (λ r. app_of r ≡ permafail_app) }
 {
-    let command = plain(alloc, "permafailon");
+    let command = bare_command(alloc, "permafailon");
     let command = with_word(alloc, command, "name")?;
     let command = with_word(alloc, command, "secs")?;
     let command = with_word(alloc, command, "count")?;

@@ -92,6 +92,7 @@ fn add_byte(letters: &mut Letters, byte: u8) -> Result<(), UsageFault>
     add_letter(letters, letter)
 }
 
+// Adds one more letter to those that the service is told; TooMany where there are 63 already.
 fn add_letter(letters: &mut Letters, letter: ControlLetter) -> Result<(), UsageFault>
     ensures { MatchResult result (λ _. (length letters.old.items < 63) × (letters.new.items ≡ letters.old.items ++ letter ∷ []))
         (λ fault. (63 ≤ length letters.old.items) × (fault ≡ UsageFault.TooMany)) }

@@ -7,7 +7,7 @@ ghost use Rattle.svc_commands.specs.LineCommands.{IsWaitCommand};
 ghost use Rattle.svc_commands.specs.Matches.{listen_app, rows_for, kinds_for, own_words, program_words};
 ghost use Rattle.svc_commands.specs.RowsGiven.{is_empty};
 
-use crate::matches::{matches_in, plain, with_flag, with_names, with_wait_options};
+use crate::matches::{bare_command, matches_in, with_flag, with_names, with_wait_options};
 use crate::svwait::{WaitCommand, wait_command};
 use crate::usage_fault::UsageFault;
 use clap::Command;
@@ -50,13 +50,14 @@ pub fn compile_svlisten<'a>(
 fn svlisten_command<'a>(alloc: Global) -> Result<Command<'a>, AllocError>
     ensures { IfOk result (λ r. app_of r ≡ listen_app) }
 {
-    let command = plain(alloc, "svlisten");
+    let command = bare_command(alloc, "svlisten");
     let command = with_wait_options(alloc, command)?;
     let command = with_flag(alloc, command, "r", 'r')?;
     let command = with_flag(alloc, command, "R", 'R')?;
     with_names(alloc, command)
 }
 
+// Whether there is no word behind `--`, so that `svlisten` has no program to start. `words` are the words of that program.
 fn has_no_word(words: &[&str]) -> bool
     ensures { result ≡ is_empty (map (λ w. w.now) words.now) }
 {
@@ -94,6 +95,7 @@ fn cut_at(words: &[&str]) -> usize
     }
 }
 
+// The place of the first `--`, which stands between the words of `svlisten` and those of its program; None where there is none.
 fn first_dashes(words: &[&str]) -> Option<usize>
     ensures place { result ≡ position (λ w. bytes_eq w.now (codes "--")) words.now }
     ensures bound { IfSome result (λ at. at < length words.now) }
@@ -101,6 +103,7 @@ fn first_dashes(words: &[&str]) -> Option<usize>
     words.iter().position(|word| is_dashes(word))
 }
 
+// Whether a word is `--`, which ends the words of `svlisten` itself where it comes first.
 fn is_dashes(word: &str) -> bool
     ensures { result ≡ bytes_eq word.now (codes "--") }
 {

@@ -58,6 +58,8 @@ fn read_word(letters: &mut ScanLetters, word: &[u8]) -> Result<(), UsageFault>
     }
 }
 
+// Adds what the letters of a run mean; `run` is what stands behind its dash. Unknown where it is empty or one of its letters means nothing,
+// TooMany where the letters would be more than 63.
 fn add_run(letters: &mut ScanLetters, run: &[u8]) -> Result<(), UsageFault>
     ensures { MatchResult result (λ _. (run_fault scan_letters (length letters.old.items) run.now ≡ None)
         × (letters.new.items ≡ letters.old.items ++ flat_map scan_letters run.now))
@@ -90,6 +92,7 @@ fn add_byte(letters: &mut ScanLetters, byte: u8) -> Result<(), UsageFault>
     }
 }
 
+// Adds one more letter to those that the supervisor of the scan directory is told; TooMany where there are 63 already.
 fn add_letter(letters: &mut ScanLetters, letter: ScanLetter) -> Result<(), UsageFault>
     ensures { MatchResult result (λ _. (length letters.old.items < 63) × (letters.new.items ≡ letters.old.items ++ letter ∷ []))
         (λ fault. (63 ≤ length letters.old.items) × (fault ≡ UsageFault.TooMany)) }

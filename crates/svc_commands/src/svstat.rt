@@ -8,7 +8,7 @@ ghost use Rattle.svc_commands.specs.LineCommands.{IsStatCommand};
 ghost use Rattle.svc_commands.specs.Matches.{stat_app, rows_for, kinds_for};
 ghost use Rattle.svc_commands.specs.RowsGiven.{items_in, fields_in, is_bad_list};
 
-use crate::matches::{matches_in, plain, text_of, with_option, with_word};
+use crate::matches::{bare_command, matches_in, text_of, with_option, with_word};
 use crate::names::name_of;
 use crate::usage_fault::UsageFault;
 use clap::{ArgMatches, Command};
@@ -60,7 +60,7 @@ pub fn compile_svstat<'a>(alloc: Global, words: &'a [&'a str]) -> Result<StatCom
 fn svstat_command<'a>(alloc: Global) -> Result<Command<'a>, AllocError>
     ensures { IfOk result (λ r. app_of r ≡ stat_app) }
 {
-    let command = plain(alloc, "svstat");
+    let command = bare_command(alloc, "svstat");
     let command = with_option(alloc, command, "o", 'o')?;
     with_word(alloc, command, "name")
 }
@@ -106,6 +106,7 @@ fn listed(item: &[u8]) -> Result<Field, UsageFault>
     field_of(item).ok_or(UsageFault::BadList)
 }
 
+// Adds one more field to those that `svstat` is to print of a service; NoMemory where memory is refused.
 fn add_field(fields: &mut Vec<Field>, field: Field) -> Result<(), UsageFault>
     ensures { MatchResult result (λ _. fields.new.items ≡ fields.old.items ++ field ∷ [])
         (λ fault. fault ≡ UsageFault.NoMemory) }

@@ -7,7 +7,9 @@ ghost use Rattle.svc_commands.specs.Matches.{wait_app, rows_for, kinds_for};
 ghost use Rattle.svc_commands.specs.RowsGiven.{condition_count, condition_of, mode_count, mode_of};
 ghost use Rattle.svc_commands.specs.RowsGiven.{timeout_given, timeout_of, is_bad_number};
 
-use crate::matches::{matches_in, name_words, number_in, plain, with_names, with_wait_options};
+use crate::matches::{
+    bare_command, matches_in, name_words, number_in, with_names, with_wait_options,
+};
 use crate::names::{Names, names_in};
 use crate::usage_fault::UsageFault;
 use clap::{ArgMatches, Command};
@@ -47,7 +49,7 @@ pub fn compile_svwait<'a>(alloc: Global, words: &'a [&'a str]) -> Result<WaitCom
 fn svwait_command<'a>(alloc: Global) -> Result<Command<'a>, AllocError>
     ensures { IfOk result (λ r. app_of r ≡ wait_app) }
 {
-    let command = plain(alloc, "svwait");
+    let command = bare_command(alloc, "svwait");
     let command = with_wait_options(alloc, command)?;
     with_names(alloc, command)
 }
@@ -80,6 +82,7 @@ pub(crate) fn wait_command(
     })
 }
 
+// How often the options are given in all that say what is waited for: `-u`, `-U`, `-d`, `-D`, `-r` and `-R`.
 fn conditions(matches: &ArgMatches<'_>) -> u32
     ensures { result ≡ condition_count (rows_of (found_of matches.now)) }
 {
@@ -91,12 +94,14 @@ fn conditions(matches: &ArgMatches<'_>) -> u32
         + matches.get_count("R") as u32
 }
 
+// How often the options are given in all that say of how many services the condition has to hold: `-a` and `-o`.
 fn modes(matches: &ArgMatches<'_>) -> u32
     ensures { result ≡ mode_count (rows_of (found_of matches.now)) }
 {
     matches.get_count("a") as u32 + matches.get_count("o") as u32
 }
 
+// What is waited for, by the option that is given; without one, that the services are up. More than one option was refused before.
 fn condition(matches: &ArgMatches<'_>) -> Condition
     ensures { result ≡ condition_of (rows_of (found_of matches.now)) }
 {
@@ -115,6 +120,7 @@ fn condition(matches: &ArgMatches<'_>) -> Condition
     }
 }
 
+// Of how many services the condition has to hold, by the option that is given: of one with `-o`, else of all of them.
 fn mode(matches: &ArgMatches<'_>) -> Mode
     ensures { result ≡ mode_of (rows_of (found_of matches.now)) }
 {

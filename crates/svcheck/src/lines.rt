@@ -33,6 +33,7 @@ fn fault_of(remarks: &[Remark], name: Name) -> Option<DirFault>
         .map(|remark| remark.fault)
 }
 
+// Adds whether a service tells that it is ready: `descriptor` is the file descriptor on which it does, None where it doesn't.
 fn push_readiness(text: &mut Vec<u8>, descriptor: Option<u8>) -> Result<(), AllocError>
     ensures { OnOk result (text.new.items ≡ text.old.items ++ readiness_words descriptor) }
 {
@@ -60,6 +61,8 @@ fn push_kind(text: &mut Vec<u8>, note: Option<DirFault>) -> Result<(), AllocErro
     }
 }
 
+// Adds the line of a service that svscan would supervise. `config` is what its directory says, and `note` a fault there that doesn't keep
+// the service from running.
 fn push_supervised(
     text: &mut Vec<u8>,
     name: Name,
@@ -76,6 +79,7 @@ fn push_supervised(
     text.extend_from_slice(b"\n")
 }
 
+// Adds the line of a name that svscan would not supervise, and of the fault for which it would not.
 fn push_refused(text: &mut Vec<u8>, name: &[u8], fault: DirFault) -> Result<(), AllocError>
     ensures { OnOk result (text.new.items ≡ text.old.items ++ refused_line name.now fault) }
 {
@@ -98,6 +102,7 @@ fn push_entry(text: &mut Vec<u8>, remarks: &[Remark], entry: &Entry) -> Result<(
     }
 }
 
+// Adds a line for each entry of the scan directory. `remarks` are the faults that were found when the services' directories were read.
 fn push_entries(text: &mut Vec<u8>, remarks: &[Remark], entries: &[Entry]) -> Result<(), AllocError>
     ensures { OnOk result (text.new.items
         ≡ text.old.items ++ flat_map (entry_line remarks.now) entries.now) }
@@ -108,6 +113,7 @@ fn push_entries(text: &mut Vec<u8>, remarks: &[Remark], entries: &[Entry]) -> Re
     Ok(())
 }
 
+// The number of entries whose directory could be read, so that svscan can supervise them as services.
 fn usable_count(entries: &[Entry]) -> usize
     ensures { result ≡ count_by is_usable entries.now }
 {
@@ -130,12 +136,14 @@ fn push_full(text: &mut Vec<u8>, count: usize) -> Result<(), AllocError>
     }
 }
 
+// Whether there is an entry whose directory could not be read.
 fn has_unread(entries: &[Entry]) -> bool
     ensures { result ≡ list_any (λ e. is_none e.config) entries.now }
 {
     entries.iter().any(|entry| entry.config.is_none())
 }
 
+// Whether svscan would leave out one of the entries at least: its directory could not be read, or there are more than 256 services.
 fn is_refused(entries: &[Entry]) -> bool
     ensures { result ≡ is_refused entries.now }
 {

@@ -40,6 +40,7 @@ use supervise_core::{Change, Out, Service, ServiceState};
 #[derive(Drop)]
 pub struct Registry<A: Allocator> {
     slots: Slots<A>,
+    // The serial of the next new service.
     next_sid: u64,
     // The step that was worked out last.
     pending: Pending<A>,

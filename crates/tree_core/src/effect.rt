@@ -32,10 +32,15 @@ pub struct Release {
 /// then in rising serial; and the releases, by moment and then in rising serial.
 #[derive(Drop)]
 pub struct Effect<A: Allocator> {
+    /// The reply to the input.
     pub reply: Reply<A>,
+    /// The marks of services.
     pub events: Vec<Event, A>,
+    /// What is to be started and signalled.
     pub orders: ArrayVec<Order, ORDER_LIMIT>,
+    /// What subscriptions heard.
     pub matched: Vec<Match, A>,
+    /// The waiters that wait no longer.
     pub released: Vec<Release, A>,
 }
 

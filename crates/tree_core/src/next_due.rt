@@ -32,6 +32,7 @@ pub fn next_timer<A: Allocator + Copy>(registry: &Registry<A>) -> Option<u64>
     next
 }
 
+// Whether the phase is that of a service whose supervisor has ended.
 fn is_gone(phase: Phase) -> bool
     ensures { result ≡ is_gone phase }
 {

@@ -28,8 +28,8 @@ pub struct Lasting {
     pub lines: Vec<u8>,
     /// The reports that no seat took yet, by lane.
     pub kept: Vec<Option<Report>>,
-    /// Where the driver reads what a step gave, so that all steps use the same memory. None before the first step, and while it is taken
-    /// out.
+    /// What the last step gave: the driver reads each step's effect into it, so that all use the same memory. None before the first step,
+    /// and while it is taken out.
     pub effect: Option<Box<Effect<Global>>>,
     /// The tree's clock after the last step that was handed out.
     pub clock: At,

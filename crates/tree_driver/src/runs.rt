@@ -120,11 +120,11 @@ fn run_once<B: Backend, R: Wait + Clock + Copy + Drop, W: Write + Drop, E: Write
 }
 
 // What comes where an office was not made or opened. Before the first run that ends the tree. Between two runs, where memory or the board's
-// reader was refused, the next run is tried again a little later; what connections ask meanwhile is refused.
+// reader was refused, the next run is tried again a little later; what connections ask meanwhile is refused. `unmade` has all for that run.
 fn wait_or_end<B: Drop, R: Wait + Clock>(
     context: &Context<'_, R>,
     fault: OpenFault,
-    before: Between<B>,
+    unmade: Between<B>,
     lasting: &mut Lasting,
 ) -> AfterRun<B> {
     match fault {
@@ -134,7 +134,7 @@ fn wait_or_end<B: Drop, R: Wait + Clock>(
         }
         OpenFault::NoMemory | OpenFault::Board => {
             refuse_and_wait(context, lasting);
-            AfterRun::Again(before)
+            AfterRun::Again(unmade)
         }
     }
 }

@@ -36,12 +36,12 @@ pub fn program_named(word: &str) -> Program
     }
     match tool_named(word) {
         Some(tool) => Program::Client(tool),
-        None => other_named(word),
+        None => own_program_named(word),
     }
 }
 
 // Which program this word names, if it is neither the server nor a client.
-fn other_named(word: &str) -> Program
+fn own_program_named(word: &str) -> Program
     ensures { result ≡ program.Svscan → bytes_eq word.now (codes "svscan") ≡ true }
 {
     match word {

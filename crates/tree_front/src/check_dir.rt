@@ -73,7 +73,7 @@ fn add_unexecutable<R: Files>(
     Ok(is_there)
 }
 
-// The same for one service.
+// Adds a line for each program of this service that nobody may execute. Whether there was one.
 fn add_programs<R: Files>(
     rt: &R,
     alloc: Global,
@@ -84,12 +84,13 @@ fn add_programs<R: Files>(
     let Some(config) = entry.config else {
         return Ok(false);
     };
-    let is_run = add_program(rt, alloc, directory, entry.name, "run", text)?;
-    let is_finish = config.finish && add_program(rt, alloc, directory, entry.name, "finish", text)?;
-    Ok(is_run || is_finish)
+    let has_told_of_run = add_program(rt, alloc, directory, entry.name, "run", text)?;
+    let has_told_of_finish = config.finish
+        && add_program(rt, alloc, directory, entry.name, "finish", text)?;
+    Ok(has_told_of_run || has_told_of_finish)
 }
 
-// The same for one program of a service.
+// Adds a line for this program of a service, where nobody may execute it. Whether it did.
 fn add_program<R: Files>(
     rt: &R,
     alloc: Global,
@@ -122,6 +123,8 @@ fn sorted_entries(alloc: Global, entries: &[Entry]) -> Result<Vec<Entry>, AllocE
     Ok(sorted)
 }
 
+// Prints the report of `svcheck`. The exit status: 1 where `is_refused`, so something is refused or can't be started, else 0; 111 where the
+// report can't be written, which is told on `errors`.
 fn print_report<W: Write, E: Write>(
     text: &[u8],
     is_refused: bool,
@@ -129,7 +132,7 @@ fn print_report<W: Write, E: Write>(
     errors: &mut E,
 ) -> u8 {
     if output.write_all(text).is_err() || output.flush().is_err() {
-        return tell(
+        return tell_failure(
             b"svcheck: write\nsvcheck: standard output took nothing: is it closed, or its disk full?\n",
             errors,
         );
@@ -137,7 +140,8 @@ fn print_report<W: Write, E: Write>(
     if is_refused { REFUSED_STATUS } else { 0 }
 }
 
-fn tell<E: Write>(lines: &[u8], errors: &mut E) -> u8 {
+// Writes the lines about a failure of `svcheck` on `errors`, by one write. The exit status, 111.
+fn tell_failure<E: Write>(lines: &[u8], errors: &mut E) -> u8 {
     let _ = errors.write_all(lines);
     SYSTEM_STATUS
 }
@@ -148,5 +152,5 @@ fn tell_directory<E: Write>(sentence: &[u8], directory: &str, errors: &mut E) ->
     let _ = told.try_extend_from_slice(b"svcheck: directory\nsvcheck: ");
     let _ = add_escaped(&mut told, PATH_BYTES, directory.as_bytes());
     let _ = told.try_extend_from_slice(sentence);
-    tell(told.as_slice(), errors)
+    tell_failure(told.as_slice(), errors)
 }

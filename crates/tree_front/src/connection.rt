@@ -65,6 +65,7 @@ fn converse<R: Net + Threads, I: Read + Send + Drop + 'static, W: Write>(
     }
 }
 
+// Adds the two lines that tell why `connect` failed, one for programs and one for people. `path` is that of the server's socket.
 fn add_lines(told: &mut Told, path: &str, fault: ConnectFault) -> Result<(), CapacityError> {
     match fault {
         ConnectFault::Socket => {

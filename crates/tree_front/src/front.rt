@@ -99,6 +99,8 @@ fn words_of<R: Env>(rt: &R, alloc: Global) -> io::Result<Vec<String>> {
     Ok(words)
 }
 
+// The program that the command line asks for, by its second word; the first is the program's own name. Strange where there is no second
+// word, or a third one behind `--version`.
 fn program_of(words: &[String]) -> Program {
     match words {
         [_, word] => program_named(word.as_str()),

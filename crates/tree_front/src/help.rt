@@ -73,6 +73,7 @@ pub fn refuse_tool<E: Write>(word: Option<&str>, errors: &mut E) -> u8
     USAGE_STATUS
 }
 
+// The text before a word that names no program: the first line, for programs, and the beginning of the second one.
 #[tactic(auto, unfolding(crate::specs::Usage::strange_words))]
 fn strange_words() -> &'static str
     ensures { result.now ≡ strange_words }
@@ -80,6 +81,7 @@ fn strange_words() -> &'static str
     "s6_tree: unknown tool\ns6_tree: "
 }
 
+// The text behind a word that names no program: what is wrong with it, and the command that lists the tools.
 #[tactic(auto, unfolding(crate::specs::Usage::tools_words))]
 fn tools_words() -> &'static str
     ensures { result.now ≡ tools_words }
@@ -87,6 +89,7 @@ fn tools_words() -> &'static str
     " is no tool; see s6_tree --help\n"
 }
 
+// The two lines about this word of the command line, which names no program. `word` is None where the command line has no such word.
 fn told_of(word: Option<&str>) -> Result<Told, CapacityError>
     ensures { IfOk result (λ told. told.items ≡ strange_text (option_map (λ w. w.now) word.entry)) }
 {

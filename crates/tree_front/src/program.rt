@@ -53,6 +53,7 @@ struct TreeParts<R: Drop> {
 }
 
 impl<R: Drop> TreeParts<R> {
+    // The tree that is to run: these parts, and `place`, which names its scan directory, its socket and its record.
     fn at(self, place: TreePlace) -> BegunTree<R> {
         let TreeParts {
             lanes,

@@ -106,6 +106,8 @@ fn path_of<'a>(fault: ServeFault, place: &'a TreePlace) -> &'a str {
     }
 }
 
+// Adds the second line about the fault by which a tree did not run to its end, the one for people. `path` is the path that the fault is
+// about, and `trouble` why no socket could be made, where that is the fault.
 fn add_second_line(
     told: &mut Told,
     fault: ServeFault,

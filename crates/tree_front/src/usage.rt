@@ -26,6 +26,7 @@ pub fn refuse_words<E: Write>(
     USAGE_STATUS
 }
 
+// What the second line says behind the wrong word, or behind `a word`: that it is missing, or one too many.
 fn complaint_of(misuse: Misuse) -> &'static str
     ensures { result.now ≡ complaint_of misuse }
 {
@@ -46,13 +47,14 @@ fn told_of(
         ≡ usage_text program.now misuse (option_map (λ w. w.now) word.entry) form.now) }
 {
     let mut told = Told::new();
-    add_program(&mut told, program)?;
+    add_first_line(&mut told, program)?;
     add_complaint(&mut told, misuse, word)?;
     add_advice(&mut told, program, form)?;
     Ok(told)
 }
 
-fn add_program(told: &mut Told, program: &str) -> Result<(), CapacityError>
+// Adds the first line, for programs, which says `usage`, and the name of the program with which the second line begins, the one for people.
+fn add_first_line(told: &mut Told, program: &str) -> Result<(), CapacityError>
     ensures { OnOk result (told.new.items ≡ told.old.items ++ program_text program.now) }
 {
     told.try_extend_from_slice(program.as_bytes())?;
@@ -61,6 +63,7 @@ fn add_program(told: &mut Told, program: &str) -> Result<(), CapacityError>
     told.try_extend_from_slice(b": ")
 }
 
+// Adds to the second line what is wrong with the words: one is missing, or `word` is one too many.
 fn add_complaint(told: &mut Told, misuse: Misuse, word: Option<&str>) -> Result<(), CapacityError>
     ensures { OnOk result (told.new.items
         ≡ told.old.items ++ complaint_text misuse (option_map (λ w. w.now) word.entry)) }
@@ -71,6 +74,8 @@ fn add_complaint(told: &mut Told, misuse: Misuse, word: Option<&str>) -> Result<
     told.try_extend_from_slice(complaint_of(misuse).as_bytes())
 }
 
+// Adds to the second line what would be right, and the command that prints the help text. `form` is how the words have to be given, as
+// `svcheck DIRECTORY`.
 fn add_advice(told: &mut Told, program: &str, form: &str) -> Result<(), CapacityError>
     ensures { OnOk result (told.new.items ≡ told.old.items ++ advice_text program.now form.now) }
 {

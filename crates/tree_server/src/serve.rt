@@ -109,6 +109,7 @@ fn prepare<R: Files<File = File> + Wait + Clock + Copy + Drop>(
     })
 }
 
+// Why a tree can't be served after this error: `NoMemory` where memory was refused, else `fault`, which says what could not be done.
 fn fault_of(error: &io::Error, fault: ServeFault) -> ServeFault {
     match error.kind() {
         ErrorKind::OutOfMemory => ServeFault::NoMemory,

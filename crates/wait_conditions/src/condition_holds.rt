@@ -4,6 +4,7 @@ ghost use Rattle.wait_conditions.specs.Holds.{suits, holds_at};
 
 use s6_events::{Condition, Mark};
 
+// Whether a service with this current letter is as the condition asks, apart from whether it was started since the waiter began.
 fn letter_suits(condition: Condition, letter: Mark) -> bool
     ensures { result ≡ suits condition letter }
 {

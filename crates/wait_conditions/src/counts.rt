@@ -27,6 +27,7 @@ fn recount(count: usize, was: bool, now: bool) -> usize
     if was { more.saturating_sub(1) } else { more }
 }
 
+// Whether a condition fails for good, since the service failed for good. `failure` is why it fails, or None where it doesn't.
 fn is_permanent_failure(failure: Option<Failure>) -> bool
     ensures { result ≡ is_failure_for_good failure }
 {

@@ -36,6 +36,7 @@ fn take_in_for_release(waiter: &mut Waiter, moment: &Moment) -> Option<(WaitId, 
     new_verdict(before, waiter.standing).map(|verdict| (id, verdict))
 }
 
+// Adds the release of a waiter to the list, if there is one. The list has room for it.
 fn note<A: Allocator>(released: &mut Vec<(WaitId, Verdict), A>, release: Option<(WaitId, Verdict)>)
     requires { vec_len released.old + 1 ≤ vec_capacity released.old }
     ensures items { released.new.items ≡ released.old.items ++ option_to_list release }

@@ -32,6 +32,7 @@ pub fn mark_in(sid: Sid, moment: &Moment) -> Option<Mark>
     }
 }
 
+// The current letter of a service after one more mark, if there is one, where it was `letter` before.
 fn next_letter(mark: Option<Mark>, letter: Mark) -> Mark
     ensures { result ≡ letter_after mark letter }
 {
@@ -41,6 +42,7 @@ fn next_letter(mark: Option<Mark>, letter: Mark) -> Mark
     }
 }
 
+// Whether a service was started since the waiter began, after one more mark, if there is one; `spawned` is whether it was before.
 fn next_spawned(mark: Option<Mark>, spawned: bool) -> bool
     ensures { result ≡ spawned_after mark spawned }
 {

@@ -35,6 +35,7 @@ pub struct Waiter {
     pub standing: WaitState,
 }
 
+// Whether the moment is a clock reading at or past the waiter's deadline, if it has one.
 fn is_late(deadline: Option<u64>, moment: &Moment) -> bool
     ensures { result ≡ late_at deadline moment.now }
 {
@@ -44,6 +45,7 @@ fn is_late(deadline: Option<u64>, moment: &Moment) -> bool
     }
 }
 
+// Whether the service of this serial is one of those that a waiter watches.
 fn has_service(watched: &[WatchedService], sid: Sid) -> bool
     ensures { result ≡ list_any (λ w. w.sid == sid) watched.now }
 {

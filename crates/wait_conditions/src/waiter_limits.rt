@@ -12,6 +12,7 @@ pub const MOST_SERVICES: usize = 16;
 /// The most waiters that stand at one time.
 pub const WAITER_LIMIT: usize = 1024;
 
+// Whether the service of this serial is one of these.
 fn is_among(sid: Sid, sids: &[Sid]) -> bool
     ensures { result ≡ is_named_in sids.now sid }
 {

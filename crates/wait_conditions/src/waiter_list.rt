@@ -223,6 +223,7 @@ fn find_standing(waiters: &[Waiter], id: WaitId) -> Option<WaitState>
     find_stored(waiters, id)
 }
 
+// The state of the waiter of this serial; None where there is none. As `find_standing`, but its clause speaks of the waiters as stored.
 fn find_stored(waiters: &[Waiter], id: WaitId) -> Option<WaitState>
     ensures { result ≡ standing_stored id waiters.now }
 {
