@@ -41,7 +41,7 @@ KeepNames services [] = Unit {0}
 KeepNames services (t ∷ touched) = IsSomeAnd (slice_get services t.place) (λ s. s.chart.name ≡ t.standing.chart.name)
     × KeepNames (with_change services t) touched
 
--- of the changes from `before` on, none is of a service at this place or behind it
+-- of the changes from `before` on, none changes a service at this place or behind it
 abbrev pub AreUnvisited : List Supervised → ℕ → ℕ → List ChangedService → Type 0
 AreUnvisited services before place touched = (p : ℕ) → place ≤ p
     → slice_get (with_changes services (take before touched)) p ≡ slice_get (with_changes services touched) p
