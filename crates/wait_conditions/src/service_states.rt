@@ -2,7 +2,7 @@
 ghost use Rattle.std.specs.Prelude.{◌≡◌, ◌==◌, ◌≤◌, ◌<◌, ◌+◌, ◌-◌, ◌*◌, ◌++◌, [], ◌∷◌, ℕ, true, false, length, take, drop, slice_get, slice_set, nat_le, nat_lt, vec_len, vec_capacity, if◌then◌else◌, IsOk, IfSome, IsSomeAnd, OnOk, OnErr};
 ghost use Rattle.std.specs.List.{list_all, list_any, remove};
 ghost use Rattle.s6_events.specs.Newest.{mark_of};
-ghost use Rattle.wait_conditions.specs.States.{state_in, state_over};
+ghost use Rattle.wait_conditions.specs.States.{state_in, state_over, IsCovered, IsRepeated};
 ghost use Rattle.wait_conditions.specs.SupervisorState.{state_after};
 
 use crate::supervisor_state::{SupervisorState, mark_in};
@@ -64,7 +64,8 @@ fn place_of(runs: &[StateRun], sid: Sid) -> usize
 
 // Whether a run reaches no further than another one.
 fn reaches_no_further(run: StateRun, other: StateRun) -> bool
-    ensures { result ≡ true → run.last ≤ other.last }
+    ensures bound { result ≡ true → run.last ≤ other.last }
+    ensures all { run.last ≤ other.last → result ≡ true }
 {
     run.last.0 <= other.last.0
 }
@@ -73,6 +74,7 @@ fn reaches_no_further(run: StateRun, other: StateRun) -> bool
 fn says_the_same(run: StateRun, after: StateRun) -> bool
     ensures reach { result ≡ true → run.last ≤ after.last }
     ensures same { result ≡ true → run.state ≡ after.state }
+    ensures all { run.last ≤ after.last → run.state ≡ after.state → result ≡ true }
 {
     run.last.0 <= after.last.0 && run.state == after.state
 }
@@ -80,8 +82,9 @@ fn says_the_same(run: StateRun, after: StateRun) -> bool
 // Whether the run at this place reaches no further than the one before it.
 fn is_covered(runs: &[StateRun], place: usize) -> bool
     requires { place < length runs.now }
-    ensures { result ≡ true → (sid : ℕ) →
+    ensures same { result ≡ true → (sid : ℕ) →
         state_in (remove runs.now place) sid ≡ state_in runs.now sid }
+    ensures all { IsCovered runs.now place → result ≡ true }
 {
     if place == 0 {
         return false;
@@ -92,8 +95,9 @@ fn is_covered(runs: &[StateRun], place: usize) -> bool
 // Whether the run at this place says the same as the one after it, and reaches no further than that one.
 fn is_repeated(runs: &[StateRun], place: usize) -> bool
     requires { place < length runs.now }
-    ensures { result ≡ true → (sid : ℕ) →
+    ensures same { result ≡ true → (sid : ℕ) →
         state_in (remove runs.now place) sid ≡ state_in runs.now sid }
+    ensures all { IsRepeated runs.now place → result ≡ true }
 {
     if place + 1 >= runs.len() {
         return false;
@@ -103,7 +107,8 @@ fn is_repeated(runs: &[StateRun], place: usize) -> bool
 
 // Whether a run ends with this serial.
 fn ends_with(run: StateRun, last: u64) -> bool
-    ensures { result ≡ true → run.last ≡ last }
+    ensures last { result ≡ true → run.last ≡ last }
+    ensures all { run.last ≡ last → result ≡ true }
 {
     run.last.0 == last
 }
@@ -111,8 +116,11 @@ fn ends_with(run: StateRun, last: u64) -> bool
 // Whether the run before this place ends with the serial just below this one, or there is no such serial.
 fn is_reached_below(runs: &[StateRun], place: usize, sid: Sid) -> bool
     requires { place ≤ length runs.now }
-    ensures { result ≡ true → (other : ℕ) → other < sid
+    ensures below { result ≡ true → (other : ℕ) → other < sid
         → list_any (λ r. nat_le other r.last) (take place runs.now) ≡ true }
+    ensures first { sid ≡ 0 → result ≡ true }
+    ensures all { 0 < place → IsSomeAnd (slice_get runs.now (place - 1)) (λ r. r.last + 1 ≡ sid)
+        → result ≡ true }
 {
     sid.0 == 0 || (place > 0 && ends_with(runs[place - 1], sid.0 - 1))
 }
@@ -123,6 +131,10 @@ fn is_of_one(runs: &[StateRun], place: usize, sid: Sid) -> bool
     ensures last { result ≡ true → IfSome (slice_get runs.now place) (λ r. r.last ≡ sid) }
     ensures below { result ≡ true → (other : ℕ) → other < sid
         → list_any (λ r. nat_le other r.last) (take place runs.now) ≡ true }
+    ensures first { sid ≡ 0 → IsSomeAnd (slice_get runs.now place) (λ r. r.last ≡ sid)
+        → result ≡ true }
+    ensures all { 0 < place → IsSomeAnd (slice_get runs.now (place - 1)) (λ r. r.last + 1 ≡ sid)
+        → IsSomeAnd (slice_get runs.now place) (λ r. r.last ≡ sid) → result ≡ true }
 {
     place < runs.len() && ends_with(runs[place], sid.0) && is_reached_below(runs, place, sid)
 }
@@ -153,6 +165,8 @@ fn is_redundant(runs: &[StateRun], place: usize) -> bool
     ensures within { result ≡ true → place < length runs.now }
     ensures same { result ≡ true → (sid : ℕ) →
         state_in (remove runs.now place) sid ≡ state_in runs.now sid }
+    ensures covered { IsCovered runs.now place → result ≡ true }
+    ensures repeated { IsRepeated runs.now place → result ≡ true }
 {
     place < runs.len() && (is_covered(runs, place) || is_repeated(runs, place))
 }
