@@ -16,7 +16,7 @@ pub trait Channels {
     ghost board: { Book };
 }
 
-// The names that a program starts from. Where it picks others, they take the place of these.
+// The names before a program made anything: of no ring, and of no history. What it makes then has names of its own, in place of these.
 impl Channels for Brand {
     ghost use Rattle.channel_names.specs.Unnamed.{no_ring, no_history};
 

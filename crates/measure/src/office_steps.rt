@@ -102,7 +102,7 @@ fn drive_opened<B: Backend, C: Channels + Lanes, D: Board<C>, R: Wait>(
     drive_rounds(rt, alloc, &office, &mut known, seats.as_mut_slice(), load)
 }
 
-// The scan, and then round by round.
+// Submits the scan and has the office take its step; then the same with round after round of acts.
 fn drive_rounds<B: Backend, C: Channels + Lanes, D: Board<C>, R: Wait>(
     rt: &R,
     alloc: Global,

@@ -87,7 +87,7 @@ impl<W: Write + Drop> Recorder<W> {
         self.reserve = Vec::new(self.alloc);
         let mut rest = RestWriter {
             writer,
-            to_pass: self.already_written,
+            to_skip: self.already_written,
             written: 0,
         };
         let recorded = office.write_run(rt, known, !self.is_begun, &mut rest);
@@ -108,22 +108,23 @@ impl<W: Write + Drop> Recorder<W> {
     }
 }
 
-/// A writer of what of a run was not written yet: it skips the first bytes, which were written before, and writes the others.
+/// A writer of the rest of a run: it skips the first bytes, which were written before, and writes those after them.
 #[derive(Drop)]
 struct RestWriter<'a, W: Write> {
     writer: &'a mut W,
     // How many of the bytes to come were written before.
-    to_pass: u64,
+    to_skip: u64,
     // How many bytes it wrote, without those that it skipped.
     written: u64,
 }
 
 impl<'a, W: Write> Write for RestWriter<'a, W> {
+    // Skips bytes as long as there are such that were written before, and then writes.
     fn write(&mut self, buf: &[u8]) -> io::Result<usize> {
-        if self.to_pass > 0 {
-            let passed = self.to_pass.min(buf.len() as u64);
-            self.to_pass -= passed;
-            return Ok(passed as usize);
+        if self.to_skip > 0 {
+            let skipped = self.to_skip.min(buf.len() as u64);
+            self.to_skip -= skipped;
+            return Ok(skipped as usize);
         }
         let count = self.writer.write(buf)?;
         self.written = self.written.saturating_add(count as u64);

@@ -76,7 +76,7 @@ impl Shared {
             return false;
         }
         match request {
-            Request::Status(subject) => self.is_status_told(rt, caller, subject, mailbox),
+            Request::Status(subject) => self.tell_fresh_status(rt, caller, subject, mailbox),
             Request::Refused(reason) => {
                 caller.note_here(rt);
                 let _ = mailbox.post(rt, reason.text());
@@ -90,8 +90,8 @@ impl Shared {
         }
     }
 
-    // Tells a status from the rows that were last read. False where they are not fresh.
-    fn is_status_told<R: Wait + Clock>(
+    // Tells a status from the rows that were last read. False where they are not fresh, and nothing is told.
+    fn tell_fresh_status<R: Wait + Clock>(
         &self,
         rt: &R,
         caller: &Caller,

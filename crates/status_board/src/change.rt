@@ -9,7 +9,7 @@ use std::alloc::{AllocError, Allocator};
 use std::marker::Model;
 use supervise_core::Row;
 
-/// A shot whose rows are in memory of their own. Contracts see it as that shot.
+/// The rows of all services as they stand, which lie in memory of their own. Contracts see them as a shot.
 #[derive(Drop)]
 pub struct StandingRows<A: Allocator> {
     at: u64,
