@@ -79,6 +79,10 @@ told_change change s = refused_or (refusal_in change s) (stored_told change s)
 abbrev pub after_step : (List ℕ → List ℕ → Bool) → List Moment → DirectoriesShown → DirectoriesShown
 after_step test moments s = with_followed (heard_moments test moments s.followed) s
 
+-- what is prepared by these moments and then this request
+abbrev pub prepared_step : (List ℕ → List ℕ → Bool) → List Moment → DirectoryRequest → DirectoriesShown → DirectoriesPrepared
+prepared_step test moments request s = prepared_change test request (after_step test moments s)
+
 -- the list and the state of the subscription of this serial and this source
 abbrev pub view_at : Option Source → ℕ → DirectoriesShown → Option (List ℕ × State)
 view_at None id s = None

@@ -4,7 +4,7 @@ ghost use Rattle.event_directory.specs.Changes.{Offer, directory_request_of, mat
 ghost use Rattle.event_directory.specs.Changes.DirectoryRequest.{no_directory_request};
 ghost use Rattle.event_directory.specs.Directories.{WrittenDirectories, new_directories, list_named, matches_by, directories_after_moments};
 ghost use Rattle.event_directory.specs.Hearing.{heard_moments, hits_of_moments};
-ghost use Rattle.event_directory.specs.RegisterChanges.{prepared_change, given_change, told_change, after_step, view_in};
+ghost use Rattle.event_directory.specs.RegisterChanges.{prepared_step, given_change, told_change, after_step, view_in};
 ghost use Rattle.event_directory.specs.HeardStep.{HearsStep};
 ghost use Rattle.event_directory.specs.Remembered.{AreHeard, directories_after_commit, nothing_prepared, plan_number};
 ghost use Rattle.event_directory.specs.declared.directory_change.DirectoryAnswer.TheVariants as answer;
@@ -132,9 +132,8 @@ impl<F: Finds, A: Allocator + Copy> Directories<F, A> {
         ensures answer { IfOk result
             (λ plan. plan.answer ≡ told_change (directory_request_of change.now)
             (after_step F.test moments.now self.old.shown)) }
-        ensures prepared { OnOk result
-            (self.new.prepared ≡ prepared_change F.test (directory_request_of change.now)
-            (after_step F.test moments.now self.old.shown)) }
+        ensures prepared { OnOk result (self.new.prepared
+            ≡ prepared_step F.test moments.now (directory_request_of change.now) self.old.shown) }
         ensures number { IfOk result (λ plan. plan_number plan ≡ self.new.number) }
         ensures shown { self.new.shown ≡ self.old.shown }
         ensures idle { OnErr result (self.new.prepared ≡ nothing_prepared self.old.shown) }
@@ -168,9 +167,8 @@ impl<F: Finds, A: Allocator + Copy> Directories<F, A> {
         ensures answer { IfOk result
             (λ plan. plan.answer ≡ told_change (directory_request_of change.now)
             (after_step F.test moments.now self.old.shown)) }
-        ensures prepared { OnOk result
-            (self.new.prepared ≡ prepared_change F.test (directory_request_of change.now)
-            (after_step F.test moments.now self.old.shown)) }
+        ensures prepared { OnOk result (self.new.prepared
+            ≡ prepared_step F.test moments.now (directory_request_of change.now) self.old.shown) }
         ensures number { IfOk result (λ plan. plan_number plan ≡ self.new.number) }
         ensures shown { self.new.shown ≡ self.old.shown }
         ensures idle { OnErr result (self.new.prepared ≡ nothing_prepared self.old.shown) }

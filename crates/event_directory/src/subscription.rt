@@ -22,7 +22,7 @@ pub struct Draft<A: Allocator> {
 }
 
 impl<A: Allocator> Draft<A> {
-    // The draft of a subscription that has heard nothing, and will hear nothing.
+    // An empty draft: no text, and still live.
     fn new(alloc: A) -> Draft<A>
     where
         A: Copy,
