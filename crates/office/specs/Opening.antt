@@ -1,9 +1,20 @@
 -- What holds of the parts of an office when it is opened.
-use Rattle.std.specs.Prelude.{◌≡◌, ℕ, ◌+◌, List, slice_get, Some}
+use Rattle.std.specs.Prelude.{◌≡◌, ℕ, ◌+◌, List, [], length, slice_get, Some}
 use Rattle.channel_names.specs.RingName.{RingName}
+use Rattle.inbox.specs.Ends.{DrainView, SeatView}
+use Rattle.locked_services.specs.Opening.{AreUnused}
+use Rattle.locked_services.specs.Submissions.{AreNumbered, taken_from}
 use Rattle.order_lanes.specs.Lane.{LaneRingView}
 use Rattle.s6_events.specs.declared.order.Order.{Order}
 use Rattle.status_board.specs.declared.shot.Shot.{Shot}
+
+-- the seats of this many actors, at which nothing was submitted
+abbrev pub AreNewSeats : ℕ → List SeatView → Type 0
+AreNewSeats count seats = AreUnused seats × (length seats ≡ count)
+
+-- each drain is at its actor's place, and nothing was taken from it
+abbrev pub AreUntaken : List DrainView → Type 0
+AreUntaken drains = AreNumbered drains × ((actor : ℕ) → taken_from actor drains ≡ [])
 
 -- each reader knows just what was published so far
 abbrev pub AreReaders : List Shot → List (List Shot) → Type 0

@@ -50,10 +50,10 @@ pub struct NotStarted {
 /// that no backend keeps anybody out of the room. What is promised of a room or of a desk holds whenever its lock is free. Contracts see
 /// how many lanes there are.
 ///
-/// A call that tells of the run takes a `KnownHistory`: the inputs that its caller knows to be done. The call sets it to all inputs that were
-/// done: what was known before is a beginning of these. The answer is that of the run that did just these inputs. So all answers to a
-/// caller are of one run. Two callers, such as two threads, learn by `compare` that theirs is the same run. The contracts of `Desk` tell
-/// what a backend was asked and what it reported.
+/// A call that tells of the run takes a `KnownHistory`, a token for proofs: the inputs that its caller knows to be done. The call sets it to
+/// all inputs that were done: what was known before is a beginning of these. The answer is that of the run that did just these inputs. So
+/// all answers to a caller are of one run. Two callers, such as two threads, learn by `compare` that theirs is the same run. The contracts
+/// of `Desk` tell what a backend was asked and what it reported.
 #[derive(Drop)]
 pub struct Office<C: Channels + Lanes, D: Board<C>, B: Backend> {
     room: Mutex<Room<C, D>>,
@@ -109,21 +109,24 @@ impl<C: Channels + Lanes, D: Board<C>, B: Backend> Office<C, D, B> {
         room.show(rt, known);
         let driven = room.drive(rt, most);
         room.show(rt, known);
+        // For the proof: the steps are a legal history, as the clause `sound` says.
         let _steps = room.steps();
         driven
     }
 
-    /// All inputs that were done so far, for a caller that knows none yet.
+    /// For proofs alone: a token (`KnownHistory`) of all inputs that were done so far, for a caller that has none yet.
     pub fn history<W: Wait>(&self, rt: &W) -> KnownHistory<C>
         ensures { (v : RoomView) × IsSoundHistory C.opening v
             × (result ≡ inputs_of v.running.steps) }
     {
         let mut room = self.room.lock(rt);
+        // For the proof: the steps are a legal history, as the clause `sound` says.
         let _steps = room.steps();
         room.history()
     }
 
-    /// Makes all inputs that were done so far known to both. Before, one of the two was a beginning of the other.
+    /// For proofs alone: shows that what two callers know is of one run. Sets both to all inputs that were done so far; before, one was a
+    /// beginning of the other.
     pub fn compare<W: Wait>(&self, rt: &W, one: &mut KnownHistory<C>, other: &mut KnownHistory<C>)
         ensures longer { IsPrefix one.old one.new × IsPrefix other.old other.new }
         ensures same { one.new ≡ other.new }
@@ -142,6 +145,7 @@ impl<C: Channels + Lanes, D: Board<C>, B: Backend> Office<C, D, B> {
     {
         let mut room = self.room.lock(rt);
         room.show(rt, known);
+        // For the proof: the steps are a legal history, as the clause `sound` says.
         let _steps = room.steps();
         room.tell()
     }
@@ -159,6 +163,7 @@ impl<C: Channels + Lanes, D: Board<C>, B: Backend> Office<C, D, B> {
     {
         let mut room = self.room.lock(rt);
         room.show(rt, known);
+        // For the proof: the steps are a legal history, as the clause `sound` says.
         let _steps = room.steps();
         room.reply(ticket)
     }
@@ -176,6 +181,7 @@ impl<C: Channels + Lanes, D: Board<C>, B: Backend> Office<C, D, B> {
     {
         let mut room = self.room.lock(rt);
         room.show(rt, known);
+        // For the proof: the steps are a legal history, as the clause `sound` says.
         let _steps = room.steps();
         room.effect(number)
     }
@@ -196,6 +202,7 @@ impl<C: Channels + Lanes, D: Board<C>, B: Backend> Office<C, D, B> {
     {
         let mut room = self.room.lock(rt);
         room.show(rt, known);
+        // For the proof: the steps are a legal history, as the clause `sound` says.
         let _steps = room.steps();
         room.step(number, effect)
     }
@@ -207,6 +214,7 @@ impl<C: Channels + Lanes, D: Board<C>, B: Backend> Office<C, D, B> {
     {
         let mut room = self.room.lock(rt);
         room.show(rt, known);
+        // For the proof: the steps are a legal history, as the clause `sound` says.
         let _steps = room.steps();
         room.actor(number)
     }
@@ -218,6 +226,7 @@ impl<C: Channels + Lanes, D: Board<C>, B: Backend> Office<C, D, B> {
     {
         let mut room = self.room.lock(rt);
         room.show(rt, known);
+        // For the proof: the steps are a legal history, as the clause `sound` says.
         let _steps = room.steps();
         room.moment(number)
     }
@@ -249,6 +258,7 @@ impl<C: Channels + Lanes, D: Board<C>, B: Backend> Office<C, D, B> {
     {
         let mut room = self.room.lock(rt);
         room.show(rt, known);
+        // For the proof: the steps are a legal history, as the clause `sound` says.
         let _steps = room.steps();
         room.write_run(head, writer)
     }
@@ -261,6 +271,7 @@ impl<C: Channels + Lanes, D: Board<C>, B: Backend> Office<C, D, B> {
     {
         let mut room = self.room.lock(rt);
         room.show(rt, known);
+        // For the proof: the steps are a legal history, as the clause `sound` says.
         let _steps = room.steps();
         room.ended()
     }
@@ -273,6 +284,7 @@ impl<C: Channels + Lanes, D: Board<C>, B: Backend> Office<C, D, B> {
     {
         let mut room = self.room.lock(rt);
         room.show(rt, known);
+        // For the proof: the steps are a legal history, as the clause `sound` says.
         let _steps = room.steps();
         room.next_due()
     }
@@ -323,6 +335,7 @@ impl<C: Channels + Lanes, D: Board<C>, B: Backend> Office<C, D, B> {
         let (locks, desks) = unlock_all(desks, room_of_desks);
         let mut room = room.into_inner();
         room.show(rt, known);
+        // For the proof: the steps are a legal history, as the clause `sound` says.
         let _steps = room.steps();
         match room.close(desks, backends, finishes) {
             Ok(closed) => Ok(closed),

@@ -2,12 +2,12 @@
 ghost use Rattle.std.specs.Prelude.{◌≡◌, ◌⊎◌, ◌∷◌, [], ◌<◌, ◌≤◌, ℕ, true, IfOk, IfErr, Some, length, slice_get, vec_capacity};
 ghost use Rattle.tree_core.specs.Machine.{Machine};
 ghost use Rattle.tree_core.specs.StandsFor.{StandsFor};
-ghost use Rattle.locked_services.specs.Opening.{AreNamed, AreUnused};
+ghost use Rattle.locked_services.specs.Opening.{AreNamed};
 ghost use Rattle.locked_services.specs.Shots.{shot_of};
 ghost use Rattle.order_lanes.specs.Lane.{sent_in};
 ghost use Rattle.locked_services.specs.Submissions.{AreNumbered, taken_from};
 ghost use Rattle.office.specs.Names.{ring_of, lane_ring_of, asked_of};
-ghost use Rattle.office.specs.Opening.{AreReaders, AreLaneRings, AreAsked};
+ghost use Rattle.office.specs.Opening.{AreNewSeats, AreUntaken, AreReaders, AreLaneRings, AreAsked};
 ghost use Rattle.office.specs.declared.new_office.OpenFault.TheVariants as fault;
 
 use crate::board_ends::board_ends;
@@ -60,17 +60,14 @@ fn make_parts<C: Channels + Lanes, R: Wait + Drop, B: Backend>(
     requires board { board ≡ C.board }
     ensures opening { IfOk result (λ p. p.beginning.opening ≡ tree.now) }
     ensures steps { IfOk result (λ p. p.beginning.run.steps ≡ []) }
-    ensures numbered { IfOk result (λ p. AreNumbered p.ends.drains.items) }
-    ensures untaken { IfOk result (λ p. (actor : ℕ) → taken_from actor p.ends.drains.items ≡ []) }
-    ensures unused { IfOk result (λ p. AreUnused p.ends.seats.items) }
-    ensures seats { IfOk result (λ p. length p.ends.seats.items ≡ length rings.items) }
+    ensures drains { IfOk result (λ p. AreUntaken p.ends.drains.items) }
+    ensures seats { IfOk result (λ p. AreNewSeats (length rings.items) p.ends.seats.items) }
     ensures first { IfOk result (λ p. (m : Machine) → StandsFor tree.now m
         → p.board ≡ shot_of m ∷ []) }
     ensures known { IfOk result (λ p. AreReaders p.board p.readers.items) }
     ensures readers { IfOk result (λ p. length p.readers.items ≡ length rings.items) }
-    ensures lanes { IfOk result (λ p. (p.lanes.lanes.items ≡ [])
-        × (lanes ≤ vec_capacity p.lanes.lanes)) }
-    ensures desks { IfOk result (λ p. (p.lanes.desks.items ≡ [])
+    ensures empty { IfOk result (λ p. (p.lanes.lanes.items ≡ []) × (p.lanes.desks.items ≡ [])) }
+    ensures room { IfOk result (λ p. (lanes ≤ vec_capacity p.lanes.lanes)
         × (lanes ≤ vec_capacity p.lanes.desks)) }
     ensures fault { IfErr result (λ e. (e ≡ fault.NoMemory) ⊎ (e ≡ fault.Board)) }
 {
@@ -98,7 +95,8 @@ fn make_parts<C: Channels + Lanes, R: Wait + Drop, B: Backend>(
     })
 }
 
-// The room of a run that begins with this tree. The tree's first shot is all that was published.
+// The room of a run that begins with this tree. The tree's first shot is all that was published. The running tree keeps `alloc` for its
+// later calls.
 fn new_room<C: Channels + Lanes, D: Board<C>>(
     alloc: Global,
     beginning: Beginning,
@@ -128,7 +126,7 @@ fn new_room<C: Channels + Lanes, D: Board<C>>(
 }
 
 impl<C: Channels + Lanes, D: Board<C>, B: Backend> Parts<C, D, B> {
-    // The open office of these parts. It takes no memory.
+    // The open office of these parts. It takes no memory: the running tree keeps `alloc` for its later calls.
     fn into_open(
         self,
         alloc: Global,
@@ -137,25 +135,20 @@ impl<C: Channels + Lanes, D: Board<C>, B: Backend> Parts<C, D, B> {
         history: NewHistory,
         backends: Vec<B>,
     ) -> Opened<C, D, B>
-        requires history { history ≡ C.history }
-        requires tree { tree.value ≡ C.opening }
-        requires opening { self.beginning.opening ≡ tree.value }
-        requires steps { self.beginning.run.steps ≡ [] }
-        requires numbered { AreNumbered self.ends.drains.items }
-        requires untaken { (actor : ℕ) → taken_from actor self.ends.drains.items ≡ [] }
+        requires named { (history ≡ C.history) × (tree.value ≡ C.opening) }
+        requires opening { (self.beginning.opening ≡ tree.value) × (self.beginning.run.steps ≡ []) }
+        requires drains { AreUntaken self.ends.drains.items }
         requires first { (m : Machine) → StandsFor tree.value m →
             D.shots self.board ≡ shot_of m ∷ [] }
-        requires lanes { (self.lanes.lanes.items ≡ [])
-            × (length rings.items ≤ vec_capacity self.lanes.lanes) }
-        requires desks { (self.lanes.desks.items ≡ [])
+        requires empty { (self.lanes.lanes.items ≡ []) × (self.lanes.desks.items ≡ []) }
+        requires room { (length rings.items ≤ vec_capacity self.lanes.lanes)
             × (length rings.items ≤ vec_capacity self.lanes.desks) }
         requires some { (0 < length rings.items) × (length rings.items ≤ 4) }
         requires rings { AreLaneRings C.lane_ring 0 rings.items }
         requires backends { length backends.items ≡ length rings.items }
         requires before { AreAsked B.asked C.asked_before 0 backends.items }
         ensures office { result.office ≡ length rings.items }
-        ensures seats { result.seats ≡ self.ends.seats }
-        ensures readers { result.readers ≡ self.readers }
+        ensures ends { (result.seats ≡ self.ends.seats) × (result.readers ≡ self.readers) }
         ensures known { result.known ≡ [] }
     {
         let Parts {
@@ -195,16 +188,13 @@ impl<B: Backend> NewOffice<B> {
         requires lanes { (k : ℕ) → C.lane_ring k ≡ lane_ring_of (slice_get self.lane_rings k) }
         requires before { (k : ℕ) → C.asked_before k
             ≡ asked_of B.asked (slice_get self.backends k) }
-        ensures lanes { IfOk result (λ o. o.office ≡ length self.lane_rings) }
-        ensures seats { IfOk result (λ o. length o.seats.items ≡ length self.rings) }
-        ensures unused { IfOk result (λ o. AreUnused o.seats.items) }
+        ensures office { IfOk result (λ o. (o.office ≡ length self.lane_rings) × (o.known ≡ [])) }
+        ensures seats { IfOk result (λ o. AreNewSeats (length self.rings) o.seats.items) }
         ensures readers { IfOk result (λ o. length o.readers.items ≡ length self.rings) }
-        ensures known { IfOk result (λ o. o.known ≡ []) }
         ensures first { IfOk result (λ o. (m : Machine) → StandsFor self.tree m
             → AreReaders (shot_of m ∷ []) o.readers.items) }
         ensures fault { IfErr result (λ e. (e.0 ≡ fault.NoMemory) ⊎ (e.0 ≡ fault.Board)) }
-        ensures tree { IfErr result (λ e. e.1.value ≡ self.tree) }
-        ensures backends { IfErr result (λ e. e.2.items ≡ self.backends) }
+        ensures back { IfErr result (λ e. (e.1.value ≡ self.tree) × (e.2.items ≡ self.backends)) }
     {
         let NewOffice {
             tree,

@@ -18,6 +18,7 @@ pub mod Tied
 pub mod Choices
 pub mod Replies
 pub mod Plan
+pub mod StepParts
 pub mod Sound
 pub mod TreeFields
 pub mod ByteOrder

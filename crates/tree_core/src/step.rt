@@ -1,26 +1,19 @@
 //! A step, in its order: clock, due timers, act, who looks at its moments, reply. It is worked out before anything is changed; `apply_into`
 //! of `tree.rt` makes it, or hands the input back where memory was refused. `work_out` of svscan_core (`pending.rt`) does the due timers,
 //! in rising serial, and then the act's work.
-ghost use Rattle.std.specs.Prelude.{ℕ, false, ◌≡◌, ◌+◌, ◌++◌, ◌*◌, ◌<◌, ◌≤◌, ◌^◌, List, [], length, map, true, All, IfOk, IsOk, OnOk};
-ghost use Rattle.deadlines.specs.declared.timer.Timer.{Timer};
-ghost use Rattle.deadlines.specs.Timers.{with_timer_changes};
-ghost use Rattle.event_directory.specs.Changes.{Offer};
-ghost use Rattle.event_directory.specs.Remembered.{directories_after_commit, plan_number};
+ghost use Rattle.std.specs.Prelude.{◌≡◌, ◌++◌, ◌≤◌, List, [], length, map, true, false, IfOk, IsOk, OnOk};
+ghost use Rattle.svscan_core.specs.Registry.{registry_prepared, result_of};
 ghost use Rattle.svscan_core.specs.Table.{charts_of};
-ghost use Rattle.svscan_core.specs.Timers.{TimersAgree};
-ghost use Rattle.svscan_core.specs.Registry.{IsPlanOf, registry_prepared, result_of};
 ghost use Rattle.tree_core.specs.Acts.{tally_reply};
-ghost use Rattle.tree_core.specs.Limits.{service_limit, moment_limit, order_limit};
-ghost use Rattle.tree_core.specs.Listening.{as_match, as_release};
-ghost use Rattle.tree_core.specs.Machine.{Machine};
-ghost use Rattle.wait_conditions.specs.Stands.{WaitsShown, waits_shown};
-ghost use Rattle.wait_conditions.specs.WaitsPlans.{FitsWaits, MakesPlan};
 ghost use Rattle.tree_core.specs.Choices.{chosen_of, lists_more};
+ghost use Rattle.tree_core.specs.Effect.{IsEmpty};
+ghost use Rattle.tree_core.specs.Limits.{order_limit};
+ghost use Rattle.tree_core.specs.Listening.{as_match, as_release};
+ghost use Rattle.tree_core.specs.Plan.{IsQuiet};
 ghost use Rattle.tree_core.specs.Replies.{ListenersAnswer, tally_in, chosen_reply, released_by_answer, waiter_reply, directory_reply};
+ghost use Rattle.tree_core.specs.StepParts.{CanCount, FitsIn, GrowsBy, PlansStep, StandAsBefore, answers_of, parts_of, work_prepared};
 ghost use Rattle.tree_core.specs.declared.reply.Reply.TheVariants.{Done};
 ghost use Rattle.supervise_core.specs.Service.{Supervised};
-ghost use Rattle.tree_core.specs.Plan.{present_state, IsNow, Plans, IsQuiet};
-ghost use Rattle.tree_core.specs.Step.{step_limit};
 
 use super::choice::{Choice, choose};
 use super::clock::{later, moments_of};
@@ -96,9 +89,8 @@ fn reply_to<A: Allocator + Copy>(
     waiters: &WaitAnswer,
     directories: &DirectoryAnswer,
 ) -> Result<Reply<A>, NoMemory>
-    ensures reply { IfOk result (λ reply. reply
-        ≡ chosen_reply (chosen_of choice.now) registry.now.shown.services
-        (result_of (registry_prepared registry.now.shown.services registry.now.planned))
+    ensures reply { IfOk result (λ reply. reply ≡ chosen_reply (chosen_of choice.now)
+        registry.now.shown.services (work_prepared registry.now)
         (record { waiters = waiters.now; directories = directories.now })) }
     ensures quiet { lists_more (chosen_of choice.now) ≡ false → IsOk result }
 {
@@ -145,16 +137,10 @@ fn fill_effect<A: Allocator + Copy>(
     letters: &DirectoriesPlan<A>,
     effect: &mut Effect<A>,
 ) -> Result<(), NoMemory>
-    requires reply { effect.old.reply ≡ Done }
-    requires events { effect.old.events.items ≡ [] }
-    requires orders { effect.old.orders.items ≡ [] }
-    requires matched { effect.old.matched.items ≡ [] }
-    requires released { effect.old.released.items ≡ [] }
+    requires empty { IsEmpty effect.old }
     requires few { length registry.now.planned.orders ≤ order_limit }
-    ensures reply { OnOk result (effect.new.reply
-        ≡ chosen_reply (chosen_of choice.now) registry.now.shown.services
-        (result_of (registry_prepared registry.now.shown.services registry.now.planned))
-        (record { waiters = waiters.now.answer; directories = letters.now.answer })) }
+    ensures reply { OnOk result (effect.new.reply ≡ chosen_reply (chosen_of choice.now)
+        registry.now.shown.services (work_prepared registry.now) (answers_of waiters.now letters.now)) }
     ensures events { OnOk result (effect.new.events.items ≡ registry.now.planned.events) }
     ensures orders { OnOk result (effect.new.orders.items ≡ registry.now.planned.orders) }
     ensures matched { OnOk result
@@ -191,44 +177,18 @@ pub fn plan_step<A: Allocator + Copy>(
     input: &Input<A>,
     effect: &mut Effect<A>,
 ) -> Result<StepPlan<A>, NoMemory>
-    requires timers { TimersAgree deadlines.old.timers (charts_of registry.old.shown.services) }
-    requires generations { All (λ c. c.generation + 2 < 2 ^ 64)
-        (charts_of registry.old.shown.services) }
-    requires next { registry.old.shown.next_sid + service_limit + 1 < 2 ^ 64 }
-    requires waiters { waits.old.next < 2 ^ 63 }
-    requires subscriptions { directories.old.shown.next < 2 ^ 63 }
-    ensures shown { registry.new.shown ≡ registry.old.shown }
-    ensures set { deadlines.new.timers ≡ deadlines.old.timers }
-    ensures forgotten { history.new.forgotten ≡ history.old.forgotten }
-    ensures kept { history.new.kept ≡ history.old.kept }
-    ensures waits { waits_shown waits.new ≡ waits_shown waits.old }
-    ensures directories { directories.new.shown ≡ directories.old.shown }
-    ensures step { IfOk result (λ plan. (steps : ℕ) → steps < step_limit → (m : Machine)
-        → IsNow (present_state clock steps closing registry.old.shown.services
-        registry.old.shown.next_sid (waits_shown waits.old) directories.old.shown) m
-        → (later : WaitsShown) → MakesPlan plan.waiters (waits_shown waits.old) later
-        → Plans m input.now plan (registry_prepared registry.new.shown.services registry.new.planned) later
-        directories.new.prepared effect.new) }
-    ensures fits { IfOk result (λ plan. IsPlanOf registry.new plan.services) }
-    ensures room { IfOk result (λ plan. length plan.history ≤ history.new.spare_capacity) }
-    ensures timer_room { IfOk result (λ plan. length plan.timers ≤ deadlines.new.spare_capacity) }
-    ensures waiter_room { IfOk result (λ plan. FitsWaits plan.waiters waits.new) }
-    ensures number { IfOk result (λ plan. plan_number plan.letters ≡ directories.new.number) }
-    ensures grows { IfOk result (λ plan. (n : ℕ)
-        → All (λ c. c.generation ≤ n) (charts_of registry.old.shown.services)
-        → All (λ c. c.generation ≤ n + 2)
-        (charts_of (registry_prepared registry.new.shown.services registry.new.planned).services)) }
-    ensures next { OnOk result
-        (registry.new.planned.next_sid ≤ registry.old.shown.next_sid + service_limit) }
-    ensures waiters { IfOk result (λ plan. plan.waiters.next ≤ waits.old.next + 1) }
-    ensures subscriptions { OnOk result
-        ((offer : Offer) → (directories_after_commit directories.new.prepared offer).next
-        ≤ directories.old.shown.next + 1) }
-    ensures count { IfOk result (λ plan. length plan.history ≤ moment_limit) }
-    ensures timers { IfOk result
-        (λ plan. (timers : List Timer) → TimersAgree timers (charts_of registry.old.shown.services)
-        → TimersAgree (with_timer_changes plan.timers timers)
-        (charts_of (registry_prepared registry.new.shown.services registry.new.planned).services)) }
+    requires { CanCount registry.old deadlines.old waits.old directories.old }
+    ensures same { StandAsBefore
+        (parts_of registry.old deadlines.old history.old waits.old directories.old)
+        (parts_of registry.new deadlines.new history.new waits.new directories.new) }
+    ensures step { IfOk result (λ plan. PlansStep clock closing
+        (parts_of registry.old deadlines.old history.old waits.old directories.old) input.now plan
+        (parts_of registry.new deadlines.new history.new waits.new directories.new) effect.new) }
+    ensures fits { IfOk result (λ plan. FitsIn plan
+        (parts_of registry.new deadlines.new history.new waits.new directories.new)) }
+    ensures grows { IfOk result (λ plan. GrowsBy
+        (parts_of registry.old deadlines.old history.old waits.old directories.old) plan
+        (parts_of registry.new deadlines.new history.new waits.new directories.new)) }
     ensures quiet { IsQuiet input.now clock (charts_of registry.old.shown.services) → IsOk result }
 {
     effect.clear();

@@ -29,19 +29,19 @@ use Rattle.tree_core.proofs.step.plan_step.Goals as goal
 pub prepare-requires-clause-due : goal.prepare-requires-clause-due
 prepare-requires-clause-due g c =
     due_now c.later-now.result c.args.registry.now.shown.next_sid _ c.args.deadlines.now.timers (charts_of c.args.registry.now.shown.services)
-    c.later-now.ensures.bound (c.found.ensures ∙ c.in_ok-find_due.ensures.due) c.requires.timers c.len-count.ensures.sound.order
+    c.later-now.ensures.bound (c.found.ensures ∙ c.in_ok-find_due.ensures.due) c.requires.0 c.len-count.ensures.sound.order
 
 pub returns-in_err-find_due-clause-quiet : goal.returns-in_err-find_due-clause-quiet
 returns-in_err-find_due-clause-quiet g c = λ q.
     not_ok c.find_due.result _ _ c.in_err-find_due.was
     (c.find_due.ensures.quiet (none_for_quiet c.args.input.now c.args.clock c.later-now.result _ c.args.deadlines.now.timers
-    (charts_of c.args.registry.now.shown.services) c.later-now.ensures.later c.later-now.ensures.bound refl c.requires.timers q))
+    (charts_of c.args.registry.now.shown.services) c.later-now.ensures.later c.later-now.ensures.bound refl c.requires.0 q))
 
 pub returns-in_err-services-clause-quiet : goal.returns-in_err-services-clause-quiet
 returns-in_err-services-clause-quiet g c = λ q.
     let none = none_for_quiet c.args.input.now c.args.clock c.later-now.result c.found.result.now c.args.deadlines.now.timers
     (charts_of c.args.registry.now.shown.services) c.later-now.ensures.later c.later-now.ensures.bound
-    (c.found.ensures ∙ c.in_ok-find_due.ensures.due) c.requires.timers q in
+    (c.found.ensures ∙ c.in_ok-find_due.ensures.due) c.requires.0 q in
     let still = c.services.ensures ∙ (c.in_ok-choose.ensures.idle q.reading).work in
     not_ok c.prepare.result _ _ c.in_err-services.was (c.prepare.ensures.quiet none still)
 
@@ -104,39 +104,35 @@ returns-clause-step g c = λ steps left m is later made.
     }) m is
 
 pub returns-clause-grows : goal.returns-clause-grows
-returns-clause-grows g c = λ n below.
+returns-clause-grows g c =
     let works = c.in_ok-services.ensures.prepared.worked in
-    subst (λ (w : WorkResult). Below (n + 2) w.services) (sym works)
-    (step_grows (work_asked c.services.result) c.later-now.result
-    (charts_of c.args.registry.now.shown.services) c.args.registry.now.shown.next_sid n below)
-
-pub returns-clause-next : goal.returns-clause-next
-returns-clause-next g c =
-    let works = ap (λ (w : WorkResult). w.next_sid) c.in_ok-services.ensures.prepared.worked in
-    let few = step_next (work_asked c.services.result) c.later-now.result
-    (charts_of c.args.registry.now.shown.services) c.args.registry.now.shown.next_sid c.len-count.ensures.sound.few in
-    omega (arith, works, few)
-
-pub returns-clause-timers : goal.returns-clause-timers
-returns-clause-timers g c = λ timers agree.
-    subst (λ cs. TimersAgree (with_timer_changes cs timers)
-    (charts_of (registry_prepared c.prepare.new.self.shown.services c.prepare.new.self.planned).services))
-    (sym (c.in_ok-timers.ensures.ok ∙ c.timers.ensures)) (c.in_ok-services.ensures.prepared.timers timers agree)
-
-pub returns-clause-count : goal.returns-clause-count
-returns-clause-count g c =
-    let events = ap (λ (w : WorkResult). length w.events) c.in_ok-services.ensures.prepared.worked in
-    let few = step_events (work_asked c.services.result) c.later-now.result
-    (charts_of c.args.registry.now.shown.services) c.args.registry.now.shown.next_sid c.len-count.ensures.sound.few in
+    let next = ap (λ (w : WorkResult). w.next_sid) works in
+    let few = c.len-count.ensures.sound.few in
+    let events = ap (λ (w : WorkResult). length w.events) works in
+    let services = charts_of c.args.registry.now.shown.services in
+    let before = c.args.registry.now.shown.next_sid in
+    let asked = work_asked c.services.result in
+    let now = c.later-now.result in
+    let most = step_next asked now services before few in
+    let marks = step_events asked now services before few in
     let seen = ap length c.events.ensures in
-    let planned = ap length c.in_ok-history.ensures.ok in
-    omega (arith, events, few, seen, planned, c.in_ok-moments.ensures.count)
+    let planned = ap length c.in_ok-history.ensures.ok in (
+      (λ n below. subst (λ (w : WorkResult). Below (n + 2) w.services) (sym works) (step_grows asked now services before n below)),
+      omega (arith, next, most),
+      c.in_ok-waiters.ensures.change.serial,
+      c.in_ok-letters.ensures.serials,
+      omega (arith, events, marks, seen, planned, c.in_ok-moments.ensures.count),
+      (λ timers agree.
+          subst (λ cs. TimersAgree (with_timer_changes cs timers)
+          (charts_of (registry_prepared c.prepare.new.self.shown.services c.prepare.new.self.planned).services))
+          (sym (c.in_ok-timers.ensures.ok ∙ c.timers.ensures)) (c.in_ok-services.ensures.prepared.timers timers agree)),
+    )
 
 pub returns-in_err-waiters-clause-quiet : goal.returns-in_err-waiters-clause-quiet
 returns-in_err-waiters-clause-quiet g c = λ q.
     let none = none_for_quiet c.args.input.now c.args.clock c.later-now.result c.found.result.now c.args.deadlines.now.timers
     (charts_of c.args.registry.now.shown.services) c.later-now.ensures.later c.later-now.ensures.bound
-    (c.found.ensures ∙ c.in_ok-find_due.ensures.due) c.requires.timers q in
+    (c.found.ensures ∙ c.in_ok-find_due.ensures.due) c.requires.0 q in
     let still = c.services.ensures ∙ (c.in_ok-choose.ensures.idle q.reading).work in
     let idle = c.in_ok-services.ensures.still none still in
     let nothing = ap (λ (p : RegistryPrepared). p.events) idle in
@@ -148,7 +144,7 @@ pub returns-in_err-letters-clause-quiet : goal.returns-in_err-letters-clause-qui
 returns-in_err-letters-clause-quiet g c = λ q.
     let none = none_for_quiet c.args.input.now c.args.clock c.later-now.result c.found.result.now c.args.deadlines.now.timers
     (charts_of c.args.registry.now.shown.services) c.later-now.ensures.later c.later-now.ensures.bound
-    (c.found.ensures ∙ c.in_ok-find_due.ensures.due) c.requires.timers q in
+    (c.found.ensures ∙ c.in_ok-find_due.ensures.due) c.requires.0 q in
     let still = c.services.ensures ∙ (c.in_ok-choose.ensures.idle q.reading).work in
     let idle = c.in_ok-services.ensures.still none still in
     let nothing = ap (λ (p : RegistryPrepared). p.events) idle in
@@ -160,7 +156,7 @@ pub returns-in_err-history-clause-quiet : goal.returns-in_err-history-clause-qui
 returns-in_err-history-clause-quiet g c = λ q.
     let none = none_for_quiet c.args.input.now c.args.clock c.later-now.result c.found.result.now c.args.deadlines.now.timers
     (charts_of c.args.registry.now.shown.services) c.later-now.ensures.later c.later-now.ensures.bound
-    (c.found.ensures ∙ c.in_ok-find_due.ensures.due) c.requires.timers q in
+    (c.found.ensures ∙ c.in_ok-find_due.ensures.due) c.requires.0 q in
     let still = c.services.ensures ∙ (c.in_ok-choose.ensures.idle q.reading).work in
     let idle = c.in_ok-services.ensures.still none still in
     let nothing = ap (λ (p : RegistryPrepared). p.events) idle in
@@ -171,7 +167,7 @@ pub returns-in_err-timers-clause-quiet : goal.returns-in_err-timers-clause-quiet
 returns-in_err-timers-clause-quiet g c = λ q.
     let none = none_for_quiet c.args.input.now c.args.clock c.later-now.result c.found.result.now c.args.deadlines.now.timers
     (charts_of c.args.registry.now.shown.services) c.later-now.ensures.later c.later-now.ensures.bound
-    (c.found.ensures ∙ c.in_ok-find_due.ensures.due) c.requires.timers q in
+    (c.found.ensures ∙ c.in_ok-find_due.ensures.due) c.requires.0 q in
     let still = c.services.ensures ∙ (c.in_ok-choose.ensures.idle q.reading).work in
     let idle = c.in_ok-services.ensures.still none still in
     let nothing = ap (λ (p : RegistryPrepared). p.events) idle in
@@ -182,7 +178,7 @@ pub returns-in_err-moments-clause-quiet : goal.returns-in_err-moments-clause-qui
 returns-in_err-moments-clause-quiet g c = λ q.
     let none = none_for_quiet c.args.input.now c.args.clock c.later-now.result c.found.result.now c.args.deadlines.now.timers
     (charts_of c.args.registry.now.shown.services) c.later-now.ensures.later c.later-now.ensures.bound
-    (c.found.ensures ∙ c.in_ok-find_due.ensures.due) c.requires.timers q in
+    (c.found.ensures ∙ c.in_ok-find_due.ensures.due) c.requires.0 q in
     let still = c.services.ensures ∙ (c.in_ok-choose.ensures.idle q.reading).work in
     let idle = c.in_ok-services.ensures.still none still in
     let nothing = ap (λ (p : RegistryPrepared). p.events) idle in
@@ -192,7 +188,7 @@ pub returns-in_err-fill_effect-clause-quiet : goal.returns-in_err-fill_effect-cl
 returns-in_err-fill_effect-clause-quiet g c = λ q.
     let none = none_for_quiet c.args.input.now c.args.clock c.later-now.result c.found.result.now c.args.deadlines.now.timers
     (charts_of c.args.registry.now.shown.services) c.later-now.ensures.later c.later-now.ensures.bound
-    (c.found.ensures ∙ c.in_ok-find_due.ensures.due) c.requires.timers q in
+    (c.found.ensures ∙ c.in_ok-find_due.ensures.due) c.requires.0 q in
     let asks = c.in_ok-choose.ensures.idle q.reading in
     let idle = c.in_ok-services.ensures.still none (c.services.ensures ∙ asks.work) in
     let nothing = ap (λ (p : RegistryPrepared). p.events) idle in

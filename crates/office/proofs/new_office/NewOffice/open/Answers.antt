@@ -1,4 +1,4 @@
-use Rattle.std.proofs.Common.{List, [], ◌∷◌, Vec, Global, slice_get, sym, ap, subst, ◌∙◌}
+use Rattle.std.proofs.Common.{List, [], ◌∷◌, Vec, Global, length, slice_get, sym, ap, subst, ◌∙◌}
 use Rattle.inbox.specs.Ends.{SeatView}
 use Rattle.status_board.specs.declared.shot.Shot.{Shot}
 use Rattle.tree_core.specs.StandsFor.{StandsFor, StoredTree}
@@ -24,15 +24,18 @@ into_open-requires-clause-before g c =
 pub into_open-requires-clause-first : goal.into_open-requires-clause-first
 into_open-requires-clause-first g c m stands = c.in-Ok.ensures.first m (subst (λ (t : StoredTree). StandsFor t m) (sym c.deref.ensures) stands)
 
-pub returns-in-Ok-clause-unused : goal.returns-in-Ok-clause-unused
-returns-in-Ok-clause-unused g c =
-    subst (λ (seats : Vec SeatView Global). AreUnused seats.items) (sym c.into_open.ensures.seats) c.in-Ok.ensures.unused
+pub returns-in-Ok-clause-seats : goal.returns-in-Ok-clause-seats
+returns-in-Ok-clause-seats g c = (
+  subst (λ (seats : Vec SeatView Global). AreUnused seats.items) (sym c.into_open.ensures.ends.0) c.in-Ok.ensures.seats.0,
+  ap (λ (seats : Vec SeatView Global). length seats.items) c.into_open.ensures.ends.0
+      ∙ (c.in-Ok.ensures.seats.1 ∙ ap (λ (v : NewOfficeView g.row.B.Denot). length v.rings) c.self.view_is),
+)
 
 pub returns-in-Ok-clause-first : goal.returns-in-Ok-clause-first
 returns-in-Ok-clause-first g c m stands =
     let own = subst (λ (v : NewOfficeView g.row.B.Denot). StandsFor v.tree m) (sym c.self.view_is) stands in
     let here = subst (λ (t : StoredTree). StandsFor t m) (sym c.deref.ensures) own in
-    subst (λ (readers : Vec (List Shot) Global). AreReaders (shot_of m ∷ []) readers.items) (sym c.into_open.ensures.readers)
+    subst (λ (readers : Vec (List Shot) Global). AreReaders (shot_of m ∷ []) readers.items) (sym c.into_open.ensures.ends.1)
     (subst (λ (published : List Shot). AreReaders published c.in-Ok.parts.readers.items) (c.in-Ok.ensures.first m here) c.in-Ok.ensures.known)
 
 pub make_parts-requires-clause-rings : goal.make_parts-requires-clause-rings

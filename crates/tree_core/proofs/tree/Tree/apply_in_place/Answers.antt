@@ -38,12 +38,12 @@ returns-clause-step g c = λ m s.
     let left : c.self.inside.steps < step_limit = grind (arith, nat_tests, most, c.is_spent.ensures, c.if-is_spent.false) in
     let prepared = registry_prepared c.plan_step-planned.new.registry.shown.services c.plan_step-planned.new.registry.planned in
     let shown = c.commit.ensures in
-    let waits : waits_shown c.plan_step-planned.new.waits ≡ t.waits = c.in-Ok.ensures.waits in
+    let waits : waits_shown c.plan_step-planned.new.waits ≡ t.waits = c.in-Ok.ensures.same.4 in
     let later = waits_shown c.commit-4.new.self in
     let made = subst (λ (w : WaitsShown). MakesPlan plan.waiters w later) waits c.commit-4.ensures.makes in
-    let before = c.commit-3.ensures.forgotten ∙ c.in-Ok.ensures.forgotten in
+    let before = c.commit-3.ensures.forgotten ∙ c.in-Ok.ensures.same.2 in
     let all : c.commit-3.new.self.kept ≡ t.kept ++ plan.history =
-    c.commit-3.ensures.kept ∙ ap (λ k. k ++ plan.history) c.in-Ok.ensures.kept in
+    c.commit-3.ensures.kept ∙ ap (λ k. k ++ plan.history) c.in-Ok.ensures.same.3 in
     let parts = cut_parts t plan.history c.commit-3.new.self.forgotten c.forget.new.self.forgotten c.needed_from.result
     c.commit-3.new.self.kept c.forget.new.self.kept before all c.forget.ensures.forgotten c.forget.ensures.kept in
     let offer : Offer = option_map (λ o. (o.0, o.1)) c.take_offer-offer.result in
@@ -74,12 +74,12 @@ invariant_of-self-2 g c =
     let left : c.self.inside.steps < step_limit = grind (arith, nat_tests, most, c.is_spent.ensures, c.if-is_spent.false) in
     let prepared = registry_prepared c.plan_step-planned.new.registry.shown.services c.plan_step-planned.new.registry.planned in
     let shown = c.commit.ensures in
-    let waits : waits_shown c.plan_step-planned.new.waits ≡ t.waits = c.in-Ok.ensures.waits in
+    let waits : waits_shown c.plan_step-planned.new.waits ≡ t.waits = c.in-Ok.ensures.same.4 in
     let later = waits_shown c.commit-4.new.self in
     let made = subst (λ (w : WaitsShown). MakesPlan plan.waiters w later) waits c.commit-4.ensures.makes in
-    let before = c.commit-3.ensures.forgotten ∙ c.in-Ok.ensures.forgotten in
+    let before = c.commit-3.ensures.forgotten ∙ c.in-Ok.ensures.same.2 in
     let all : c.commit-3.new.self.kept ≡ t.kept ++ plan.history =
-    c.commit-3.ensures.kept ∙ ap (λ k. k ++ plan.history) c.in-Ok.ensures.kept in
+    c.commit-3.ensures.kept ∙ ap (λ k. k ++ plan.history) c.in-Ok.ensures.same.3 in
     let parts = cut_parts t plan.history c.commit-3.new.self.forgotten c.forget.new.self.forgotten c.needed_from.result
     c.commit-3.new.self.kept c.forget.new.self.kept before all c.forget.ensures.forgotten c.forget.ensures.kept in
     let offer : Offer = option_map (λ o. (o.0, o.1)) c.take_offer-offer.result in
@@ -93,7 +93,7 @@ invariant_of-self-2 g c =
     let count = cut.count in
     let enough : t.forgotten ≤ t.waits.count = omega (arith, count) in
     let timers : c.commit-2.new.self.timers ≡ with_timer_changes plan.timers c.self.inside.deadlines.timers =
-    c.commit-2.ensures ∙ ap (with_timer_changes plan.timers) c.in-Ok.ensures.set in
+    c.commit-2.ensures ∙ ap (with_timer_changes plan.timers) c.in-Ok.ensures.same.1 in
     let done = stands_after t _ c.args.input.now plan prepared later c.plan_step-planned.new.directories.prepared
     c.plan_step-planned.new.effect offer c.take_offer-offer.ensures (λ n now. c.in-Ok.ensures.step c.self.inside.steps left n now later made)
     (record {
@@ -120,13 +120,13 @@ invariant_of-self-2 g c =
           c.commit-4.new.self.next c.self.inside.directories.shown.next
           (directories_after_commit c.plan_step-planned.new.directories.prepared offer).next (charts_of c.self.inside.registry.shown.services)
           (charts_of prepared.services)
-          counted left c.in-Ok.ensures.next (let next = made.next_is in let few = c.in-Ok.ensures.waiters in omega (arith, next, few))
-          (c.in-Ok.ensures.subscriptions offer) c.in-Ok.ensures.grows)),
-      recorded_after t plan _ _ c.self.invariant.1 c.in-Ok.ensures.count parts.size,
+          counted left c.in-Ok.ensures.grows.1 (let next = made.next_is in let few = c.in-Ok.ensures.grows.2 in omega (arith, next, few))
+          (c.in-Ok.ensures.grows.3 offer) c.in-Ok.ensures.grows.0)),
+      recorded_after t plan _ _ c.self.invariant.1 c.in-Ok.ensures.grows.4 parts.size,
       subst (λ (ts : List Timer). TimersAgree ts (charts_of c.commit.new.self.shown.services)) (sym timers)
           (subst (λ (x : Table). TimersAgree (with_timer_changes plan.timers c.self.inside.deadlines.timers)
           (charts_of x.services)) (sym shown)
-          (c.in-Ok.ensures.timers c.self.inside.deadlines.timers c.self.invariant.2)),
+          (c.in-Ok.ensures.grows.5 c.self.inside.deadlines.timers c.self.invariant.2)),
       (after m c.args.input.now, done.1),
       is,
       is_tied _ (after m c.args.input.now) done.1 is,
