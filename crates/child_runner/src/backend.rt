@@ -22,7 +22,9 @@ use std::process::{Child, Command, Processes, Stdio, SystemProcess};
 use std::rt::Files;
 use std::sync::{Arc, Wait};
 
-/// A backend whose services are processes. The directory of a service is `root/NAME`, and its programs run there. Page `s6-supervise`.
+/// A backend whose services are processes. The directory of a service is `root/NAME`, and its programs run there. `roster` lists the children of
+/// all backends of a keeper, `processes` those of this one whose end wasn't told yet; `turn` is which of them is asked first for a report. Page
+/// `s6-supervise`.
 #[derive(Drop)]
 pub struct ProcessBackend<R> {
     rt: R,
@@ -52,7 +54,8 @@ fn deaf_text(alloc: Global, root: &str, name: &Name) -> Result<String, AllocErro
     format!(in alloc; "svscan: {root}/{name} can't be signalled: no shell\n")
 }
 
-/// A command, the path of the program that has to be there, and whether the child's output is read.
+/// What is needed to start a program of the service `name`: the command, the path of the program that has to be there, and whether the child's
+/// output is read.
 #[derive(Drop)]
 struct Launch {
     name: Name,
@@ -110,7 +113,8 @@ impl<R: Processes<Started = SystemProcess> + Files + Wait + Drop> ProcessBackend
         }
     }
 
-    // The same. It takes all memory before it starts anything.
+    // Enters the child in `roster` and in `roll`, and starts its program. It takes all memory before, so at `NoMemory` nothing was started. A
+    // program that can't be started is reported.
     fn enter_and_run(
         &mut self,
         order: &Order,

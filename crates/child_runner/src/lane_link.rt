@@ -17,8 +17,8 @@ pub const ORDER_LIMIT: usize = 1_024;
 /// The most reports that may be on their way back.
 pub const REPORT_LIMIT: usize = 64;
 
-/// The orders on their way to the thread of a lane, and the reports on their way back, each in order. The thread outlives the runs of a
-/// tree, and so does the link. Memory is taken as orders and reports come.
+/// The orders on their way to the thread of a lane, and the reports on their way back, each in order. `bell` wakes that thread, and `is_over`
+/// says that it is to end. The thread outlives the runs of a tree, and so does the link. Memory is taken as orders and reports come.
 #[derive(Drop)]
 pub struct LaneLink {
     orders: Mutex<LinkQueue<Order>>,

@@ -80,7 +80,8 @@ fn carry_some<B: Backend, R: Wait>(
     Carrying::More
 }
 
-// The order that is held, or else the next one of the link.
+// The order that is held, or else the next one of the link; None where there is neither. Rings `driver`, the driver's bell, where the link was
+// full.
 fn next_order<R: Wait>(
     rt: &R,
     link: &LaneLink,

@@ -10,7 +10,7 @@ use std::process::{Command, Stdio};
 use std::rt::Files;
 use std::{fs, str};
 
-// A name is ASCII, so the dash is never returned.
+// The text of a service's name. A name is ASCII, so the dash is never returned.
 pub(crate) fn text_of(name: &Name) -> &str
     ensures { result.now ≡ name.now }
 {

@@ -8,7 +8,7 @@ use arrayvec::ArrayVec;
 use order_lanes::Report;
 use s6_events::Exit;
 
-/// How far the start of a child was told.
+/// How far the start of a child has come, and whether that was told to the tree.
 #[derive(Clone, Copy, PartialEq, Eq, Debug)]
 enum Stage {
     Starting,
@@ -20,7 +20,8 @@ enum Stage {
     Living,
 }
 
-/// What is known of a child.
+/// What is known of a child: how far its start was told, what it wrote, and how it ended. Once it is given up nobody listens to it any more,
+/// since its keeper ends.
 #[derive(Drop)]
 pub(crate) struct Progress {
     stage: Stage,
@@ -32,7 +33,9 @@ pub(crate) struct Progress {
     is_output_read: bool,
     // Whether it wrote its first newline, after which nothing is told of what it writes.
     is_heard: bool,
+    // How it ended, once that may be told.
     exit: Option<Exit>,
+    // Whether nobody listens to it any more.
     is_given_up: bool,
 }
 

@@ -13,8 +13,8 @@ use std::alloc::Global;
 use std::marker::Model;
 use std::snapshot::Snapshot;
 
-/// What was asked and what was given, for contracts alone: these two lists take no memory. A report is let through if it is of a start that
-/// was asked and hasn't ended.
+/// What was asked and what was given, for contracts alone: these two lists take no memory. `living` are the starts that were asked and haven't
+/// ended; only a report of one of them is let through.
 #[derive(Drop)]
 pub(crate) struct Roll {
     living: Vec<Order>,
@@ -47,7 +47,7 @@ fn place_of(orders: &[Order], report: &Report) -> Option<usize>
     None
 }
 
-// The same, of starts that were asked.
+// The index of the first of the starts that haven't ended that the report is of; None where it is of none.
 #[tactic(auto, using(crate::proofs::Kept::answered))]
 fn place_of_start(living: &[Order], report: &Report) -> Option<usize>
     ensures place { IfSome result (λ k. k < length living.now) }
@@ -59,7 +59,7 @@ fn place_of_start(living: &[Order], report: &Report) -> Option<usize>
     place_of(living, report)
 }
 
-// Adds an order to the list.
+// Adds an order to the list of what was asked, which is for contracts alone.
 fn add(asked: &mut Vec<Snapshot<Order>>, order: &Order) -> Result<(), NoMemory>
     ensures added { OnOk result
         (orders_in asked.new.items ≡ orders_in asked.old.items ++ order.now ∷ []) }
@@ -79,7 +79,7 @@ fn add_given(given: &mut Vec<Snapshot<Report>>, report: &Report) -> Result<(), N
     Ok(())
 }
 
-// Takes the start out, if this is its last report.
+// Takes the start at this index out of those that haven't ended, if this is its last report.
 fn end_last(living: &mut Vec<Order>, place: usize, report: &Report)
     requires { place < length living.old.items }
     ensures left { living.new.items
@@ -130,7 +130,7 @@ impl Roll {
         Ok(())
     }
 
-    /// An order was asked.
+    /// Notes that an order was asked. If it starts a program, the reports of that start are let through from now on.
     pub fn enter(&mut self, order: &Order) -> Result<(), NoMemory>
         ensures added { OnOk result (self.new ≡ with_asked order.now self.old) }
         ensures same { OnErr result (self.new ≡ self.old) }
@@ -141,7 +141,7 @@ impl Roll {
         }
     }
 
-    /// Lets a report through if its start lives.
+    /// Lets a report through, and returns it, if it is of a start that hasn't ended; None for any other report.
     pub fn pass(&mut self, report: Report) -> Option<Report>
         ensures same { IfSome result (λ r. r ≡ report) }
         ensures asked { IfSome result (λ r. IsOfAsked self.old.asked r) }

@@ -4,6 +4,7 @@ use s6_events::NoMemory;
 use std::alloc::Global;
 use std::sync::{Arc, Condvar, Mutex, Wait};
 
+// A child on the list. `for_thread` is the child once more, until its thread takes it; `is_running` is whether the child was started.
 #[derive(Drop)]
 struct Entry {
     process: Arc<ServiceProcess, Global>,
@@ -19,6 +20,7 @@ impl Entry {
     }
 }
 
+// The children on the list, the number that the next one gets, and whether no more are taken.
 #[derive(Drop)]
 struct Entries {
     entries: Vec<Entry>,
@@ -26,7 +28,7 @@ struct Entries {
     is_ending: bool,
 }
 
-/// The children of all backends that share a keeper.
+/// The children of all backends that share a keeper. `changed` wakes the keeper's thread when a child needs its thread, or has left.
 #[derive(Drop)]
 pub(crate) struct ChildList {
     entries: Mutex<Entries>,

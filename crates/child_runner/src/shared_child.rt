@@ -21,7 +21,8 @@ pub(crate) struct Pipe {
     pub writer: PipeWriter,
 }
 
-/// A child: what is known of it, and what its threads are to take over.
+/// A child: what is known of it, and what its threads are to take over. `number` is its number on the keeper's list, not that of its process;
+/// `bell` rings when it has something to report; `changed` wakes those that wait for a change of `progress`.
 #[derive(Drop)]
 pub(crate) struct ServiceProcess {
     pub number: u64,

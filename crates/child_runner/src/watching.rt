@@ -91,7 +91,8 @@ fn exit_of(status: io::Result<ExitStatus>) -> Exit {
 /// The most bytes that were read and not told yet: as many as a report holds.
 const PART: usize = 64;
 
-/// What the thread that reads a child's output keeps.
+/// What the thread that reads a child's output keeps: what was read and not told yet, how many bytes more may be told, and whether the first
+/// newline was told.
 #[derive(Drop)]
 struct Hearing {
     // What was read and not told yet.

@@ -10,12 +10,12 @@ use std::alloc::Global;
 use std::sync::Wait;
 use tree_core::Act;
 
-/// The connections of a tree, from its first run to its last, for the driver.
+/// The connections of a tree, from its first run to its last, for the driver; and the roster of services that they are told of.
 #[derive(Drop)]
 pub struct ClientDesk {
     /// By their seats.
     pub connections: Vec<Connection>,
-    /// What steps told of services.
+    /// The roster of the services, and how many steps it has noted.
     pub notes: StepNotes,
     /// The tree's clock, in milliseconds: the greatest moment that was handed in. It is brought up to date whenever no input is left to be
     /// done.

@@ -55,8 +55,8 @@ impl ClientDesk {
         }
     }
 
-    // Posts the status of these services, read from the board; or `refused NoMemory` where memory for it is refused, or where states are
-    // asked and a step is missing on the board or in the roster.
+    // Posts the status of these services, read from the board. `refused NoMemory` is posted instead where memory is refused, and where states
+    // are asked but the last step of the run is missing on the board or was not noted in the roster (`notes` says so).
     fn post_status<C: Channels, R: Wait>(
         &mut self,
         context: &Context<'_, R>,
@@ -64,7 +64,7 @@ impl ClientDesk {
         seat: usize,
         subject: &Subject,
     ) {
-        // States are told only where the board and the roster have the last step.
+        // States are told only where the board shows the last step, and the roster has noted it.
         if !self.notes.tells_of(subject, board.made, board.is_shown) {
             return self.post_answer(context, seat, OwnAnswer::NoMemory.text());
         }
@@ -91,6 +91,7 @@ impl ClientDesk {
         answer: Answer,
     ) {
         match answer {
+            // Not posted here: they are told from a reply or from the board.
             Answer::TheReply | Answer::Status(_) => {}
             Answer::Following => self.post_answer(context, seat, following_line()),
             Answer::Own(reason) => self.post_answer(context, seat, reason.text()),

@@ -96,6 +96,7 @@ impl<C: Channels> Drain<C> {
         if self.consumer.is_empty() {
             return false;
         }
+        // `is_empty` said that the ring has a submission, so one is known to be there, and this can't fail.
         let next = self.consumer.pop_known();
         *held = Some(Input {
             actor: self.actor,

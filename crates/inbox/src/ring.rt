@@ -27,6 +27,7 @@ pub struct Ring {
     consumer: Consumer<Submission>,
 }
 
+// Contracts see whose ring it is, and its name in proofs. Nothing was handed in yet, and all 64 places are known to be free.
 impl Model for Ring {
     ghost use Rattle.std.specs.Prelude.{◌≡◌, []};
     ghost use Rattle.rtrb.specs.Ring.{IsPair, sent, known_free, producer_capacity, received, known_items};

@@ -47,7 +47,7 @@ pub struct Room<C: Channels + Lanes, D: Board<C>> {
     history: WholeHistory<C>,
 }
 
-// Adds to the history all inputs that were done. For the proof, the type `N` names them.
+// For proofs: adds to the history all inputs that the running tree has done since. The type `N` names them all.
 fn keep<N: Whole, C: Channels + Lanes, R: Wait>(
     rt: &R,
     history: &mut WholeHistory<C>,
@@ -112,7 +112,7 @@ impl<C: Channels + Lanes, D: Board<C>> Room<C, D> {
         self.history.show(rt, known);
     }
 
-    /// All inputs that were done.
+    /// A token of all inputs that were done, for the proofs of a caller that has none yet.
     pub fn history(&mut self) -> KnownHistory<C>
         ensures same { self.new ≡ self.old }
         ensures all { result ≡ inputs_of self.old.running.steps }

@@ -39,7 +39,9 @@ use tree_core::{Effect, Image, Input, ORDER_LIMIT, Reply, Tree};
 /// that it sends orders into. Its invariant is what is promised of a run at every moment.
 #[derive(Drop)]
 pub struct RunningTree<C: Channels + Lanes> {
+    // Gives memory to later calls, such as those that read replies or rows.
     alloc: Global,
+    // What the tree stored when the run began. Contracts tell the run from there on.
     opening: Image<Global>,
     tree: Box<Tree<Global>>,
     run: Run,
@@ -157,6 +159,7 @@ impl<C: Channels + Lanes> RunningTree<C> {
         let effect = &mut *self.effect;
         self.tree.apply_in_place(input, effect)?;
         self.held = None;
+        // For the proof: a list of orders has no more than `ORDER_LIMIT`, for which each lane has room.
         let _count = effect.orders.len();
         send_all(&mut self.lanes, effect.orders.as_slice());
         self.run.add(kept, effect);

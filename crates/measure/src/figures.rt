@@ -9,7 +9,7 @@ pub fn now(clock: &impl Clock) -> Result<Instant, Fault> {
     Instant::now(clock).map_err(|_| Fault::NoClock)
 }
 
-// Writes how many there were, how long they took, and so how many there are in a second.
+// Writes a line of figures about `what`: how many steps there were, how long they took (`micros`), and so how many there are in a second.
 fn write_figures(output: &mut impl Write, what: &str, load: Load, micros: u128) -> io::Result<()> {
     let (seats, all, millis) = (load.seats, load.all(), micros / 1000);
     let a_second = u128::from(all) * 1_000_000 / micros.max(1);
@@ -20,7 +20,7 @@ fn write_figures(output: &mut impl Write, what: &str, load: Load, micros: u128) 
     output.flush()
 }
 
-/// Writes how long it took since then.
+/// Writes the line of figures about `what`, which was begun at `start` and is done now.
 pub fn write_since(
     clock: &impl Clock,
     output: &mut impl Write,

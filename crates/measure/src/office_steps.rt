@@ -39,7 +39,7 @@ pub fn drive_all<R: Wait>(rt: &R, alloc: Global, load: Load) -> Result<(), Fault
     }
 }
 
-// The same with these backends.
+// Does what `drive_all` says, with these backends.
 fn drive_lanes<B: Backend, R: Wait>(
     rt: &R,
     alloc: Global,
@@ -52,7 +52,7 @@ fn drive_lanes<B: Backend, R: Wait>(
     }
 }
 
-// The same with this tree.
+// Does what `drive_all` says, with this tree and these backends.
 fn drive_tree<B: Backend, R: Wait>(
     rt: &R,
     alloc: Global,
@@ -66,7 +66,7 @@ fn drive_tree<B: Backend, R: Wait>(
     }
 }
 
-// The same in a run that names the rings and the board of the office so.
+// Does what `drive_all` says, in this office. `C` names its rings and its board for proofs.
 fn drive_named<B: Backend, C: Channels + Lanes, R: Wait>(
     rt: &R,
     alloc: Global,

@@ -24,7 +24,7 @@ pub fn apply_all(alloc: Global, load: Load) -> Result<(), Fault> {
     apply_rounds(&mut tree, &mut effect, scan, load)
 }
 
-// Round by round.
+// Has the tree take the scan, and then round after round of acts.
 fn apply_rounds(
     tree: &mut Tree<Global>,
     effect: &mut Effect<Global>,
@@ -38,7 +38,7 @@ fn apply_rounds(
     Ok(())
 }
 
-// The round that begins with this act, seat by seat.
+// Has the tree take the acts of the round that begins with act number `first`, seat by seat.
 fn apply_round(
     tree: &mut Tree<Global>,
     effect: &mut Effect<Global>,
@@ -51,7 +51,7 @@ fn apply_round(
     Ok(())
 }
 
-// The acts of a seat in a round.
+// Has the tree take the acts of a seat in the round that begins with act number `first`.
 fn apply_turn(
     tree: &mut Tree<Global>,
     effect: &mut Effect<Global>,

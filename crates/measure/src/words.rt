@@ -22,10 +22,10 @@ pub const USAGE: &[u8] = b"measure: usage: measure steps 1|15 COUNT\n";
 // No word that is known is longer.
 const LONGEST_WORD: usize = 16;
 
-/// The most steps of an office's run but the first.
+/// The most acts that may be measured: with the scan before them, as many steps as a run may have.
 const GREATEST_STEPS: u32 = 262_143;
 
-/// How many seats do it, and how often each does.
+/// How much is measured: how many seats hand acts in, and how many acts each of them.
 #[derive(Clone, Copy)]
 pub struct Load {
     pub seats: u8,
@@ -43,7 +43,7 @@ impl Load {
 #[derive(Clone, Copy)]
 pub enum Words {
     Help,
-    /// Of so many seats.
+    /// To measure the steps that so many acts of so many seats take.
     Steps(Load),
 }
 

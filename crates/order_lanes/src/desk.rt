@@ -31,6 +31,7 @@ pub enum Carried {
 pub struct Desk<B: Backend, L: Lanes> {
     lane: usize,
     consumer: Consumer<Order>,
+    // An order that was taken from the ring, and that the backend has not taken yet.
     held: Option<Order>,
     backend: B,
     lanes: PhantomData<L>,

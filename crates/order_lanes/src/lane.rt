@@ -56,7 +56,7 @@ impl<L: Lanes> Lane<L> {
         self.number
     }
 
-    /// How many more orders it holds for certain. The desk may make more room at any time.
+    /// How many more orders there is room for, at the least: the desk may make more room at any time.
     pub fn free_places(&mut self) -> usize
         ensures number { self.new.number ≡ self.old.number }
         ensures sent { self.new.sent ≡ self.old.sent }

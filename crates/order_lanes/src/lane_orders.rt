@@ -43,7 +43,7 @@ pub fn lane_of(order: &Order, lanes: usize) -> usize
     (sid_of_order(order) % (lanes as u64)) as usize
 }
 
-// Sends an order into its lane.
+// Sends an order into its lane: that of its service, which `lane_of` tells by how many lanes there are.
 fn send_one<L: Lanes>(lanes: &mut Vec<Lane<L>>, order: &Order)
     requires lanes { 0 < length lanes.old.items }
     requires room { HaveRoom 1 lanes.old.items }

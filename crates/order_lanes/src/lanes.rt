@@ -24,7 +24,7 @@ pub trait Lanes {
     ghost asked_before: { ℕ → List Order };
 }
 
-// The names that a program starts from. Where it picks others, they take the place of these.
+// The names before a program made anything: of no tree, no history and no ring. What it makes then has names of its own, in place of these.
 impl Lanes for Brand {
     ghost use Rattle.std.specs.Prelude.{[]};
     ghost use Rattle.channel_names.specs.Unnamed.{no_ring};

@@ -13,6 +13,7 @@ use std::sync::{Arc, Mutex, Wait};
 #[derive(Drop)]
 pub struct Probe<R> {
     rt: R,
+    // The reports that are still to be given, the next one last.
     waiting: Vec<Report>,
     busy: u32,
     asked: Vec<Order>,

@@ -141,7 +141,8 @@ pub fn story<A: Allocator + Copy, R: Read + Drop, W: Write + Drop>(
     tell_whole(alloc, patterns, &mut reader, &mut writer)
 }
 
-/// The same, with times of day in place of seconds. The script's clock was 0 `start` milliseconds after the beginning of 1970.
+/// Writes the story of a script as `story` does, but with times of day in place of seconds. The script's clock was 0 `start` milliseconds after
+/// the beginning of 1970.
 pub fn dated_story<A: Allocator + Copy, R: Read + Drop, W: Write + Drop>(
     alloc: A,
     patterns: Global,

@@ -2,7 +2,8 @@
 use day_times::day_millisecond;
 use std::io::{Result, Write};
 
-/// A writer for a story. It writes each line with a time of day in place of the seconds with which the line begins.
+/// A writer for a story. It writes each line with a time of day in place of the seconds with which the line begins: those seconds are gathered
+/// in `moment`, and the time of day at which they were 0 is `start`.
 #[derive(Debug, Drop)]
 pub struct Dated<W> {
     writer: W,
@@ -43,6 +44,7 @@ fn write_day<W: Write>(writer: &mut W, millis: u64) -> Result<()> {
 }
 
 impl<W: Write> Write for Dated<W> {
+    // Writes a part of the story, which may begin and end within a line. It takes all of the bytes.
     fn write(&mut self, bytes: &[u8]) -> Result<usize> {
         for byte in bytes {
             match self.moment {

@@ -20,7 +20,8 @@ const LONGEST_DAY: usize = 40;
 // The nanoseconds of a millisecond.
 const MILLISECOND: i128 = 1_000_000;
 
-// What the command line asks for.
+// What the command line asks for. `DatedStory` is a story with times of day, and has the time at which the script's clock was 0, in milliseconds
+// since 1970. At `ReplayUsage` the words behind `replay` are wrong; at `Unknown` the first word names no tool.
 #[derive(Clone, Copy, Debug, PartialEq, Eq)]
 enum Asked {
     Help,

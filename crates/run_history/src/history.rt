@@ -1,4 +1,4 @@
-//! The one history of a run: all inputs that were done. It exists in proofs alone.
+//! The history of a run: all inputs that were done, for proofs alone. A pass is a token, without bytes, of what its holder knows of it.
 ghost use Rattle.std.specs.Prelude.{◌≡◌, []};
 ghost use mathlib.Core.List.{IsPrefix};
 ghost use Rattle.crossbeam_utils.specs.Seq.{cell_view};
@@ -15,7 +15,7 @@ use std::mem;
 use std::sync::Wait;
 use tree_core::Input;
 
-/// Names all inputs of a run, after some more were done.
+/// For proofs: a type of this trait names a list of inputs, all that a run has done after some more were done.
 pub trait Whole {
     ghost use Rattle.std.specs.Prelude.{List};
     ghost use Rattle.std.specs.declared.alloc.Global.{Global};
@@ -24,23 +24,25 @@ pub trait Whole {
     ghost whole: { List (Input Global) };
 }
 
+// The list before a run has done anything: no input. A call that adds inputs names the longer list in place of this one.
 impl Whole for Brand {
     ghost use Rattle.std.specs.Prelude.{[]};
 
     ghost whole = { [] };
 }
 
-/// What a pass knows: that of the whole history all inputs, that of a known one a beginning of them. No value of this type is made.
+/// What a pass tells its holder of the history, in proofs: the pass of the whole history tells all inputs, that of a `KnownHistory` a beginning
+/// of them. No value of this type is made.
 pub struct View {
-    /// Whether the pass knows the whole history.
+    /// Whether this is the one pass that knows all inputs.
     pub keeps: bool,
     /// All inputs, if it does.
     pub all: LinkedList<Input<Global>>,
-    /// The beginning of all inputs that the pass of a known history knows.
+    /// What the pass of a known history says was done: a beginning of all inputs.
     pub claim: LinkedList<Input<Global>>,
 }
 
-/// The rule: at most one pass knows all inputs, and each claim is a beginning of them.
+/// The rule that the passes of a history keep, in proofs: at most one knows all inputs, and what each other one claims is a beginning of these.
 pub struct Growing;
 
 impl Protocol<[u64; 1], View> for Growing {
@@ -52,30 +54,33 @@ impl Protocol<[u64; 1], View> for Growing {
     ghost first = { knower [] };
 }
 
-/// The step that adds inputs, after which all inputs are those that `N` names.
+/// For proofs: the write to the cell that adds inputs, after which all inputs are those that `N` names.
 pub struct Extends<N: Whole> {
     // Only its type says which inputs these are.
     of: PhantomData<N>,
 }
 
+// What the pass knows after this write: all inputs, those that `N` names. What it claims is as before.
 impl<N: Whole> Outcome<[u64; 1], View> for Extends<N> {
     ghost use Rattle.run_history.specs.Views.{Extended};
 
     ghost then = { Extended N.whole };
 }
 
-/// The step that compares a claim with all inputs.
+/// For proofs: the read of the cell by which a claim is compared with all inputs.
 pub struct Checks;
 
+// What this read tells: the claim was a beginning of all inputs. Afterwards the pass knows all inputs, and claims none.
 impl Outcome<[u64; 1], View> for Checks {
     ghost use Rattle.run_history.specs.Views.{Checked};
 
     ghost then = { Checked };
 }
 
-/// How the pass of a known history is split from that of the whole one, and joined with it again.
+/// For proofs: how a pass that claims all inputs so far is split from the one that knows them, and how such a claim is handed back to it.
 pub struct AllSoFar;
 
+// `left` is the pass that knows all inputs, as it was; `right` is the new one, which claims them.
 impl Split<View> for AllSoFar {
     ghost use Rattle.run_history.specs.Views.{claim_of};
 
@@ -84,6 +89,7 @@ impl Split<View> for AllSoFar {
     ghost right = { claim_of };
 }
 
+// `both` is the pass that knows all inputs, with the other's claim; `spent` is what the other one knows then: nothing.
 impl Join<View> for AllSoFar {
     ghost use Rattle.run_history.specs.Views.{shown, nobody};
 
@@ -92,18 +98,19 @@ impl Join<View> for AllSoFar {
     ghost spent = { nobody };
 }
 
-/// The cell of a history.
+/// The cell to which the passes of a history belong. Its number is always 0: it is there for the rule `Growing` over its passes, which proofs
+/// use.
 pub type Cell = RuledSeqCell<[u64; 1], View, Growing, 1>;
 
-/// A pass of it.
+/// A pass of a history: a token, without bytes, of what its holder knows of it in proofs.
 pub type Receipt = Pass<[u64; 1], View>;
 
 /// A history with no input, which no run has named yet. Contracts see it as its name.
 #[derive(Drop)]
 pub struct NewHistory {
-    // Where what each pass knows is told.
+    // The cell to which its passes belong.
     cell: Cell,
-    // The pass that knows all inputs.
+    // Its first pass, which knows all inputs.
     pass: Receipt,
 }
 
@@ -128,10 +135,11 @@ impl NewHistory {
     }
 }
 
-/// All inputs that were done up to some moment: a beginning of the run's one history. It has no bytes.
+/// What a caller knows of a run, for proofs: all inputs that were done up to some moment, a beginning of the run's one history. It is a token
+/// without bytes; no input can be read from it.
 #[derive(Drop)]
 pub struct KnownHistory<C: Lanes> {
-    // One of the two keys to the history's cell, which exists in proofs alone.
+    // What is known: it claims a beginning of all inputs.
     pass: Receipt,
     of: PhantomData<C>,
 }
@@ -150,7 +158,7 @@ impl<C: Lanes> Model for KnownHistory<C> {
 }
 
 impl<C: Lanes> KnownHistory<C> {
-    // What is known by this pass, which is one of the two keys to the history's cell. Nothing else is stored: the history is in proofs alone.
+    // The known history of this pass, which tells in proofs what is known. Nothing else is stored.
     fn over(pass: Receipt) -> KnownHistory<C>
         requires cell { pass.table_id ≡ C.history }
         requires free { pass.me.1 ≡ [] }
@@ -173,10 +181,12 @@ impl<C: Lanes> KnownHistory<C> {
     }
 }
 
-/// All inputs that were done, to which it alone adds. It is under the lock.
+/// The end of a history that knows all inputs that were done, and alone adds to them, for proofs. It lies under the room's lock.
 #[derive(Drop)]
 pub struct WholeHistory<C: Lanes> {
+    // The cell to which all passes of this history belong.
     cell: Cell,
+    // The one pass that knows all inputs.
     pass: Receipt,
     of: PhantomData<C>,
 }
@@ -196,7 +206,7 @@ impl<C: Lanes> Model for WholeHistory<C> {
 }
 
 impl<C: Lanes> WholeHistory<C> {
-    /// The whole of this history, which has no input yet. `C` names it.
+    /// The whole of this new history, of which no input was done yet. In proofs `C` gives the history its name.
     pub fn over(new: NewHistory) -> WholeHistory<C>
         requires { new ≡ C.history }
         ensures { result ≡ [] }
@@ -209,7 +219,8 @@ impl<C: Lanes> WholeHistory<C> {
         }
     }
 
-    /// Makes all inputs those that the type `N` names. The inputs so far are a beginning of these. It can't be refused.
+    /// Adds inputs, for proofs: from now on all inputs are those that the type `N` names, and those so far are a beginning of them. It can't be
+    /// refused.
     pub fn extend<N: Whole, R: Wait>(&mut self, rt: &R)
         requires longer { IsPrefix self.old N.whole }
         ensures { self.new ≡ N.whole }
@@ -217,7 +228,7 @@ impl<C: Lanes> WholeHistory<C> {
         self.cell.swap_as::<Extends<N>, R>(rt, &mut self.pass, [0]);
     }
 
-    /// All inputs so far.
+    /// A token of all inputs so far, which a caller keeps for its proofs.
     pub fn tell(&mut self) -> KnownHistory<C>
         ensures same { self.new ≡ self.old }
         ensures all { result ≡ self.old }

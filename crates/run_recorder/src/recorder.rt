@@ -29,7 +29,8 @@ pub enum RecordFault {
     NoMemory,
 }
 
-/// Where the runs of a tree are recorded, if anywhere. All of them are one script, with the reply to each input.
+/// Where the runs of a tree are recorded, if anywhere. All of them are one script, with the reply to each input; `is_begun` is whether a run is
+/// in it, and so its head line.
 #[derive(Drop)]
 pub struct Recorder<W> {
     alloc: Global,

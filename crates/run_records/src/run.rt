@@ -34,6 +34,7 @@ const ROOM: LogRoom = LogRoom {
 #[derive(Drop)]
 pub struct Run {
     log: StepLog,
+    // For each actor, by its number, where its steps stand in the log.
     places: Vec<StepPlaces>,
 }
 

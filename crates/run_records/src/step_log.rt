@@ -13,7 +13,7 @@ use std::marker::Model;
 use step_codes::{Code, KeptInput, take_head, take_outcome, take_reply};
 use tree_core::{Effect, PlainInput, Reply};
 
-/// Where a step stands.
+/// Where a step of the log is kept.
 #[derive(Clone, Copy)]
 pub enum Start {
     /// Its code begins at this byte.
@@ -45,6 +45,7 @@ pub enum Stored<'a> {
 #[derive(Drop)]
 pub struct StepLog {
     codes: Vec<u8>,
+    // Where each step is kept, oldest first.
     starts: Vec<Start>,
     whole: WholeSteps,
     /// Where a code is made, so that all steps use the same memory.

@@ -59,7 +59,8 @@ pub(crate) fn write_head<W: Write>(head: bool, writer: &mut W) -> Result<(), Run
     Ok(())
 }
 
-// Writes the lines of one step, as it is kept. `text` and `effect` are working memory, used again for each step; `number` is for the fault.
+// Writes the lines of one step, as version 2 of a script (`Two`) has them: its input, and its reply. `text` and `effect` are working memory,
+// used again for each step; `number` names the step in a fault.
 pub(crate) fn write_stored<W: Write>(
     alloc: Global,
     text: &mut Vec<u8>,
@@ -113,8 +114,8 @@ fn read_step(
     Ok(PlainInput { actor, at, act })
 }
 
-// Writes the lines of one step: that of its input and that of its reply. `text` is working memory, used again for each step; `number` is
-// for the fault.
+// Writes the lines of one step, as version 2 of a script (`Two`) has them: its input, and its reply. `text` is working memory, used again for
+// each step; `number` names the step in a fault.
 fn write_step<W: Write>(
     alloc: Global,
     text: &mut Vec<u8>,

@@ -15,23 +15,28 @@ const SHADES: &[Shade] = &[
     Shade::Failed,
 ];
 
-/// The height of the legend, of a lane and of the axis, the width of the lanes, and the free space at the right, in pixels.
+/// The height of the legend, above the lanes, in pixels.
 const TOP: u64 = 40;
 
+/// The height of a lane, in pixels.
 const LANE: u64 = 22;
 
+/// The height of the axis, below the lanes, in pixels.
 const BOTTOM: u64 = 44;
 
+/// The width of the lanes, in pixels: `WIDTH` has it in tenths.
 const LANES_WIDTH: u64 = WIDTH / 10;
 
+/// The free space to the right of the lanes, in pixels.
 const RIGHT: u64 = 60;
 
-/// The most width of a letter of a name, the free space beside the names, and the least distance from the left at which the lanes begin, in
-/// pixels.
+/// The most width of a letter of a name, in pixels.
 const LETTER: u64 = 8;
 
+/// The free space beside the names, in pixels.
 const MARGIN: u64 = 20;
 
+/// How far from the left the lanes begin at the least, in pixels.
 const LEFT: u64 = 60;
 
 /// How far the words of the legend are apart, in pixels.

@@ -1,4 +1,4 @@
-//! The block of a step: how its text is made, and written whole.
+//! The block of a step, which is its part of a transcript: how its text is made, and written whole.
 ghost use Rattle.std.specs.Prelude.{◌≡◌, Err, IfErr, OnOk};
 ghost use Rattle.std.specs.Io.KnownBytes.{Appends};
 ghost use Rattle.s6_replay.specs.Lines.{AppendsFront};

@@ -8,7 +8,7 @@ use super::fault::ReplayFault;
 use super::version::Version;
 use std::io::{BufRead, Read};
 
-// Reads these bytes.
+// Reads just these bytes. `Head` where other bytes come, or the end of the input; `Read` where the reader answered an error.
 fn read_literal<R: BufRead>(reader: &mut R, text: &[u8]) -> Result<(), ReplayFault>
     ensures ok { OnOk result (Consumes (R.remaining reader.old) (R.remaining reader.new) text.now) }
     ensures fault { IfErr result

@@ -21,7 +21,9 @@ pub enum Ended {
 // Why no line was read.
 #[derive(Clone, Copy, Debug, PartialEq, Eq)]
 pub enum ReadFault {
+    // The reader answered an error.
     Read,
+    // Memory was refused.
     NoMemory,
 }
 

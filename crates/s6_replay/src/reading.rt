@@ -20,8 +20,11 @@ use tree_core::{Act, Effect, Input};
 /// step that needs no more room in these than those before it takes no memory for them.
 #[derive(Drop)]
 pub struct Scratch<A: Allocator> {
+    /// The input line that was read last, without its newline.
     pub line: Vec<u8, A>,
+    /// The reply line that was read last, without its newline.
     pub reply: Vec<u8, A>,
+    /// A text that is compared with a line, or written.
     pub text: Vec<u8, A>,
     /// The input of the step that was read last, until the tree takes it.
     pub input: Input<A>,
@@ -111,7 +114,7 @@ fn holds_reply(line: &[u8]) -> bool
     }
 }
 
-// Reads the reply line of the input after `done` steps.
+// Reads the reply line of the input after `done` steps. It is line `done * 2 + 3`, since the head line is line 1.
 fn read_reply<A: Allocator + Copy, R: BufRead>(
     reader: &mut R,
     line: &mut Vec<u8, A>,

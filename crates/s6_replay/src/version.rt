@@ -3,8 +3,8 @@
 /// The two versions of a script.
 #[derive(Clone, Copy, Debug, PartialEq, Eq)]
 pub enum Version {
-    /// Inputs alone.
+    /// Version 1: inputs alone, a line for each.
     One,
-    /// Each input with its reply.
+    /// Version 2: behind the line of each input is the line of its reply.
     Two,
 }

@@ -15,7 +15,7 @@ use servicedir::signal_name;
 use std::alloc::{AllocError, Allocator};
 use tree_core::Act;
 
-/// Reads a permafailon from the words behind its verb.
+/// Reads a permafailon from the words behind its verb. Where its list of exits is none, it gives a tick, which `parse.rt` then refuses.
 pub fn permafailon_of<A: Allocator + Copy>(
     alloc: A,
     words: &mut Words<'_>,

@@ -244,6 +244,7 @@ fn bytes_of(word: &[u8]) -> ArrayVec<u8, 64>
     let count = (word.len() / 2).min(64);
     let part = &mut room[..count];
     let places = part.len();
+    // For the proof alone: this part of `room` has `count` places.
     prove!(places == count);
     let mut bytes = ArrayVec::new();
     if count == 0 || hex::decode_to_slice(word, part).is_err() {

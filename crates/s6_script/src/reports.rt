@@ -40,7 +40,7 @@ fn take_exit(words: &mut Words<'_>) -> Option<Exit>
     }
 }
 
-// Takes what is told of a start, and puts it into `act`. Whether the next words tell one; where they don't, `act` is as it was.
+// Takes what is told of a start, and puts it into `act`; None where the next words tell none, and then `act` is as it was.
 fn take_started<A: Allocator>(words: &mut Words<'_>, act: &mut Act<A>) -> Option<()>
     ensures fits { OnSome result (IsAct act.new) }
     ensures words { OnSome result ((verb_of_act act.new ≡ verbs.Started)
@@ -59,7 +59,7 @@ fn take_started<A: Allocator>(words: &mut Words<'_>, act: &mut Act<A>) -> Option
     Some(())
 }
 
-// Takes what is told of a death in the same way.
+// Takes what is told of a death, and puts it into `act`; None where the next words tell none, and then `act` is as it was.
 fn take_death<A: Allocator>(words: &mut Words<'_>, act: &mut Act<A>) -> Option<()>
     ensures fits { OnSome result (IsAct act.new) }
     ensures words { OnSome result ((verb_of_act act.new ≡ verbs.Death)

@@ -9,7 +9,7 @@ use event_directory::{Pattern, PatternFault};
 use std::alloc::{Allocator, Global};
 use tree_core::{Act, Target};
 
-// An act that was read: a whole one, or a subscription whose pattern isn't built yet and has this text, which no pattern may have.
+// An act that was read: a whole one, or a subscription with the text of its pattern, which isn't built yet. The text may be that of no pattern.
 #[derive(Drop)]
 pub enum UnbuiltAct<A: Allocator> {
     Whole(Act<A>),

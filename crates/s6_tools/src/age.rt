@@ -5,11 +5,13 @@ ghost use Rattle.s6_tools.specs.Ages.{age_text, in_units, two_digits};
 use s6_script::push_number;
 use std::alloc::AllocError;
 
-/// The seconds of a minute, of an hour and of a day.
+// The seconds of a minute.
 const MINUTE: u64 = 60;
 
+// The seconds of an hour.
 const HOUR: u64 = 3600;
 
+// The seconds of a day.
 const DAY: u64 = 86_400;
 
 // Adds a number below 100 by two digits.

@@ -113,7 +113,7 @@ fn strange_of(tool: Tool) -> Wrong
     }
 }
 
-// What else a tool doesn't take: a dash alone, or a word too many.
+// Where to look for another word that the tool doesn't take: a dash alone, or a word behind those that it takes.
 fn spare_of(tool: Tool) -> Clue
     ensures { result ≡ spare_of tool }
 {

@@ -60,7 +60,8 @@ fn status_of(tool: Tool, fault: &ToolFault) -> u8
     }
 }
 
-// The two lines.
+// The two lines about a fault of a tool, the first for programs and the second for people. `socket` is the path of the tree's socket, and
+// `words` are those behind it.
 fn told_of(
     tool: Tool,
     socket: &str,
@@ -109,7 +110,7 @@ fn add_reason(told: &mut Told, fault: &ToolFault) -> Result<(), CapacityError>
     }
 }
 
-// What the second line says.
+// Adds what the second line, the one for people, says about the fault.
 fn add_hint(
     told: &mut Told,
     tool: Tool,
@@ -164,7 +165,7 @@ fn add_cause_word(
     }
 }
 
-// What is wrong with the words of a tool.
+// Adds to the second line what is wrong with the words of a tool, and what would be right. `word` is the wrong word, where it is known.
 fn add_misuse(
     told: &mut Told,
     tool: Tool,

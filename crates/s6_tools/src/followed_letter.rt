@@ -52,7 +52,7 @@ fn letter_word(letter: u8) -> &'static [u8]
     }
 }
 
-// The line for people.
+// Adds the line of a letter for people: the time of day, the name of the service, the letter, and its word.
 fn push_plain(text: &mut Vec<u8>, day: &[u8], letter: &FollowedLetter) -> Result<(), AllocError>
     ensures { OnOk result (text.new.items ≡ text.old.items ++ plain_letter day.now letter.now) }
 {

@@ -8,7 +8,8 @@ use crate::tool_fault::ToolFault;
 use s6_events::Name;
 use std::alloc::Global;
 
-/// What `list` or `follow` is asked for: the services of these names, or all where there is no name.
+/// What `list` or `follow` is asked for: the services of these names, or all where there is no name; and whether lines are to be objects of
+/// JSON.
 #[derive(Debug, Drop)]
 pub struct ListCommand {
     pub is_json: bool,

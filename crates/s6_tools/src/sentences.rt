@@ -40,7 +40,7 @@ fn name_complaint(tool: Tool) -> &'static str
     }
 }
 
-/// What is wrong with a word.
+/// What the second line about a fault says behind the wrong word of a command line.
 pub fn complaint_of(tool: Tool, misuse: Misuse) -> &'static str
     ensures { result.now ≡ complaint_of tool misuse }
 {
@@ -175,7 +175,7 @@ pub fn see_words() -> &'static str
     "; see s6_tree "
 }
 
-/// The text behind that name.
+/// Where to read on: the text behind the name of a tool.
 #[tactic(auto, unfolding(crate::specs::Sentences::help_words))]
 pub fn help_words() -> &'static str
     ensures { result.now ≡ help_words }
@@ -207,7 +207,7 @@ pub fn cause_before(fault: &ToolFault) -> &'static str
     }
 }
 
-/// The text behind that word.
+/// What the system or the server failed to do: the text behind the word that it is about.
 pub fn cause_behind(fault: &ToolFault) -> &'static str
     ensures { result.now ≡ cause_behind fault.now }
 {

@@ -75,6 +75,7 @@ impl From<AllocError> for ToolFault {
 }
 
 impl From<io::Error> for ToolFault {
+    // The fault for an error of the system on the connection to the server.
     fn from(error: io::Error) -> ToolFault {
         match error.kind() {
             io::ErrorKind::OutOfMemory => ToolFault::NoMemory,

@@ -47,7 +47,8 @@ fn subscribe<R: Net + Clock>(
     Ok(None)
 }
 
-// Waits until the waiter is released.
+// Waits until the waiter of this connection is released. Returns the exit status for its outcome; `Socket` where the connection ends before, or
+// another line comes.
 fn await_release(connection: &mut ToolConnection) -> Result<u8, ToolFault> {
     match connection.answer()? {
         Answer::Released(outcome) => Ok(status_of(outcome)),

@@ -8,7 +8,7 @@ use crate::words::is_word;
 use s6_events::Name;
 use servicedir::parse_number;
 
-/// A kind of word.
+/// A kind of word, by which the wrong word of a command line is looked for.
 #[derive(Clone, Copy, Debug, PartialEq, Eq)]
 pub enum Wrong {
     /// A dash and letters, one of which the tool doesn't have.

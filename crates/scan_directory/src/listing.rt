@@ -55,7 +55,8 @@ pub fn read_listing<R: Files + Copy + Drop, E: Write>(
     }
 }
 
-// The listing of these entries. `InvalidData` where a line of a script can't spell it, `OutOfMemory` where memory is refused.
+// The listing of these entries. To see whether a line of a script can spell it, a scan of them is spelled once, and the text thrown away:
+// `InvalidData` where it can't, `OutOfMemory` where memory is refused.
 fn listing_of(alloc: Global, entries: Vec<Entry>) -> io::Result<Listing<Global>>
     ensures fits { IfOk result (λ listing. FitsLine (scan_at last_moment listing)) }
 {
@@ -208,7 +209,8 @@ fn push_escaped_byte(line: &mut Vec<u8>, byte: u8) -> Result<(), AllocError>
     Ok(())
 }
 
-// The configuration of a service; None where its directory can't be used.
+// The configuration of a service; None where its directory can't be used. What is wrong there is added to `remarks`, and told on `errors`. The
+// error says that memory was refused.
 fn read_service<R: Files, E: Write>(
     rt: &R,
     alloc: Global,

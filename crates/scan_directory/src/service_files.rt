@@ -28,7 +28,8 @@ pub enum Reading {
     NoMemory,
 }
 
-/// The files of one service directory.
+/// The files of one service directory: what reading each of them gave; `kind` is the file `type`. And how many readings failed (`failures`) or
+/// were refused memory (`refused`).
 #[derive(Drop)]
 pub struct ServiceFiles {
     run: Reading,
@@ -40,9 +41,11 @@ pub struct ServiceFiles {
     timeout_finish: Reading,
     max_death_tally: Reading,
     down_signal: Reading,
-    // How many readings failed, how many were refused memory, and of which file the last of both was.
+    // How many readings failed for another reason than a refusal of memory.
     failures: u64,
+    // How many readings were refused memory.
     refused: u64,
+    // The file of the last reading that failed or was refused memory.
     failed: Option<ServiceFile>,
 }
 
@@ -82,7 +85,8 @@ impl ServiceFiles {
         }
     }
 
-    // Counts a reading that failed. Where the counter of failures is full, the fault becomes `NoMemory`.
+    // Counts a reading of this file that failed: in `failures`, or in `refused` where memory was refused. Returns the fault; where `failures` is
+    // full, the reading counts as refused, and the fault becomes `NoMemory`.
     fn fail(&mut self, file: ServiceFile, fault: ReadFault) -> ReadFault
         ensures same { (f : _) → found_of self.new f ≡ found_of self.old f }
         ensures count { Counts {V = Unit {0}} (Err result) file
@@ -165,7 +169,8 @@ impl servicedir::Files for ServiceFiles {
     }
 }
 
-// A copy of what was read of a file.
+// A copy of the bytes that were read of a file; None where it is absent. `Io` where it could not be read, `NoMemory` where memory was refused,
+// then or now.
 fn copy_of<A: Allocator + Copy>(alloc: A, found: &Reading) -> Result<Option<Vec<u8, A>>, ReadFault>
     ensures text { IfOk result (λ text. option_map (λ t. t.items) text ≡ content_of found.now) }
     ensures bound { IfOk result (λ text. IfSome text (λ t. length t.items ≤ reading_limit)) }

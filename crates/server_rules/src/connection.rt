@@ -26,7 +26,8 @@ use tree_core::{Act, Reply};
 /// How many steps of a connection may be under way together: as many as its ring holds.
 const STEP_LIMIT: usize = 64;
 
-/// A connection. Each event is a call, which returns what is to be done.
+/// A connection: in `phase` what is under way for it, in `asked` the requests that aren't begun, in `standing` what it made and follows. Each
+/// event is a call, which returns what is to be done.
 #[derive(Drop)]
 pub struct Connection {
     phase: Phase,
@@ -299,7 +300,7 @@ impl Connection {
         }
     }
 
-    // The same for a client that has left: nothing is posted.
+    // Takes the reply to what was under way by itself, for a client that has left: nothing is posted.
     fn finish_left(&mut self, errand: Errand, reply: &Reply<Global>)
         requires room { has_room_on errand self.old.made ≡ true }
         requires under { self.old.phase ≡ phase.Left errand }
@@ -378,7 +379,8 @@ impl Connection {
             }
     }
 
-    /// There are news, perhaps for another connection. A waiter whose release is told waits no more.
+    /// Takes news, which may be for another connection: `Tell` where they are for this one, else `Nothing`. A waiter whose release is told waits
+    /// no more.
     pub fn told(&mut self, news: &News) -> Todo
         ensures next { self.new ≡ (told_move news.now self.old).next }
         ensures todo { result ≡ (told_move news.now self.old).todo }

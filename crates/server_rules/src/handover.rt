@@ -84,7 +84,8 @@ impl Carrying {
     }
 }
 
-/// What a round has found.
+/// What a round has found. `is_open`: the run took inputs. `is_full`: a ring was full before all reports were handed in. `has_more`: a
+/// connection has more to begin. `due`: the next moment to which a timer or a deadline is set.
 #[derive(Drop)]
 pub struct Round {
     /// The moment at which it began, in milliseconds.
@@ -139,7 +140,8 @@ impl Round {
     }
 }
 
-/// How many steps a run has, and after how many it ends.
+/// How many steps a run has, and after how many it ends: `handover`, or `record_from` where somebody waits for it to be recorded. While
+/// `is_lane_busy`, inputs are taken for some steps more.
 #[derive(Clone, Copy, PartialEq, Eq, Debug)]
 pub struct Pace {
     /// How many steps of the run were handed out.

@@ -2,7 +2,7 @@
 ghost use Rattle.std.specs.Prelude.{◌≡◌};
 ghost use Rattle.server_rules.specs.Answers.{own_text};
 
-/// Why the server answers a line itself, and hands nothing in.
+/// Why the server answers a line itself, and hands nothing in. Each is told as `refused` and its name.
 #[derive(Clone, Copy, Debug, PartialEq, Eq)]
 pub enum OwnAnswer {
     /// The line is no request.

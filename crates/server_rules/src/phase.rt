@@ -20,7 +20,7 @@ pub enum Errand {
     Replacement,
 }
 
-/// The phase of a connection.
+/// The phase of a connection: what is under way for it, and whether its client has left.
 #[derive(Clone, Copy, PartialEq, Eq, Debug)]
 pub enum Phase {
     /// Nothing of it is under way. What it asked waits its turn.

@@ -22,7 +22,8 @@ pub enum Wanted {
     Scan,
 }
 
-/// What is planned.
+/// What is planned for actor 0: when the next tick is due, who waits for a scan that isn't begun (`askers`), and for whom the scan that is under
+/// way is made (`served`).
 #[derive(Drop)]
 pub struct Plans {
     /// The moment to which a timer or a deadline is set, in milliseconds. A tick before it changes nothing but the clock

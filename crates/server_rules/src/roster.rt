@@ -23,7 +23,7 @@ pub enum Ending {
     Gone,
 }
 
-/// A service that a scan added.
+/// A service that a scan added: how it is over, if it is, since when it is up or down, and whether its last start failed.
 #[derive(Clone, Copy, Debug, PartialEq, Eq)]
 pub struct Member {
     pub sid: Sid,
@@ -122,7 +122,7 @@ impl Roster {
         self.members.len() > MEMBER_LIMIT
     }
 
-    /// A scan added these. At `NoMemory` it is as it was.
+    /// Adds the services that a scan added, as its report lists them. At `NoMemory` the roster is as it was.
     pub fn add(&mut self, listed: &[Listed]) -> Result<(), NoMemory>
         ensures added { OnOk result (self.new ≡ self.old ++ added listed.now) }
         ensures refused { OnErr result (self.new ≡ self.old) }
@@ -224,7 +224,7 @@ impl Roster {
     }
 }
 
-// Each notes the letters of a step.
+// Has each of these services note the letters that a step at this moment told.
 fn note_all(members: &mut [Member], at: At, events: &[Event])
     ensures { members.new ≡ map (after_letters at events.now) members.old }
 {
@@ -233,7 +233,7 @@ fn note_all(members: &mut [Member], at: At, events: &[Event])
     }
 }
 
-// A start of the service of this serial failed.
+// Notes that a start of the service of this serial failed.
 fn note_failed_start_in(members: &mut [Member], sid: Sid)
     ensures { members.new ≡ map (after_failed_start sid) members.old }
 {

@@ -35,7 +35,8 @@ pub enum ServeFault {
     Record,
 }
 
-// The line of a fault.
+// The line on standard error for a fault, which programs read. `Lanes`: there are not 1 to 4 lanes; `Full` and `Close`: a run could not go over
+// into the next.
 fn text_of(fault: ServeFault) -> &'static [u8]
     ensures { result.now ≡ fault_text fault }
 {

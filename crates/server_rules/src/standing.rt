@@ -15,7 +15,7 @@ pub const WAITER_LIMIT: usize = 64;
 /// The most subscriptions of one connection at one time.
 pub const SUBSCRIPTION_LIMIT: usize = 32;
 
-/// What an act makes or ends, once it is done.
+/// What an act makes or ends for its connection, once it is done. `Other` is an act that makes or ends no waiter and no subscription.
 #[derive(Clone, Copy, PartialEq, Eq, Debug)]
 pub enum StandingChange {
     Other,

@@ -80,7 +80,8 @@ fn state_after_failed_start(state: StateWord) -> StateWord
     }
 }
 
-// The state of a service whose supervisor is there.
+// The state of a service whose supervisor is there: `state`, or `startfailed` where its start failed and `state` is `starting` or
+// `restarting`.
 fn started_state(start_failed: bool, state: StateWord) -> StateWord
     ensures { result ≡ started_state start_failed state }
 {

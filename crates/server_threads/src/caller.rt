@@ -9,23 +9,26 @@ use std::time::{Clock, Duration};
 /// How many requests of a connection may wait at most until the driver takes them.
 const ASKED_LIMIT: usize = 64;
 
+// What the thread of a connection and the driver share of its requests: those not taken yet, how many are not answered, and whether the
+// connection is there or leaving. It is over once the tree has ended.
 #[derive(Drop)]
 struct Turn {
-    /// The requests that the driver has not taken yet, in the order asked.
+    // The requests that the driver has not taken yet, in the order asked.
     asked: Vec<Request>,
-    /// How many requests are not answered yet.
+    // How many requests are not answered yet.
     unanswered: u64,
-    /// Whether a connection is there that has asked something, or was answered without asking the driver.
+    // Whether a connection is there: from its first request until all that it made is ended.
     is_here: bool,
-    /// Whether something is still to be told to it, though it asks nothing.
+    // Whether news (a match, a release or a letter) may still come for it, though it asks nothing.
     is_kept: bool,
-    /// Whether it has left, and what it made is still to be ended.
+    // Whether it has left, and what it made is still to be ended.
     is_leaving: bool,
+    // Whether the tree has ended: nothing more is answered.
     is_over: bool,
 }
 
-/// The requests of the connection on one seat. The connection's thread asks and waits; the driver takes the requests, and notes when they
-/// are answered.
+/// The requests of the connection on one seat. The connection's thread asks and waits; the driver takes the requests, and notes when they are
+/// answered. `turn` is where they stand, behind a lock, and `changed` wakes whoever waits for a change of it.
 #[derive(Drop)]
 pub struct Caller {
     turn: Mutex<Turn>,
@@ -79,7 +82,7 @@ impl Caller {
         self.turn.lock(rt).is_here = true;
     }
 
-    /// Whether something is still to be told to the connection, though it asks nothing.
+    /// Whether news (a match, a release or a letter) may still come for the connection, though it asks nothing.
     pub fn is_kept<R: Wait>(&self, rt: &R) -> bool {
         self.turn.lock(rt).is_kept
     }

@@ -5,7 +5,8 @@ use line_server::Server;
 use std::alloc::{AllocError, Global};
 use std::sync::Wait;
 
-/// The threads and clocks of the system, and the server whose connections are answered.
+/// What every part of a running tree works with: the runtime (`rt`), by which threads wait, take locks and read clocks, and the server whose
+/// connections are answered. The server has what all threads share, and the mailboxes of the connections.
 #[derive(Drop)]
 pub struct Context<'a, R> {
     pub rt: &'a R,

@@ -18,6 +18,8 @@ pub enum Task {
     End,
 }
 
+// What is on a scan desk: whether a listing is asked for and the asking not taken yet, what was read and not fetched yet, a closed run that is
+// still to be dropped, and whether the tree has ended.
 #[derive(Drop)]
 struct DeskState {
     is_asked: bool,
@@ -26,7 +28,8 @@ struct DeskState {
     is_over: bool,
 }
 
-/// Where the driver asks for a listing, and another thread leaves what it read of the directory, while the tree goes on.
+/// Where the driver asks for a listing, and another thread leaves what it read of the directory, while the tree goes on. `changed` wakes that
+/// thread when there is something to do.
 #[derive(Drop)]
 pub struct ScanDesk {
     desk: Mutex<DeskState>,

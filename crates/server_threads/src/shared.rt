@@ -9,7 +9,8 @@ use std::alloc::Global;
 use std::sync::Wait;
 use std::time::Clock;
 
-/// What the threads of a running tree share, from its first run to its last.
+/// What the threads of a running tree share, from its first run to its last: each connection's requests, the scans that are asked for, the rows
+/// that were last read of the board, and the bell of the driver.
 #[derive(Drop)]
 pub struct Shared {
     pub alloc: Global,
@@ -24,6 +25,7 @@ pub struct Shared {
 }
 
 impl Answers for Shared {
+    // Answers the line of the client on this seat, at once or by asking the driver. `Close` where there is no such seat.
     fn answer<R: Wait + Clock>(&self, rt: &R, seat: usize, line: &[u8], mailbox: &Mailbox) -> Next {
         let (Some(caller), Some(actor)) = (self.callers.get(seat), client_actor(seat)) else {
             return Next::Close;
@@ -35,6 +37,7 @@ impl Answers for Shared {
         Next::GoOn
     }
 
+    // Waits until all that the connection on this seat asked is answered.
     fn settle<R: Wait>(&self, rt: &R, seat: usize) {
         if let Some(caller) = self.callers.get(seat) {
             self.await_answers(rt, caller);
@@ -46,6 +49,7 @@ impl Answers for Shared {
         let _ = mailbox.post(rt, OwnAnswer::Line.text());
     }
 
+    // Whether the connection on this seat stays, though its client asks nothing: it may still be told news.
     fn keeps<R: Wait>(&self, rt: &R, seat: usize) -> bool {
         match self.callers.get(seat) {
             Some(caller) => caller.is_kept(rt),
@@ -53,6 +57,7 @@ impl Answers for Shared {
         }
     }
 
+    // The connection on this seat has ended: waits until the driver has ended what it made.
     fn leave<R: Wait>(&self, rt: &R, seat: usize) {
         if let Some(caller) = self.callers.get(seat) {
             caller.leave(rt);

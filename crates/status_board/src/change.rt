@@ -12,6 +12,7 @@ use supervise_core::Row;
 /// The rows of all services as they stand, which lie in memory of their own. Contracts see them as a shot.
 #[derive(Drop)]
 pub struct StandingRows<A: Allocator> {
+    // How many steps the tree had made when the rows were taken.
     at: u64,
     rows: Vec<Row, A>,
 }

@@ -10,7 +10,7 @@ use logbook::{Gain, Offer, Plain, Play, Rule, Seen, Word};
 use std::alloc::Allocator;
 use std::marker::{Model, PhantomData};
 
-/// The rule of the history: its first word counts its shots.
+/// The rule of the history, for proofs: its first word, an atomic number, counts the shots.
 pub struct CountedShots;
 
 impl Rule<Shot, u64> for CountedShots {
@@ -31,7 +31,7 @@ impl Rule<Shot, u64> for CountedShots {
     ghost moves = { λ ask before after answer. Unit {0} };
 }
 
-/// The rule of what a step gives in return: nothing.
+/// For proofs: whoever adds a shot to the history gets nothing in return.
 pub struct NothingGained;
 
 impl Gain<Shot, u64> for NothingGained {
@@ -40,7 +40,7 @@ impl Gain<Shot, u64> for NothingGained {
     ghost after = { λ names about answer. ftrue };
 }
 
-/// The step that adds a shot.
+/// For proofs: the step of the word by which a shot is added to the history.
 pub struct AddsShot;
 
 impl Play<Shot, u64> for AddsShot {
@@ -49,6 +49,7 @@ impl Play<Shot, u64> for AddsShot {
     ghost then = { Adds };
 }
 
+// The shot that is added is the one that these rows show.
 impl<A: Allocator> Plain<StandingRows<A>, Shot, u64> for AddsShot {
     ghost use Rattle.std.specs.Prelude.{None};
 
@@ -60,7 +61,7 @@ impl<A: Allocator> Plain<StandingRows<A>, Shot, u64> for AddsShot {
 /// The word that counts the shots that were published.
 pub type Count = Word<Shot, u64, CountedShots>;
 
-/// What is known of the history.
+/// A token of what its holder knows of the history, for proofs: the shots that were published up to some moment.
 pub type Log = Seen<Shot, u64, CountedShots>;
 
 /// All that was published up to some moment, oldest first: a beginning of the board's one history. It takes the bytes of a number.
@@ -146,6 +147,7 @@ impl<C: Channels> Published<C> {
             return false;
         }
         let count = self.count;
+        // `log`, `offer` and `pen` are tokens for proofs: what is known, the shot that is added, and that no other word is made.
         let mut log = self.log.again();
         let mut offer: Offer<Shot, u64, CountedShots, NothingGained> = log.plain::<
             NothingGained,

@@ -11,6 +11,7 @@ mod told;
 mod writer;
 
 pub use board::Board;
+// `StandingRows` are the rows of all services as they stand, to be published; a `Change` is what readers get then.
 pub use change::{Change, StandingRows};
 pub use history::Published;
 pub use reader::BoardReader;

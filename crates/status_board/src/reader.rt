@@ -56,9 +56,9 @@ impl<C: Channels, A: Allocator> BoardReader<C, A> {
         }
     }
 
-    #[tactic(auto, using(crate::proofs::Lasts::never_falls))]
     /// Reads as `read` does, into a shot of the caller: copies the one that was published last into it, of which only the rows that it has
     /// are copied. False where `read` would give None; then the shot stays as it was.
+    #[tactic(auto, using(crate::proofs::Lasts::never_falls))]
     pub fn read_into(&mut self, shot: &mut Shot) -> bool
         ensures later { IsPrefix self.old self.new }
         ensures last { IsTrue result → last_shot self.new ≡ Some shot.new }

@@ -55,7 +55,7 @@ impl<C: Channels, A: Allocator> Absorb<Next<C, A>> for Shown<C, A> {
 
     ghost applied = { λ s next. tt };
 
-    // A place that was never filled, since memory was refused, changes nothing.
+    // Brings one of the two copies up to date. A place that was never filled, since memory was refused, changes nothing.
     fn absorb_first(
         &mut self,
         operation: &Next<C, A>,
@@ -67,6 +67,7 @@ impl<C: Channels, A: Allocator> Absorb<Next<C, A>> for Shown<C, A> {
         Ok(())
     }
 
+    // Brings the other copy up to date in the same way.
     fn absorb_second(
         &mut self,
         operation: Next<C, A>,

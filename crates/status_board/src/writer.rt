@@ -105,6 +105,7 @@ where
     alloc: A,
     // Two copies of what is shown; the one that nobody reads is brought up to date by what is to come (`Next`), and then shown.
     handle: WriteHandle<Shown<C, A>, Next<C, A>, R, A>,
+    // Counts the shots that were published.
     word: Count,
     published: Published<C>,
 }

@@ -1,4 +1,4 @@
-//! Acts.
+//! The codes of acts: an act as bytes, and read back.
 ghost use Rattle.std.specs.Prelude.{◌≡◌, ◌<◌, ◌≤◌, ◌^◌, ℕ, List, ◌∷◌, length, IsTrue, IfOk, OnOk, ⊤};
 ghost use Rattle.std.specs.declared.alloc.Global.{Global};
 ghost use Rattle.s6_events.specs.Name.{is_name};

@@ -9,7 +9,8 @@ use std::alloc::{AllocError, Global};
 use std::marker::Model;
 use tree_core::{Act, Effect, Input, PlainAct, PlainInput};
 
-/// A tick, or a report but for a notification.
+/// A tick, or any report but a notification. A report names a service and its generation first, and then the process number or how the program
+/// ended.
 #[derive(Clone, Copy)]
 pub enum ToldAct {
     Tick,
@@ -49,7 +50,7 @@ pub trait KeptInput: Drop {
     /// The input that it stands for.
     ghost input: { Self → Input Global };
 
-    /// Who gave it.
+    /// The actor that handed it in.
     fn actor(&self) -> Actor
         ensures { result ≡ (input self.now).actor };
 
@@ -60,7 +61,7 @@ pub trait KeptInput: Drop {
         ensures fits { IfOk result
             (λ has_code. IsTrue has_code → FitsStep (input self.now) (outcome_of effect.now)) };
 
-    /// It as plain data.
+    /// The input as plain data.
     fn into_plain(self) -> PlainInput<Global>
         ensures { result ≡ input self };
 }

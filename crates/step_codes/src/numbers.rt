@@ -1,4 +1,4 @@
-//! Numbers.
+//! The codes of numbers, truth values and options. Numbers of more than 8 bits: one byte below 251, else 251 or 252 and then 4 or 8 bytes.
 ghost use Rattle.std.specs.Prelude.{◌≡◌, ◌+◌, ◌<◌, ◌≤◌, ◌^◌, ◌++◌, ◌∷◌, List, ℕ, OnOk, length, vec_len, vec_capacity};
 ghost use Rattle.step_codes.specs.Adding.{Adds};
 ghost use Rattle.step_codes.specs.NumberCodes.{number_onto};

@@ -1,4 +1,4 @@
-//! Orders.
+//! The codes of orders: a byte that tells the kind, and the code of each field.
 use crate::coded::{Code, Coded};
 use s6_events::{Name, Order, Sid};
 use std::alloc::AllocError;

@@ -1,4 +1,4 @@
-//! Replies.
+//! The codes of replies, and of what they hold: refusals and rows.
 ghost use Rattle.std.specs.Prelude.{◌≡◌, ℕ, List, IsTrue, OnOk};
 ghost use Rattle.std.specs.declared.alloc.Global.{Global};
 ghost use Rattle.tree_core.specs.declared.reply.Reply.{Reply};

@@ -1,4 +1,4 @@
-//! Steps.
+//! The codes of steps: the actor, the moment, what the step gave, and its act.
 ghost use Rattle.std.specs.Prelude.{◌≡◌, ◌<◌, ◌≤◌, ◌++◌, ◌∷◌, [], ℕ, List, length, IsTrue, IsFalse, IfOk, OnOk};
 ghost use Rattle.std.specs.declared.alloc.Global.{Global};
 ghost use Rattle.s6_events.specs.At.{last_moment};
@@ -71,7 +71,7 @@ pub fn push_step(
     Ok(true)
 }
 
-/// The same of a tick or a report.
+/// Adds the code of the step of a tick or a report, as `push_step` does. Whether it has one. An error where memory is refused.
 #[inline(always)]
 pub fn push_told_step(
     code: &mut Vec<u8>,

@@ -14,7 +14,8 @@ use svscan_core::Entry;
 /// The most services that a tree supervises.
 const MOST_SERVICES: usize = 256;
 
-/// What svscan would do with the entries of a scan directory.
+/// What svscan would do with the entries of a scan directory: in `text` a line for each, and in `is_refused` whether at least one of them would
+/// not be supervised.
 #[derive(Drop)]
 pub struct Checked {
     /// A line for each of them.

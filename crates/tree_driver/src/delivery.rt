@@ -31,7 +31,8 @@ pub fn deliver_all<C: Channels + Lanes, D: Board<C>, B: Backend, R: Wait>(
     true
 }
 
-// Hands out what each step gave, one after the other; the effect is where each is read. At `NoMemory` nothing of that step was handed out.
+// Hands out what each step gave that was not handed out yet, one step after the other; each is read into `effect`. At `NoMemory` nothing of that
+// step was handed out.
 fn deliver_each<C: Channels + Lanes, D: Board<C>, B: Backend, R: Wait>(
     context: &Context<'_, R>,
     office: &Office<C, D, B>,
@@ -63,8 +64,8 @@ fn deliver_each<C: Channels + Lanes, D: Board<C>, B: Backend, R: Wait>(
     Ok(())
 }
 
-// Works out what is posted of a step, and to whom. The roster notes the step first, unless it has already. At `NoMemory` nothing is posted,
-// and the step is still to be handed out.
+// Works out what is posted of a step, and to whom. The roster notes the step first, unless it has already; for a step of the scanner it is noted
+// afterwards that its scan or tick was made. At `NoMemory` nothing is posted, and the step is still to be handed out.
 fn hand_out_of<C: Channels + Lanes, R: Wait>(
     context: &Context<'_, R>,
     state: &mut DriverState<'_, C>,
@@ -120,7 +121,8 @@ fn catch_up<C: Channels + Lanes, D: Board<C>, B: Backend, R: Wait>(
     Ok(())
 }
 
-// Notes that a step of actor 0 was made. If it was the scan, that is over, and lines are kept for the services for which it had no room.
+// Notes that a step of the scanner, actor 0, was made: a scan or a tick, with this reply. If it was the scan, that is over: what it could not
+// read is kept for statuses, and lines are kept for standard error about the services for which it had no room.
 fn note_scanner<C: Channels + Lanes, R: Wait>(
     context: &Context<'_, R>,
     state: &mut DriverState<'_, C>,

@@ -12,7 +12,8 @@ use status_board::BoardReader;
 use std::alloc::Global;
 use tree_core::{Act, Effect};
 
-/// What goes on from one run to the next, beside the tree and its backends.
+/// What goes on from one run to the next, beside the tree and its backends: the connections, the scans and ticks that are planned, and what is
+/// not handed in, posted or written yet.
 #[derive(Drop)]
 pub struct Lasting {
     pub clients: ClientDesk,
@@ -23,6 +24,7 @@ pub struct Lasting {
     pub awaits_first: bool,
     /// What could not be read of the scan that is handed in.
     pub unread: Vec<Remark>,
+    /// The services for which the last scan had no room, so that each is told of once.
     pub full: FullServices,
     /// Lines that are still to be told on standard error.
     pub lines: Vec<u8>,
@@ -80,13 +82,14 @@ pub fn new_effect(alloc: Global) -> Result<Box<Effect<Global>>, NoMemory> {
     Ok(Box::new(alloc, Effect::new(alloc))?)
 }
 
-/// What the driver keeps for a run.
+/// What the driver keeps for a run: the seats at which it hands inputs in, the board from which statuses are told, how many steps were handed
+/// out, and, in `lasting`, what outlasts the run.
 #[derive(Drop)]
 pub struct DriverState<'a, C: Channels + Lanes> {
     /// The seats at which inputs are handed in, by their actors.
     pub seats: Vec<Seat<C>>,
     pub board: RunBoard<C>,
-    /// What is known of the run.
+    /// The inputs of the run that are known so far. It exists for proofs alone; calls of the office make it longer.
     pub known: KnownHistory<C>,
     pub lasting: &'a mut Lasting,
     pub pace: Pace,
@@ -125,7 +128,8 @@ impl<'a, C: Channels + Lanes> DriverState<'a, C> {
         self.scan == Some(self.scans_and_ticks.saturating_add(1))
     }
 
-    /// Hands in an act of this actor. Where its ring is full, or has taken as many inputs as it ever may, the act comes back.
+    /// Hands in an act of this actor at the moment `now`, in milliseconds. Where its ring is full, or has taken as many inputs as it ever may,
+    /// the act comes back.
     pub fn hand_in(&mut self, actor: usize, now: u64, act: Act<Global>) -> Result<(), Act<Global>> {
         let Some(seat) = self.seats.get_mut(actor) else {
             return Err(act);
@@ -142,7 +146,7 @@ impl<'a, C: Channels + Lanes> DriverState<'a, C> {
         }
     }
 
-    /// Hands in a scan of what was found. Whether it was taken.
+    /// Hands in a scan of what was found, at the moment `now`, in milliseconds. Returns whether the scanner's ring took it.
     pub fn submit_scan(&mut self, now: u64, found: Found) -> bool {
         let Some(seat) = self.seats.get(SCANNER) else {
             return false;

@@ -43,6 +43,7 @@ pub fn drive_run<C: Channels + Lanes, D: Board<C>, B: Backend, R: Wait + Clock, 
             After::Stop(end) => return end,
         }
     }
+    // Never reached: the loop has no end.
     RunEnd::Full
 }
 
@@ -54,7 +55,8 @@ pub fn write_error_lines<E: Write>(lasting: &mut Lasting, errors: &mut E) {
     }
 }
 
-/// How a round ends in which all steps were made up to this halt: the connections are woken, and the lanes carry.
+/// Ends a round: wakes the connections, has the lanes carry, and returns what the round has found. It began at the moment `now`, in
+/// milliseconds; `halt` says why no further step was made, and `is_open` and `is_full` are as in `Round`.
 pub fn round_after<C: Channels + Lanes, D: Board<C>, B: Backend, R: Wait>(
     context: &Context<'_, R>,
     office: &Office<C, D, B>,
@@ -131,7 +133,7 @@ fn hand_in_found<C: Channels + Lanes, R: Wait>(
     }
 }
 
-// Why there is no scan; None where the listing was handed in.
+// Hands in a scan of what was found. Returns why there is no scan, which is told to those that asked for it; None where it was handed in.
 fn refusal_of<C: Channels + Lanes>(
     state: &mut DriverState<'_, C>,
     now: u64,
@@ -170,6 +172,7 @@ pub fn drive_some<C: Channels + Lanes, D: Board<C>, B: Backend, R: Wait>(
             DriveStop::RunFull => return Halt::Full,
         }
     }
+    // Never reached: the loop has no end.
     Halt::Idle
 }
 

@@ -44,8 +44,8 @@ pub(crate) fn drive_to_end<
     }
 }
 
-// Records the run, and tells those that wait for it. Where memory is refused it is tried again; what connections ask meanwhile is refused.
-// `Record` where the run can't be written.
+// Records the run, and tells the connections that wait for it, which `context` reaches. Where memory is refused it is tried again; what
+// connections ask meanwhile is refused. `Record` where the run can't be written.
 fn record<C: Channels + Lanes, D: Board<C>, B: Backend, R: Wait + Clock, W: Write + Drop>(
     context: &Context<'_, R>,
     office: &Office<C, D, B>,

@@ -68,6 +68,7 @@ pub fn run_all<B: Backend, R: Wait + Clock + Copy + Drop, W: Write + Drop, E: Wr
             return done;
         }
     }
+    // Never reached: the loop has no end.
     Ok(())
 }
 
@@ -77,7 +78,7 @@ fn first_tree<B: Drop>(alloc: Global, backends: Vec<B>) -> Option<Between<B>> {
     Some(Between { tree, backends })
 }
 
-// Makes one run. How the tree has ended; None where it goes on.
+// Makes one run, of the tree in `between`, where it leaves what the next run begins with. Returns how the tree has ended; None where it goes on.
 fn run_next<B: Backend, R: Wait + Clock + Copy + Drop, W: Write + Drop, E: Write, L: Log>(
     context: &Context<'_, R>,
     settings: &mut RunSettings<W>,
@@ -211,7 +212,7 @@ fn run_opened<
 }
 
 // Takes the memory that recording and closing a run need, and tries again until there is some; what connections ask meanwhile is refused.
-// Room for the finish of each seat.
+// Returns an empty list with room for what each seat gives when it is finished at the end of the run.
 fn take_memory<C: Channels, R: Wait + Clock, W: Write + Drop>(
     context: &Context<'_, R>,
     lasting: &mut Lasting,
@@ -226,10 +227,12 @@ fn take_memory<C: Channels, R: Wait + Clock, W: Write + Drop>(
         }
         refuse_and_wait(context, lasting);
     }
+    // Never reached: the loop has no end.
     Vec::new(alloc)
 }
 
-// Finishes every seat, and closes the office, in which nothing is left to be done.
+// Finishes every seat, and closes the office, in which nothing is left to be done. `finish_room` is an empty list with room for what each seat
+// gives when it is finished. Returns what the next run begins with.
 fn close<C: Channels + Lanes, D: Board<C>, B: Backend, R: Wait>(
     context: &Context<'_, R>,
     office: Office<C, D, B>,

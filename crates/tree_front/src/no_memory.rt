@@ -26,7 +26,7 @@ pub fn tell_no_memory<E: Write>(program: &str, errors: &mut E) -> u8
     SYSTEM_STATUS
 }
 
-// Both lines.
+// The two lines that tell that the system refused this program memory: one for programs, one for people.
 fn no_memory_lines(program: &str) -> Result<Told, CapacityError>
     ensures { IfOk result (λ told. told.items ≡ no_memory_text program.now) }
 {

@@ -40,7 +40,7 @@ fn folder_beside(path: &str) -> Option<ArrayString<PATH_BYTES>> {
     Some(folder)
 }
 
-// Whether a file that is no folder has the name of that folder.
+// Whether a file that is no folder is at PATH.new, where the folder would be in which the socket is made.
 fn is_taken<R: Files>(rt: &R, path: &str) -> bool {
     let Some(folder) = folder_beside(path) else {
         return false;
@@ -64,7 +64,7 @@ fn trouble_at<R: Files>(rt: &R, path: &str) -> Trouble {
     }
 }
 
-// The words before the path of a socket.
+// What the second line says before the path of the socket that could not be made.
 fn trouble_before(trouble: Trouble) -> &'static str
     ensures { result.now ≡ trouble_before trouble }
 {
@@ -77,7 +77,8 @@ fn trouble_before(trouble: Trouble) -> &'static str
     }
 }
 
-// The words before the path.
+// What the second line says of a fault, up to the path that it is about; all of it where it is about none. `trouble` is why no socket could be
+// made, where that is the fault.
 fn before_of(fault: ServeFault, trouble: Trouble) -> &'static str
     ensures { result.now ≡ before_of fault trouble }
 {

@@ -36,7 +36,8 @@ fn complaint_of(misuse: Misuse) -> &'static str
     }
 }
 
-// Both lines.
+// The two lines about wrong words, one for programs and one for people. `word` is the wrong word, if one is, and `form` how the words have to be
+// given.
 fn told_of(
     program: &str,
     misuse: Misuse,

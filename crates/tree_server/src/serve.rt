@@ -26,7 +26,8 @@ use std::thread::{Scope, Threads};
 use std::time::Clock;
 use tree_driver::RunSettings;
 
-/// What is made before a tree is served.
+/// What is made before a tree is served: what its threads share, the seats of connections, the listing for the first scan, and the recorder of
+/// its runs.
 #[derive(Drop)]
 struct Parts {
     shared: Shared,
@@ -117,7 +118,8 @@ fn fault_of(error: &io::Error, fault: ServeFault) -> ServeFault {
     }
 }
 
-// Serves the tree in threads, and reads its scan directory in this one.
+// Serves the tree in threads, and reads its scan directory in this one, until the tree has ended. Each of the `links` carries the orders of a
+// lane to the lane's thread, and its reports back. The error says why the tree did not run to its end.
 fn serve<
     B: Backend + Send,
     K: Backend + Send,
@@ -186,7 +188,8 @@ fn tell_serving<E: Write>(shared: &Shared, socket: &str, errors: &mut E) {
     }
 }
 
-// Starts all threads of a tree but this one. Whether they run.
+// Starts all threads of a tree but this one: for each lane one, with the lane's link and its worker, the one that accepts connections, and the
+// driver. Returns whether all of them run.
 fn start_all<'s, S, B, K, W, R>(
     scope: &Scope<'s, S>,
     rt: &'s R,
@@ -211,7 +214,8 @@ where
     start_listener(scope, rt, server) && start_driver(scope, rt, server, driver, outcome, notes)
 }
 
-// Ends all threads of a tree but this one. The driver has ended before, or was not started.
+// Ends all threads of a tree but this one: those of the lanes, by their `links`, and those of the connections. The driver has ended before, or
+// was not started.
 fn end_all<R: Wait + Clock>(rt: &R, server: &Server<Shared>, links: &[Arc<LaneLink, Global>]) {
     for link in links {
         link.end(rt);

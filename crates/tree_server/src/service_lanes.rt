@@ -6,7 +6,8 @@ use server_rules::LANE_COUNT;
 use std::alloc::Global;
 use std::sync::{Arc, Wait};
 
-/// For each lane the backend that runs of the tree ask, the worker behind it, and the link between them.
+/// For each lane three things: the backend that runs of the tree ask, the worker, which carries out the orders in the lane's thread, and the
+/// link, by which orders go from that backend to the thread, and reports come back.
 #[derive(Drop)]
 pub struct TreeLanes<B, K> {
     pub backends: Vec<B>,
@@ -38,7 +39,8 @@ pub fn open_service_lanes<R: Wait + Copy + Drop>(
     Ok(lanes)
 }
 
-// Adds a lane with this worker.
+// Adds a lane: `worker`, which is to carry out its orders in the lane's thread; a new link to that thread; and the backend that runs ask, which
+// sends each order over the link.
 fn add_lane<R: Wait + Copy + Drop>(
     rt: R,
     alloc: Global,

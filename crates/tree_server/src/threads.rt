@@ -19,7 +19,8 @@ const DRIVER_STACK: usize = 8 * 1024 * 1024;
 /// The stack of the thread of a lane, in bytes.
 const LANE_STACK: usize = 1024 * 1024;
 
-/// What the driver takes over.
+/// What the driver takes over: the backends that runs ask, by lane, the listing for the first scan, and how long runs are and where they are
+/// recorded.
 #[derive(Drop)]
 pub struct DriverParts<B, W> {
     pub backends: Vec<B>,
