@@ -33,7 +33,7 @@ fn builds_what_it_can(rt: HostRuntime) {
     wants_pattern(&rt, alloc, &long, None);
 }
 
-// A pattern has at most 260 states in which letters may stand, where an assertion counts four times, and its tables take at most 16,384 bytes:
+// A pattern has at most 260 states in which letters may stand, where an assertion counts eight times, and its tables take at most 16,384 bytes:
 // `.` takes some 200 of them.
 #[test]
 fn a_pattern_past_the_limits_is_refused(rt: HostRuntime) {

@@ -13,14 +13,14 @@ use std::alloc::{AllocError, Global};
 use std::marker::Model;
 
 // What an assertion costs, which looks at both sides of a place.
-const ASSERTION_COST: usize = 4;
+const ASSERTION_COST: usize = 8;
 
 /// How large the automaton of an expression may be.
 #[derive(Clone, Copy, Debug, PartialEq, Eq)]
 pub struct Limits {
     /// The most bytes of its tables, which the compiler may exceed by 24.
     pub bytes: usize,
-    /// The most that a letter below 128 may cost: one for each state in which a search of such letters may stand, and four for an assertion.
+    /// The most that a letter below 128 may cost: one for each state in which a search of such letters may stand, and eight for an assertion.
     /// The other states are never reached, however many there are.
     pub letter_cost: usize,
 }
@@ -175,7 +175,7 @@ impl TextMatcher {
     }
 }
 
-// How much a letter below 128 costs at most: one for each state in which a search of such letters may stand, and four for an assertion.
+// How much a letter below 128 costs at most: one for each state in which a search of such letters may stand, and eight for an assertion.
 fn letter_cost(nfa: &Nfa) -> usize {
     let mut cost: usize = 0;
     for state in &nfa.states {
