@@ -140,7 +140,8 @@ fn read_more(reader: &mut PipeReader, heard: &mut ArrayVec<u8, PART>) -> bool {
     }
 }
 
-// Tells what may be told of what was read. Returns whether nothing more will be read.
+// Tells those of the bytes read so far that may be told now, which at the end of the output are all. Returns whether nothing more will be
+// read.
 fn hear<R: Wait>(rt: &R, process: &ServiceProcess, hearing: &mut Hearing, is_at_end: bool) -> bool {
     let mut telling = telling_of(hearing.heard.as_slice(), process.is_mark_due(rt));
     if is_at_end && !telling.is_last {

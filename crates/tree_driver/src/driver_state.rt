@@ -83,7 +83,7 @@ pub fn new_effect(alloc: Global) -> Result<Box<Effect<Global>>, NoMemory> {
 }
 
 /// What the driver keeps for a run: the seats at which it hands inputs in, the board from which statuses are told, how many steps were handed
-/// out, and, in `lasting`, what outlasts the run.
+/// out (`pace`), the scan that was handed in and isn't answered yet (`scan`), and, in `lasting`, what outlasts the run.
 #[derive(Drop)]
 pub struct DriverState<'a, C: Channels + Lanes> {
     /// The seats at which inputs are handed in, by their actors.
