@@ -82,8 +82,8 @@ pub fn new_effect(alloc: Global) -> Result<Box<Effect<Global>>, NoMemory> {
     Ok(Box::new(alloc, Effect::new(alloc))?)
 }
 
-/// What the driver keeps for a run: the seats at which it hands inputs in, the board from which statuses are told, how many steps were handed
-/// out (`pace`), the scan that was handed in and isn't answered yet (`scan`), and, in `lasting`, what outlasts the run.
+/// What the driver keeps for a run: the seats at which it hands inputs in, the board from which statuses are told, how long the run
+/// is (`pace`), the scan that was handed in and isn't answered yet (`scan`), and, in `lasting`, what outlasts the run.
 #[derive(Drop)]
 pub struct DriverState<'a, C: Channels + Lanes> {
     /// The seats at which inputs are handed in, by their actors.
