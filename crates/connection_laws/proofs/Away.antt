@@ -16,7 +16,8 @@ pub record IsAway (m : Moved) : Type 0 where
   pub gone : is_here m.next.phase ≡ false
   pub silent : posted_of m.todo ≡ []
 
-pub ends_away : (released waiters subscriptions : List ℕ) (made : Made) (c : View) → IsAway (ends_by (next_ended released waiters subscriptions made) c)
+pub ends_away : (released waiters subscriptions : List ℕ) (made : Made) (c : View)
+    → IsAway (ends_by (next_ended released waiters subscriptions made) c)
 ends_away (id ∷ released) waiters subscriptions made c = record { gone = refl; silent = refl }
 ends_away [] (id ∷ waiters) subscriptions made c = record { gone = refl; silent = refl }
 ends_away [] [] (id ∷ subscriptions) made c = record { gone = refl; silent = refl }

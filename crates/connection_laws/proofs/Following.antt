@@ -67,7 +67,8 @@ record Keeps (c : View) (taken : List Request) (next : View) : Type 0 where
 -- nothing more is followed
 followed : (c next : View) → next.made.follows ≡ c.made.follows → (name : List ℕ) → is_followed name next.made.follows ≡ true
     → (is_followed name c.made.follows || list_any (asks_for name) c.asked) ≡ true
-followed c next same name is = or_left (is_followed name c.made.follows) (list_any (asks_for name) c.asked) (subst (λ (f : Following). is_followed name f ≡ true) same is)
+followed c next same name is = or_left (is_followed name c.made.follows) (list_any (asks_for name) c.asked)
+    (subst (λ (f : Following). is_followed name f ≡ true) same is)
 
 -- the same requests wait, and the same is followed
 stays_so : (c next : View) (taken : List Request) → next.asked ≡ c.asked → next.made.follows ≡ c.made.follows → Keeps c taken next
@@ -131,35 +132,42 @@ chosen_same false one other c first second = second
 -- a request that is begun, and what is left
 begun_keeps : (r : Request) (rest : List Request) (made : Made) (next : View) → IsSame (record { phase = Idle; asked = rest; made = made }) next
     → Keeps (record { phase = Idle; asked = r ∷ rest; made = made }) [] next
-begun_keeps r rest made next is = first_begun (record { phase = Idle; asked = r ∷ rest; made = made }) next r (ap (λ (rs : List Request). r ∷ rs) (sym is.0)) is.1
+begun_keeps r rest made next is = first_begun (record { phase = Idle; asked = r ∷ rest; made = made }) next r
+    (ap (λ (rs : List Request). r ∷ rs) (sym is.0)) is.1
 
 follows_keeps : (services : Following) (rest : List Request) (made : Made)
     → Keeps (record { phase = Idle; asked = Follow services ∷ rest; made = made }) []
     (record { phase = Idle; asked = rest; made = record made { follows = services } })
 follows_keeps services rest made = record {
   asked = λ p is. or_left (p (Follow services) || list_any p rest) false (or_right (p (Follow services)) (list_any p rest) is);
-  follows = λ name is. or_right (is_followed name made.follows) (is_followed name services || list_any (asks_for name) rest) (or_left (is_followed name services) (list_any (asks_for name) rest) is);
+  follows = λ name is. or_right (is_followed name made.follows) (is_followed name services || list_any (asks_for name) rest)
+      (or_left (is_followed name services) (list_any (asks_for name) rest) is);
 }
 
 first_keeps : (waits : List Request) (made : Made) (last_step now : ℕ)
-    → Keeps (record { phase = Idle; asked = waits; made = made }) [] (moved_by (Begin last_step now) (record { phase = Idle; asked = waits; made = made })).next
+    → Keeps (record { phase = Idle; asked = waits; made = made }) []
+    (moved_by (Begin last_step now) (record { phase = Idle; asked = waits; made = made })).next
 first_keeps [] made last_step now = stays_so _ _ [] refl refl
-first_keeps (Step act ∷ rest) made last_step now = begun_keeps (Step act) rest made _ (admitted_same (admission_of act made) act (record { phase = Idle; asked = rest; made = made }))
-first_keeps (Status subject ∷ rest) made last_step now = begun_keeps (Status subject) rest made _ (chosen_same (is_recent last_step now) _ _ (record { phase = Idle; asked = rest; made = made }) (refl, refl) (refl, refl))
+first_keeps (Step act ∷ rest) made last_step now = begun_keeps (Step act) rest made _
+    (admitted_same (admission_of act made) act (record { phase = Idle; asked = rest; made = made }))
+first_keeps (Status subject ∷ rest) made last_step now = begun_keeps (Status subject) rest made _
+    (chosen_same (is_recent last_step now) _ _ (record { phase = Idle; asked = rest; made = made }) (refl, refl) (refl, refl))
 first_keeps (Scan ∷ rest) made last_step now = begun_keeps Scan rest made _ (refl, refl)
 first_keeps (Record ∷ rest) made last_step now = begun_keeps Record rest made _ (refl, refl)
 first_keeps (Follow services ∷ rest) made last_step now = follows_keeps services rest made
 first_keeps (Clock ∷ rest) made last_step now = begun_keeps Clock rest made _ (refl, refl)
 first_keeps (Refused o ∷ rest) made last_step now = begun_keeps (Refused o) rest made _ (refl, refl)
 
-joined_keeps : (ch : StandingChange) (n : ℕ) (act : Act Global) (rest : List Request) (c : View) → c.asked ≡ Step act ∷ rest → Keeps c [] (joins ch n act rest c).next
+joined_keeps : (ch : StandingChange) (n : ℕ) (act : Act Global) (rest : List Request) (c : View) → c.asked ≡ Step act ∷ rest
+    → Keeps c [] (joins ch n act rest c).next
 joined_keeps change.Other n act rest c waits = first_begun c _ (Step act) waits refl
 joined_keeps change.MakesWaiter n act rest c waits = stays_so c c [] refl refl
 joined_keeps change.MakesSubscription n act rest c waits = stays_so c c [] refl refl
 joined_keeps (change.EndsWaiter id) n act rest c waits = stays_so c c [] refl refl
 joined_keeps (change.EndsSubscription id) n act rest c waits = stays_so c c [] refl refl
 
-beside_keeps : (few : Bool) (n : ℕ) (waits : List Request) (c : View) → c.asked ≡ waits → Keeps c [] (if few then begin_next waits n c else stays c).next
+beside_keeps : (few : Bool) (n : ℕ) (waits : List Request) (c : View) → c.asked ≡ waits
+    → Keeps c [] (if few then begin_next waits n c else stays c).next
 beside_keeps false n waits c are = stays_so c c [] refl refl
 beside_keeps true n [] c are = stays_so c c [] refl refl
 beside_keeps true n (Step act ∷ rest) c are = joined_keeps (change_of act) n act rest c are
@@ -181,14 +189,17 @@ ends_keeps [] [] (id ∷ subscriptions) c = stays_so c _ [] refl refl
 ends_keeps [] [] [] c = record { asked = λ p is. or_left (list_any p c.asked) false is; follows = λ name is. search rules }
 
 begins_keeps : (phase : Phase) (waits : List Request) (made : Made) (last_step now : ℕ)
-    → Keeps (record { phase = phase; asked = waits; made = made }) [] (moved_by (Begin last_step now) (record { phase = phase; asked = waits; made = made })).next
+    → Keeps (record { phase = phase; asked = waits; made = made }) []
+    (moved_by (Begin last_step now) (record { phase = phase; asked = waits; made = made })).next
 begins_keeps Idle waits made last_step now = first_keeps waits made last_step now
-begins_keeps (Stepping n) waits made last_step now = beside_keeps (nat_lt n step_limit) n waits (record { phase = Stepping n; asked = waits; made = made }) refl
+begins_keeps (Stepping n) waits made last_step now = beside_keeps (nat_lt n step_limit) n waits
+    (record { phase = Stepping n; asked = waits; made = made }) refl
 begins_keeps (UnderWay e) waits made last_step now = stays_so _ _ [] refl refl
 begins_keeps PutOff waits made last_step now = same_keeps _ _ [] (put_off_same made.put_off (record { phase = PutOff; asked = waits; made = made }))
 begins_keeps (LeftStepping n) waits made last_step now = stays_so _ _ [] refl refl
 begins_keeps (Left e) waits made last_step now = stays_so _ _ [] refl refl
-begins_keeps Leaving waits made last_step now = ends_keeps made.released made.waiters made.subscriptions (record { phase = Leaving; asked = waits; made = made })
+begins_keeps Leaving waits made last_step now = ends_keeps made.released made.waiters made.subscriptions
+    (record { phase = Leaving; asked = waits; made = made })
 begins_keeps Cancelling waits made last_step now = stays_so _ _ [] refl refl
 begins_keeps Gone waits made last_step now = stays_so _ _ [] refl refl
 
@@ -197,7 +208,8 @@ replied_same : (ch : StandingChange) (r : Reply Global) (made : Made) → (after
 replied_same ch r made = search rules
 
 answered_same : (phase : Phase) (r : Reply Global) (waits : List Request) (made : Made)
-    → IsSame (record { phase = phase; asked = waits; made = made }) (moved_by (Answered r) (record { phase = phase; asked = waits; made = made })).next
+    → IsSame (record { phase = phase; asked = waits; made = made })
+    (moved_by (Answered r) (record { phase = phase; asked = waits; made = made })).next
 answered_same Idle r waits made = (refl, refl)
 answered_same (Stepping n) r waits made = (refl, refl)
 answered_same (UnderWay (errand.Step ch)) r waits made = (refl, replied_same ch r made)
@@ -217,15 +229,18 @@ answered_same Cancelling r waits made = (refl, refl)
 answered_same Gone r waits made = (refl, refl)
 
 recorded_same : (phase : Phase) (steps : ℕ) (waits : List Request) (made : Made)
-    → IsSame (record { phase = phase; asked = waits; made = made }) (moved_by (Recorded steps) (record { phase = phase; asked = waits; made = made })).next
+    → IsSame (record { phase = phase; asked = waits; made = made })
+    (moved_by (Recorded steps) (record { phase = phase; asked = waits; made = made })).next
 recorded_same phase steps waits made = search rules
 
 refused_same : (phase : Phase) (o : OwnAnswer) (waits : List Request) (made : Made)
-    → IsSame (record { phase = phase; asked = waits; made = made }) (moved_by (RefuseErrand o) (record { phase = phase; asked = waits; made = made })).next
+    → IsSame (record { phase = phase; asked = waits; made = made })
+    (moved_by (RefuseErrand o) (record { phase = phase; asked = waits; made = made })).next
 refused_same phase o waits made = search rules
 
 unasked_keeps : (phase : Phase) (waits : List Request) (made : Made) (o : OwnAnswer)
-    → Keeps (record { phase = phase; asked = waits; made = made }) [] (moved_by (RefuseNext o) (record { phase = phase; asked = waits; made = made })).next
+    → Keeps (record { phase = phase; asked = waits; made = made }) []
+    (moved_by (RefuseNext o) (record { phase = phase; asked = waits; made = made })).next
 unasked_keeps Idle [] made o = stays_so _ _ [] refl refl
 unasked_keeps Idle (r ∷ rest) made o = begun_keeps r rest made _ (refl, refl)
 unasked_keeps (Stepping n) waits made o = stays_so _ _ [] refl refl

@@ -126,12 +126,14 @@ steps_turn (change.EndsWaiter id) act rest made = begins (Step act) _ (todo.Subm
 steps_turn (change.EndsSubscription id) act rest made = begins (Step act) _ (todo.Submit act) rest made made refl (act, refl)
 
 replaces_turn : (released : List ℕ) (act : Act Global) (rest : List Request) (made : Made)
-    → Turn (record { phase = Idle; asked = Step act ∷ rest; made = made }) [] (replaces released act (record { phase = Idle; asked = rest; made = made }))
+    → Turn (record { phase = Idle; asked = Step act ∷ rest; made = made }) []
+    (replaces released act (record { phase = Idle; asked = rest; made = made }))
 replaces_turn [] act rest made = at_once (Step act) (answer.Own own.Busy) rest made made (tt, refl)
 replaces_turn (id ∷ released) act rest made = begins (Step act) _ _ rest made _ refl (act, refl)
 
 admitted_turn : (a : Admission) (act : Act Global) (rest : List Request) (made : Made)
-    → Turn (record { phase = Idle; asked = Step act ∷ rest; made = made }) [] (begin_admitted a act (record { phase = Idle; asked = rest; made = made }))
+    → Turn (record { phase = Idle; asked = Step act ∷ rest; made = made }) []
+    (begin_admitted a act (record { phase = Idle; asked = rest; made = made }))
 admitted_turn admission.Admitted act rest made = steps_turn (change_of act) act rest made
 admitted_turn admission.AfterReleased act rest made = replaces_turn made.released act rest made
 admitted_turn admission.Refused act rest made = at_once (Step act) (answer.Own own.Busy) rest made made (tt, refl)
@@ -144,7 +146,8 @@ status_turn true subject rest made = at_once (Status subject) (answer.Status sub
 status_turn false subject rest made = begins (Status subject) _ _ rest made made refl refl
 
 idle_turn : (asked : List Request) (made : Made) (last_step now : ℕ)
-    → Turn (record { phase = Idle; asked = asked; made = made }) [] (moved_by (Begin last_step now) (record { phase = Idle; asked = asked; made = made }))
+    → Turn (record { phase = Idle; asked = asked; made = made }) []
+    (moved_by (Begin last_step now) (record { phase = Idle; asked = asked; made = made }))
 idle_turn [] made last_step now = stays_turn _ refl
 idle_turn (Step act ∷ rest) made last_step now = admitted_turn (admission_of act made) act rest made
 idle_turn (Status subject ∷ rest) made last_step now = status_turn (is_recent last_step now) subject rest made
@@ -194,7 +197,8 @@ more_left_over : (n count : ℕ) → nat_lt n 2 ≡ false → suc count ≡ n �
 more_left_over n count large is = omega (arith, ltb-false n 2 large, is)
 
 -- the first of the steps that are under way is answered
-one_less : (few : Bool) (n : ℕ) (first : Request) (begun asked : List Request) (made : Made) → nat_lt n 2 ≡ few → suc (length begun) ≡ n → All IsStep (first ∷ begun)
+one_less : (few : Bool) (n : ℕ) (first : Request) (begun asked : List Request) (made : Made) → nat_lt n 2 ≡ few → suc (length begun) ≡ n
+    → All IsStep (first ∷ begun)
     → Turns (record { phase = Stepping n; asked = asked; made = made }) []
     (answers_by answer.TheReply (record { phase = if few then Idle else Stepping (n - 1); asked = asked; made = made })) (first ∷ begun)
 one_less true n (Step act) [] asked made small count all = record { later = []; answered = (tt, append-nil asked); is_begun = refl }
@@ -218,7 +222,8 @@ stepped n [] asked made is = absurd (omega (arith, is.0, is.1))
 stepped n (first ∷ begun) asked made is = one_less (nat_lt n 2) n first begun asked made refl is.1 is.2
 
 -- what was under way by itself is answered
-alone : (r : Request) (a : Answer) (begun asked : List Request) (c : View) (made : Made) → begun ≡ r ∷ [] → c.asked ≡ asked → AreAnswered (r ∷ []) (a ∷ []) []
+alone : (r : Request) (a : Answer) (begun asked : List Request) (c : View) (made : Made) → begun ≡ r ∷ [] → c.asked ≡ asked
+    → AreAnswered (r ∷ []) (a ∷ []) []
     → Turns c [] (answers_by a (record { phase = Idle; asked = asked; made = made })) begun
 alone r a begun asked c made one waits is = record { later = []; answered = rw (one, waits) (is.0, append-nil asked); is_begun = refl }
 
@@ -316,7 +321,8 @@ turn c event = turn_in c.phase c.asked c.made event
 
 -- the answers with those of one move more
 answers_more : (done : List Done) (d : Done) → answers (done ++ d ∷ []) ≡ answers done ++ answered_by d.todo
-answers_more done d = flat_map-append (λ (one : Done). answered_by one.todo) done (d ∷ []) ∙ ap (λ (a : List Answer). answers done ++ a) (append-nil (answered_by d.todo))
+answers_more done d = flat_map-append (λ (one : Done). answered_by one.todo) done (d ∷ [])
+    ∙ ap (λ (a : List Answer). answers done ++ a) (append-nil (answered_by d.todo))
 
 here_kept : (h : History) (event : Event) (law : AnsweredInOrder h) → (p : Pending h law.left)
     → Turns h.now (taken_by event h.now) (moved_by event h.now) p.begun → AnsweredInOrder (happens h event)
@@ -329,7 +335,8 @@ here_kept h event law p turns = record {
   pending = λ here. record { begun = turns.later; are = refl; is_begun = turns.is_begun };
 }
 
-kept_by : (h : History) (event : Event) → AnsweredInOrder h → Turn h.now (taken_by event h.now) (moved_by event h.now) → AnsweredInOrder (happens h event)
+kept_by : (h : History) (event : Event) → AnsweredInOrder h → Turn h.now (taken_by event h.now) (moved_by event h.now)
+    → AnsweredInOrder (happens h event)
 kept_by h event law (Here here turns) = let p = law.pending here in here_kept h event law p (turns p.begun p.is_begun)
 kept_by h event law (Away gone none silent) = record {
   left = law.left;

@@ -32,7 +32,8 @@ is_gone phase = false
 abbrev IsThere : Moved → Type 0
 IsThere m = is_gone m.next.phase ≡ false
 
-asked : (takes : Bool) (coming : List Request) (c : View) → is_gone c.phase ≡ false → is_gone (if takes then record c { asked = coming } else c).phase ≡ false
+asked : (takes : Bool) (coming : List Request) (c : View) → is_gone c.phase ≡ false
+    → is_gone (if takes then record c { asked = coming } else c).phase ≡ false
 asked true coming c there = there
 asked false coming c there = there
 
@@ -56,7 +57,8 @@ chosen : (is : Bool) (one other : Moved) → IsThere one → IsThere other → i
 chosen true one other first second = first
 chosen false one other first second = second
 
-first : (waits : List Request) (made : Made) (last_step now : ℕ) → IsThere (moved_by (Begin last_step now) (record { phase = Idle; asked = waits; made = made }))
+first : (waits : List Request) (made : Made) (last_step now : ℕ)
+    → IsThere (moved_by (Begin last_step now) (record { phase = Idle; asked = waits; made = made }))
 first [] made last_step now = refl
 first (Step act ∷ rest) made last_step now = admitted (admission_of act made) act (record { phase = Idle; asked = rest; made = made }) refl
 first (Status subject ∷ rest) made last_step now = chosen (is_recent last_step now) _ _ refl refl
@@ -77,7 +79,8 @@ joined change.MakesSubscription n act rest c there = there
 joined (change.EndsWaiter id) n act rest c there = there
 joined (change.EndsSubscription id) n act rest c there = there
 
-beside : (few : Bool) (n : ℕ) (waits : List Request) (c : View) → is_gone c.phase ≡ false → is_gone (if few then begin_next waits n c else stays c).next.phase ≡ false
+beside : (few : Bool) (n : ℕ) (waits : List Request) (c : View) → is_gone c.phase ≡ false
+    → is_gone (if few then begin_next waits n c else stays c).next.phase ≡ false
 beside false n waits c there = there
 beside true n [] c there = there
 beside true n (Step act ∷ rest) c there = joined (change_of act) n act rest c there
@@ -97,116 +100,144 @@ told_there : (for : Bool) (n : News) (c : View) → is_gone c.phase ≡ false
 told_there true n c there = there
 told_there false n c there = there
 
-finished : (e : Errand) (r : Reply Global) (waits : List Request) (made : Made) → IsThere (moved_by (Answered r) (record { phase = UnderWay e; asked = waits; made = made }))
+finished : (e : Errand) (r : Reply Global) (waits : List Request) (made : Made)
+    → IsThere (moved_by (Answered r) (record { phase = UnderWay e; asked = waits; made = made }))
 finished (errand.Step ch) r waits made = refl
 finished (errand.Status subject) r waits made = refl
 finished errand.Scan r waits made = refl
 finished errand.Record r waits made = refl
 finished errand.Replacement r waits made = refl
 
-finished_left : (e : Errand) (r : Reply Global) (waits : List Request) (made : Made) → IsThere (moved_by (Answered r) (record { phase = Left e; asked = waits; made = made }))
+finished_left : (e : Errand) (r : Reply Global) (waits : List Request) (made : Made)
+    → IsThere (moved_by (Answered r) (record { phase = Left e; asked = waits; made = made }))
 finished_left (errand.Step ch) r waits made = refl
 finished_left (errand.Status subject) r waits made = refl
 finished_left errand.Scan r waits made = refl
 finished_left errand.Record r waits made = refl
 finished_left errand.Replacement r waits made = refl
 
-recorded_underway : (e : Errand) (count : ℕ) (waits : List Request) (made : Made) → IsThere (moved_by (Recorded count) (record { phase = UnderWay e; asked = waits; made = made }))
+recorded_underway : (e : Errand) (count : ℕ) (waits : List Request) (made : Made)
+    → IsThere (moved_by (Recorded count) (record { phase = UnderWay e; asked = waits; made = made }))
 recorded_underway (errand.Step ch) count waits made = refl
 recorded_underway (errand.Status subject) count waits made = refl
 recorded_underway errand.Scan count waits made = refl
 recorded_underway errand.Record count waits made = refl
 recorded_underway errand.Replacement count waits made = refl
 
-recorded_left : (e : Errand) (count : ℕ) (waits : List Request) (made : Made) → IsThere (moved_by (Recorded count) (record { phase = Left e; asked = waits; made = made }))
+recorded_left : (e : Errand) (count : ℕ) (waits : List Request) (made : Made)
+    → IsThere (moved_by (Recorded count) (record { phase = Left e; asked = waits; made = made }))
 recorded_left (errand.Step ch) count waits made = refl
 recorded_left (errand.Status subject) count waits made = refl
 recorded_left errand.Scan count waits made = refl
 recorded_left errand.Record count waits made = refl
 recorded_left errand.Replacement count waits made = refl
 
-unscanned_underway : (e : Errand) (o : OwnAnswer) (waits : List Request) (made : Made) → IsThere (moved_by (RefuseErrand o) (record { phase = UnderWay e; asked = waits; made = made }))
+unscanned_underway : (e : Errand) (o : OwnAnswer) (waits : List Request) (made : Made)
+    → IsThere (moved_by (RefuseErrand o) (record { phase = UnderWay e; asked = waits; made = made }))
 unscanned_underway (errand.Step ch) o waits made = refl
 unscanned_underway (errand.Status subject) o waits made = refl
 unscanned_underway errand.Scan o waits made = refl
 unscanned_underway errand.Record o waits made = refl
 unscanned_underway errand.Replacement o waits made = refl
 
-unscanned_left : (e : Errand) (o : OwnAnswer) (waits : List Request) (made : Made) → IsThere (moved_by (RefuseErrand o) (record { phase = Left e; asked = waits; made = made }))
+unscanned_left : (e : Errand) (o : OwnAnswer) (waits : List Request) (made : Made)
+    → IsThere (moved_by (RefuseErrand o) (record { phase = Left e; asked = waits; made = made }))
 unscanned_left (errand.Step ch) o waits made = refl
 unscanned_left (errand.Status subject) o waits made = refl
 unscanned_left errand.Scan o waits made = refl
 unscanned_left errand.Record o waits made = refl
 unscanned_left errand.Replacement o waits made = refl
 
-unasked : (waits : List Request) (made : Made) (o : OwnAnswer) → IsThere (moved_by (RefuseNext o) (record { phase = Idle; asked = waits; made = made }))
+unasked : (waits : List Request) (made : Made) (o : OwnAnswer)
+    → IsThere (moved_by (RefuseNext o) (record { phase = Idle; asked = waits; made = made }))
 unasked [] made o = refl
 unasked (r ∷ rest) made o = refl
 
 -- while it isn't leaving it doesn't go
 there_in : (phase : Phase) (waits : List Request) (made : Made) (event : Event) → is_gone phase ≡ false → (phase ≡ Leaving → ⊥)
     → IsThere (moved_by event (record { phase = phase; asked = waits; made = made }))
-there_in Idle waits made (Ask coming) here stays_here = asked (takes_requests (record { phase = Idle; asked = waits; made = made })) coming (record { phase = Idle; asked = waits; made = made }) refl
+there_in Idle waits made (Ask coming) here stays_here = asked (takes_requests (record { phase = Idle; asked = waits; made = made })) coming
+    (record { phase = Idle; asked = waits; made = made }) refl
 there_in Idle waits made (Begin last_step now) here stays_here = first waits made last_step now
 there_in Idle waits made (Answered r) here stays_here = refl
 there_in Idle waits made (Recorded count) here stays_here = refl
 there_in Idle waits made (RefuseErrand o) here stays_here = refl
 there_in Idle waits made (RefuseNext o) here stays_here = unasked waits made o
-there_in Idle waits made (Told told) here stays_here = told_there (is_for told (record { phase = Idle; asked = waits; made = made })) told (record { phase = Idle; asked = waits; made = made }) refl
+there_in Idle waits made (Told told) here stays_here = told_there (is_for told (record { phase = Idle; asked = waits; made = made })) told
+    (record { phase = Idle; asked = waits; made = made }) refl
 there_in Idle waits made Leave here stays_here = refl
-there_in (Stepping n) waits made (Ask coming) here stays_here = asked (takes_requests (record { phase = Stepping n; asked = waits; made = made })) coming (record { phase = Stepping n; asked = waits; made = made }) refl
-there_in (Stepping n) waits made (Begin last_step now) here stays_here = beside (nat_lt n step_limit) n waits (record { phase = Stepping n; asked = waits; made = made }) refl
+there_in (Stepping n) waits made (Ask coming) here stays_here = asked
+    (takes_requests (record { phase = Stepping n; asked = waits; made = made })) coming
+    (record { phase = Stepping n; asked = waits; made = made }) refl
+there_in (Stepping n) waits made (Begin last_step now) here stays_here = beside (nat_lt n step_limit) n waits
+    (record { phase = Stepping n; asked = waits; made = made }) refl
 there_in (Stepping n) waits made (Answered r) here stays_here = one_less (nat_lt n 2) (Stepping (n - 1)) Idle refl refl
 there_in (Stepping n) waits made (Recorded count) here stays_here = refl
 there_in (Stepping n) waits made (RefuseErrand o) here stays_here = refl
 there_in (Stepping n) waits made (RefuseNext o) here stays_here = refl
-there_in (Stepping n) waits made (Told told) here stays_here = told_there (is_for told (record { phase = Stepping n; asked = waits; made = made })) told (record { phase = Stepping n; asked = waits; made = made }) refl
+there_in (Stepping n) waits made (Told told) here stays_here = told_there
+    (is_for told (record { phase = Stepping n; asked = waits; made = made })) told (record { phase = Stepping n; asked = waits; made = made }) refl
 there_in (Stepping n) waits made Leave here stays_here = refl
-there_in (UnderWay e) waits made (Ask coming) here stays_here = asked (takes_requests (record { phase = UnderWay e; asked = waits; made = made })) coming (record { phase = UnderWay e; asked = waits; made = made }) refl
+there_in (UnderWay e) waits made (Ask coming) here stays_here = asked
+    (takes_requests (record { phase = UnderWay e; asked = waits; made = made })) coming
+    (record { phase = UnderWay e; asked = waits; made = made }) refl
 there_in (UnderWay e) waits made (Begin last_step now) here stays_here = refl
 there_in (UnderWay e) waits made (Answered r) here stays_here = finished e r waits made
 there_in (UnderWay e) waits made (Recorded count) here stays_here = recorded_underway e count waits made
 there_in (UnderWay e) waits made (RefuseErrand o) here stays_here = unscanned_underway e o waits made
 there_in (UnderWay e) waits made (RefuseNext o) here stays_here = refl
-there_in (UnderWay e) waits made (Told told) here stays_here = told_there (is_for told (record { phase = UnderWay e; asked = waits; made = made })) told (record { phase = UnderWay e; asked = waits; made = made }) refl
+there_in (UnderWay e) waits made (Told told) here stays_here = told_there
+    (is_for told (record { phase = UnderWay e; asked = waits; made = made })) told (record { phase = UnderWay e; asked = waits; made = made }) refl
 there_in (UnderWay e) waits made Leave here stays_here = refl
-there_in PutOff waits made (Ask coming) here stays_here = asked (takes_requests (record { phase = PutOff; asked = waits; made = made })) coming (record { phase = PutOff; asked = waits; made = made }) refl
+there_in PutOff waits made (Ask coming) here stays_here = asked (takes_requests (record { phase = PutOff; asked = waits; made = made })) coming
+    (record { phase = PutOff; asked = waits; made = made }) refl
 there_in PutOff waits made (Begin last_step now) here stays_here = begun_off made.put_off _
 there_in PutOff waits made (Answered r) here stays_here = refl
 there_in PutOff waits made (Recorded count) here stays_here = refl
 there_in PutOff waits made (RefuseErrand o) here stays_here = refl
 there_in PutOff waits made (RefuseNext o) here stays_here = refl
-there_in PutOff waits made (Told told) here stays_here = told_there (is_for told (record { phase = PutOff; asked = waits; made = made })) told (record { phase = PutOff; asked = waits; made = made }) refl
+there_in PutOff waits made (Told told) here stays_here = told_there (is_for told (record { phase = PutOff; asked = waits; made = made })) told
+    (record { phase = PutOff; asked = waits; made = made }) refl
 there_in PutOff waits made Leave here stays_here = refl
-there_in (LeftStepping n) waits made (Ask coming) here stays_here = asked (takes_requests (record { phase = LeftStepping n; asked = waits; made = made })) coming (record { phase = LeftStepping n; asked = waits; made = made }) refl
+there_in (LeftStepping n) waits made (Ask coming) here stays_here = asked
+    (takes_requests (record { phase = LeftStepping n; asked = waits; made = made })) coming
+    (record { phase = LeftStepping n; asked = waits; made = made }) refl
 there_in (LeftStepping n) waits made (Begin last_step now) here stays_here = refl
 there_in (LeftStepping n) waits made (Answered r) here stays_here = one_less (nat_lt n 2) (LeftStepping (n - 1)) Leaving refl refl
 there_in (LeftStepping n) waits made (Recorded count) here stays_here = refl
 there_in (LeftStepping n) waits made (RefuseErrand o) here stays_here = refl
 there_in (LeftStepping n) waits made (RefuseNext o) here stays_here = refl
-there_in (LeftStepping n) waits made (Told told) here stays_here = told_there (is_for told (record { phase = LeftStepping n; asked = waits; made = made })) told (record { phase = LeftStepping n; asked = waits; made = made }) refl
+there_in (LeftStepping n) waits made (Told told) here stays_here = told_there
+    (is_for told (record { phase = LeftStepping n; asked = waits; made = made })) told
+    (record { phase = LeftStepping n; asked = waits; made = made }) refl
 there_in (LeftStepping n) waits made Leave here stays_here = refl
-there_in (Left e) waits made (Ask coming) here stays_here = asked (takes_requests (record { phase = Left e; asked = waits; made = made })) coming (record { phase = Left e; asked = waits; made = made }) refl
+there_in (Left e) waits made (Ask coming) here stays_here = asked (takes_requests (record { phase = Left e; asked = waits; made = made })) coming
+    (record { phase = Left e; asked = waits; made = made }) refl
 there_in (Left e) waits made (Begin last_step now) here stays_here = refl
 there_in (Left e) waits made (Answered r) here stays_here = finished_left e r waits made
 there_in (Left e) waits made (Recorded count) here stays_here = recorded_left e count waits made
 there_in (Left e) waits made (RefuseErrand o) here stays_here = unscanned_left e o waits made
 there_in (Left e) waits made (RefuseNext o) here stays_here = refl
-there_in (Left e) waits made (Told told) here stays_here = told_there (is_for told (record { phase = Left e; asked = waits; made = made })) told (record { phase = Left e; asked = waits; made = made }) refl
+there_in (Left e) waits made (Told told) here stays_here = told_there (is_for told (record { phase = Left e; asked = waits; made = made })) told
+    (record { phase = Left e; asked = waits; made = made }) refl
 there_in (Left e) waits made Leave here stays_here = refl
 there_in Leaving waits made event here stays_here = absurd (stays_here refl)
-there_in Cancelling waits made (Ask coming) here stays_here = asked (takes_requests (record { phase = Cancelling; asked = waits; made = made })) coming (record { phase = Cancelling; asked = waits; made = made }) refl
+there_in Cancelling waits made (Ask coming) here stays_here = asked
+    (takes_requests (record { phase = Cancelling; asked = waits; made = made })) coming
+    (record { phase = Cancelling; asked = waits; made = made }) refl
 there_in Cancelling waits made (Begin last_step now) here stays_here = refl
 there_in Cancelling waits made (Answered r) here stays_here = refl
 there_in Cancelling waits made (Recorded count) here stays_here = refl
 there_in Cancelling waits made (RefuseErrand o) here stays_here = refl
 there_in Cancelling waits made (RefuseNext o) here stays_here = refl
-there_in Cancelling waits made (Told told) here stays_here = told_there (is_for told (record { phase = Cancelling; asked = waits; made = made })) told (record { phase = Cancelling; asked = waits; made = made }) refl
+there_in Cancelling waits made (Told told) here stays_here = told_there (is_for told (record { phase = Cancelling; asked = waits; made = made })) told
+    (record { phase = Cancelling; asked = waits; made = made }) refl
 there_in Cancelling waits made Leave here stays_here = refl
 there_in Gone waits made event here stays_here = search rules
 
 -- where it goes, nothing stands
-ends_bare : (released waiters subscriptions : List ℕ) (made : Made) (c : View) → made.released ≡ released → made.waiters ≡ waiters → made.subscriptions ≡ subscriptions → c.made ≡ made
+ends_bare : (released waiters subscriptions : List ℕ) (made : Made) (c : View) → made.released ≡ released → made.waiters ≡ waiters
+    → made.subscriptions ≡ subscriptions → c.made ≡ made
     → (ends_by (next_ended released waiters subscriptions made) c).next.phase ≡ Gone
     → (ends_by (next_ended released waiters subscriptions made) c).next.made ≡ nothing_made
 ends_bare (id ∷ released) waiters subscriptions made c one two three is gone = search rules

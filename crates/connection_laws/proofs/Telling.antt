@@ -71,7 +71,8 @@ record Grows (stood new stands : Made) : Type 0 where
 same : (made new : Made) → Grows made new made
 same made new = record { waiters = before made.waiters new.waiters; subscriptions = before made.subscriptions new.subscriptions }
 
-fewer_released : (made new : Made) (released : List ℕ) (act : Option (Act Global)) → Grows made new (record made { released = released; put_off = act })
+fewer_released : (made new : Made) (released : List ℕ) (act : Option (Act Global))
+    → Grows made new (record made { released = released; put_off = act })
 fewer_released made new released act = record { waiters = before made.waiters new.waiters; subscriptions = before made.subscriptions new.subscriptions }
 
 equal : (xs ys : List ℕ) → xs ≡ ys → AreAmong xs ys
@@ -158,14 +159,16 @@ begun_off : (act : Option (Act Global)) (c : View) (new : Made) → Grows c.made
 begun_off (Some act) c new = record { waiters = before c.made.waiters new.waiters; subscriptions = before c.made.subscriptions new.subscriptions }
 begun_off None c new = same c.made new
 
-joined : (ch : StandingChange) (n : ℕ) (act : Act Global) (rest : List Request) (c : View) (new : Made) → Grows c.made new (joins ch n act rest c).next.made
+joined : (ch : StandingChange) (n : ℕ) (act : Act Global) (rest : List Request) (c : View) (new : Made)
+    → Grows c.made new (joins ch n act rest c).next.made
 joined change.Other n act rest c new = same c.made new
 joined change.MakesWaiter n act rest c new = same c.made new
 joined change.MakesSubscription n act rest c new = same c.made new
 joined (change.EndsWaiter id) n act rest c new = same c.made new
 joined (change.EndsSubscription id) n act rest c new = same c.made new
 
-beside : (few : Bool) (n : ℕ) (asked : List Request) (c : View) (new : Made) → Grows c.made new (if few then begin_next asked n c else stays c).next.made
+beside : (few : Bool) (n : ℕ) (asked : List Request) (c : View) (new : Made)
+    → Grows c.made new (if few then begin_next asked n c else stays c).next.made
 beside false n asked c new = same c.made new
 beside true n [] c new = same c.made new
 beside true n (Step act ∷ rest) c new = joined (change_of act) n act rest c new
@@ -183,12 +186,14 @@ tail x xs ys = λ id is. or_right (x == id) (is_among id (xs ++ ys)) (before xs 
 left_of : (x : ℕ) (xs ys new : List ℕ) → ys ≡ x ∷ xs → AreAmong xs (ys ++ new)
 left_of x xs ys new are = rw are (tail x xs new)
 
-ended : (released waiters subscriptions : List ℕ) (made : Made) (c : View) (new : Made) → made.waiters ≡ waiters → made.subscriptions ≡ subscriptions → c.made ≡ made
+ended : (released waiters subscriptions : List ℕ) (made : Made) (c : View) (new : Made) → made.waiters ≡ waiters → made.subscriptions ≡ subscriptions
+    → c.made ≡ made
     → Grows made new (ends_by (next_ended released waiters subscriptions made) c).next.made
 ended (id ∷ released) waiters subscriptions made c new one two is = record { waiters = before made.waiters new.waiters; subscriptions = before made.subscriptions new.subscriptions }
 ended [] (id ∷ waiters) subscriptions made c new one two is = record { waiters = left_of id waiters made.waiters new.waiters one; subscriptions = before made.subscriptions new.subscriptions }
 ended [] [] (id ∷ subscriptions) made c new one two is = record { waiters = before made.waiters new.waiters; subscriptions = left_of id subscriptions made.subscriptions new.subscriptions two }
-ended [] [] [] made c new one two is = rw is (record { waiters = before made.waiters new.waiters; subscriptions = before made.subscriptions new.subscriptions })
+ended [] [] [] made c new one two is = rw is
+    (record { waiters = before made.waiters new.waiters; subscriptions = before made.subscriptions new.subscriptions })
 
 newsed : (for : Bool) (n : News) (c : View) (new : Made)
     → Grows c.made new (if for then record { next = record c { made = after_news n c.made }; todo = todo.Tell } else stays c).next.made
@@ -240,7 +245,8 @@ recorded Leaving count asked made = same made _
 recorded Cancelling count asked made = same made _
 recorded Gone count asked made = same made _
 
-unasked : (asked : List Request) (made : Made) (o : OwnAnswer) → Grows made (made_in Idle (RefuseNext o)) (moved_by (RefuseNext o) (record { phase = Idle; asked = asked; made = made })).next.made
+unasked : (asked : List Request) (made : Made) (o : OwnAnswer)
+    → Grows made (made_in Idle (RefuseNext o)) (moved_by (RefuseNext o) (record { phase = Idle; asked = asked; made = made })).next.made
 unasked [] made o = same made _
 unasked (r ∷ rest) made o = same made _
 
@@ -262,77 +268,97 @@ left errand.Replacement r asked made = same made _
 
 grows_in : (phase : Phase) (asked : List Request) (made : Made) (event : Event)
     → Grows made (made_in phase event) (moved_by event (record { phase = phase; asked = asked; made = made })).next.made
-grows_in Idle waits made (Ask coming) = asked (takes_requests (record { phase = Idle; asked = waits; made = made })) coming (record { phase = Idle; asked = waits; made = made }) _
+grows_in Idle waits made (Ask coming) = asked (takes_requests (record { phase = Idle; asked = waits; made = made })) coming
+    (record { phase = Idle; asked = waits; made = made }) _
 grows_in Idle waits made (Begin last_step now) = first waits made last_step now _
 grows_in Idle waits made (Answered r) = same made _
 grows_in Idle waits made (Recorded count) = recorded Idle count waits made
 grows_in Idle waits made (RefuseErrand o) = unscanned Idle o waits made
 grows_in Idle waits made (RefuseNext o) = unasked waits made o
-grows_in Idle waits made (Told told) = newsed (is_for told (record { phase = Idle; asked = waits; made = made })) told (record { phase = Idle; asked = waits; made = made }) _
+grows_in Idle waits made (Told told) = newsed (is_for told (record { phase = Idle; asked = waits; made = made })) told
+    (record { phase = Idle; asked = waits; made = made }) _
 grows_in Idle waits made Leave = same made _
-grows_in (Stepping n) waits made (Ask coming) = asked (takes_requests (record { phase = Stepping n; asked = waits; made = made })) coming (record { phase = Stepping n; asked = waits; made = made }) _
-grows_in (Stepping n) waits made (Begin last_step now) = beside (nat_lt n step_limit) n waits (record { phase = Stepping n; asked = waits; made = made }) _
+grows_in (Stepping n) waits made (Ask coming) = asked (takes_requests (record { phase = Stepping n; asked = waits; made = made })) coming
+    (record { phase = Stepping n; asked = waits; made = made }) _
+grows_in (Stepping n) waits made (Begin last_step now) = beside (nat_lt n step_limit) n waits
+    (record { phase = Stepping n; asked = waits; made = made }) _
 grows_in (Stepping n) waits made (Answered r) = same made _
 grows_in (Stepping n) waits made (Recorded count) = recorded (Stepping n) count waits made
 grows_in (Stepping n) waits made (RefuseErrand o) = unscanned (Stepping n) o waits made
 grows_in (Stepping n) waits made (RefuseNext o) = same made _
-grows_in (Stepping n) waits made (Told told) = newsed (is_for told (record { phase = Stepping n; asked = waits; made = made })) told (record { phase = Stepping n; asked = waits; made = made }) _
+grows_in (Stepping n) waits made (Told told) = newsed (is_for told (record { phase = Stepping n; asked = waits; made = made })) told
+    (record { phase = Stepping n; asked = waits; made = made }) _
 grows_in (Stepping n) waits made Leave = same made _
-grows_in (UnderWay e) waits made (Ask coming) = asked (takes_requests (record { phase = UnderWay e; asked = waits; made = made })) coming (record { phase = UnderWay e; asked = waits; made = made }) _
+grows_in (UnderWay e) waits made (Ask coming) = asked (takes_requests (record { phase = UnderWay e; asked = waits; made = made })) coming
+    (record { phase = UnderWay e; asked = waits; made = made }) _
 grows_in (UnderWay e) waits made (Begin last_step now) = same made _
 grows_in (UnderWay e) waits made (Answered r) = answered e r waits made
 grows_in (UnderWay e) waits made (Recorded count) = recorded (UnderWay e) count waits made
 grows_in (UnderWay e) waits made (RefuseErrand o) = unscanned (UnderWay e) o waits made
 grows_in (UnderWay e) waits made (RefuseNext o) = same made _
-grows_in (UnderWay e) waits made (Told told) = newsed (is_for told (record { phase = UnderWay e; asked = waits; made = made })) told (record { phase = UnderWay e; asked = waits; made = made }) _
+grows_in (UnderWay e) waits made (Told told) = newsed (is_for told (record { phase = UnderWay e; asked = waits; made = made })) told
+    (record { phase = UnderWay e; asked = waits; made = made }) _
 grows_in (UnderWay e) waits made Leave = same made _
-grows_in PutOff waits made (Ask coming) = asked (takes_requests (record { phase = PutOff; asked = waits; made = made })) coming (record { phase = PutOff; asked = waits; made = made }) _
+grows_in PutOff waits made (Ask coming) = asked (takes_requests (record { phase = PutOff; asked = waits; made = made })) coming
+    (record { phase = PutOff; asked = waits; made = made }) _
 grows_in PutOff waits made (Begin last_step now) = begun_off made.put_off _ _
 grows_in PutOff waits made (Answered r) = same made _
 grows_in PutOff waits made (Recorded count) = recorded PutOff count waits made
 grows_in PutOff waits made (RefuseErrand o) = unscanned PutOff o waits made
 grows_in PutOff waits made (RefuseNext o) = same made _
-grows_in PutOff waits made (Told told) = newsed (is_for told (record { phase = PutOff; asked = waits; made = made })) told (record { phase = PutOff; asked = waits; made = made }) _
+grows_in PutOff waits made (Told told) = newsed (is_for told (record { phase = PutOff; asked = waits; made = made })) told
+    (record { phase = PutOff; asked = waits; made = made }) _
 grows_in PutOff waits made Leave = same made _
-grows_in (LeftStepping n) waits made (Ask coming) = asked (takes_requests (record { phase = LeftStepping n; asked = waits; made = made })) coming (record { phase = LeftStepping n; asked = waits; made = made }) _
+grows_in (LeftStepping n) waits made (Ask coming) = asked (takes_requests (record { phase = LeftStepping n; asked = waits; made = made })) coming
+    (record { phase = LeftStepping n; asked = waits; made = made }) _
 grows_in (LeftStepping n) waits made (Begin last_step now) = same made _
 grows_in (LeftStepping n) waits made (Answered r) = same made _
 grows_in (LeftStepping n) waits made (Recorded count) = recorded (LeftStepping n) count waits made
 grows_in (LeftStepping n) waits made (RefuseErrand o) = unscanned (LeftStepping n) o waits made
 grows_in (LeftStepping n) waits made (RefuseNext o) = same made _
-grows_in (LeftStepping n) waits made (Told told) = newsed (is_for told (record { phase = LeftStepping n; asked = waits; made = made })) told (record { phase = LeftStepping n; asked = waits; made = made }) _
+grows_in (LeftStepping n) waits made (Told told) = newsed (is_for told (record { phase = LeftStepping n; asked = waits; made = made })) told
+    (record { phase = LeftStepping n; asked = waits; made = made }) _
 grows_in (LeftStepping n) waits made Leave = same made _
-grows_in (Left e) waits made (Ask coming) = asked (takes_requests (record { phase = Left e; asked = waits; made = made })) coming (record { phase = Left e; asked = waits; made = made }) _
+grows_in (Left e) waits made (Ask coming) = asked (takes_requests (record { phase = Left e; asked = waits; made = made })) coming
+    (record { phase = Left e; asked = waits; made = made }) _
 grows_in (Left e) waits made (Begin last_step now) = same made _
 grows_in (Left e) waits made (Answered r) = left e r waits made
 grows_in (Left e) waits made (Recorded count) = recorded (Left e) count waits made
 grows_in (Left e) waits made (RefuseErrand o) = unscanned (Left e) o waits made
 grows_in (Left e) waits made (RefuseNext o) = same made _
-grows_in (Left e) waits made (Told told) = newsed (is_for told (record { phase = Left e; asked = waits; made = made })) told (record { phase = Left e; asked = waits; made = made }) _
+grows_in (Left e) waits made (Told told) = newsed (is_for told (record { phase = Left e; asked = waits; made = made })) told
+    (record { phase = Left e; asked = waits; made = made }) _
 grows_in (Left e) waits made Leave = same made _
-grows_in Leaving waits made (Ask coming) = asked (takes_requests (record { phase = Leaving; asked = waits; made = made })) coming (record { phase = Leaving; asked = waits; made = made }) _
-grows_in Leaving waits made (Begin last_step now) = ended made.released made.waiters made.subscriptions made (record { phase = Leaving; asked = waits; made = made }) _ refl refl refl
+grows_in Leaving waits made (Ask coming) = asked (takes_requests (record { phase = Leaving; asked = waits; made = made })) coming
+    (record { phase = Leaving; asked = waits; made = made }) _
+grows_in Leaving waits made (Begin last_step now) = ended made.released made.waiters made.subscriptions made
+    (record { phase = Leaving; asked = waits; made = made }) _ refl refl refl
 grows_in Leaving waits made (Answered r) = same made _
 grows_in Leaving waits made (Recorded count) = recorded Leaving count waits made
 grows_in Leaving waits made (RefuseErrand o) = unscanned Leaving o waits made
 grows_in Leaving waits made (RefuseNext o) = same made _
-grows_in Leaving waits made (Told told) = newsed (is_for told (record { phase = Leaving; asked = waits; made = made })) told (record { phase = Leaving; asked = waits; made = made }) _
+grows_in Leaving waits made (Told told) = newsed (is_for told (record { phase = Leaving; asked = waits; made = made })) told
+    (record { phase = Leaving; asked = waits; made = made }) _
 grows_in Leaving waits made Leave = same made _
-grows_in Cancelling waits made (Ask coming) = asked (takes_requests (record { phase = Cancelling; asked = waits; made = made })) coming (record { phase = Cancelling; asked = waits; made = made }) _
+grows_in Cancelling waits made (Ask coming) = asked (takes_requests (record { phase = Cancelling; asked = waits; made = made })) coming
+    (record { phase = Cancelling; asked = waits; made = made }) _
 grows_in Cancelling waits made (Begin last_step now) = same made _
 grows_in Cancelling waits made (Answered r) = same made _
 grows_in Cancelling waits made (Recorded count) = recorded Cancelling count waits made
 grows_in Cancelling waits made (RefuseErrand o) = unscanned Cancelling o waits made
 grows_in Cancelling waits made (RefuseNext o) = same made _
-grows_in Cancelling waits made (Told told) = newsed (is_for told (record { phase = Cancelling; asked = waits; made = made })) told (record { phase = Cancelling; asked = waits; made = made }) _
+grows_in Cancelling waits made (Told told) = newsed (is_for told (record { phase = Cancelling; asked = waits; made = made })) told
+    (record { phase = Cancelling; asked = waits; made = made }) _
 grows_in Cancelling waits made Leave = same made _
-grows_in Gone waits made (Ask coming) = asked (takes_requests (record { phase = Gone; asked = waits; made = made })) coming (record { phase = Gone; asked = waits; made = made }) _
+grows_in Gone waits made (Ask coming) = asked (takes_requests (record { phase = Gone; asked = waits; made = made })) coming
+    (record { phase = Gone; asked = waits; made = made }) _
 grows_in Gone waits made (Begin last_step now) = same made _
 grows_in Gone waits made (Answered r) = same made _
 grows_in Gone waits made (Recorded count) = recorded Gone count waits made
 grows_in Gone waits made (RefuseErrand o) = unscanned Gone o waits made
 grows_in Gone waits made (RefuseNext o) = same made _
-grows_in Gone waits made (Told told) = newsed (is_for told (record { phase = Gone; asked = waits; made = made })) told (record { phase = Gone; asked = waits; made = made }) _
+grows_in Gone waits made (Told told) = newsed (is_for told (record { phase = Gone; asked = waits; made = made })) told
+    (record { phase = Gone; asked = waits; made = made }) _
 grows_in Gone waits made Leave = same made _
 
 grows : (c : View) (event : Event) → Grows c.made (made_in c.phase event) (moved_by event c).next.made
@@ -380,7 +406,8 @@ stands_now (news.Match m) h kept has = kept.subscriptions m.subscription has
 stands_now (news.Release r) h kept has = kept.waiters r.waiter has
 stands_now (news.Letter l) h kept has = kept.followed.follows l.name has
 
-told_todo : (for : Bool) (n : News) (c : View) → (if for then record { next = record c { made = after_news n c.made }; todo = todo.Tell } else stays c).todo ≡ todo.Tell → for ≡ true
+told_todo : (for : Bool) (n : News) (c : View)
+    → (if for then record { next = record c { made = after_news n c.made }; todo = todo.Tell } else stays c).todo ≡ todo.Tell → for ≡ true
 told_todo true n c is = refl
 told_todo false n c is = search rules
 
@@ -420,4 +447,5 @@ told_all [] h kept law = law
 told_all (event ∷ events) h kept law = told_all events (happens h event) (kept_one h event kept) (told_one h event kept law)
 
 pub its_own : (events : List Event) → ToldItsOwn (run events opened)
-its_own events = told_all events opened (record { waiters = λ id is. is; subscriptions = λ id is. is; followed = asked_for_none }) (λ n has. absurd (omega (arith, has.1)))
+its_own events = told_all events opened (record { waiters = λ id is. is; subscriptions = λ id is. is; followed = asked_for_none })
+    (λ n has. absurd (omega (arith, has.1)))

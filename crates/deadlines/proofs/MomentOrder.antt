@@ -149,7 +149,8 @@ this_one v = same v.at v.sid
 before_other : (t v : Timer) → is_before t v ≡ true → is_this v t ≡ 0
 before_other t v h = other t.at t.sid v.at v.sid h
   where
-    other : (ta ts va vs : ℕ) → cond (ta == va) (nat_lt ts vs) (nat_lt ta va) ≡ true → is_this (record { sid = vs; at = va }) (record { sid = ts; at = ta }) ≡ 0
+    other : (ta ts va vs : ℕ) → cond (ta == va) (nat_lt ts vs) (nat_lt ta va) ≡ true
+        → is_this (record { sid = vs; at = va }) (record { sid = ts; at = ta }) ≡ 0
     other ta ts va vs h = grind (arith, nat_tests)
 
 this_or_later : (t v : Timer) → is_before t v ≡ false → (t ≡ v) ⊎ (is_before v t ≡ true)
@@ -184,7 +185,8 @@ found_at v zero (t ∷ xs) o b s there = by (this_or_later t v s)
         let here = later_other t.at t.sid v.at v.sid l in
         absurd (omega (arith, one, rest, here, there))
       where
-        later_other : (ta ts va vs : ℕ) → cond (va == ta) (nat_lt vs ts) (nat_lt va ta) ≡ true → is_this (record { sid = vs; at = va }) (record { sid = ts; at = ta }) ≡ 0
+        later_other : (ta ts va vs : ℕ) → cond (va == ta) (nat_lt vs ts) (nat_lt va ta) ≡ true
+            → is_this (record { sid = vs; at = va }) (record { sid = ts; at = ta }) ≡ 0
         later_other ta ts va vs h = grind (arith, nat_tests)
 found_at v (suc k) (t ∷ xs) o b s there =
     let one = sum_by-cons (is_this v) t xs in
@@ -272,7 +274,8 @@ is_there v k timers queue same l is =
     let as_many = same (is_this v) in
     omega (arith, whole, here, as_many)
 
-pub same_set : (timers queue one two : List Timer) (k : ℕ) (v old : Timer) → HaveSameTimers queue timers → k < length timers → old ≡ get_or timers k old
+pub same_set : (timers queue one two : List Timer) (k : ℕ) (v old : Timer) → HaveSameTimers queue timers → k < length timers
+    → old ≡ get_or timers k old
     → ((counted : Timer → ℕ) → sum_by counted one + counted old ≡ sum_by counted queue)
     → ((counted : Timer → ℕ) → sum_by counted two ≡ sum_by counted one + counted v) → HaveSameTimers two (slice_set timers k v)
 same_set timers queue one two k v old same l is less more = λ counted.
@@ -285,7 +288,8 @@ pub same_with : (timers queue more : List Timer) (k : ℕ) (v : Timer) → HaveS
 same_with timers queue more k v same joins = λ counted.
     let whole = sum_by-insert counted timers k v in let a = same counted in let b = joins counted in omega (arith, whole, a, b)
 
-pub same_without : (timers queue less : List Timer) (k : ℕ) (old : Timer) → HaveSameTimers queue timers → k < length timers → old ≡ get_or timers k old
+pub same_without : (timers queue less : List Timer) (k : ℕ) (old : Timer) → HaveSameTimers queue timers → k < length timers
+    → old ≡ get_or timers k old
     → ((counted : Timer → ℕ) → sum_by counted less + counted old ≡ sum_by counted queue) → HaveSameTimers less (remove timers k)
 same_without timers queue less k old same l is leaves = λ counted.
     let whole = sum_by-remove counted timers k old l in

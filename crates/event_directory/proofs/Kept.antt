@@ -89,7 +89,8 @@ forgotten text letters capacity new within same left is = record {
 pub forgotten_standing : (text : List ℕ) (rs : List Reader) → greatest_offset rs ≤ length text → (left : ℕ) → left ≡ greatest_offset rs →
     map (kept_in (take left (last_letters left text))) rs ≡ map (kept_in text) rs
 forgotten_standing text rs within left is =
-    ap (λ t. map (kept_in t) rs) (take_all left (last_letters left text) (omega (arith, is, within, last-length left text (omega (arith, is, within)))))
+    ap (λ t. map (kept_in t) rs) (take_all left (last_letters left text)
+    (omega (arith, is, within, last-length left text (omega (arith, is, within)))))
     ∙ readers-last left text rs (omega (arith, is)) (omega (arith, is, within))
 
 -- one more, which has heard nothing
@@ -134,12 +135,15 @@ left_planned text heard b letters capacity old id k is = record {
   room = k.room;
 }
 
-new_kept : (text : List ℕ) (id : ℕ) (pattern : List ℕ) (repeats : Bool) → kept_in text (new_reader id pattern repeats) ≡ new_kept_subscription id pattern repeats
+new_kept : (text : List ℕ) (id : ℕ) (pattern : List ℕ) (repeats : Bool)
+    → kept_in text (new_reader id pattern repeats) ≡ new_kept_subscription id pattern repeats
 new_kept text id pattern repeats =
-    ap (λ t. record { id = id; pattern = pattern; repeats = repeats; heard = record { letters = []; state = state.Live; text = t } }) (nothing_heard text)
+    ap (λ t. record { id = id; pattern = pattern; repeats = repeats; heard = record { letters = []; state = state.Live; text = t } })
+    (nothing_heard text)
 
 module _ (id : ℕ) (pattern : List ℕ) (repeats : Bool) where
-  joined_by : (f : StoredSubscription → Reader) (text : List ℕ) (old : List StoredSubscription) (s : StoredSubscription) → f s ≡ new_reader id pattern repeats →
+  joined_by : (f : StoredSubscription → Reader) (text : List ℕ) (old : List StoredSubscription) (s : StoredSubscription)
+      → f s ≡ new_reader id pattern repeats →
       map (kept_in text) (map f (old ++ s ∷ [])) ≡ map (kept_in text) (map f old) ++ new_kept_subscription id pattern repeats ∷ []
   joined_by f text old s e =
       ap (map (kept_in text)) (map-append f old (s ∷ [])) ∙ map-append (kept_in text) (map f old) (f s ∷ [])
@@ -150,10 +154,12 @@ module _ (id : ℕ) (pattern : List ℕ) (repeats : Bool) where
       all_standing text (old ++ s ∷ []) ≡ all_standing text old ++ new_kept_subscription id pattern repeats ∷ []
   joined_standing text old s e = joined_by standing_of_stored text old s e
 
-  planned_new : (s : StoredSubscription) → s.standing ≡ new_reader id pattern repeats → s.planned ≡ new_reading → planned_standing s ≡ new_reader id pattern repeats
+  planned_new : (s : StoredSubscription) → s.standing ≡ new_reader id pattern repeats → s.planned ≡ new_reading
+      → planned_standing s ≡ new_reader id pattern repeats
   planned_new s e p = rw (e, p) refl
 
-  pub joined_planned : (b : Bool) (text letters : List ℕ) (old : List StoredSubscription) (s : StoredSubscription) → s.standing ≡ new_reader id pattern repeats
+  pub joined_planned : (b : Bool) (text letters : List ℕ) (old : List StoredSubscription) (s : StoredSubscription)
+      → s.standing ≡ new_reader id pattern repeats
       → s.planned ≡ new_reading →
       planned_of b text letters (old ++ s ∷ []) ≡ planned_of b text letters old ++ new_kept_subscription id pattern repeats ∷ []
   joined_planned true text letters old s e p = joined_by planned_standing (text ++ letters) old s (planned_new s e p)
@@ -187,7 +193,8 @@ planned_now text heard b before letters capacity wide new old k el fits es ep eb
       room = λ e. omega (arith, long, fits);
     }
 
-pub planned_text : (text : List ℕ) (heard : ℕ) (letters : List ℕ) (new old : List StoredSubscription) → heard ≤ length text → letters ≡ drop heard text
+pub planned_text : (text : List ℕ) (heard : ℕ) (letters : List ℕ) (new old : List StoredSubscription) → heard ≤ length text
+    → letters ≡ drop heard text
     → map planned_standing new ≡ map prepared_standing old →
     planned_of true (take heard (take heard text)) letters new ≡ all_prepared text old
 planned_text text heard letters new old there el ep =
@@ -220,7 +227,8 @@ heard_still heard text more le = take-append-le heard text more le
 -- the next letter, as the subscriptions hear it and as a slice of them did
 module _ (test : List ℕ → List ℕ → Bool) (x : ℕ) (text more slice_text : List ℕ) (old slice : List StoredSubscription) (em : more ≡ text ++ x ∷ [])
     (et : slice_text ≡ more) (es : slice ≡ old) (within : greatest_offset (map prepared_standing old) ≤ length text) where
-  pub prepared_next : (new : List StoredSubscription) → map prepared_standing new ≡ map (next_reader test x slice_text) (map prepared_standing slice) →
+  pub prepared_next : (new : List StoredSubscription)
+      → map prepared_standing new ≡ map (next_reader test x slice_text) (map prepared_standing slice) →
       all_prepared more new ≡ after_letter test x (all_prepared text old)
   prepared_next new e =
       ap (λ t. map (kept_in t) (map prepared_standing new)) em

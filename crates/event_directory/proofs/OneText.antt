@@ -23,7 +23,8 @@ last-length n text le = length-drop (length text - n) text ∙ omega (arith, le)
 last-none : (text : List ℕ) → last_letters 0 text ≡ []
 last-none text = drop_all (length text - 0) text (omega arith)
 
-again : (repeats : Bool) (letters text : List ℕ) → heard_in text (record { letters = letters; state = cond repeats state.Live state.Done; offset = 0 })
+again : (repeats : Bool) (letters text : List ℕ)
+    → heard_in text (record { letters = letters; state = cond repeats state.Live state.Done; offset = 0 })
     ≡ record { letters = letters; state = cond repeats state.Live state.Done; text = [] }
 again true letters text = ap (λ t. record { letters = letters; state = state.Live; text = t }) (last-none text)
 again false letters text = refl

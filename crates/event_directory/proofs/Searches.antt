@@ -29,4 +29,5 @@ at_boundary hay small i = before_small (slice_get hay i) (λ b e.
 pub found_among_letters : (text hay : List ℕ) → All (λ b. b < 128) hay → has_match text hay ≡ finds text hay
 unfolding has_match finds find find_str
 found_among_letters text hay small =
-    ap is_some (sym (first_between_cong _ _ 0 (length hay) (λ i _ _. ap (λ b. if b then attempt hay (expression_of text) accept i else None) (at_boundary hay small i))))
+    ap is_some (sym (first_between_cong _ _ 0 (length hay)
+    (λ i _ _. ap (λ b. if b then attempt hay (expression_of text) accept i else None) (at_boundary hay small i))))

@@ -139,7 +139,8 @@ pub walk_planned_now : (xs ys : List StoredSubscription) (i : ℕ) (y d : Stored
 walk_planned_now xs ys i y d lt rest done e p =
     walk_done planned_standing prepared_standing xs ys i y d lt rest done (now_planned y (get_or xs i d) e p)
 
-heard_same : (y item : StoredSubscription) → y.standing ≡ prepared_standing item → y.prepared ≡ item.prepared → prepared_standing y ≡ prepared_standing item
+heard_same : (y item : StoredSubscription) → y.standing ≡ prepared_standing item → y.prepared ≡ item.prepared
+    → prepared_standing y ≡ prepared_standing item
 heard_same y item e p = rw (e, p) refl
 
 -- what was prepared is heard, and is prepared still

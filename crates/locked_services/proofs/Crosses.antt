@@ -57,10 +57,12 @@ inside_send C g h c =
 pub running_send : (C : RattleType) (g : Ghosts C.Denot) (h : lanes.Ghosts C.Denot) → IsSend C → IsSend (RunningTree.the_row C g h)
 running_send C g h c = let i = inside_send C g h c in search (i, sendable) depth 60 fits 20000
 
-room_inside_send : (C B : RattleType) (g : Ghosts C.Denot) (h : lanes.Ghosts C.Denot) (b : board.Ghosts B.Denot C.Denot) → IsSend C → IsSend B → IsSend (RoomInside.the_row C B g h b)
+room_inside_send : (C B : RattleType) (g : Ghosts C.Denot) (h : lanes.Ghosts C.Denot) (b : board.Ghosts B.Denot C.Denot) → IsSend C → IsSend B
+    → IsSend (RoomInside.the_row C B g h b)
 room_inside_send C B g h b c d =
     recorded_send _ _ _ (RoomInside.the_type C B g h b).to_one (struct_send (shape (RoomInside.the_type C B g h b))
     (running_send C g h c, (d, (flag_send, (whole.the_send C h, tt)))))
 
-pub room_send : (C B : RattleType) (g : Ghosts C.Denot) (h : lanes.Ghosts C.Denot) (b : board.Ghosts B.Denot C.Denot) → IsSend C → IsSend B → IsSend (Room.the_row C B g h b)
+pub room_send : (C B : RattleType) (g : Ghosts C.Denot) (h : lanes.Ghosts C.Denot) (b : board.Ghosts B.Denot C.Denot) → IsSend C → IsSend B
+    → IsSend (Room.the_row C B g h b)
 room_send C B g h b c d = let i = room_inside_send C B g h b c d in search (i, sendable) depth 60 fits 20000

@@ -62,7 +62,8 @@ asked_sent before k (Some l) d served = served.2
 
 -- the backends that these desks gave were asked just their lanes' orders
 pub carried_out : {B : Type 0} (asked : B → List Order) (before : ℕ → List Order) (lanes : List LaneView) (desks : List DeskView)
-    (steps : List RunStep) (backends : List B) → map asked backends ≡ map (λ (d : DeskView). d.asked) desks → length desks ≡ length lanes → AreServed before lanes desks
+    (steps : List RunStep) (backends : List B) → map asked backends ≡ map (λ (d : DeskView). d.asked) desks → length desks ≡ length lanes
+    → AreServed before lanes desks
     → ((k : ℕ) → k < length lanes → sent_in k lanes ≡ orders_of_lane (length lanes) k (orders_of steps))
     → AreCarriedOut asked before (length lanes) steps backends
 carried_out {B} asked before lanes desks steps backends same each served sent k b at =

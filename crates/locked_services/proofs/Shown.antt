@@ -92,18 +92,21 @@ first_more x s [] e = absurd (cc (e))
 first_more x s (y ∷ ys) e = e
 
 -- after some more steps, which were not published
-pub shows_steps : (o : StoredTree) (v w : RoomView) (more : List RunStep) → IsSoundRoom o v → w.running.opening ≡ v.running.opening → w.shots ≡ v.shots → w.running.steps ≡ v.running.steps ++ more → w.is_shown ≡ false → IsSoundRoom o w
+pub shows_steps : (o : StoredTree) (v w : RoomView) (more : List RunStep) → IsSoundRoom o v → w.running.opening ≡ v.running.opening
+    → w.shots ≡ v.shots → w.running.steps ≡ v.running.steps ++ more → w.is_shown ≡ false → IsSoundRoom o w
 shows_steps o v w more k opening shots steps hidden = record {
   begins = opening ∙ k.begins;
   first = λ m s. ap first_shot shots ∙ k.first m (subst (λ (o : StoredTree). StandsFor o m) opening s);
   each = λ m s.
       subst (λ (ss : List Shot). All (IsShotOf m w.running.steps) ss) (sym shots)
-      (subst (λ (ts : List RunStep). All (IsShotOf m ts) v.shots) (sym steps) (shots_later m v.running.steps more v.shots (k.each m (subst (λ (o : StoredTree). StandsFor o m) opening s))));
+      (subst (λ (ts : List RunStep). All (IsShotOf m ts) v.shots) (sym steps)
+      (shots_later m v.running.steps more v.shots (k.each m (subst (λ (o : StoredTree). StandsFor o m) opening s))));
   rising = subst (λ (ss : List Shot). NeverFalls ss) (sym shots) k.rising;
   last = λ shown m s. absurd (cc (shown, hidden));
 }
 
-pub shows_same : (o : StoredTree) (v w : RoomView) → IsSoundRoom o v → w.running.opening ≡ v.running.opening → w.shots ≡ v.shots → w.running.steps ≡ v.running.steps → w.is_shown ≡ v.is_shown → IsSoundRoom o w
+pub shows_same : (o : StoredTree) (v w : RoomView) → IsSoundRoom o v → w.running.opening ≡ v.running.opening → w.shots ≡ v.shots
+    → w.running.steps ≡ v.running.steps → w.is_shown ≡ v.is_shown → IsSoundRoom o w
 shows_same o v w k opening shots steps shown = record {
   begins = opening ∙ k.begins;
   first = λ m s. ap first_shot shots ∙ k.first m (subst (λ (o : StoredTree). StandsFor o m) opening s);
@@ -113,7 +116,8 @@ shows_same o v w k opening shots steps shown = record {
   rising = subst (λ (ss : List Shot). NeverFalls ss) (sym shots) k.rising;
   last = λ is m s.
       subst (λ (ss : List Shot). last_shot ss ≡ Some (shot_of (end_of m w.running.steps))) (sym shots)
-      (subst (λ (ts : List RunStep). last_shot v.shots ≡ Some (shot_of (end_of m ts))) (sym steps) (k.last (sym shown ∙ is) m (subst (λ (o : StoredTree). StandsFor o m) opening s)));
+      (subst (λ (ts : List RunStep). last_shot v.shots ≡ Some (shot_of (end_of m ts))) (sym steps)
+      (k.last (sym shown ∙ is) m (subst (λ (o : StoredTree). StandsFor o m) opening s)));
 }
 
 -- the present state alone was published

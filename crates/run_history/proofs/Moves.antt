@@ -54,7 +54,8 @@ gives by all words views h at =
       h.1,
       λ j u e. ⊎_elim
           (λ was. h.2 j u (subst (λ l. get_elem? l j ≡ some u) (set_again views by (knower all) at) was))
-          (λ (same : claim_of (knower all) ≡ u). subst (Fits h.0 h.1 j) same ((λ k. absurd (off k)), subst (λ l. IsPrefix all l) mine.1 (prefix_self all)))
+          (λ (same : claim_of (knower all) ≡ u). subst (Fits h.0 h.1 j) same
+          ((λ k. absurd (off k)), subst (λ l. IsPrefix all l) mine.1 (prefix_self all)))
           (at_snoc (set views by (knower all)) (claim_of (knower all)) u j e),
     )
 
@@ -62,7 +63,8 @@ pub takes_in : (by : ℕ) (all : List (Input Global)) (other : ℕ) (u : View) �
 takes_in by all other u words views h at apart there =
     let w = shown (knower all) u in
     let mine = (h.2 by (knower all) at).0 refl in
-    let theirs = ⊎_elim (λ (t : (other ≡ by) × (w ≡ u)). absurd (apart t.0)) (λ (t : (other ≢ by) × (get_elem? views other ≡ some u)). h.2 other u t.1) (at_set views by other w u there) in (
+    let theirs = ⊎_elim (λ (t : (other ≡ by) × (w ≡ u)). absurd (apart t.0))
+    (λ (t : (other ≢ by) × (get_elem? views other ≡ some u)). h.2 other u t.1) (at_set views by other w u there) in (
       h.0,
       h.1,
       fits_set h.0 h.1 (set views by w) other nobody
@@ -74,7 +76,8 @@ takes_in by all other u words views h at apart there =
 pub gives_as : (by : ℕ) (v : View) (all : List (Input Global)) → v ≡ knower all → Forks Kept by v v (claim_of v)
 gives_as by v all is = subst (λ (u : View). Forks Kept by u u (claim_of u)) (sym is) (gives by all)
 
-pub takes_in_as : (by : ℕ) (v : View) (all : List (Input Global)) (other : ℕ) (u : View) → v ≡ knower all → Merges Kept by v other u (shown v u) nobody
+pub takes_in_as : (by : ℕ) (v : View) (all : List (Input Global)) (other : ℕ) (u : View) → v ≡ knower all
+    → Merges Kept by v other u (shown v u) nobody
 takes_in_as by v all other u is = subst (λ (x : View). Merges Kept by x other u (shown x u) nobody) (sym is) (takes_in by all other u)
 
 pub extends : (by : ℕ) (all whole : List (Input Global)) (new : List ℕ) → IsPrefix all whole → Turns Kept by (knower all) (λ _. new) (Extended whole)

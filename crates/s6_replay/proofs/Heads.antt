@@ -42,7 +42,8 @@ stops_in_front Truncated a b t = absurd t
 stops_in_front Write a b t = absurd t
 stops_in_front NoMemory a b t = absurd t
 
-pub stops_at_digit : (fault : ReplayFault) (a b c : Option (List ℕ)) → Consumes a b (codes "s6-script ") → VersionStops fault b c → HeadStops fault a c
+pub stops_at_digit : (fault : ReplayFault) (a b c : Option (List ℕ)) → Consumes a b (codes "s6-script ") → VersionStops fault b c
+    → HeadStops fault a c
 stops_at_digit Head a b c p t = λ version rest e.
     t version (10 ∷ rest) (left_behind a b front (version_digit version ∷ 10 ∷ rest) p (begins_front a version rest e))
 stops_at_digit Read a b c p t = (One, (10, Consumes-trans a b c front [] p t))

@@ -53,7 +53,8 @@ first_begins (b ∷ line) = by (b == 32) refl (first_begins line)
     more (inl same) = inl (ap (λ l. b ∷ l) same)
     more (inr found) = inr (found.0, ap (λ l. b ∷ l) found.1)
 
-    by : (v : Bool) → (b == 32) ≡ v → Begins (slice_index_or (text_words line) 0 []) line → Begins (slice_index_or (text_words (b ∷ line)) 0 []) (b ∷ line)
+    by : (v : Bool) → (b == 32) ≡ v → Begins (slice_index_or (text_words line) 0 []) line
+        → Begins (slice_index_or (text_words (b ∷ line)) 0 []) (b ∷ line)
     by true e rest =
         let words = slice_split-cons_yes (λ c. c == 32) b line e in
         let space : b ≡ 32 = grind (arith, nat_tests, e) in
@@ -71,7 +72,8 @@ all_of_digits [] count digits within end = omega (arith, within)
 all_of_digits (d ∷ word) zero digits within end =
     absurd (false≢true (sym (end (omega arith)) ∙ (and_parts (is_digit d) (list_all is_digit word) digits).0))
 all_of_digits (d ∷ word) (suc count) digits within end =
-    ap suc (all_of_digits word count (and_parts (is_digit d) (list_all is_digit word) digits).1 (omega (arith, within)) (λ lt. end (omega (arith, lt))))
+    ap suc (all_of_digits word count (and_parts (is_digit d) (list_all is_digit word) digits).1 (omega (arith, within))
+    (λ lt. end (omega (arith, lt))))
 
 up_to_gap : (word tail : List ℕ) (count : ℕ) → list_all is_digit word ≡ true → list_all is_digit (take count (word ++ 32 ∷ tail)) ≡ true
     → (count < length (word ++ 32 ∷ tail) → is_digit (get_or (word ++ 32 ∷ tail) count 0) ≡ false) → count ≡ length word
@@ -105,8 +107,12 @@ front_of line count n small (inr found) within front end =
     (subst (λ (l : List ℕ). count < length l → is_digit (get_or l count 0) ≡ false) found.1 end) in
     let gap : length word - length word ≡ 0 = omega arith in
     record {
-      text = ap (λ k. take k line) cut ∙ (ap (take (length word)) found.1 ∙ (take-append-le (length word) word (32 ∷ found.0) (omega arith) ∙ take_all (length word) word (omega arith)));
-      end = inr (ap (λ k. get_or line k 0) cut ∙ (ap (λ l. get_or l (length word) 0) found.1 ∙ (get_or-append_right word (32 ∷ found.0) (length word) (length word) 0 refl (omega arith) ∙ ap (λ k. get_or (32 ∷ found.0) k 0) gap)));
+      text = ap (λ k. take k line) cut
+          ∙ (ap (take (length word)) found.1
+          ∙ (take-append-le (length word) word (32 ∷ found.0) (omega arith) ∙ take_all (length word) word (omega arith)));
+      end = inr (ap (λ k. get_or line k 0) cut
+          ∙ (ap (λ l. get_or l (length word) 0) found.1
+          ∙ (get_or-append_right word (32 ∷ found.0) (length word) (length word) 0 refl (omega arith) ∙ ap (λ k. get_or (32 ∷ found.0) k 0) gap)));
     }
 
 -- where the first word spells a number, the digits at the front of the line are that word

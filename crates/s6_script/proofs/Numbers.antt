@@ -44,7 +44,8 @@ digits_back n text small is =
     by : (v : Bool) → (are_digits text && nat_le (value_of_digits text) n) ≡ v → (if v then Some (value_of_digits text) else None) ≡ Some n
         → (list_all is_digit text ≡ true) × (value_of_digits text ≡ n)
     by true e h =
-        let digits = and_parts (nat_le 1 (length text)) (list_all is_digit text) (and_parts (are_digits text) (nat_le (value_of_digits text) n) e).0 in
+        let digits = and_parts (nat_le 1 (length text)) (list_all is_digit text)
+        (and_parts (are_digits text) (nat_le (value_of_digits text) n) e).0 in
         (digits.1, same_Some (value_of_digits text) n h)
     by false e h = absurd (none-some n h)
 
@@ -53,7 +54,8 @@ pub all_digits_read : (word : List ℕ) (i value n : ℕ) → length word ≤ i 
 all_digits_read word i value n end so_far small is =
     let all : take i word ≡ word = take_all i word (omega (arith, end)) in
     let back = digits_back n word small is in
-    so_far (ap (list_all is_digit) all ∙ back.0) (subst (λ v. v < 2 ^ 64) (sym (ap value_of_digits all ∙ back.1)) small) ∙ (ap value_of_digits all ∙ back.1)
+    so_far (ap (list_all is_digit) all ∙ back.0) (subst (λ v. v < 2 ^ 64) (sym (ap value_of_digits all ∙ back.1)) small)
+    ∙ (ap value_of_digits all ∙ back.1)
 
 -- the words of servicedir are those of std
 folds : FoldsDigits (fold with_digit)

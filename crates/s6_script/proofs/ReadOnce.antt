@@ -29,7 +29,8 @@ other : {P : Type 0} (word : List ℕ) (ones others : List (List ℕ)) → bytes
     → bytes_eq (slice_index_or others 0 []) word ≡ false → ones ≡ others → P
 other word ones others is differs same = absurd (false≢true (sym differs ∙ (ap (λ ws. bytes_eq (slice_index_or ws 0 []) word) (sym same) ∙ is)))
 
-started_once : {A : Type 0} (sid generation pid : ℕ) → (act : Act A) → IsAct {A = A} (Started sid generation pid) → IsAct act → act_words {A = A} (Started sid generation pid) ≡ act_words act → Started sid generation pid ≡ act
+started_once : {A : Type 0} (sid generation pid : ℕ) → (act : Act A) → IsAct {A = A} (Started sid generation pid) → IsAct act
+    → act_words {A = A} (Started sid generation pid) ≡ act_words act → Started sid generation pid ≡ act
 started_once sid generation pid (Scan listing2) f h same = other (codes "started") _ _ refl refl same
 started_once sid generation pid (Scanctl order2) f h same = other (codes "started") _ _ refl refl same
 started_once sid generation pid (Svc name2 letters2) f h same = other (codes "started") _ _ refl refl same
@@ -51,7 +52,8 @@ started_once sid generation pid (Send target2 message2) f h same = other (codes 
 started_once sid generation pid (MakeDir name2) f h same = other (codes "started") _ _ refl refl same
 started_once sid generation pid Tick f h same = other (codes "started") _ _ refl refl same
 
-death_once : {A : Type 0} (sid generation : ℕ) (exit : Exit) → (act : Act A) → IsAct {A = A} (Death sid generation exit) → IsAct act → act_words {A = A} (Death sid generation exit) ≡ act_words act → Death sid generation exit ≡ act
+death_once : {A : Type 0} (sid generation : ℕ) (exit : Exit) → (act : Act A) → IsAct {A = A} (Death sid generation exit) → IsAct act
+    → act_words {A = A} (Death sid generation exit) ≡ act_words act → Death sid generation exit ≡ act
 death_once sid generation exit (Scan listing2) f h same = other (codes "death") _ _ refl refl same
 death_once sid generation exit (Scanctl order2) f h same = other (codes "death") _ _ refl refl same
 death_once sid generation exit (Svc name2 letters2) f h same = other (codes "death") _ _ refl refl same

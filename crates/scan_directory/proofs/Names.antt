@@ -40,7 +40,8 @@ stripped n =
     ap (λ (b : Bool). if b then take (length (n ++ 0 ∷ []) - 1) (n ++ 0 ∷ []) else n ++ 0 ∷ []) ends
     ∙ (ap (λ (k : ℕ). take k (n ++ 0 ∷ [])) before ∙ take-append_seam n (0 ∷ []))
 
-pub among_snoc : (done : List (List ℕ)) (n : List ℕ) → services_among (done ++ n ∷ []) ≡ services_among done ++ option_to_list (service_in (seen_of n))
+pub among_snoc : (done : List (List ℕ)) (n : List ℕ)
+    → services_among (done ++ n ∷ []) ≡ services_among done ++ option_to_list (service_in (seen_of n))
 among_snoc [] n = append-nil (option_to_list (service_in (seen_of n)))
 among_snoc (d ∷ done) n =
     ap (λ rest. option_to_list (service_in (seen_of d)) ++ rest) (among_snoc done n)

@@ -8,7 +8,8 @@ use Rattle.tree_core.specs.declared.input.Act.TheVariants.{Wait, Cancel, Subscri
 use Rattle.server_rules.specs.Requests.{request_of, AsksFor, IsOwnAct}
 
 -- a line that spells an act of the server's own spells no other
-alone : (own : Act Global) (line : List ℕ) → IsOwnAct own → ((act : Act Global) → SpellsAct line act → own ≡ act) → (act : Act Global) → SpellsAct line act → IsOwnAct act
+alone : (own : Act Global) (line : List ℕ) → IsOwnAct own → ((act : Act Global) → SpellsAct line act → own ≡ act) → (act : Act Global)
+    → SpellsAct line act → IsOwnAct act
 alone own line is only act spells = subst (λ (a : Act Global). IsOwnAct a) (only act spells) is
 
 pub asks : (act : Act Global) (line : List ℕ) → SpellsAct line act → ((other : Act Global) → SpellsAct line other → act ≡ other)

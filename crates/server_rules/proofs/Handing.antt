@@ -26,7 +26,8 @@ suc_of : (i : ℕ) → i + 1 ≡ suc i
 suc_of i = omega arith
 
 -- the same, of what a loop has
-pub record More {X : Type 0} (hand : X → List View → Handed) (xs : List X) (cs : List View) (i : ℕ) (start : List Post) (after : List View) (posted : List Post) : Type 0 where
+pub record More {X : Type 0} (hand : X → List View → Handed) (xs : List X) (cs : List View) (i : ℕ) (start : List Post) (after : List View)
+    (posted : List Post) : Type 0 where
   pub connections : after ≡ (hand_all hand (take (i + 1) xs) cs).connections
   pub posts : posted ≡ start ++ (hand_all hand (take (i + 1) xs) cs).posts
 
@@ -39,5 +40,6 @@ pub more : {X : Type 0} (hand : X → List View → Handed) (xs : List X) (cs : 
     → More hand xs cs i start after posts
 more hand xs cs i d start before after posted posts low was had goes gets = record {
   connections = rw (suc_of i, one_more hand xs cs i d low, sym was) goes;
-  posts = rw (suc_of i, one_more hand xs cs i d low, sym was) (gets ∙ (ap (λ (p : List Post). p ++ (hand (slice_index_or xs i d) before).posts) had ∙ append_assoc start _ _));
+  posts = rw (suc_of i, one_more hand xs cs i d low, sym was)
+      (gets ∙ (ap (λ (p : List Post). p ++ (hand (slice_index_or xs i d) before).posts) had ∙ append_assoc start _ _));
 }

@@ -34,7 +34,8 @@ shorter id [] any = search rules
 shorter id (x ∷ ids) any = one_shorter (x == id) x (without id ids) (length ids) (is_among id ids) (no_longer id ids) (shorter id ids) any
 
 -- an end takes none
-pub ended_fits : (id : ℕ) (waiters released : List ℕ) → length waiters + length released ≤ 64 → length (without id waiters) + length (without id released) ≤ 64
+pub ended_fits : (id : ℕ) (waiters released : List ℕ) → length waiters + length released ≤ 64
+    → length (without id waiters) + length (without id released) ≤ 64
 ended_fits id waiters released fit = omega (arith, no_longer id waiters, no_longer id released, fit)
 
 -- a release takes no place
@@ -54,7 +55,8 @@ room_for change.MakesSubscription id made any has = has
 room_for (change.EndsWaiter ended) id made any has = refl
 room_for (change.EndsSubscription ended) id made any has = refl
 
-room_on : (e : Errand) (id : ℕ) (made : Made) → is_among id made.waiters ≡ true → has_room_on e made ≡ true → has_room_on e (after_release id made) ≡ true
+room_on : (e : Errand) (id : ℕ) (made : Made) → is_among id made.waiters ≡ true → has_room_on e made ≡ true
+    → has_room_on e (after_release id made) ≡ true
 room_on (errand.Step ch) id made any has = room_for ch id made any has
 room_on (errand.Status subject) id made any has = refl
 room_on errand.Scan id made any has = refl

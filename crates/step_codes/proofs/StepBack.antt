@@ -122,7 +122,8 @@ past_bool next b rest = then_back bool_in next (bool_byte b ∷ rest) b rest (bo
 -- a row, of which the first fields are read
 abbrev row_from_10 : ℕ → List ℕ → Bool → Bool → Bool → Bool → Bool → Option ℕ → Option Exit → Option ℕ → Reads Row
 row_from_10 sid name up wanted_up normally_up ready paused pid ended up_down_for =
-    then_in (option_in number_in) (λ ready_for. gives (record { sid = sid; name = name; up = up; wanted_up = wanted_up; normally_up = normally_up; ready = ready; paused = paused; pid = pid; exit = ended; up_down_for = up_down_for; ready_for = ready_for }))
+    then_in (option_in number_in) (λ ready_for. gives
+    (record { sid = sid; name = name; up = up; wanted_up = wanted_up; normally_up = normally_up; ready = ready; paused = paused; pid = pid; exit = ended; up_down_for = up_down_for; ready_for = ready_for }))
 
 abbrev row_from_9 : ℕ → List ℕ → Bool → Bool → Bool → Bool → Bool → Option ℕ → Option Exit → Reads Row
 row_from_9 sid name up wanted_up normally_up ready paused pid ended =
@@ -179,10 +180,14 @@ row_back r rest fits =
     ∙ (past_bool (λ normally_up. row_from_5 r.sid r.name r.up r.wanted_up normally_up) r.normally_up from_5
     ∙ (past_bool (λ ready. row_from_6 r.sid r.name r.up r.wanted_up r.normally_up ready) r.ready from_6
     ∙ (past_bool (λ paused. row_from_7 r.sid r.name r.up r.wanted_up r.normally_up r.ready paused) r.paused from_7
-    ∙ (past_option number_in number_onto (λ n. n < 2 ^ 32) wide_back (λ pid. row_from_8 r.sid r.name r.up r.wanted_up r.normally_up r.ready r.paused pid) r.pid from_8 fits.pid
-    ∙ (past_option exit_in exit_onto FitsExit exit_back (λ ended. row_from_9 r.sid r.name r.up r.wanted_up r.normally_up r.ready r.paused r.pid ended) r.exit from_9 fits.exit
-    ∙ (past_option number_in number_onto (λ n. n < 2 ^ 64) number_back (λ up_down_for. row_from_10 r.sid r.name r.up r.wanted_up r.normally_up r.ready r.paused r.pid r.exit up_down_for) r.up_down_for from_10 fits.up_down_for
-    ∙ (past_option number_in number_onto (λ n. n < 2 ^ 64) number_back (λ ready_for. gives (record { sid = r.sid; name = r.name; up = r.up; wanted_up = r.wanted_up; normally_up = r.normally_up; ready = r.ready; paused = r.paused; pid = r.pid; exit = r.exit; up_down_for = r.up_down_for; ready_for = ready_for })) r.ready_for rest fits.ready_for))))))))))
+    ∙ (past_option number_in number_onto (λ n. n < 2 ^ 32) wide_back
+    (λ pid. row_from_8 r.sid r.name r.up r.wanted_up r.normally_up r.ready r.paused pid) r.pid from_8 fits.pid
+    ∙ (past_option exit_in exit_onto FitsExit exit_back
+    (λ ended. row_from_9 r.sid r.name r.up r.wanted_up r.normally_up r.ready r.paused r.pid ended) r.exit from_9 fits.exit
+    ∙ (past_option number_in number_onto (λ n. n < 2 ^ 64) number_back
+    (λ up_down_for. row_from_10 r.sid r.name r.up r.wanted_up r.normally_up r.ready r.paused r.pid r.exit up_down_for) r.up_down_for from_10 fits.up_down_for
+    ∙ (past_option number_in number_onto (λ n. n < 2 ^ 64) number_back
+    (λ ready_for. gives (record { sid = r.sid; name = r.name; up = r.up; wanted_up = r.wanted_up; normally_up = r.normally_up; ready = r.ready; paused = r.paused; pid = r.pid; exit = r.exit; up_down_for = r.up_down_for; ready_for = ready_for })) r.ready_for rest fits.ready_for))))))))))
 
 pub reply_back : (r : Reply Global) (rest : List ℕ) → FitsReply r → reply_in (reply_onto r rest) ≡ (r, rest)
 reply_back reply.Done rest fits = refl
@@ -247,10 +252,12 @@ act_back (act.Send whose message) rest fits =
 act_back (act.MakeDir name) rest fits = past_text (λ n. gives (act.MakeDir n)) name rest
 act_back (act.Svc name letters) rest fits =
     past_text (λ n. then_in (list_in letter_in) (λ ls. gives (act.Svc n (record { items = ls })))) name _
-    ∙ past_list letter_in letter_onto (λ letter. ⊤) one_letter_back (λ ls. gives (act.Svc name (record { items = ls }))) letters.items rest fits.1 fits.2
+    ∙ past_list letter_in letter_onto (λ letter. ⊤) one_letter_back
+    (λ ls. gives (act.Svc name (record { items = ls }))) letters.items rest fits.1 fits.2
 act_back (act.Scanctl command) rest fits = ap (λ (o : ScanOrder). (act.Scanctl o, rest)) (order_of_back command)
 act_back (act.Wait wanted how timeout names) rest fits =
-    then_back number_in (λ t. then_in (list_in text_in) (λ ns. gives (act.Wait (condition_of (condition_byte wanted)) (mode_of (mode_byte how)) t ns)))
+    then_back number_in (λ t. then_in (list_in text_in)
+    (λ ns. gives (act.Wait (condition_of (condition_byte wanted)) (mode_of (mode_byte how)) t ns)))
     (number_onto timeout (list_onto bytes_onto names rest)) timeout (list_onto bytes_onto names rest) (wide_back timeout _ fits.0)
     ∙ (past_list text_in bytes_onto (λ name. IsTrue (is_name name)) (λ name more is. text_back name more)
     (λ ns. gives (act.Wait (condition_of (condition_byte wanted)) (mode_of (mode_byte how)) timeout ns)) names rest fits.1 fits.2

@@ -26,7 +26,8 @@ some_of_map : {A B : Type 0} (f : A → B) (o : Option A) → is_some (option_ma
 some_of_map f None = refl
 some_of_map f (Some x) = refl
 
-some_of_or : {A : Type 0} (a a' b b' : Option A) → is_some a ≡ is_some a' → is_some b ≡ is_some b' → is_some (option_or a b) ≡ is_some (option_or a' b')
+some_of_or : {A : Type 0} (a a' b b' : Option A) → is_some a ≡ is_some a' → is_some b ≡ is_some b'
+    → is_some (option_or a b) ≡ is_some (option_or a' b')
 some_of_or None None b b' e f = f
 some_of_or None (Some x) b b' e f = absurd (cc e)
 some_of_or (Some x) None b b' e f = absurd (cc e)
@@ -44,7 +45,8 @@ same_outcomes : (o o' : Option Trace) → outcome o ≡ outcome o' → is_some o
 unfolding outcome
 same_outcomes o o' e = sym (some_of_map _ o) ∙ (ap is_some e ∙ some_of_map _ o')
 
-same_as_read : (P : Re → Nested Re × Names → Type 0) (re : Re) (o : Option (Nested Re × Names)) → ((p : Nested Re × Names) → P re p → SameCaptures re p.0.value)
+same_as_read : (P : Re → Nested Re × Names → Type 0) (re : Re) (o : Option (Nested Re × Names))
+    → ((p : Nested Re × Names) → P re p → SameCaptures re p.0.value)
     → IsSomeAnd o (P re) → SameCaptures re (tree_of o)
 same_as_read P re None f h = absurd h
 same_as_read P re (Some p) f h = f p h
@@ -56,7 +58,8 @@ some_read P (Some p) h = refl
 read_expression : (hir : Hir) (text : List ℕ) (names : Names) → Reads default_config text hir names → SameCaptures (meaning hir) (expression_of text)
 unfolding Reads expression_of
 read_expression hir text names is =
-    same_as_read (λ re p. (p.0.depth ≤ default_config.nest_limit) × SameCaptures re p.0.value × (names ≡ p.1) × (group_count re ≤ length names)) (meaning hir)
+    same_as_read (λ re p. (p.0.depth ≤ default_config.nest_limit) × SameCaptures re p.0.value × (names ≡ p.1) × (group_count re ≤ length names))
+    (meaning hir)
     (read default_config (chars text)) (λ p h. h.1) is
 
 pub is_read : (hir : Hir) (text : List ℕ) (names : Names) (config : Config) → config ≡ default_config → Reads config text hir names
@@ -65,10 +68,12 @@ unfolding Reads
 is_read hir text names config default is = some_read _ (read default_config (chars text)) (subst (λ c. Reads c text hir names) default is)
 
 -- an automaton that implements what was read finds what the text has
-pub compiled : (nfa : Nfa) (hir : Hir) (text : List ℕ) (names : Names) (config : Config) → config ≡ default_config → Reads config text hir names → Implements nfa (meaning hir)
+pub compiled : (nfa : Nfa) (hir : Hir) (text : List ℕ) (names : Names) (config : Config) → config ≡ default_config → Reads config text hir names
+    → Implements nfa (meaning hir)
     → Matches nfa text
 compiled nfa hir text names config default is made bytes fit i =
-    same_outcomes _ _ (ap outcome (made bytes i) ∙ (read_expression hir text names (subst (λ c. Reads c text hir names) default is)).at bytes fit accept i)
+    same_outcomes _ _ (ap outcome (made bytes i)
+    ∙ (read_expression hir text names (subst (λ c. Reads c text hir names) default is)).at bytes fit accept i)
 
 pub are_bytes : (bytes : List ℕ) → ((i : ℕ) → Fits w8 (get_or bytes i 0)) → All (λ b. b < 256) bytes
 are_bytes bytes h = All-from_get_or (λ b. b < 256) bytes 0 (λ i _. omega (arith, h i))

@@ -157,7 +157,8 @@ module _ (xs ys : List ℕ) (ascii : All (λ b. b < 128) (xs ++ ys)) where
       → HasWalked nfa (xs ++ ys) (length xs) behind has_matched
   walk_goes_on nfa behind has_matched walked = record {
     comes = λ q has. same_come nfa xs (xs ++ ys) (length xs) keeps_byte keeps_looks q (walked.comes q has);
-    all = λ q come. walked.all q (same_come nfa (xs ++ ys) xs (length xs) (λ i lt. sym (keeps_byte i lt)) (λ i lt l. sym (keeps_looks i lt l)) q come);
+    all = λ q come. walked.all q (same_come nfa (xs ++ ys) xs (length xs) (λ i lt. sym (keeps_byte i lt))
+        (λ i lt l. sym (keeps_looks i lt l)) q come);
     found = λ e. same_end nfa xs (xs ++ ys) (length xs) keeps_byte keeps_looks (walked.found e);
     none = λ e ends.
         walked.none e (same_end nfa (xs ++ ys) xs (length xs) (λ i lt. sym (keeps_byte i lt)) (λ i lt l. sym (keeps_looks i lt l)) ends);
@@ -169,7 +170,8 @@ module _ (xs ys : List ℕ) (ascii : All (λ b. b < 128) (xs ++ ys)) where
     all = known.all;
     closed = λ q r has edge. known.closed q r has (plain_edge nfa plain (xs ++ ys) xs (length xs) q r edge);
     only = λ stand q has. plain_stand nfa plain xs (xs ++ ys) (length xs) keeps_byte (length xs) q (omega arith)
-        (known.only (λ p comes. plain_stand nfa plain (xs ++ ys) xs (length xs) (λ i lt. sym (keeps_byte i lt)) (length xs) p (omega arith) (stand p comes)) q has);
+        (known.only (λ p comes. plain_stand nfa plain (xs ++ ys) xs (length xs) (λ i lt. sym (keeps_byte i lt)) (length xs) p (omega arith)
+        (stand p comes)) q has);
   }
 
 -- where it comes to a place, it stands there

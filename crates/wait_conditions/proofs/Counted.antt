@@ -53,19 +53,26 @@ hopeless_by mode.All p sids = list_any-counts p sids
 hopeless_by mode.One p sids = list_all-counts p sids
 
 -- the verdict over a stretch is the one that the counters of its bits give
-pub verdict-counts : (a : WaitTerms) (past since : List Moment) → verdict a past since ≡ verdict_by a.mode (length a.sids) (counts_of (map (watched_over a.condition past since) a.sids)) (is_late a.deadline since)
+pub verdict-counts : (a : WaitTerms) (past since : List Moment)
+    → verdict a past since ≡ verdict_by a.mode (length a.sids) (counts_of (map (watched_over a.condition past since) a.sids))
+    (is_late a.deadline since)
 verdict-counts a past since =
     let bits = watched_over a.condition past since in
-    let holding = enough_by a.mode (λ sid. holds a.condition sid past since) a.sids ∙ ap (count_is_enough a.mode (length a.sids)) (sym (count_by-map (λ (w : WatchedService). w.holds) bits a.sids)) in
-    let failing = hopeless_by a.mode (λ sid. is_some (failure a.condition sid past since)) a.sids ∙ ap (count_is_hopeless a.mode (length a.sids)) (sym (count_by-map (λ (w : WatchedService). is_some w.failure) bits a.sids)) in
-    let permanent = list_any-counts (λ sid. is_failure_for_good (failure a.condition sid past since)) a.sids ∙ ap (nat_lt 0) (sym (count_by-map (λ (w : WatchedService). is_failure_for_good w.failure) bits a.sids)) in
+    let holding = enough_by a.mode (λ sid. holds a.condition sid past since) a.sids
+    ∙ ap (count_is_enough a.mode (length a.sids)) (sym (count_by-map (λ (w : WatchedService). w.holds) bits a.sids)) in
+    let failing = hopeless_by a.mode (λ sid. is_some (failure a.condition sid past since)) a.sids
+    ∙ ap (count_is_hopeless a.mode (length a.sids)) (sym (count_by-map (λ (w : WatchedService). is_some w.failure) bits a.sids)) in
+    let permanent = list_any-counts (λ sid. is_failure_for_good (failure a.condition sid past since)) a.sids
+    ∙ ap (nat_lt 0) (sym (count_by-map (λ (w : WatchedService). is_failure_for_good w.failure) bits a.sids)) in
     rw (holding, failing, permanent) refl
 
-count_by-set : {X : Type 0} (p : X → Bool) (xs : List X) (i : ℕ) (y d : X) → i < length xs → count_by p (set xs i y) ≡ recounted (count_by p xs) (p (get_or xs i d)) (p y)
+count_by-set : {X : Type 0} (p : X → Bool) (xs : List X) (i : ℕ) (y d : X) → i < length xs
+    → count_by p (set xs i y) ≡ recounted (count_by p xs) (p (get_or xs i d)) (p y)
 count_by-set p xs i y d h = omega (arith, sum_by-set (λ x. cond (p x) 1 0) xs i y d h)
 
 -- the counters count
-pub counts_of-set : (ws : List WatchedService) (i : ℕ) (w d : WatchedService) → i < length ws → counts_of (set ws i w) ≡ counts_after (counts_of ws) (get_or ws i d) w
+pub counts_of-set : (ws : List WatchedService) (i : ℕ) (w d : WatchedService) → i < length ws
+    → counts_of (set ws i w) ≡ counts_after (counts_of ws) (get_or ws i d) w
 counts_of-set ws i w d h =
     let holding = count_by-set (λ (x : WatchedService). x.holds) ws i w d h in
     let failing = count_by-set (λ (x : WatchedService). is_some x.failure) ws i w d h in

@@ -104,7 +104,8 @@ put_in_order sid id place ws up le parted =
     (λ k d a l. high_from (get_or ws k d).sid sid (parted.1 k d a l))
 
 -- a waiter leaves
-pub left_is : (sid id : ℕ) (ws : List Watcher) → serials_of sid (filter (λ (w : Watcher). not (w.waiter == id)) ws) ≡ filter (λ i. not (i == id)) (serials_of sid ws)
+pub left_is : (sid id : ℕ) (ws : List Watcher)
+    → serials_of sid (filter (λ (w : Watcher). not (w.waiter == id)) ws) ≡ filter (λ i. not (i == id)) (serials_of sid ws)
 left_is sid id [] = refl
 left_is sid id (w ∷ ws) = by (w.sid == sid) (w.waiter == id) refl refl (left_is sid id ws)
   where
@@ -124,11 +125,13 @@ left_is sid id (w ∷ ws) = by (w.sid == sid) (w.waiter == id) refl refl (left_i
         ∙ filter_yes (λ i. not (i == id)) w.waiter (serials_of sid ws) (ap not f))))
     by false true e f rest =
         ap (serials_of sid) (filter_no (λ (v : Watcher). not (v.waiter == id)) w ws (ap not f))
-        ∙ (rest ∙ sym (ap (λ ys. filter (λ i. not (i == id)) (map (λ (v : Watcher). v.waiter) ys)) (filter_no (λ (v : Watcher). v.sid == sid) w ws e)))
+        ∙ (rest ∙ sym (ap (λ ys. filter (λ i. not (i == id)) (map (λ (v : Watcher). v.waiter) ys))
+        (filter_no (λ (v : Watcher). v.sid == sid) w ws e)))
     by false false e f rest =
         ap (serials_of sid) (filter_yes (λ (v : Watcher). not (v.waiter == id)) w ws (ap not f))
         ∙ (ap (map (λ (v : Watcher). v.waiter)) (filter_no (λ (v : Watcher). v.sid == sid) w (filter (λ (v : Watcher). not (v.waiter == id)) ws) e)
-        ∙ (rest ∙ sym (ap (λ ys. filter (λ i. not (i == id)) (map (λ (v : Watcher). v.waiter) ys)) (filter_no (λ (v : Watcher). v.sid == sid) w ws e))))
+        ∙ (rest ∙ sym (ap (λ ys. filter (λ i. not (i == id)) (map (λ (v : Watcher). v.waiter) ys))
+        (filter_no (λ (v : Watcher). v.sid == sid) w ws e))))
 
 -- the serial of a waiter, where one of these services is this one
 abbrev pub named : ℕ → ℕ → List WatchedService → List ℕ
@@ -143,14 +146,16 @@ named_is sid k waits = by (list_any (λ (v : WatchedService). v.sid == sid) k.wa
     by false = refl
 
 pub none_named : (sid : ℕ) (k : StoredWaiter) → still_waits k ≡ false → serials_where (watches sid) (k ∷ []) ≡ []
-none_named sid k waits = ap (λ b. map (λ (j : StoredWaiter). j.id) (cond (b && list_any (λ (v : WatchedService). v.sid == sid) k.watched) (k ∷ []) [])) waits
+none_named sid k waits = ap (λ b. map (λ (j : StoredWaiter). j.id)
+    (cond (b && list_any (λ (v : WatchedService). v.sid == sid) k.watched) (k ∷ []) [])) waits
 
 -- one service after the other, each of another serial
 not_again : (sid : ℕ) (vs : List WatchedService) → is_named_in (map (λ (v : WatchedService). v.sid) vs) sid ≡ false
     → list_any (λ (v : WatchedService). v.sid == sid) vs ≡ false
 not_again sid [] h = refl
 not_again sid (v ∷ vs) h =
-    ap (λ b. b || list_any (λ (u : WatchedService). u.sid == sid) vs) (first_off (v.sid == sid) (is_named_in (map (λ (u : WatchedService). u.sid) vs) sid) h)
+    ap (λ b. b || list_any (λ (u : WatchedService). u.sid == sid) vs)
+    (first_off (v.sid == sid) (is_named_in (map (λ (u : WatchedService). u.sid) vs) sid) h)
     ∙ not_again sid vs (rest_off (v.sid == sid) (is_named_in (map (λ (u : WatchedService). u.sid) vs) sid) h)
 
 pub named_more : (id sid : ℕ) (v : WatchedService) (vs : List WatchedService)

@@ -39,7 +39,8 @@ apart_while (Released v) ws h = refl
 pub apart_new : (id place : ℕ) (asked : WaitTerms) (states : ℕ → SupervisorState) → repeats_serial asked.sids ≡ false
     → repeats_serial (map (λ (w : WatchedService). w.sid) (new_stored_waiter id place asked states).watched) ≡ false
 apart_new id place asked states h =
-    apart_while (new_stored_waiter id place asked states).standing (map (λ sid. watched_as asked.condition sid (states sid) (since_of sid [])) asked.sids)
+    apart_while (new_stored_waiter id place asked states).standing
+    (map (λ sid. watched_as asked.condition sid (states sid) (since_of sid [])) asked.sids)
     (ap repeats_serial (named_alike asked states asked.sids) ∙ h)
 
 -- the next serial doesn't fall

@@ -68,7 +68,8 @@ alike_touched ms [] = none ms
     none (m ∷ ms) = (refl, none ms)
 alike_touched ms (k ∷ ks) = by (touched_by ms k) refl (alike_touched ms ks)
   where
-    by : (b : Bool) → touched_by ms k ≡ b → AreReleasedAlike ms ks (filter (touched_by ms) ks) → AreReleasedAlike ms (k ∷ ks) (filter (touched_by ms) (k ∷ ks))
+    by : (b : Bool) → touched_by ms k ≡ b → AreReleasedAlike ms ks (filter (touched_by ms) ks)
+        → AreReleasedAlike ms (k ∷ ks) (filter (touched_by ms) (k ∷ ks))
     by true e a = subst (AreReleasedAlike ms (k ∷ ks)) (sym (filter_yes (touched_by ms) k ks e)) (alike_both ms ks (filter (touched_by ms) ks) k a)
     by false e a = subst (AreReleasedAlike ms (k ∷ ks)) (sym (filter_no (touched_by ms) k ks e)) (alike_left ms ks (filter (touched_by ms) ks) k e a)
 
@@ -78,10 +79,12 @@ same_sid c None w = refl
 same_sid c (Some mark) w = refl
 
 same_sids : (c : Condition) (m : Moment) (sid : ℕ) (ws : List WatchedService)
-    → list_any (λ (w : WatchedService). w.sid == sid) (map (λ w. watched_after c (mark_of w.sid m) w) ws) ≡ list_any (λ (w : WatchedService). w.sid == sid) ws
+    → list_any (λ (w : WatchedService). w.sid == sid) (map (λ w. watched_after c (mark_of w.sid m) w) ws)
+    ≡ list_any (λ (w : WatchedService). w.sid == sid) ws
 same_sids c m sid [] = refl
 same_sids c m sid (w ∷ ws) =
-    ap (λ s. (s == sid) || list_any (λ (v : WatchedService). v.sid == sid) (map (λ v. watched_after c (mark_of v.sid m) v) ws)) (same_sid c (mark_of w.sid m) w)
+    ap (λ s. (s == sid) || list_any (λ (v : WatchedService). v.sid == sid) (map (λ v. watched_after c (mark_of v.sid m) v) ws))
+    (same_sid c (mark_of w.sid m) w)
     ∙ ap (λ b. (w.sid == sid) || b) (same_sids c m sid ws)
 
 judged_watches : (s : WaitState) (m : Moment) (sid : ℕ) (k : StoredWaiter) → is_waiting s ≡ true

@@ -31,12 +31,14 @@ earlier_at due None = tt
 earlier_at due (Some d) = grind (arith, nat_tests)
 
 due_sooner : (due : ℕ) (o : Option ℕ) (ks : List StoredWaiter) → AreDueFrom due ks → AreDueFrom (earlier due o) ks
-due_sooner due o ks h = All-weaker (IsDueFrom due) (IsDueFrom (earlier due o)) (λ k d w. if_some_below (earlier due o) due k.deadline (earlier_low due o) (d w)) ks h
+due_sooner due o ks h = All-weaker (IsDueFrom due) (IsDueFrom (earlier due o))
+    (λ k d w. if_some_below (earlier due o) due k.deadline (earlier_low due o) (d w)) ks h
 
 pub due_push : (due : ℕ) (k : StoredWaiter) (ks : List StoredWaiter) → AreDueFrom due ks → AreDueFrom (earlier due k.deadline) (ks ++ k ∷ [])
 due_push due k ks h = All-push (IsDueFrom (earlier due k.deadline)) ks k (due_sooner due k.deadline ks h) (λ w. earlier_at due k.deadline)
 
-pub due_push_released : (due : ℕ) (k : StoredWaiter) (ks : List StoredWaiter) → still_waits k ≡ false → AreDueFrom due ks → AreDueFrom due (ks ++ k ∷ [])
+pub due_push_released : (due : ℕ) (k : StoredWaiter) (ks : List StoredWaiter) → still_waits k ≡ false → AreDueFrom due ks
+    → AreDueFrom due (ks ++ k ∷ [])
 due_push_released due k ks off h = All-push (IsDueFrom due) ks k h (λ w. let bad : true ≡ false = sym w ∙ off in cc)
 
 pub due_moments : (due : ℕ) (ms : List Moment) (ks : List StoredWaiter) → AreDueFrom due ks → AreDueFrom due (map (with_moments ms) ks)
@@ -60,7 +62,8 @@ began_push k (j ∷ ks) b h = (
   began_push k ks b.1 (All-tail (λ (i : StoredWaiter). i.place ≤ k.place) j ks h),
 )
 
-began_if : (b : Bool) (k : StoredWaiter) (js : List StoredWaiter) → All (λ j. k.place ≤ j.place) js → BeganInOrder js → BeganInOrder (cond b (k ∷ js) js)
+began_if : (b : Bool) (k : StoredWaiter) (js : List StoredWaiter) → All (λ j. k.place ≤ j.place) js → BeganInOrder js
+    → BeganInOrder (cond b (k ∷ js) js)
 began_if true k js a o = (a, o)
 began_if false k js a o = o
 
@@ -129,7 +132,8 @@ others_of id q (k ∷ ks) = by (q k) (k.id == id) refl refl (others_of id q ks)
         ∙ (rest ∙ ap (serials_where q) (sym (filter_no (is_other id) k ks (ap not f))))
     by false false e f rest =
         ap (λ js. filter (λ i. not (i == id)) (serials js)) (filter_no q k ks e)
-        ∙ (rest ∙ (ap serials (sym (filter_no q k (filter (is_other id) ks) e)) ∙ ap (serials_where q) (sym (filter_yes (is_other id) k ks (ap not f)))))
+        ∙ (rest ∙ (ap serials (sym (filter_no q k (filter (is_other id) ks) e))
+        ∙ ap (serials_where q) (sym (filter_yes (is_other id) k ks (ap not f)))))
 
 pub indexed_left : (old new : List Watcher) (id : ℕ) (ks : List StoredWaiter) → AreIndexed old ks
     → ((sid : ℕ) → serials_of sid new ≡ filter (λ i. not (i == id)) (serials_of sid old)) → AreIndexed new (filter (is_other id) ks)
@@ -150,7 +154,8 @@ below_moments n ms (k ∷ ks) h =
     (subst (λ q. q < n) (sym (id_stays ms k)) (All-head (λ (j : StoredWaiter). j.id < n) k ks h))
     (below_moments n ms ks (All-tail (λ (j : StoredWaiter). j.id < n) k ks h))
 
-pub placed_moments : (n : ℕ) (ms : List Moment) (ks : List StoredWaiter) → All (λ k. k.place ≤ n) ks → All (λ k. k.place ≤ n) (map (with_moments ms) ks)
+pub placed_moments : (n : ℕ) (ms : List Moment) (ks : List StoredWaiter) → All (λ k. k.place ≤ n) ks
+    → All (λ k. k.place ≤ n) (map (with_moments ms) ks)
 placed_moments n ms [] h = h
 placed_moments n ms (k ∷ ks) h =
     All-cons (λ (j : StoredWaiter). j.place ≤ n) (with_moments ms k) (map (with_moments ms) ks)

@@ -11,7 +11,8 @@ use Rattle.wait_conditions.specs.Watchers.{IsDueFrom, AreDueFrom, touched_by, wa
 use Rattle.wait_conditions.proofs.Filtered.{filter_no}
 
 -- over the whole of some waiters
-pub none_touched : (due : ℕ) (ms : List Moment) (ks : List StoredWaiter) → TouchWithin due Nobody ms → AreDueFrom due ks → filter (touched_by ms) ks ≡ []
+pub none_touched : (due : ℕ) (ms : List Moment) (ks : List StoredWaiter) → TouchWithin due Nobody ms → AreDueFrom due ks
+    → filter (touched_by ms) ks ≡ []
 none_touched due ms [] h d = refl
 none_touched due ms (k ∷ ks) h d =
     filter_no (touched_by ms) k ks (h k (All-head (IsDueFrom due) k ks d)) ∙ none_touched due ms ks h (All-tail (IsDueFrom due) k ks d)

@@ -50,7 +50,8 @@ above_by : (p : StoredWaiter → Bool) (k : StoredWaiter) (ks : List StoredWaite
 above_by p k ks n id rest true lt before e = let here = head_is k.id id (serials (filter p ks)) rest e in omega (arith, lt, here)
 above_by p k ks n id rest false lt before e = before e
 
-first_above : (p : StoredWaiter → Bool) (ks : List StoredWaiter) (n id : ℕ) (rest : List ℕ) → AreAbove n (serials ks) → serials_where p ks ≡ id ∷ rest → n < id
+first_above : (p : StoredWaiter → Bool) (ks : List StoredWaiter) (n id : ℕ) (rest : List ℕ) → AreAbove n (serials ks) → serials_where p ks ≡ id ∷ rest
+    → n < id
 first_above p [] n id rest a e = cc
 first_above p (k ∷ ks) n id rest a e = above_by p k ks n id rest (p k) a.0 (first_above p ks n id rest a.1) e
 
@@ -87,7 +88,8 @@ found_by p w ws id rest zero false e r s l below above next =
     not_above : (a b : ℕ) → a < b → nat_lt a b ≡ false → ⊥
     not_above a b h k = grind (arith, nat_tests)
 found_by p w ws id rest (suc j) false e r s l below above next =
-    let one = next j s (omega (arith, l)) (λ k d lt. below (suc k) d (omega (arith, lt))) (λ k d a lt. above (suc k) d (omega (arith, a)) (omega (arith, lt))) in
+    let one = next j s (omega (arith, l)) (λ k d lt. below (suc k) d (omega (arith, lt)))
+    (λ k d a lt. above (suc k) d (omega (arith, a)) (omega (arith, lt))) in
     let on : suc j + 1 ≡ suc (j + 1) = omega arith in
     record {
       within = omega (arith, one.within);
@@ -130,7 +132,8 @@ kept_more p s place ks rest k le first is =
     ∙ (chosen p (get_or (drop s ks) (place - s) k) (first.passes k) ∙ ap (λ j. j ∷ []) at)))))
 
 -- where none is left that passes
-none_left : (p : StoredWaiter → Bool) (k : StoredWaiter) (b : Bool) (js : List StoredWaiter) → serials (cond b (k ∷ js) js) ≡ [] → (b ≡ false) × (serials js ≡ [])
+none_left : (p : StoredWaiter → Bool) (k : StoredWaiter) (b : Bool) (js : List StoredWaiter) → serials (cond b (k ∷ js) js) ≡ []
+    → (b ≡ false) × (serials js ≡ [])
 none_left p k true js h = cc
 none_left p k false js h = (refl, h)
 
@@ -238,7 +241,8 @@ less_set q (j ∷ ks) (suc i) k d r lt h = by (q j) (less_set q ks i k d r.1 (om
         ≡ filter (λ id. not (id == (get_or ks i d).id)) (serials (cond b (j ∷ filter q ks) (filter q ks)))
     by true rest =
         ap (λ is. j.id ∷ is) rest
-        ∙ sym (filter_yes (λ id. not (id == (get_or ks i d).id)) j.id (serials_where q ks) (differs j.id (get_or ks i d).id (at ks j.id i r.0 (omega (arith, lt)))))
+        ∙ sym (filter_yes (λ id. not (id == (get_or ks i d).id)) j.id (serials_where q ks)
+        (differs j.id (get_or ks i d).id (at ks j.id i r.0 (omega (arith, lt)))))
     by false rest = rest
 
 serials_set : (ks : List StoredWaiter) (i : ℕ) (k d : StoredWaiter) → i < length ks → k.id ≡ (get_or ks i d).id → serials (set ks i k) ≡ serials ks
@@ -274,7 +278,8 @@ rest_is F s ks cur le now =
     ap (drop s) now
     ∙ (ap (λ n. drop n (map F (take s ks) ++ drop s ks)) (sym long) ∙ drop-append_seam (map F (take s ks)) (drop s ks))
 
-pub at_rest : (s place : ℕ) (ks cur : List StoredWaiter) (d : StoredWaiter) → s ≤ place → drop s cur ≡ drop s ks → get_or cur place d ≡ get_or ks place d
+pub at_rest : (s place : ℕ) (ks cur : List StoredWaiter) (d : StoredWaiter) → s ≤ place → drop s cur ≡ drop s ks
+    → get_or cur place d ≡ get_or ks place d
 at_rest s place ks cur d le same =
     let whole : s + (place - s) ≡ place = omega (arith, le) in
     ap (λ n. get_or cur n d) (sym whole)

@@ -61,7 +61,8 @@ same_failure : (c : Condition) (sid : ℕ) (past since past' since' : List Momen
     → failure c sid past' since' ≡ failure c sid past since
 same_failure c sid past since past' since' same =
     ap (λ b. cond b None (failure_at c (has_failed sid since') (has_ended sid (past' ++ since')))) (same_holds c sid past since past' since' same)
-    ∙ (ap (λ found. cond (holds c sid past since) None (failure_at c (is_failed found) (has_ended sid (past' ++ since')))) (same.later tells_failure sid)
+    ∙ (ap (λ found. cond (holds c sid past since) None (failure_at c (is_failed found) (has_ended sid (past' ++ since'))))
+    (same.later tells_failure sid)
     ∙ ap (λ found. cond (holds c sid past since) None (failure_at c (has_failed sid since) (is_ended found))) (same.all tells_supervisor sid))
 
 -- two tests that are the same for each
@@ -98,7 +99,8 @@ same_verdict a past since past' since' same late =
     (λ sid. same_holds a.condition sid past since past' since' same))
     (same_hopeless a.mode (λ sid. is_some (failure a.condition sid past' since')) (λ sid. is_some (failure a.condition sid past since)) a.sids
     (λ sid. ap is_some (same_failure a.condition sid past since past' since' same)))
-    (same_any (λ sid. is_failure_for_good (failure a.condition sid past' since')) (λ sid. is_failure_for_good (failure a.condition sid past since)) a.sids
+    (same_any (λ sid. is_failure_for_good (failure a.condition sid past' since'))
+    (λ sid. is_failure_for_good (failure a.condition sid past since)) a.sids
     (λ sid. ap is_failure_for_good (same_failure a.condition sid past since past' since' same)))
     late
 
@@ -118,7 +120,8 @@ not_reached at (Some deadline) since h =
 still_waiting : (a : WaitTerms) (past since : List Moment) (at : ℕ) → is_before at a.deadline ≡ true → release_state a past since ≡ Waiting
     → release_state a past (since ++ Clock at ∷ []) ≡ Waiting
 still_waiting a past since at early waits =
-    let at_end : verdict a past since ≡ Waiting = ap (verdict a past) (sym (take_all (length since) since (omega arith))) ∙ waits_at_each a past since waits (length since) (omega arith) in
+    let at_end : verdict a past since ≡ Waiting = ap (verdict a past) (sym (take_all (length since) since (omega arith)))
+    ∙ waits_at_each a past since waits (length since) (omega arith) in
     let same = same_verdict a past since past (since ++ Clock at ∷ []) (one_reading_more past since at) (not_reached at a.deadline since early) in
     standing-push a past since (Clock at)
     ∙ (ap (λ s. first_release_of s (verdict a past (since ++ Clock at ∷ []))) waits ∙ (same ∙ at_end))
@@ -145,7 +148,8 @@ reading_leaves history p at early waits = by (nat_le p.place (length history)) r
         let past : length history ≤ p.place = omega arith in
         let one_more : length more ≡ length history + 1 = length-append history (Clock at ∷ []) in
         let far : length more ≤ p.place = omega arith in
-        let begun : release_state p.asked history [] ≡ Waiting = ap (λ ms. release_state p.asked ms []) (sym (take_all p.place history past)) ∙ (ap (release_state p.asked (take p.place history)) (sym (drop_all p.place history past)) ∙ waits) in
+        let begun : release_state p.asked history [] ≡ Waiting = ap (λ ms. release_state p.asked ms []) (sym (take_all p.place history past))
+        ∙ (ap (release_state p.asked (take p.place history)) (sym (drop_all p.place history past)) ∙ waits) in
         ap (λ ms. release_state p.asked ms (drop p.place more)) (take_all p.place more far)
         ∙ (ap (release_state p.asked more) (drop_all p.place more far) ∙ not_begun p.asked history at begun)
 

@@ -19,7 +19,8 @@ remove-requires g c =
 
 pub returns-clause-order : goal.returns-clause-order
 returns-clause-order g c =
-    subst (λ ts. in_moment_order ts ≡ true) (sym c.remove.ensures.items) (order_without c.place_in-place.result c.args.queue.now.items c.requires.order)
+    subst (λ ts. in_moment_order ts ≡ true) (sym c.remove.ensures.items)
+    (order_without c.place_in-place.result c.args.queue.now.items c.requires.order)
 
 pub returns-clause-left : goal.returns-clause-left
 returns-clause-left g c = λ counted.

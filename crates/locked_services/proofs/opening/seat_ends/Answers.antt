@@ -20,7 +20,8 @@ loop-ring-init g c =
       (λ a. ap (λ (ds : List DrainView). taken_from a ds) no_drains),
       subst (λ (ss : List SeatView). AreUnused ss) (sym no_seats) (λ k x at. absurd (cc (at))),
       ap length no_seats ∙ sym (ap length no_drains),
-      ap (λ (ds : List DrainView). length ds + length (into_iter_items c.into_iter-ring-iterator.result)) no_drains ∙ (let n = ap length all in omega arith),
+      ap (λ (ds : List DrainView). length ds + length (into_iter_items c.into_iter-ring-iterator.result)) no_drains
+          ∙ (let n = ap length all in omega arith),
     )
 
 pub ends-seat-requires : goal.ends-seat-requires

@@ -35,7 +35,8 @@ loop-preserved g c =
         done ++ c.remove-item.result ∷ [],
         inv.4.1 ∙ (ap (λ xs. done ++ xs) first ∙ sym (append_assoc done (c.remove-item.result ∷ []) c.remove-item.new.self.items)),
         subst (λ ys. ComeOf (λ x y. g.F.Fn.post c.args.change (x, tt) y) (done ++ c.remove-item.result ∷ []) ys) (sym c.push_reserved.ensures.items)
-            (come_snoc (λ x y. g.F.Fn.post c.args.change (x, tt) y) done c.loop.changed.items c.remove-item.result c.change.result inv.4.2 c.change.ensures),
+            (come_snoc (λ x y. g.F.Fn.post c.args.change
+            (x, tt) y) done c.loop.changed.items c.remove-item.result c.change.result inv.4.2 c.change.ensures),
       ),
     )
 

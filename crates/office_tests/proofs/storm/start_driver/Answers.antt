@@ -16,7 +16,8 @@ spawn_scoped-requires-send-F g c κs within =
     param_send 1 _ (arg_send _ no _ (closure_send _ (_ ∷ _ ∷ _ ∷ []) (
       shr_send _ _ _ (param_sync 4 _ c.type_bounds.sync-R),
       (
-        shr_send _ _ _ (office_sync _ _ _ (record { seat_ring = λ x. g.C.Channels.seat_ring x; board = g.C.Channels.board }) _ _ _ (param_send 1 _ c.type_bounds.send-C) (param_send 2 _ c.type_bounds.send-D) (param_send 3 _ c.type_bounds.send-B)),
+        shr_send _ _ _ (office_sync _ _ _ (record { seat_ring = λ x. g.C.Channels.seat_ring x; board = g.C.Channels.board }) _ _ _
+            (param_send 1 _ c.type_bounds.send-C) (param_send 2 _ c.type_bounds.send-D) (param_send 3 _ c.type_bounds.send-B)),
         (shr_send _ _ _ count_sync, tt),
       ),
     )))

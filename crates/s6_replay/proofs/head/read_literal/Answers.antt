@@ -11,7 +11,8 @@ returns-in-Ok-eq0-clause-fault g c = λ rest e.
 pub returns-then-byte-want-clause-fault : goal.returns-then-byte-want-clause-fault
 returns-then-byte-want-clause-fault g c = λ rest e.
     let read = rw (one_byte c.read.new.buf c.in-Ok.field-0 (omega arith) (omega arith)) at c.in-Ok.ensures.bytes.0 in
-    differs _ _ _ c.loop-want.want-index (get_or c.read.new.buf 0 0) c.args.text.now rest c.loop-want.invariant read (omega arith) c.if-byte-want.true e
+    differs _ _ _ c.loop-want.want-index (get_or c.read.new.buf 0 0) c.args.text.now rest c.loop-want.invariant read
+    (omega arith) c.if-byte-want.true e
 
 pub loop-want-preserved : goal.loop-want-preserved
 loop-want-preserved g c =

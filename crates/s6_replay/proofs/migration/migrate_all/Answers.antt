@@ -11,7 +11,8 @@ returns-in-Err-write_head-clause-fault g c =
     c.in-Err-write_head.ensures.fault.1)
 
 pub loop-done-init : goal.loop-done-init
-loop-done-init g c = starts _ _ _ _ _ _ _ (rw c.in-Ok-One.field-0-is at c.in-Ok-One.ensures.ok) c.in_default.ensures.ok c.requires c.none-counts.ensures.inputs
+loop-done-init g c = starts _ _ _ _ _ _ _
+    (rw c.in-Ok-One.field-0-is at c.in-Ok-One.ensures.ok) c.in_default.ensures.ok c.requires c.none-counts.ensures.inputs
     c.none-counts.ensures.events c.none-counts.ensures.orders
 
 pub loop-done-preserved : goal.loop-done-preserved

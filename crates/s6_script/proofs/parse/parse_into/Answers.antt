@@ -46,5 +46,9 @@ pub returns-in-Err-clause-pattern : goal.returns-in-Err-clause-pattern
 returns-in-Err-clause-pattern g c = λ e.
     let cut = cut_behind c.args.line.now _ _ _ _ _ _ c.of-words.ensures c.in-Some.ensures.only.1 c.in-Some-take_actor.ensures.only.1 c.rest.ensures in
     let fault : c.in-Err.fault ≡ Pattern = cc e in
-    let found = c.in-Err.ensures.pattern (ap (λ f. Err f) fault) in
-    (_, spells_line c.args.line.now _ _ _ _ _ found.0 cut (c.in-Some.ensures.only.0, refl) (c.in-Some-take_actor.ensures.only.0, refl) found.1, found.2)
+    let found = c.in-Err.ensures.pattern (ap (λ f. Err f) fault) in (
+      _,
+      spells_line c.args.line.now _ _ _ _ _ found.0 cut (c.in-Some.ensures.only.0, refl)
+          (c.in-Some-take_actor.ensures.only.0, refl) found.1,
+      found.2,
+    )

@@ -54,7 +54,8 @@ returns-then-not-is_number_text-clause-spelled c = λ n le low e.
     let same : value ≡ n = value_is line count value told.within told.digits told.end told.value n low found.text in
     absurd (not_both c.is_number_text.result value c.args.most c.then-not-is_number_text.either is (omega (arith, same, le)))
 
-no_other : (line : List ℕ) (count byte n : ℕ) → IsFront line count n → true ≡ nat_lt count (length line) → byte ≡ get_or line count byte → (byte ≡ 32 → ⊥) → ⊥
+no_other : (line : List ℕ) (count byte n : ℕ) → IsFront line count n → true ≡ nat_lt count (length line) → byte ≡ get_or line count byte
+    → (byte ≡ 32 → ⊥) → ⊥
 no_other line count byte n found within here other = by found.end
   where
     by : ((count ≡ length line) ⊎ (get_or line count 0 ≡ 32)) → ⊥

@@ -53,7 +53,8 @@ loop-place-preserved g c =
     }
 
 -- all services were looked at
-whole : (g : _) (c : goal.After-loop-place g) → take c.loop-place.place (charts_of c.args.registry.now.shown.services) ≡ charts_of c.args.registry.now.shown.services
+whole : (g : _) (c : goal.After-loop-place g)
+    → take c.loop-place.place (charts_of c.args.registry.now.shown.services) ≡ charts_of c.args.registry.now.shown.services
 whole g c =
     let count : c.len-place-end.result ≡ length c.args.registry.now.shown.services = c.len-place-end.ensures.count in
     all_taken c.args.registry.now.shown.services c.loop-place.place (omega (arith, c.loop-place-test.false, count))

@@ -6,16 +6,19 @@ use Rattle.server_rules.proofs.recipients.tell_seat.Goals as goal
 
 pub returns-in_default-clause-posts : goal.returns-in_default-clause-posts
 returns-in_default-clause-posts c =
-    rw (slice_get_past c.args.connections.now.items c.args.seat (search (rules, c.in_default.ensures.variant))) (sym (append-nil c.args.posts.now.items))
+    rw (slice_get_past c.args.connections.now.items c.args.seat (search (rules, c.in_default.ensures.variant)))
+    (sym (append-nil c.args.posts.now.items))
 
 pub returns-clause-connections : goal.returns-clause-connections
 returns-clause-connections c =
     rw (
-      slice_get_read c.args.connections.now.items _ c.args.seat c.in-Some.connection.now refl (search (rules, c.in-Some.ensures.variant)) c.in-Some.ensures.value,
+      slice_get_read c.args.connections.now.items _ c.args.seat c.in-Some.connection.now refl
+          (search (rules, c.in-Some.ensures.variant)) c.in-Some.ensures.value,
       c.told.ensures.next,
     ) refl
 
 pub returns-clause-posts : goal.returns-clause-posts
 returns-clause-posts c =
-    rw (slice_get_read c.args.connections.now.items _ c.args.seat c.in-Some.connection.now refl (search (rules, c.in-Some.ensures.variant)) c.in-Some.ensures.value)
+    rw (slice_get_read c.args.connections.now.items _ c.args.seat c.in-Some.connection.now refl
+    (search (rules, c.in-Some.ensures.variant)) c.in-Some.ensures.value)
     (c.add_post.ensures.posts ∙ ap (λ t. c.args.posts.now.items ++ posts_of c.args.seat (Some c.args.news.now) t) c.told.ensures.todo)

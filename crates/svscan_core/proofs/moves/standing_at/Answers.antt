@@ -10,7 +10,8 @@ use Rattle.svscan_core.proofs.moves.standing_at.Goals as goal
 pub returns-in_err-nth : goal.returns-in_err-nth
 returns-in_err-nth g c =
     let none : slice_get c.args.slots.now.services c.args.place ≡ None = sym c.in_err-nth.ensures in
-    ap (option_map (λ s. s.now)) c.from_residual.ensures ∙ sym (ap (option_map service_view) (none_touched c.args.slots.now.services c.args.touched.now c.args.place none))
+    ap (option_map (λ s. s.now)) c.from_residual.ensures
+    ∙ sym (ap (option_map service_view) (none_touched c.args.slots.now.services c.args.touched.now c.args.place none))
 
 pub loop-other-preserved : goal.loop-other-preserved
 loop-other-preserved g c =

@@ -170,11 +170,13 @@ returns-clause-worked g c = record {
       subst (λ (us : List ChangedService). TimersAgree
       (with_timer_changes (timers_of us ++ (map (λ sid. Clear sid) c.add_names.new.self.dropped_sids.items
       ++ map timer_change_of (charts_of c.add_names.new.self.added.items))) ts)
-      (charts_of (prepared_services slots us c.add_names.new.self.dropped.items c.add_names.new.self.added.items))) (sym c.add_names.ensures.only.touched)
+      (charts_of (prepared_services slots us c.add_names.new.self.dropped.items c.add_names.new.self.added.items)))
+      (sym c.add_names.ensures.only.touched)
       (subst (λ (ns : List (List ℕ)). TimersAgree
       (with_timer_changes (timers_of c.visit_all.new.self.touched.items
       ++ (map (λ sid. Clear sid) c.add_names.new.self.dropped_sids.items ++ map timer_change_of (charts_of c.add_names.new.self.added.items))) ts)
-      (charts_of (prepared_services slots c.visit_all.new.self.touched.items ns c.add_names.new.self.added.items))) (sym c.add_names.ensures.only.dropped)
+      (charts_of (prepared_services slots c.visit_all.new.self.touched.items ns c.add_names.new.self.added.items)))
+      (sym c.add_names.ensures.only.dropped)
       (scan_timers ts (timers_of c.visit_all.new.self.touched.items) c.add_names.new.self.dropped_sids.items
       (charts_of c.add_names.new.self.added.items) (charts_of visited) _
       (ap is_rising numbers ∙ rising) sids

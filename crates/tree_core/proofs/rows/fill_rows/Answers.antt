@@ -10,5 +10,6 @@ loop-place-preserved g c = record {
       c.in_ok-push.ensures.items
       ∙ rows_more c.loop-place.rows.items (map (status_row history c.args.now) (charts_of c.args.registry.now.shown.services)) c.loop-place.place
       c.row_at.result (c.row_at.ensures history agrees) (c.loop-place.invariant.rows history agrees);
-  count = ap length c.in_ok-push.ensures.items ∙ (length-append c.loop-place.rows.items (c.row_at.result ∷ []) ∙ ap (λ n. n + 1) c.loop-place.invariant.count);
+  count = ap length c.in_ok-push.ensures.items
+      ∙ (length-append c.loop-place.rows.items (c.row_at.result ∷ []) ∙ ap (λ n. n + 1) c.loop-place.invariant.count);
 }

@@ -23,7 +23,8 @@ bounds-waiters-place g c =
     let rest = map (λ (w : Watcher). w.waiter) (drop (n + 1) ws) in
     let first = c.place_from-place.ensures.first (watches c.args.sid) rest
     (sym c.loop-watcher.invariant.left
-    ∙ ap (map (λ (w : Watcher). w.waiter)) (drop_more ws n c.watcher-item.result c.loop-watcher-test.true ∙ ap (λ x. x ∷ drop (n + 1) ws) (sym c.watcher-item.is))) in
+    ∙ ap (map (λ (w : Watcher). w.waiter))
+    (drop_more ws n c.watcher-item.result c.loop-watcher-test.true ∙ ap (λ x. x ∷ drop (n + 1) ws) (sym c.watcher-item.is))) in
     omega (
       arith,
       first.within,
@@ -39,7 +40,8 @@ push_copy-requires-clause-waiter g c =
     let rest = map (λ (w : Watcher). w.waiter) (drop (n + 1) ws) in
     let first = c.place_from-place.ensures.first (watches c.args.sid) rest
     (sym c.loop-watcher.invariant.left
-    ∙ ap (map (λ (w : Watcher). w.waiter)) (drop_more ws n c.watcher-item.result c.loop-watcher-test.true ∙ ap (λ x. x ∷ drop (n + 1) ws) (sym c.watcher-item.is))) in
+    ∙ ap (map (λ (w : Watcher). w.waiter))
+    (drop_more ws n c.watcher-item.result c.loop-watcher-test.true ∙ ap (λ x. x ∷ drop (n + 1) ws) (sym c.watcher-item.is))) in
     subst IsCounted (sym c.index-waiters-place.is)
     (All-get_or IsCounted c.args.waiters.now c.place_from-place.result c.index-waiters-place.result
     (omega (
@@ -61,8 +63,10 @@ loop-watcher-preserved g c =
     let rest = map (λ (w : Watcher). w.waiter) (drop (n + 1) ws) in
     let first = c.place_from-place.ensures.first (watches c.args.sid) rest
     (sym c.loop-watcher.invariant.left
-    ∙ ap (map (λ (w : Watcher). w.waiter)) (drop_more ws n c.watcher-item.result c.loop-watcher-test.true ∙ ap (λ x. x ∷ drop (n + 1) ws) (sym c.watcher-item.is))) in
-    let here : place < length c.args.waiters.now = omega (arith, first.within, c.place_from-place.ensures.from, length-map c.args.waiters.now waiter_view, length-drop start W) in
+    ∙ ap (map (λ (w : Watcher). w.waiter))
+    (drop_more ws n c.watcher-item.result c.loop-watcher-test.true ∙ ap (λ x. x ∷ drop (n + 1) ws) (sym c.watcher-item.is))) in
+    let here : place < length c.args.waiters.now = omega
+    (arith, first.within, c.place_from-place.ensures.from, length-map c.args.waiters.now waiter_view, length-drop start W) in
     let seen = ap waiter_view c.index-waiters-place.is ∙ sym (get_or-map waiter_view c.args.waiters.now place w (waiter_view w) here) in
     record {
       within = omega (arith, here);
@@ -78,4 +82,5 @@ pub returns-clause-copies : goal.returns-clause-copies
 returns-clause-copies g c =
     c.loop-watcher.invariant.copies
     ∙ kept_all (watches c.args.sid) c.loop-watcher.start (waiters_view c.args.waiters.now)
-    (sym c.loop-watcher.invariant.left ∙ ap (map (λ (w : Watcher). w.waiter)) (drop_all c.loop-watcher.watcher-index c.args.watchers.now c.loop-watcher-test.false))
+    (sym c.loop-watcher.invariant.left
+    ∙ ap (map (λ (w : Watcher). w.waiter)) (drop_all c.loop-watcher.watcher-index c.args.watchers.now c.loop-watcher-test.false))

@@ -38,7 +38,8 @@ loop-id-preserved g c =
     let ws = c.loop-id.waiters in
     let place = c.place_from-place.result in
     let w = c.index-waiters-place.result in
-    let within : c.loop-id.start ≤ length old = omega (arith, c.loop-id.invariant.within, c.loop-id.auto.waiters, length-map c.args.waiters.now waiter_view) in
+    let within : c.loop-id.start ≤ length old = omega
+    (arith, c.loop-id.invariant.within, c.loop-id.auto.waiters, length-map c.args.waiters.now waiter_view) in
     let first = next_first F (touched_by c.args.moments.now) c.loop-id.start place c.loop-id.id-index
     c.id-item.result old (waiters_view ws) c.args.touched.now within c.loop-id.invariant.waiters c.loop-id.invariant.left c.loop-id-test.true
     c.id-item.is c.place_from-place.ensures.first in
@@ -66,7 +67,8 @@ loop-id-preserved g c =
           (rising_set (waiters_view ws) place (waiter_view c.change.new.waiter) (waiter_view w) long named c.loop-id.invariant.rising);
       counted = All-set IsCounted ws place c.change.new.waiter c.change.ensures.counted c.loop-id.invariant.counted;
       indexed = subst (AreIndexed c.change.new.watchers.watchers) (sym (map-set waiter_view ws place c.change.new.waiter))
-          (indexed_set c.loop-id.watchers.watchers c.change.new.watchers.watchers (waiters_view ws) place (waiter_view c.change.new.waiter) (waiter_view w)
+          (indexed_set c.loop-id.watchers.watchers c.change.new.watchers.watchers (waiters_view ws) place (waiter_view c.change.new.waiter)
+          (waiter_view w)
           c.loop-id.invariant.rising long c.loop-id.invariant.indexed named
           (λ h sid. ap (watches sid) given
           ∙ (watches_on c.args.moments.now sid (waiter_view w) (ap still_waits (sym given) ∙ h) ∙ ap (watches sid) seen))

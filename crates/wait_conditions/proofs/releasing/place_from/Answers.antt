@@ -14,7 +14,8 @@ part_is start ws =
 
 pub place_in-requires : goal.place_in-requires
 place_in-requires c =
-    subst (λ ks. AreRising (serials ks)) (sym (part_is c.args.start c.args.waiters.now)) (rising_drop c.args.start (waiters_view c.args.waiters.now) c.requires.rising)
+    subst (λ ks. AreRising (serials ks)) (sym (part_is c.args.start c.args.waiters.now))
+    (rising_drop c.args.start (waiters_view c.args.waiters.now) c.requires.rising)
 
 pub returns-clause-first : goal.returns-clause-first
 returns-clause-first c = λ p rest e.

@@ -14,10 +14,12 @@ loop-waiter-preserved c =
     subst (AreDueFrom c.if-waits_still.due)
     (sym (view_more c.args.waiters.now c.loop-waiter.waiter-index c.waiter-item.result c.loop-waiter-test.true c.waiter-item.is))
     (elim c.if-waits_still.branch [
-      | then-waits_still w ↦ subst (λ n. AreDueFrom n (before ++ k ∷ [])) (sym (w.due-is ∙ w.earlier-due.ensures)) (due_push c.loop-waiter.due k before c.loop-waiter.invariant)
+      | then-waits_still w ↦ subst (λ n. AreDueFrom n (before ++ k ∷ [])) (sym (w.due-is ∙ w.earlier-due.ensures))
+          (due_push c.loop-waiter.due k before c.loop-waiter.invariant)
       | else-waits_still w ↦ subst (λ n. AreDueFrom n (before ++ k ∷ [])) (sym w.due-is)
           (due_push_released c.loop-waiter.due k before (sym c.waits_still.ensures ∙ w.if-waits_still.false) c.loop-waiter.invariant)
     ])
 
 pub returns : goal.returns
-returns c = subst (λ ws. AreDueFrom c.loop-waiter.due (waiters_view ws)) (take_all c.loop-waiter.waiter-index c.args.waiters.now c.loop-waiter-test.false) c.loop-waiter.invariant
+returns c = subst (λ ws. AreDueFrom c.loop-waiter.due (waiters_view ws))
+    (take_all c.loop-waiter.waiter-index c.args.waiters.now c.loop-waiter-test.false) c.loop-waiter.invariant

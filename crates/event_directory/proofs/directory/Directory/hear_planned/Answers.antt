@@ -51,4 +51,5 @@ returns-clause-after g c =
     (c.forget-self-inside.ensures.left ∙ ap (λ ss. greatest_offset (map standing_of_stored ss)) (c.deref-2.ensures.value
     ∙ slice_back_planned c.hear_planned_all.new.subscriptions c.self.inside.subscriptions.items c.deref_mut.result.now _
     c.deref_mut.ensures.value c.deref_mut.ensures.len c.hear_planned_all.ensures.standing))
-    ∙ ap (map (kept_in (take c.self.inside.heard c.self.inside.text.items ++ c.self.inside.planned.items))) (c.hear_planned_all.ensures.standing ∙ ap (map planned_standing) c.deref_mut.ensures.value))
+    ∙ ap (map (kept_in (take c.self.inside.heard c.self.inside.text.items ++ c.self.inside.planned.items)))
+    (c.hear_planned_all.ensures.standing ∙ ap (map planned_standing) c.deref_mut.ensures.value))

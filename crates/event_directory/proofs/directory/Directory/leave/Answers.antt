@@ -58,7 +58,8 @@ returns-then-not-self-clause-after g c =
     (c.forget-self-inside.ensures.left ∙ ap (λ ss. greatest_offset (map standing_of_stored ss)) (c.deref.ensures.value
     ∙ slice_back c.begin_all.new.subscriptions c.drop_one.new.subscriptions.items c.deref_mut.result.now _
     c.deref_mut.ensures.value c.deref_mut.ensures.len c.begin_all.ensures.same))
-    ∙ ap (map (kept_in (take c.self.inside.heard c.self.inside.text.items))) (c.begin_all.ensures.same ∙ ap (map standing_of_stored) (c.deref_mut.ensures.value ∙ c.drop_one.ensures))
+    ∙ ap (map (kept_in (take c.self.inside.heard c.self.inside.text.items)))
+    (c.begin_all.ensures.same ∙ ap (map standing_of_stored) (c.deref_mut.ensures.value ∙ c.drop_one.ensures))
     ∙ without_standing c.args.id _ c.self.inside.subscriptions.items)
 
 pub returns-then-not-self-clause-planned : goal.returns-then-not-self-clause-planned
@@ -79,7 +80,8 @@ returns-then-not-self-clause-planned g c =
     (c.forget-self-inside.ensures.left ∙ ap (λ ss. greatest_offset (map standing_of_stored ss)) (c.deref.ensures.value
     ∙ slice_back c.begin_all.new.subscriptions c.drop_one.new.subscriptions.items c.deref_mut.result.now _
     c.deref_mut.ensures.value c.deref_mut.ensures.len c.begin_all.ensures.same))
-    ∙ ap (map (kept_in (take c.self.inside.heard c.self.inside.text.items))) (c.begin_all.ensures.same ∙ ap (map standing_of_stored) (c.deref_mut.ensures.value ∙ c.drop_one.ensures))
+    ∙ ap (map (kept_in (take c.self.inside.heard c.self.inside.text.items)))
+    (c.begin_all.ensures.same ∙ ap (map standing_of_stored) (c.deref_mut.ensures.value ∙ c.drop_one.ensures))
     ∙ without_standing c.args.id _ c.self.inside.subscriptions.items)
 
 pub returns-else-not-self-clause-after : goal.returns-else-not-self-clause-after

@@ -13,8 +13,11 @@ use Rattle.locked_services.proofs.room.Room.step_many.Goals as goal
 pub invariant_of-self : goal.invariant_of-self
 invariant_of-self g c =
     let v : RoomView = record { running = c.self.inside.running; shots = g.D.Board.shots c.self.inside.board; is_shown = c.self.inside.is_shown } in
-    let more = c.step_many-driven.ensures.steps in
-    (shows_steps g.C.Lanes.opening v (record { running = c.step_many-driven.new.self; shots = g.D.Board.shots c.self.inside.board; is_shown = false }) more.0 c.self.invariant.0 c.step_many-driven.ensures.opening refl more.2 refl, c.keep.ensures)
+    let more = c.step_many-driven.ensures.steps in (
+      shows_steps g.C.Lanes.opening v
+          (record { running = c.step_many-driven.new.self; shots = g.D.Board.shots c.self.inside.board; is_shown = false }) more.0 c.self.invariant.0 c.step_many-driven.ensures.opening refl more.2 refl,
+      c.keep.ensures,
+    )
 
 pub invariant_of-self-else-driven-gt0 : goal.invariant_of-self-else-driven-gt0
 invariant_of-self-else-driven-gt0 g c =

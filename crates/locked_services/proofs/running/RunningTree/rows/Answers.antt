@@ -19,6 +19,7 @@ returns-clause-rows g c m s =
     let here : StandsFor c.self.inside.opening m = subst (λ (v : RunningView). StandsFor v.opening m) (sym c.self.view_is) s in
     let stands = subst (λ (t : StoredTree). StandsFor t (end_of m steps)) (sym c.deref-tree.ensures) (c.self.invariant.stands m here) in
     c.new.ensures
-    ∙ (shot_is (end_of m steps) (record { at = c.steps-at.result; rows = record { items = c.fill_rows.new.rows.items } }) (c.steps-at.ensures (end_of m steps) stands)
+    ∙ (shot_is (end_of m steps) (record { at = c.steps-at.result; rows = record { items = c.fill_rows.new.rows.items } })
+    (c.steps-at.ensures (end_of m steps) stands)
     (c.in_ok-fill_rows.ensures.each (end_of m steps) stands)
     ∙ ap (λ (v : RunningView). shot_of (end_of m v.steps)) c.self.view_is)

@@ -34,7 +34,8 @@ returns-in-loop-steps-clause-rings g c =
     let ends = λ (s : DriveStop). TakeMost (most_taken s n) u w in
     elim c.match-step_one.branch [
       | in-Idle b ↦ subst ends (sym b.stop-is) (take_same n u v w taken (takes_as c.step_one.result stop.Idle v w b.in-Idle.is rings))
-      | in-Blocked b ↦ subst ends (sym b.stop-is) (same_drains n u v w taken (takes_as c.step_one.result (stop.Blocked b.in-Blocked.lane) v w b.in-Blocked.is rings).0)
+      | in-Blocked b ↦ subst ends (sym b.stop-is)
+          (same_drains n u v w taken (takes_as c.step_one.result (stop.Blocked b.in-Blocked.lane) v w b.in-Blocked.is rings).0)
       | in-RunFull b ↦ subst ends (sym b.stop-is) (same_drains n u v w taken (takes_as c.step_one.result stop.RunFull v w b.in-RunFull.is rings).0)
       | in-NoMemory b ↦ subst ends (sym b.stop-is) (take_one n u v w taken (takes_as c.step_one.result stop.NoMemory v w b.in-NoMemory.is rings))
     ]

@@ -25,7 +25,8 @@ lock_all-desks-requires-clause-fits g c =
 pub over-requires : goal.over-requires
 over-requires g c =
     let each : length c.in-Err.field-0.desks.items ≡ length c.self.inside.desks.items =
-    same_length desk_unseen c.unlock_all-locks.result.1.items c.in-Err.field-0.desks.items c.in-Err.ensures.desks.0 ∙ c.unlock_all-locks.ensures.each in
+    same_length desk_unseen c.unlock_all-locks.result.1.items c.in-Err.field-0.desks.items c.in-Err.ensures.desks.0
+    ∙ c.unlock_all-locks.ensures.each in
     let locked = c.lock_all-desks.ensures.each in
     let few = c.self.invariant in
     grind (arith, rules)

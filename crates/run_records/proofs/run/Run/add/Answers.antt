@@ -11,7 +11,8 @@ push-requires g c =
     let one = c.index_mut.result.now in
     let mine : c.number.result ≡ (g.I.KeptInput.input c.args.input).actor = c.number.ensures.value ∙ c.actor.ensures in
     let low : (g.I.KeptInput.input c.args.input).actor ≤ 15 = subst (λ (n : ℕ). n ≤ 15) mine c.number.ensures.bound in
-    let here = actor_there all c.from.result (g.I.KeptInput.input c.args.input).actor one c.self.invariant.actors low (c.from.ensures ∙ mine) c.index_mut.ensures.value in
+    let here = actor_there all c.from.result (g.I.KeptInput.input c.args.input).actor one c.self.invariant.actors low
+    (c.from.ensures ∙ mine) c.index_mut.ensures.value in
     c.requires.room.place_fits one.room
     (subst (λ (v : RunView). slice_get v.place_room (g.I.KeptInput.input c.args.input).actor ≡ Some one.room) c.self.view_is
     (room_at all (g.I.KeptInput.input c.args.input).actor one here))

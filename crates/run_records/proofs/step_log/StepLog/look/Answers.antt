@@ -19,7 +19,8 @@ returns-in-Coded c s there =
     slice_get_read starts (length starts) c.args.place c.index.result.now refl low c.index.ensures ∙ ap (λ (st : Start). Some st) c.in-Coded.is in
     let is = step_there codes whole starts c.args.place (Coded c.in-Coded.start) s
     inside here in
-    is_stored codes c.in-Coded.start c.code_from.result s (all_at (IsThere codes whole) starts c.args.place (Coded c.in-Coded.start) c.self.invariant here)
+    is_stored codes c.in-Coded.start c.code_from.result s
+    (all_at (IsThere codes whole) starts c.args.place (Coded c.in-Coded.start) c.self.invariant here)
     (search rules) is
 
 pub returns-in-Whole : goal.returns-in-Whole

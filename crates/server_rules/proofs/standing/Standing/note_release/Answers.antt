@@ -5,4 +5,5 @@ use Rattle.server_rules.proofs.standing.Standing.note_release.Goals as goal
 pub invariant_of-self : goal.invariant_of-self
 invariant_of-self c =
     rw (c.drop_serial.ensures, c.push.ensures.items)
-    (fits c.id.inside.0 c.self.inside.waiters.items c.self.inside.released.items (search (rules, c.requires, c.self.view_is, c.id.view_is)) c.self.invariant)
+    (fits c.id.inside.0 c.self.inside.waiters.items c.self.inside.released.items
+    (search (rules, c.requires, c.self.view_is, c.id.view_is)) c.self.invariant)

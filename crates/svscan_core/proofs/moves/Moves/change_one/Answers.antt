@@ -38,7 +38,8 @@ change_onto-requires-clause-next g c =
     let ss = with_changes c.args.slots.now.services c.args.self.now.touched.items in
     let place = c.in-Some.place in
     let before = c.in-Some-standing_at.standing.now in
-    let old = stood (slice_get ss place) before (ap (option_map (λ s. s.now)) (sym c.in-Some-standing_at.is) ∙ (rw c.as_slice.ensures.value at c.standing_at.ensures)) in
+    let old = stood (slice_get ss place) before
+    (ap (option_map (λ s. s.now)) (sym c.in-Some-standing_at.is) ∙ (rw c.as_slice.ensures.value at c.standing_at.ensures)) in
     let there : slice_get (charts_of ss) place ≡ Some before.chart =
     get_map (λ (t : Supervised). t.chart) ss place old.0 old.1 ∙ ap (λ (b : ServiceView). Some b.chart) old.2 in
     subst (λ (x : ChartState). x.generation + 1 < 18446744073709551616) (get_or_from_slice_get (charts_of ss) place before.chart before.chart there)
@@ -52,7 +53,8 @@ returns-clause-takes g c =
     let before = c.in-Some-standing_at.standing.now in
     let rising = ap is_rising c.requires.serials ∙ c.requires.order in
     let at = state_found cs place c.args.sid (ap (λ ns. slice_get ns place) c.requires.serials ∙ c.in-Some.ensures.found) in
-    let old = stood (slice_get ss place) before (ap (option_map (λ s. s.now)) (sym c.in-Some-standing_at.is) ∙ (rw c.as_slice.ensures.value at c.standing_at.ensures)) in
+    let old = stood (slice_get ss place) before
+    (ap (option_map (λ s. s.now)) (sym c.in-Some-standing_at.is) ∙ (rw c.as_slice.ensures.value at c.standing_at.ensures)) in
     let is : before.chart ≡ at.state = sym (ap (λ (b : ServiceView). b.chart) old.2) ∙ chart_there ss place old.0 at.state old.1 at.there in
     let after = c.change_onto.new.self in
     let gives : MatchesMove (changed_by c.args.change.now c.args.now before.chart) after.chart c.change_onto.new.out =
@@ -84,7 +86,8 @@ returns-clause-stale g c =
     let place = c.in-Some.place in
     let before = c.in-Some-standing_at.standing.now in
     let at = state_found cs place c.args.sid (ap (λ ns. slice_get ns place) c.requires.serials ∙ c.in-Some.ensures.found) in
-    let old = stood (slice_get ss place) before (ap (option_map (λ s. s.now)) (sym c.in-Some-standing_at.is) ∙ (rw c.as_slice.ensures.value at c.standing_at.ensures)) in
+    let old = stood (slice_get ss place) before
+    (ap (option_map (λ s. s.now)) (sym c.in-Some-standing_at.is) ∙ (rw c.as_slice.ensures.value at c.standing_at.ensures)) in
     let is : before.chart ≡ at.state = sym (ap (λ (b : ServiceView). b.chart) old.2) ∙ chart_there ss place old.0 at.state old.1 at.there in
     let gives : MatchesMove (changed_by c.args.change.now c.args.now before.chart) c.change_onto.new.self.chart c.change_onto.new.out =
     matches_alone _ c.change_onto.new.self.chart c.clear.new.self c.change_onto.new.out c.clear.ensures.events c.clear.ensures.orders
@@ -97,7 +100,8 @@ returns-clause-names g c = λ h.
     let ss = with_changes c.args.slots.now.services c.args.self.now.touched.items in
     let place = c.in-Some.place in
     let before = c.in-Some-standing_at.standing.now in
-    let old = stood (slice_get ss place) before (ap (option_map (λ s. s.now)) (sym c.in-Some-standing_at.is) ∙ (rw c.as_slice.ensures.value at c.standing_at.ensures)) in
+    let old = stood (slice_get ss place) before
+    (ap (option_map (λ s. s.now)) (sym c.in-Some-standing_at.is) ∙ (rw c.as_slice.ensures.value at c.standing_at.ensures)) in
     let after = c.change_onto.new.self in
     let t : ChangedService = record { place = place; standing = after; death = c.counted_death-changed.result } in
     subst (λ (ts : List ChangedService). KeepNames c.args.slots.now.services ts) (sym c.in_ok-touch.ensures.touched)

@@ -17,7 +17,8 @@ use Rattle.svscan_core.proofs.moves.Moves.visit_at.Goals as goal
 pub make-requires : goal.make-requires
 make-requires g c =
     let ss = with_changes c.args.slots.now.services c.args.self.now.touched.items in
-    let old = stood (slice_get ss c.args.place) c.in-Some.standing.now (ap (option_map (λ s. s.now)) (sym c.in-Some.is) ∙ (rw c.as_slice-touched.ensures.value at c.standing_before.ensures)) in
+    let old = stood (slice_get ss c.args.place) c.in-Some.standing.now
+    (ap (option_map (λ s. s.now)) (sym c.in-Some.is) ∙ (rw c.as_slice-touched.ensures.value at c.standing_before.ensures)) in
     record {
       next = c.requires.next c.in-Some.standing.now.chart
           (get_map (λ (t : Supervised). t.chart) ss c.args.place old.0 old.1 ∙ ap (λ (b : ServiceView). Some b.chart) old.2);
@@ -36,7 +37,8 @@ pub returns-then-passes-clause-visited : goal.returns-then-passes-clause-visited
 returns-then-passes-clause-visited g c = record {
   takes = λ k there.
       let ss = with_changes c.args.slots.now.services c.args.self.now.touched.items in
-      let old = stood (slice_get ss c.args.place) c.in-Some.standing.now (ap (option_map (λ s. s.now)) (sym c.in-Some.is) ∙ (rw c.as_slice-touched.ensures.value at c.standing_before.ensures)) in
+      let old = stood (slice_get ss c.args.place) c.in-Some.standing.now
+      (ap (option_map (λ s. s.now)) (sym c.in-Some.is) ∙ (rw c.as_slice-touched.ensures.value at c.standing_before.ensures)) in
       let is : c.in-Some.standing.now.chart ≡ k = sym (ap (λ (b : ServiceView). b.chart) old.2) ∙ chart_there ss c.args.place old.0 k old.1 there in
       let stays : visit_move c.args.visit c.args.now k ≡ no_move k =
       subst (λ (x : ChartState). visit_move c.args.visit c.args.now x ≡ no_move x) is (c.passes.ensures c.if-passes.true) in
@@ -52,7 +54,8 @@ pub returns-clause-visited : goal.returns-clause-visited
 returns-clause-visited g c = record {
   takes = λ k there.
       let ss = with_changes c.args.slots.now.services c.args.self.now.touched.items in
-      let old = stood (slice_get ss c.args.place) c.in-Some.standing.now (ap (option_map (λ s. s.now)) (sym c.in-Some.is) ∙ (rw c.as_slice-touched.ensures.value at c.standing_before.ensures)) in
+      let old = stood (slice_get ss c.args.place) c.in-Some.standing.now
+      (ap (option_map (λ s. s.now)) (sym c.in-Some.is) ∙ (rw c.as_slice-touched.ensures.value at c.standing_before.ensures)) in
       let is : c.in-Some.standing.now.chart ≡ k = sym (ap (λ (b : ServiceView). b.chart) old.2) ∙ chart_there ss c.args.place old.0 k old.1 there in
       let after = c.make.new.standing in
       let new = c.touch.new.self in
@@ -61,7 +64,8 @@ returns-clause-visited g c = record {
       (step_so_far c.args.slots.now.services c.args.self.now) (step_so_far c.args.slots.now.services new)) is
       (touched_takes c.args.now c.args.place ss (with_changes c.args.slots.now.services new.touched.items) c.args.self.now.events.items
       new.events.items c.args.self.now.orders.items new.orders.items (timers_of c.args.self.now.touched.items) (timers_of new.touched.items)
-      old.0 c.in-Some.standing.now after t.death (visit_move c.args.visit c.args.now c.in-Some.standing.now.chart) c.make.new.out old.1 old.2 c.requires.order
+      old.0 c.in-Some.standing.now after t.death
+      (visit_move c.args.visit c.args.now c.in-Some.standing.now.chart) c.make.new.out old.1 old.2 c.requires.order
       c.make.ensures.gives c.make.ensures.agrees c.make.ensures.sid (visit_joins c.args.visit c.args.now c.in-Some.standing.now.chart)
       (ap (with_changes c.args.slots.now.services) c.in_ok-touch.ensures.touched
       ∙ (touched_more c.args.slots.now.services c.args.self.now.touched.items t ∙ one_taken ss t old.0 old.1))
@@ -70,7 +74,8 @@ returns-clause-visited g c = record {
       ∙ map-append (λ (t : ChangedService). timer_change_of t.standing.chart) c.args.self.now.touched.items (t ∷ [])));
   serials =
       let ss = with_changes c.args.slots.now.services c.args.self.now.touched.items in
-      let old = stood (slice_get ss c.args.place) c.in-Some.standing.now (ap (option_map (λ s. s.now)) (sym c.in-Some.is) ∙ (rw c.as_slice-touched.ensures.value at c.standing_before.ensures)) in
+      let old = stood (slice_get ss c.args.place) c.in-Some.standing.now
+      (ap (option_map (λ s. s.now)) (sym c.in-Some.is) ∙ (rw c.as_slice-touched.ensures.value at c.standing_before.ensures)) in
       let after = c.make.new.standing in
       let t : ChangedService = record { place = c.args.place; standing = after; death = None } in
       ap (λ (ts : List ChangedService). serials_of (charts_of (with_changes c.args.slots.now.services ts))) c.in_ok-touch.ensures.touched
@@ -80,7 +85,8 @@ returns-clause-visited g c = record {
       (c.make.ensures.sid ∙ sym (ap (λ (b : ServiceView). b.chart.sid) old.2)));
   names = λ h.
       let ss = with_changes c.args.slots.now.services c.args.self.now.touched.items in
-      let old = stood (slice_get ss c.args.place) c.in-Some.standing.now (ap (option_map (λ s. s.now)) (sym c.in-Some.is) ∙ (rw c.as_slice-touched.ensures.value at c.standing_before.ensures)) in
+      let old = stood (slice_get ss c.args.place) c.in-Some.standing.now
+      (ap (option_map (λ s. s.now)) (sym c.in-Some.is) ∙ (rw c.as_slice-touched.ensures.value at c.standing_before.ensures)) in
       let after = c.make.new.standing in
       let t : ChangedService = record { place = c.args.place; standing = after; death = None } in
       subst (λ (ts : List ChangedService). KeepNames c.args.slots.now.services ts) (sym c.in_ok-touch.ensures.touched)

@@ -15,7 +15,8 @@ invariant_of-self g c =
     let now = c.drop_named.ensures.waiters in
     record {
       counted = c.drop_named.ensures.counted;
-      rising = subst (λ ks. AreRising (serials ks)) (sym now) (rising_left (λ (j : StoredWaiter). j.id) (is_other c.args.id) W c.self.invariant.rising);
+      rising = subst (λ ks. AreRising (serials ks)) (sym now)
+          (rising_left (λ (j : StoredWaiter). j.id) (is_other c.args.id) W c.self.invariant.rising);
       began = subst BeganInOrder (sym now) (began_left (is_other c.args.id) W c.self.invariant.began);
       indexed = subst (AreIndexed c.leave.new.self.watchers) (sym now)
           (indexed_left c.self.inside.watchers.watchers c.leave.new.self.watchers c.args.id W c.self.invariant.indexed c.leave.ensures.serials);

@@ -24,7 +24,8 @@ invariant_of-self g c =
     record {
       below = subst (All (λ (k : StoredWaiter). k.id < c.plan.inside.next)) (sym c.change.ensures.waiters)
           (below_moments c.plan.inside.next ms W
-          (below_later next c.plan.inside.next W (next_on next c.plan.inside.next (list_change_of c.plan.inside.change) serial) c.self.invariant.below));
+          (below_later next c.plan.inside.next W
+          (next_on next c.plan.inside.next (list_change_of c.plan.inside.change) serial) c.self.invariant.below));
       placed = subst (All (λ (k : StoredWaiter). k.place ≤ count + c.len.result)) (sym c.change.ensures.waiters)
           (placed_moments (count + c.len.result) ms W (placed_later count (count + c.len.result) W (omega arith) c.self.invariant.placed));
       few = omega (arith, few, c.len.ensures, c.deref.ensures.len, ap length c.deref.ensures.value);
@@ -106,7 +107,8 @@ invariant_of-self-in-Leave g c =
       below = subst (All (λ (j : StoredWaiter). j.id < c.plan.inside.next)) (sym now)
           (All-filter (is_other c.in-Leave.id) (λ (j : StoredWaiter). j.id < c.plan.inside.next) _
           (below_moments c.plan.inside.next ms W
-          (below_later next c.plan.inside.next W (next_on next c.plan.inside.next (list_change_of c.plan.inside.change) serial) c.self.invariant.below)));
+          (below_later next c.plan.inside.next W
+          (next_on next c.plan.inside.next (list_change_of c.plan.inside.change) serial) c.self.invariant.below)));
       placed = subst (All (λ (j : StoredWaiter). j.place ≤ count + c.len.result)) (sym now)
           (All-filter (is_other c.in-Leave.id) (λ (j : StoredWaiter). j.place ≤ count + c.len.result) _
           (placed_moments (count + c.len.result) ms W (placed_later count (count + c.len.result) W (omega arith) c.self.invariant.placed)));

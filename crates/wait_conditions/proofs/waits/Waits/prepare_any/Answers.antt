@@ -16,7 +16,8 @@ returns-clause-released g c =
     c.in_ok-released.ensures.released
     ∙ (ap (λ ws. releases_seen ms (waiters_view ws)) c.deref_mut.ensures.value
     ∙ (ap (releases_seen ms) c.in_ok-copies.ensures.copies
-    ∙ (sym (released_alike ms c.self-2.inside.list.waiters (filter (touched_by ms) c.self-2.inside.list.waiters) (alike_touched ms c.self-2.inside.list.waiters))
+    ∙ (sym (released_alike ms c.self-2.inside.list.waiters (filter (touched_by ms) c.self-2.inside.list.waiters)
+    (alike_touched ms c.self-2.inside.list.waiters))
     ∙ ap (λ (s : WaitsShown). releases_seen ms s.waiters)
     (ap waits_shown c.self-2.view_is ∙ c.in_ok-make_room.ensures.shown))))
 
@@ -37,7 +38,8 @@ returns-clause-fits g c =
       count = omega (arith, c.in_ok-make_room.ensures.count, ap length own);
       runs = omega (arith, c.in_ok-make_room.ensures.runs, ap length own);
       waiters = omega (arith, c.in_ok-planned.ensures.room, c.in_ok-make_room.ensures.waiters);
-      place = subst (λ xs. JoinsAt (c.make_room.new.self.count + length xs) (list_change_of c.in_ok-planned.planned.change)) (sym own) c.in_ok-planned.ensures.place;
+      place = subst (λ xs. JoinsAt (c.make_room.new.self.count + length xs) (list_change_of c.in_ok-planned.planned.change))
+          (sym own) c.in_ok-planned.ensures.place;
       serial = c.in_ok-planned.ensures.serial;
       touched =
           c.in_ok-touched.ensures.serials

@@ -17,9 +17,11 @@ invariant_of-self-2 g c =
     let ms = c.args.moment.now ∷ [] in
     let W = c.self.inside.list.waiters in
     record {
-      below = subst (All (λ (k : StoredWaiter). k.id < c.self.inside.next)) (sym c.change.ensures.waiters) (below_moments c.self.inside.next ms W c.self.invariant.below);
+      below = subst (All (λ (k : StoredWaiter). k.id < c.self.inside.next)) (sym c.change.ensures.waiters)
+          (below_moments c.self.inside.next ms W c.self.invariant.below);
       placed = subst (All (λ (k : StoredWaiter). k.place ≤ c.self.inside.count + 1)) (sym c.change.ensures.waiters)
-          (placed_moments (c.self.inside.count + 1) ms W (placed_later c.self.inside.count (c.self.inside.count + 1) W (omega arith) c.self.invariant.placed));
+          (placed_moments (c.self.inside.count + 1) ms W
+          (placed_later c.self.inside.count (c.self.inside.count + 1) W (omega arith) c.self.invariant.placed));
       few = omega (arith, c.if-self-ge-COUNT_LIMIT.false);
     }
 

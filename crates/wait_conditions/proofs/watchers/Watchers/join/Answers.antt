@@ -10,8 +10,10 @@ use Rattle.wait_conditions.proofs.watchers.Watchers.join.Goals as goal
 
 pub loop-service-init : goal.loop-service-init
 loop-service-init g c = record {
-  room = subst (λ (ws : List WatchedService). length ws ≤ c.args.self.now.spare_capacity) (sym c.as_slice-service-items.ensures.value) c.requires.room;
-  apart = subst (λ (ws : List WatchedService). repeats_serial (map (λ (w : WatchedService). w.sid) ws) ≡ false) (sym c.as_slice-service-items.ensures.value) c.requires.apart;
+  room = subst (λ (ws : List WatchedService). length ws ≤ c.args.self.now.spare_capacity)
+      (sym c.as_slice-service-items.ensures.value) c.requires.room;
+  apart = subst (λ (ws : List WatchedService). repeats_serial (map (λ (w : WatchedService). w.sid) ws) ≡ false)
+      (sym c.as_slice-service-items.ensures.value) c.requires.apart;
   same = λ sid. search rules;
 }
 

@@ -21,7 +21,9 @@ returns g c =
     let point' = IsPartitionPoint-from_clause (below sid) low start c.partition_point-start.ensures.partitioned
     (IsPartitionedBy-ltb (λ (w : Watcher). w.sid) low sid up) (λ a r q k. search rules) in
     ap (map (λ (w : Watcher). w.waiter)) (take_all _ (drop start low) (omega (arith, length-drop start low)))
-    ∙ (part_is sid end start c.deref-2.result.now (omega (arith, c.partition_point-end.ensures.bound, ap length c.deref.ensures.value, ap length c.deref-2.ensures.value))
-    (subst (λ xs. IsPartitionPoint (λ w. up_to sid w ≡ true) (λ w. up_to sid w ≡ false) xs end) (c.deref.ensures.value ∙ sym c.deref-2.ensures.value) point)
+    ∙ (part_is sid end start c.deref-2.result.now
+    (omega (arith, c.partition_point-end.ensures.bound, ap length c.deref.ensures.value, ap length c.deref-2.ensures.value))
+    (subst (λ xs. IsPartitionPoint (λ w. up_to sid w ≡ true) (λ w. up_to sid w ≡ false) xs end)
+    (c.deref.ensures.value ∙ sym c.deref-2.ensures.value) point)
     c.partition_point-start.ensures.bound point'
     ∙ (ap (serials_of sid) c.deref-2.ensures.value ∙ ap (λ (l : WatcherList). serials_of sid l.watchers) c.self.view_is))
