@@ -29,7 +29,8 @@ pub struct LaneLink {
 
 // Adds an order for the lane's thread. From then on the order counts as asked.
 fn add_order(orders: &mut LinkQueue<Order>, roll: &mut Roll, order: &Order) -> Result<(), AskFault>
-    ensures queued { OnOk result (orders.new.items.items ≡ orders.old.items.items ++ order.now ∷ []) }
+    ensures queued { OnOk result (orders.new.items.items
+        ≡ orders.old.items.items ++ order.now ∷ []) }
     ensures asked { OnOk result
         (roll.new ≡ with_asked order.now roll.old) }
     ensures none { OnErr result (orders.new.items.items ≡ orders.old.items.items) }

@@ -31,5 +31,6 @@ pub fn nothing_is_left()
 /// once, in order. Whatever comes: the acts that are handed in from then on, and then those that would end all that is left, are together
 /// the acts that end all that it had.
 pub fn ends_once()
-    ensures { (h : History) → (events : List Event) → is_ending h.now.phase ≡ true → EndsOnce h events }
+    ensures { (h : History) → (events : List Event) → is_ending h.now.phase ≡ true
+        → EndsOnce h events }
 {}

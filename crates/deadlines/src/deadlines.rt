@@ -58,7 +58,8 @@ fn is_below(timer: &Timer, sid: Sid) -> bool
 // Whether the serial of the first timer, if there is one, is not below this one.
 fn comes_first(timers: &[Timer], sid: Sid) -> bool
     ensures yes { result ≡ true → IfSome (slice_get timers.now 0) (λ t. nat_lt t.sid sid ≡ false) }
-    ensures no { result ≡ false → IsSomeAnd (slice_get timers.now 0) (λ t. nat_lt t.sid sid ≡ true) }
+    ensures no { result ≡ false
+        → IsSomeAnd (slice_get timers.now 0) (λ t. nat_lt t.sid sid ≡ true) }
 {
     let Some(first) = timers.first() else {
         return true;

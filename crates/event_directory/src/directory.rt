@@ -53,7 +53,8 @@ impl<F: Finds, A: Allocator> Model for Directory<F, A> {
       room = vec_capacity d.subscriptions - vec_len d.subscriptions;
     } };
 
-    ghost invariant = { λ d. IsOneText d.text.items d.heard d.is_planned d.planned.items (vec_capacity d.text) d.subscriptions.items };
+    ghost invariant = { λ d. IsOneText d.text.items d.heard d.is_planned d.planned.items
+        (vec_capacity d.text) d.subscriptions.items };
 }
 
 impl<F: Finds, A: Allocator + Copy> Directory<F, A> {

@@ -109,7 +109,8 @@ fn hear_all(matcher: &mut TextMatcher, letters: &[Letter]) -> Result<(), NoMemor
 fn begin_with(letters: &[Letter], heard: &[u8]) -> bool
     ensures within { result ≡ true → length heard.now ≤ length letters.now }
     ensures same { result ≡ true → take (length heard.now) letters.now ≡ heard.now }
-    ensures all { length heard.now ≤ length letters.now → take (length heard.now) letters.now ≡ heard.now
+    ensures all { length heard.now ≤ length letters.now
+        → take (length heard.now) letters.now ≡ heard.now
         → result ≡ true }
 {
     if heard.len() > letters.len() {

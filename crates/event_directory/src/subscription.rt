@@ -80,7 +80,8 @@ impl<F: Finds, A: Allocator> Model for Subscription<F, A> {
       };
     } };
 
-    ghost invariant = { λ s. (vec_len s.letters + vec_len s.prepared.letters ≤ vec_capacity s.letters)
+    ghost invariant = { λ s.
+        (vec_len s.letters + vec_len s.prepared.letters ≤ vec_capacity s.letters)
         × (vec_len s.letters + vec_len s.planned.letters ≤ vec_capacity s.letters) };
 }
 

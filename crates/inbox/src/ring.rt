@@ -127,7 +127,9 @@ impl<C: Channels> Model for Seat<C> {
 
     ghost view = { λ s. record { actor = s.actor; submitted = sent s.producer; waiting = places - known_free s.producer } };
 
-    ghost invariant = { λ s. (s.count ≡ length (sent s.producer)) × (producer_capacity s.producer ≡ places) × (producer_ring s.producer ≡ C.seat_ring s.actor) };
+    ghost invariant = { λ s. (s.count ≡ length (sent s.producer))
+        × (producer_capacity s.producer ≡ places)
+        × (producer_ring s.producer ≡ C.seat_ring s.actor) };
 }
 
 impl<C: Channels> Seat<C> {

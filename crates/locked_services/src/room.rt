@@ -80,7 +80,9 @@ impl<C: Channels + Lanes, D: Board<C>> Model for Room<C, D> {
 
     ghost view = { λ r. record { running = r.running; shots = D.shots r.board; is_shown = r.is_shown } };
 
-    ghost invariant = { λ r. IsSoundRoom C.opening (record { running = r.running; shots = D.shots r.board; is_shown = r.is_shown }) × (r.history ≡ inputs_of r.running.steps) };
+    ghost invariant = { λ r. IsSoundRoom C.opening
+        (record { running = r.running; shots = D.shots r.board; is_shown = r.is_shown })
+        × (r.history ≡ inputs_of r.running.steps) };
 }
 
 impl<C: Channels + Lanes, D: Board<C>> Room<C, D> {

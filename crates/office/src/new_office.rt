@@ -56,7 +56,8 @@ impl<B: Drop> Model for NewOffice<B> {
 
     ghost view = { λ o. record { tree = o.tree.value; rings = o.rings.items; lane_rings = o.lane_rings.items; board = o.board; history = o.history; backends = o.backends.items } };
 
-    ghost invariant = { λ o. IsSoundNew o.rings.items o.lane_rings.items (length o.backends.items) };
+    ghost invariant = { λ o. IsSoundNew o.rings.items o.lane_rings.items
+        (length o.backends.items) };
 }
 
 // Whether the number is from 1 to `most`.

@@ -124,7 +124,8 @@ impl Model for NewHistory {
 
     ghost view = { λ h. h.cell.table.shared.table_id };
 
-    ghost invariant = { λ h. (h.pass.table_id ≡ h.cell.table.shared.table_id) × (cell_view h.pass ≡ knower []) };
+    ghost invariant = { λ h. (h.pass.table_id ≡ h.cell.table.shared.table_id)
+        × (cell_view h.pass ≡ knower []) };
 }
 
 impl NewHistory {
@@ -202,7 +203,9 @@ impl<C: Lanes> Model for WholeHistory<C> {
 
     ghost view = { λ k. (cell_view k.pass).all };
 
-    ghost invariant = { λ k. (k.cell.table.shared.table_id ≡ C.history) × (k.pass.table_id ≡ C.history) × (cell_view k.pass ≡ knower (cell_view k.pass).all) };
+    ghost invariant = { λ k. (k.cell.table.shared.table_id ≡ C.history)
+        × (k.pass.table_id ≡ C.history)
+        × (cell_view k.pass ≡ knower (cell_view k.pass).all) };
 }
 
 impl<C: Lanes> WholeHistory<C> {

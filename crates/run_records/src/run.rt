@@ -105,7 +105,8 @@ impl Run {
 
     // The place of the step of this number, from 1; None where there is no such step.
     fn place_of(&self, number: u64) -> Option<usize>
-        ensures some { IfSome result (λ place. (number ≡ suc place) × (place < length self.now.steps)) }
+        ensures some { IfSome result
+            (λ place. (number ≡ suc place) × (place < length self.now.steps)) }
         ensures none { IfNone result ((number ≡ 0) ⊎ (length self.now.steps < number)) }
     {
         if number == 0 || number > self.log.len() as u64 {

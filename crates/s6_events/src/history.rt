@@ -118,7 +118,8 @@ impl<A: Allocator + Copy> History<A> {
     /// Forgets the moments before `place`, or all of them where `place` is past the end. What is forgotten already stays forgotten.
     pub fn forget(&mut self, place: u64)
         ensures forgotten { self.new.forgotten ≡ forgotten_by self.old place }
-        ensures kept { self.new.kept ≡ drop (forgotten_by self.old place - self.old.forgotten) self.old.kept }
+        ensures kept { self.new.kept
+            ≡ drop (forgotten_by self.old place - self.old.forgotten) self.old.kept }
         ensures end { end_of self.new ≡ end_of self.old }
         ensures room { self.old.spare_capacity ≤ self.new.spare_capacity }
     {

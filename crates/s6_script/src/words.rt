@@ -110,7 +110,8 @@ pub fn number(word: &[u8], most: u64) -> u64
 
 // The number with this digit added at its end. Some number, where the byte is no digit, or the number doesn't fit into 64 bits.
 fn with_digit(value: u64, byte: u8) -> u64
-    ensures { is_digit byte ≡ true → with_digit value byte < 2 ^ 64 → result ≡ with_digit value byte }
+    ensures { is_digit byte ≡ true → with_digit value byte < 2 ^ 64
+        → result ≡ with_digit value byte }
 {
     value
         .wrapping_mul(10)

@@ -38,7 +38,8 @@ fn word_at<'a>(words: &'a [&'a str], place: usize) -> Option<&'a str>
 
 // The first word of this kind.
 fn first_wrong<'a>(words: &'a [&'a str], wrong: Wrong) -> Option<&'a str>
-    ensures { option_map (λ w. w.now) result ≡ find (is_wrong wrong) (map (λ w. w.now) words.entry.now) }
+    ensures { option_map (λ w. w.now) result
+        ≡ find (is_wrong wrong) (map (λ w. w.now) words.entry.now) }
 {
     words
         .iter()
@@ -68,7 +69,8 @@ fn words_behind<'a>(words: &'a [&'a str], wrong: Wrong) -> &'a [&'a str]
 
 // The word at a place, if it is of this kind.
 fn word_at_if<'a>(words: &'a [&'a str], place: usize, wrong: Wrong) -> Option<&'a str>
-    ensures { option_map (λ w. w.now) result ≡ seen_by (Clue.AtIf place wrong) (map (λ w. w.now) words.entry.now) }
+    ensures { option_map (λ w. w.now) result
+        ≡ seen_by (Clue.AtIf place wrong) (map (λ w. w.now) words.entry.now) }
 {
     let word = word_at(words, place)?;
     if is_wrong(wrong, word.as_bytes()) {
@@ -80,7 +82,8 @@ fn word_at_if<'a>(words: &'a [&'a str], place: usize, wrong: Wrong) -> Option<&'
 
 // The only word of this kind; None where there is no such word, or more than one.
 fn only_wrong<'a>(words: &'a [&'a str], wrong: Wrong) -> Option<&'a str>
-    ensures { option_map (λ w. w.now) result ≡ seen_by (Clue.Only wrong) (map (λ w. w.now) words.entry.now) }
+    ensures { option_map (λ w. w.now) result
+        ≡ seen_by (Clue.Only wrong) (map (λ w. w.now) words.entry.now) }
 {
     match first_wrong(words_behind(words, wrong), wrong) {
         Some(_) => None,
@@ -228,7 +231,8 @@ fn own_words<'a>(tool: Tool, words: &'a [&'a str]) -> &'a [&'a str]
 
 // The word to which the first clue leads, or else the second one.
 fn seen_by_either<'a>(clues: (Clue, Clue), words: &'a [&'a str]) -> Option<&'a str>
-    ensures { option_map (λ w. w.now) result ≡ seen_by_either clues (map (λ w. w.now) words.entry.now) }
+    ensures { option_map (λ w. w.now) result
+        ≡ seen_by_either clues (map (λ w. w.now) words.entry.now) }
 {
     match seen_by(clues.0, words) {
         Some(word) => Some(word),
@@ -238,7 +242,8 @@ fn seen_by_either<'a>(clues: (Clue, Clue), words: &'a [&'a str]) -> Option<&'a s
 
 /// The wrong word, where it is known which.
 pub fn culprit_of<'a>(tool: Tool, misuse: Misuse, words: &'a [&'a str]) -> Option<&'a str>
-    ensures { option_map (λ w. w.now) result ≡ culprit_of tool misuse (map (λ w. w.now) words.entry.now) }
+    ensures { option_map (λ w. w.now) result
+        ≡ culprit_of tool misuse (map (λ w. w.now) words.entry.now) }
 {
     seen_by_either(clues_of(tool, misuse), own_words(tool, words))
 }

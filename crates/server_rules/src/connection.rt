@@ -125,8 +125,10 @@ impl Connection {
     // Begins a step with this act. For a waiter too many, one that was released is ended first, if there is one, and the act put off; else, and
     // for a subscription too many, the answer is `Busy`.
     fn begin_step(&mut self, act: Act<Global>) -> Todo
-        ensures next { self.new ≡ (begin_admitted (admission_of act self.old.made) act self.old).next }
-        ensures todo { result ≡ (begin_admitted (admission_of act self.old.made) act self.old).todo }
+        ensures next { self.new ≡ (begin_admitted
+            (admission_of act self.old.made) act self.old).next }
+        ensures todo { result ≡ (begin_admitted
+            (admission_of act self.old.made) act self.old).todo }
     {
         match self.standing.admission(&act) {
             Admission::Admitted => self.hand_in_step(StandingChange::of(&act), act),
@@ -199,8 +201,10 @@ impl Connection {
     // Begins a request for the status of services: answers it at once where the last step, at the moment `last_step`, is recent at `now`, and
     // else hands in a tick first. Both are in milliseconds.
     fn begin_status(&mut self, subject: Subject, last_step: u64, now: u64) -> Todo
-        ensures next { self.new ≡ (begin_request (request.Status subject) last_step now self.old).next }
-        ensures todo { result ≡ (begin_request (request.Status subject) last_step now self.old).todo }
+        ensures next { self.new ≡ (begin_request
+            (request.Status subject) last_step now self.old).next }
+        ensures todo { result ≡ (begin_request
+            (request.Status subject) last_step now self.old).todo }
     {
         if is_recent(last_step, now) {
             return Todo::Give(Answer::Status(subject));

@@ -157,7 +157,8 @@ pub struct Pace {
 impl Pace {
     /// The pace of a run in which no step was made.
     pub fn new(handover: u64) -> Pace
-        ensures { result ≡ record { steps = 0; handover = handover; record_from = None; is_lane_busy = false } }
+        ensures { result
+            ≡ record { steps = 0; handover = handover; record_from = None; is_lane_busy = false } }
     {
         Pace {
             steps: 0,

@@ -239,7 +239,8 @@ impl Standing {
 
     /// Takes out the waiter that was released first; None where none was.
     pub fn take_released(&mut self) -> Option<WaitId>
-        ensures first { IfSome result (λ id. self.old ≡ record self.new { released = id ∷ self.new.released }) }
+        ensures first { IfSome result
+            (λ id. self.old ≡ record self.new { released = id ∷ self.new.released }) }
         ensures none { IfNone result (self.old.released ≡ []) }
         ensures same { IfNone result (self.new ≡ self.old) }
         ensures room { IfSome result (λ id. has_place self.new ≡ true) }
@@ -254,7 +255,8 @@ impl Standing {
     /// each in the order listed; None where there is none of them.
     pub fn take_next(&mut self) -> Option<Act<Global>>
         ensures act { result ≡ option_map (λ e. e.act) (next_end self.old) }
-        ensures made { IfSome result (λ act. option_map (λ e. e.made) (next_end self.old) ≡ Some self.new) }
+        ensures made { IfSome result
+            (λ act. option_map (λ e. e.made) (next_end self.old) ≡ Some self.new) }
         ensures none { IfNone result (self.new ≡ self.old) }
     {
         if let Some(id) = take_first(&mut self.released) {

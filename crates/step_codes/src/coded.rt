@@ -29,7 +29,8 @@ impl<'a> Code<'a> {
 
     /// Takes the next byte, or 0 where there is none.
     pub fn take_byte(&mut self) -> u8
-        ensures { (byte : ℕ) (rest : List ℕ) → self.old ≡ byte ∷ rest → (result ≡ byte) × (self.new ≡ rest) }
+        ensures { (byte : ℕ) (rest : List ℕ) → self.old ≡ byte ∷ rest
+            → (result ≡ byte) × (self.new ≡ rest) }
     {
         match self.rest.split_first() {
             Some((byte, rest)) => {
@@ -42,7 +43,8 @@ impl<'a> Code<'a> {
 
     /// Takes `count` bytes. Where there are fewer it takes none, and gives none.
     pub fn take_bytes(&mut self, count: usize) -> &'a [u8]
-        ensures { (bytes rest : List ℕ) → length bytes ≡ count → self.old ≡ bytes ++ rest → (result.now ≡ bytes) × (self.new ≡ rest) }
+        ensures { (bytes rest : List ℕ) → length bytes ≡ count → self.old ≡ bytes ++ rest
+            → (result.now ≡ bytes) × (self.new ≡ rest) }
     {
         let all = self.rest;
         if count > all.len() {
@@ -70,5 +72,6 @@ pub trait Coded: Sized {
 
     /// Takes the value whose code comes first, and just the bytes of that code. Bytes that are no such code give any value.
     fn take(code: &mut Code<'_>) -> Self
-        ensures { (one : Self) (rest : List ℕ) → fits one → code.old ≡ onto one rest → (result ≡ one) × (code.new ≡ rest) };
+        ensures { (one : Self) (rest : List ℕ) → fits one → code.old ≡ onto one rest
+            → (result ≡ one) × (code.new ≡ rest) };
 }

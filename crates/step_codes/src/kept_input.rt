@@ -56,7 +56,8 @@ pub trait KeptInput: Drop {
 
     /// Adds the code of its step, if that has one. Whether it has. An error where memory is refused.
     fn push_step(&self, code: &mut Vec<u8>, effect: &Effect<Global>) -> Result<bool, AllocError>
-        ensures added { IfOk result (λ has_code. IsTrue has_code → Adds code.old.items code.new.items
+        ensures added { IfOk result (λ has_code. IsTrue has_code
+            → Adds code.old.items code.new.items
             (step_onto (input self.now) (outcome_of effect.now))) }
         ensures fits { IfOk result
             (λ has_code. IsTrue has_code → FitsStep (input self.now) (outcome_of effect.now)) };

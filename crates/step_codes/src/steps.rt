@@ -28,7 +28,8 @@ use tree_core::{Effect, ORDER_LIMIT, PlainInput};
 fn push_outcome(code: &mut Vec<u8>, effect: &Effect<Global>) -> Result<(), AllocError>
     ensures added { OnOk result
         (Adds code.old.items code.new.items (outcome_onto (outcome_of effect.now))) }
-    ensures fits { OnOk result (IsTrue (has_reply_code effect.now.reply) → effect.now.matched.items ≡ []
+    ensures fits { OnOk result (IsTrue (has_reply_code effect.now.reply)
+        → effect.now.matched.items ≡ []
         → FitsOutcome (outcome_of effect.now)) }
 {
     push_reply(code, &effect.reply)?;

@@ -101,7 +101,8 @@ pub fn matches_in<'a>(
     requires { is_simple_app (app_of command) ≡ true }
     ensures rows { IfOk result (λ m. rows_of (found_of m)
         ≡ rows_for (app_of command.entry) (map (λ w. w.now) words.entry.now)) }
-    ensures kinds { MatchResult result (λ _. kinds_for (app_of command.entry) (map (λ w. w.now) words.entry.now) ≡ [])
+    ensures kinds { MatchResult result
+        (λ _. kinds_for (app_of command.entry) (map (λ w. w.now) words.entry.now) ≡ [])
         (IsUsageFault (kinds_for (app_of command.entry) (map (λ w. w.now) words.entry.now))) }
 {
     match command.try_get_matches_from(words) {

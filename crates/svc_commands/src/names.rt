@@ -37,7 +37,8 @@ pub(crate) fn names_in(words: &[&str]) -> Result<Names, UsageFault>
 
 // Adds one more name to those of the command line; TooMany where there are 16 already.
 fn add_name(names: &mut Names, name: Name) -> Result<(), UsageFault>
-    ensures { MatchResult result (λ _. (names.new.items ≡ names.old.items ++ name ∷ []) × (length names.new.items ≤ 16))
+    ensures { MatchResult result
+        (λ _. (names.new.items ≡ names.old.items ++ name ∷ []) × (length names.new.items ≤ 16))
         (λ fault. (16 ≤ length names.old.items) × (fault ≡ UsageFault.TooMany)) }
 {
     names.try_push(name).map_err(|_| UsageFault::TooMany)

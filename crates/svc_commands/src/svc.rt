@@ -52,7 +52,8 @@ fn read_word(letters: &mut Letters, name: &mut Option<Name>, word: &[u8]) -> Res
 
 // The word as a name. BadName where it is none, TooMany where a name came before it.
 fn only_name(before: Option<Name>, word: &[u8]) -> Result<Name, UsageFault>
-    ensures { MatchResult result (λ name. (name ≡ word.now) × (name_fault (is_some before) word.now ≡ None))
+    ensures { MatchResult result
+        (λ name. (name ≡ word.now) × (name_fault (is_some before) word.now ≡ None))
         (λ fault. name_fault (is_some before) word.now ≡ Some fault) }
 {
     let name = name_of(word)?;
@@ -64,7 +65,8 @@ fn only_name(before: Option<Name>, word: &[u8]) -> Result<Name, UsageFault>
 
 // Adds the letters of a run.
 fn add_run(letters: &mut Letters, run: &[u8]) -> Result<(), UsageFault>
-    ensures { MatchResult result (λ _. (run_fault svc_letters (length letters.old.items) run.now ≡ None)
+    ensures { MatchResult result
+        (λ _. (run_fault svc_letters (length letters.old.items) run.now ≡ None)
         × (letters.new.items ≡ letters.old.items ++ flat_map svc_letters run.now))
         (λ fault. run_fault svc_letters (length letters.old.items) run.now ≡ Some fault) }
 {
@@ -80,7 +82,8 @@ fn add_run(letters: &mut Letters, run: &[u8]) -> Result<(), UsageFault>
 // Adds what one byte means.
 #[tactic(auto, unfolding(crate::specs::LetterWords::svc_letters))]
 fn add_byte(letters: &mut Letters, byte: u8) -> Result<(), UsageFault>
-    ensures { MatchResult result (λ _. (letter_fault (length letters.old.items) (svc_letters byte) ≡ None)
+    ensures { MatchResult result
+        (λ _. (letter_fault (length letters.old.items) (svc_letters byte) ≡ None)
         × (letters.new.items ≡ letters.old.items ++ svc_letters byte))
         (λ fault. letter_fault (length letters.old.items) (svc_letters byte) ≡ Some fault) }
 {
@@ -94,7 +97,9 @@ fn add_byte(letters: &mut Letters, byte: u8) -> Result<(), UsageFault>
 
 // Adds one more letter to those that the service is told; TooMany where there are 63 already.
 fn add_letter(letters: &mut Letters, letter: ControlLetter) -> Result<(), UsageFault>
-    ensures { MatchResult result (λ _. (length letters.old.items < 63) × (letters.new.items ≡ letters.old.items ++ letter ∷ []))
+    ensures { MatchResult result
+        (λ _. (length letters.old.items < 63)
+        × (letters.new.items ≡ letters.old.items ++ letter ∷ []))
         (λ fault. (63 ≤ length letters.old.items) × (fault ≡ UsageFault.TooMany)) }
 {
     letters.try_push(letter).map_err(|_| UsageFault::TooMany)

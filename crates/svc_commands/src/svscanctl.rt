@@ -49,7 +49,8 @@ pub fn compile_svscanctl(words: &[&str]) -> Result<ScanCommand, UsageFault>
 
 // Adds the letters of a run.
 fn read_word(letters: &mut ScanLetters, word: &[u8]) -> Result<(), UsageFault>
-    ensures { MatchResult result (λ _. IsRead scan_letters no_name word.now letters.old.items true letters.new.items true)
+    ensures { MatchResult result
+        (λ _. IsRead scan_letters no_name word.now letters.old.items true letters.new.items true)
         (λ fault. IsRefused scan_letters no_name word.now letters.old.items true fault) }
 {
     match run_of(word) {
@@ -61,7 +62,8 @@ fn read_word(letters: &mut ScanLetters, word: &[u8]) -> Result<(), UsageFault>
 // Adds what the letters of a run mean; `run` is what stands behind its dash. Unknown where it is empty or one of its letters means nothing,
 // TooMany where the letters would be more than 63.
 fn add_run(letters: &mut ScanLetters, run: &[u8]) -> Result<(), UsageFault>
-    ensures { MatchResult result (λ _. (run_fault scan_letters (length letters.old.items) run.now ≡ None)
+    ensures { MatchResult result
+        (λ _. (run_fault scan_letters (length letters.old.items) run.now ≡ None)
         × (letters.new.items ≡ letters.old.items ++ flat_map scan_letters run.now))
         (λ fault. run_fault scan_letters (length letters.old.items) run.now ≡ Some fault) }
 {
@@ -76,7 +78,8 @@ fn add_run(letters: &mut ScanLetters, run: &[u8]) -> Result<(), UsageFault>
 
 // Adds what one byte means.
 fn add_byte(letters: &mut ScanLetters, byte: u8) -> Result<(), UsageFault>
-    ensures { MatchResult result (λ _. (letter_fault (length letters.old.items) (scan_letters byte) ≡ None)
+    ensures { MatchResult result
+        (λ _. (letter_fault (length letters.old.items) (scan_letters byte) ≡ None)
         × (letters.new.items ≡ letters.old.items ++ scan_letters byte))
         (λ fault. letter_fault (length letters.old.items) (scan_letters byte) ≡ Some fault) }
 {
@@ -94,7 +97,9 @@ fn add_byte(letters: &mut ScanLetters, byte: u8) -> Result<(), UsageFault>
 
 // Adds one more letter to those that the supervisor of the scan directory is told; TooMany where there are 63 already.
 fn add_letter(letters: &mut ScanLetters, letter: ScanLetter) -> Result<(), UsageFault>
-    ensures { MatchResult result (λ _. (length letters.old.items < 63) × (letters.new.items ≡ letters.old.items ++ letter ∷ []))
+    ensures { MatchResult result
+        (λ _. (length letters.old.items < 63)
+        × (letters.new.items ≡ letters.old.items ++ letter ∷ []))
         (λ fault. (63 ≤ length letters.old.items) × (fault ≡ UsageFault.TooMany)) }
 {
     letters.try_push(letter).map_err(|_| UsageFault::TooMany)

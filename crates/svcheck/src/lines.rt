@@ -157,7 +157,8 @@ pub fn checked_entries(
     remarks: &[Remark],
     entries: &[Entry],
 ) -> Result<Checked, AllocError>
-    ensures text { IfOk result (λ checked. checked.text.items ≡ checked_text remarks.now entries.now) }
+    ensures text { IfOk result (λ checked. checked.text.items
+        ≡ checked_text remarks.now entries.now) }
     ensures refused { IfOk result (λ checked. checked.is_refused ≡ is_refused entries.now) }
 {
     let mut text = Vec::new(alloc);

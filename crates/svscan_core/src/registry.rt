@@ -154,7 +154,8 @@ impl<A: Allocator + Copy> Registry<A> {
         ensures chart { option_map (λ s. s.chart) result
             ≡ find (λ c. bytes_eq name c.name)
             (services_after (fire_move now) (charts_of self.now.shown.services)) }
-        ensures agrees { (history : List Moment) → clock_of history ≡ now → AllAgree self.now.shown.services history
+        ensures agrees { (history : List Moment) → clock_of history ≡ now
+            → AllAgree self.now.shown.services history
             → IfSome result (λ s. AgreesAs s
             (history ++ map moment_of (events_after (fire_move now)
             (charts_of self.now.shown.services)))) }

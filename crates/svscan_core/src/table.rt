@@ -99,7 +99,8 @@ pub fn after_timers<A: Allocator + Copy>(
     ensures chart { option_map (λ s. s.chart) result
         ≡ find (λ c. bytes_eq name.now c.name)
         (services_after (fire_move now) (charts_of slots.now.services)) }
-    ensures agrees { (history : List Moment) → clock_of history ≡ now → AllAgree slots.now.services history
+    ensures agrees { (history : List Moment) → clock_of history ≡ now
+        → AllAgree slots.now.services history
         → IfSome result (λ s. AgreesAs s
         (history ++ map moment_of (events_after (fire_move now) (charts_of slots.now.services)))) }
 {

@@ -16,7 +16,8 @@ const SYSTEM_STATUS: u8 = 111;
 /// status, 111.
 pub fn tell_no_memory<E: Write>(program: &str, errors: &mut E) -> u8
     ensures status { result ≡ 111 }
-    ensures lines { Appends (E.contents errors.old) (E.contents errors.new) (no_memory_text program.now)
+    ensures lines { Appends (E.contents errors.old) (E.contents errors.new)
+        (no_memory_text program.now)
         ⊎ AppendsFront (E.contents errors.old) (E.contents errors.new)
         (no_memory_text program.now) }
 {
