@@ -6,6 +6,13 @@ use s6_events::NoMemory;
 use std::alloc::Global;
 use tree_core::{Effect, Image, Tree};
 
+/// An effect that holds nothing. `NoMemory` where memory is refused. It stands apart: inlined, its list of 768 orders would lie on the
+/// stack of whoever calls it, for as long as that call takes.
+#[inline(never)]
+pub fn new_effect(alloc: Global) -> Result<Box<Effect<Global>>, NoMemory> {
+    Ok(Box::new(alloc, Effect::new(alloc))?)
+}
+
 /// What is made before a run begins: the image of its tree, a run with no step, and an effect that each step fills anew.
 #[derive(Drop)]
 pub struct Beginning {
@@ -23,7 +30,7 @@ impl Beginning {
         Ok(Beginning {
             opening: tree.image()?,
             run: Run::new(alloc)?,
-            effect: Box::new(alloc, Effect::new(alloc))?,
+            effect: new_effect(alloc)?,
         })
     }
 }

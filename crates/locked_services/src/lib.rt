@@ -11,7 +11,7 @@ mod running;
 mod serving;
 mod stop;
 
-pub use beginning::Beginning;
+pub use beginning::{Beginning, new_effect};
 pub use closing::{CloseFault, Closed};
 pub use opening::{SeatEnds, seat_ends};
 pub use room::{NotClosed, Room};

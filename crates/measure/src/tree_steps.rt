@@ -2,6 +2,7 @@
 use crate::fault::Fault;
 use crate::rounds::{ROUND, end_of, input_of, scan_of};
 use crate::words::Load;
+use locked_services::new_effect;
 use s6_events::{Actor, NoMemory};
 use std::alloc::Global;
 use tree_core::{Effect, Input, Tree};
@@ -9,11 +10,6 @@ use tree_core::{Effect, Input, Tree};
 /// A tree that has made no step.
 pub fn new_tree(alloc: Global) -> Result<Box<Tree<Global>>, NoMemory> {
     Ok(Box::new(alloc, Tree::new(alloc))?)
-}
-
-// An effect that holds nothing yet.
-fn new_effect(alloc: Global) -> Result<Box<Effect<Global>>, NoMemory> {
-    Ok(Box::new(alloc, Effect::new(alloc))?)
 }
 
 /// A tree alone takes the scan and then all acts.

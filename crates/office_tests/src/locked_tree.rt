@@ -1,7 +1,8 @@
 //! Two threads lock one tree, and each hands in all inputs of its actor.
 use crate::acts::input_of;
-use crate::parts::{new_effect, new_tree};
+use crate::parts::new_tree;
 use crate::replaying::{is_same_reply, make_step};
+use locked_services::new_effect;
 use s6_events::{Actor, NoMemory};
 use std::alloc::Global;
 use std::process::Abort;

@@ -4,7 +4,7 @@ use s6_events::{Actor, At, NoMemory, Order, Report};
 use s6_script::{push_number, push_spaced};
 use std::alloc::{AllocError, Global};
 use std::sync::{Arc, Mutex, Wait};
-use tree_core::{Act, Effect, Input, Tree};
+use tree_core::{Act, Input, Tree};
 
 /// Where probes write down what they are asked.
 pub type Log = Arc<Mutex<Vec<Order>>, Global>;
@@ -17,11 +17,6 @@ pub fn new_log(alloc: Global) -> Result<Log, NoMemory> {
 /// A tree that has made no step.
 pub fn new_tree(alloc: Global) -> Result<Box<Tree<Global>>, NoMemory> {
     Ok(Box::new(alloc, Tree::new(alloc))?)
-}
-
-/// An effect that holds nothing yet.
-pub fn new_effect(alloc: Global) -> Result<Box<Effect<Global>>, NoMemory> {
-    Ok(Box::new(alloc, Effect::new(alloc))?)
 }
 
 /// A probe with these reports that writes into this log.

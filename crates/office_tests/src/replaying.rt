@@ -1,8 +1,9 @@
 //! The same inputs once more, in the order of the records, by one thread.
 use crate::acts::input_of;
-use crate::parts::{new_effect, new_tree};
+use crate::parts::new_tree;
 use channel_names::Channels;
 use inbox::Ticket;
+use locked_services::new_effect;
 use office::Office;
 use order_lanes::{Backend, Lanes};
 use run_history::KnownHistory;

@@ -12,6 +12,21 @@ use s6_replay::{Checked, Counts, ReplayFault, check, migrate, run};
 use std::alloc::{Allocator, Global};
 use std::io::{BufRead, BufReader, BufWriter, Read, Write};
 
+// Buffers of 8,192 bytes for what is read and for what is written. `NoMemory` where memory is refused.
+fn buffers<A: Allocator + Copy, R: Read + Drop, W: Write + Drop>(
+    alloc: A,
+    input: R,
+    output: W,
+) -> Result<(BufReader<R, A>, BufWriter<W, A>), ReplayFault> {
+    let Ok(reader) = BufReader::new(alloc, input) else {
+        return Err(ReplayFault::NoMemory);
+    };
+    let Ok(writer) = BufWriter::new(alloc, output) else {
+        return Err(ReplayFault::NoMemory);
+    };
+    Ok((reader, writer))
+}
+
 // Replays a script, and flushes the writer. Where the flush fails, the fault is `Write`, whatever else was wrong.
 fn replay_whole<A: Allocator + Copy, R: BufRead, W: Write>(
     alloc: A,
@@ -42,12 +57,7 @@ pub fn replay<A: Allocator + Copy, R: Read + Drop, W: Write + Drop>(
     input: R,
     output: W,
 ) -> Result<(), ReplayFault> {
-    let Ok(mut reader) = BufReader::new(alloc, input) else {
-        return Err(ReplayFault::NoMemory);
-    };
-    let Ok(mut writer) = BufWriter::new(alloc, output) else {
-        return Err(ReplayFault::NoMemory);
-    };
+    let (mut reader, mut writer) = buffers(alloc, input, output)?;
     let _counts = replay_whole(alloc, patterns, &mut reader, &mut writer)?;
     Ok(())
 }
@@ -82,12 +92,7 @@ pub fn record_replies<A: Allocator + Copy, R: Read + Drop, W: Write + Drop>(
     input: R,
     output: W,
 ) -> Result<(), ReplayFault> {
-    let Ok(mut reader) = BufReader::new(alloc, input) else {
-        return Err(ReplayFault::NoMemory);
-    };
-    let Ok(mut writer) = BufWriter::new(alloc, output) else {
-        return Err(ReplayFault::NoMemory);
-    };
+    let (mut reader, mut writer) = buffers(alloc, input, output)?;
     let _counts = migrate_whole(alloc, patterns, &mut reader, &mut writer)?;
     Ok(())
 }
@@ -132,12 +137,7 @@ pub fn story<A: Allocator + Copy, R: Read + Drop, W: Write + Drop>(
     input: R,
     output: W,
 ) -> Result<(), ReplayFault> {
-    let Ok(mut reader) = BufReader::new(alloc, input) else {
-        return Err(ReplayFault::NoMemory);
-    };
-    let Ok(mut writer) = BufWriter::new(alloc, output) else {
-        return Err(ReplayFault::NoMemory);
-    };
+    let (mut reader, mut writer) = buffers(alloc, input, output)?;
     tell_whole(alloc, patterns, &mut reader, &mut writer)
 }
 
@@ -150,12 +150,7 @@ pub fn dated_story<A: Allocator + Copy, R: Read + Drop, W: Write + Drop>(
     input: R,
     output: W,
 ) -> Result<(), ReplayFault> {
-    let Ok(mut reader) = BufReader::new(alloc, input) else {
-        return Err(ReplayFault::NoMemory);
-    };
-    let Ok(writer) = BufWriter::new(alloc, output) else {
-        return Err(ReplayFault::NoMemory);
-    };
+    let (mut reader, writer) = buffers(alloc, input, output)?;
     let mut writer = Dated::new(writer, start);
     tell_whole(alloc, patterns, &mut reader, &mut writer)
 }
@@ -182,11 +177,6 @@ pub fn timeline<A: Allocator + Copy, R: Read + Drop, W: Write + Drop>(
     input: R,
     output: W,
 ) -> Result<(), ReplayFault> {
-    let Ok(mut reader) = BufReader::new(alloc, input) else {
-        return Err(ReplayFault::NoMemory);
-    };
-    let Ok(mut writer) = BufWriter::new(alloc, output) else {
-        return Err(ReplayFault::NoMemory);
-    };
+    let (mut reader, mut writer) = buffers(alloc, input, output)?;
     draw_whole(alloc, patterns, &mut reader, &mut writer)
 }

@@ -1,15 +1,13 @@
 //! The words of an act: what it is, what it is about, and whether it has a line of its own once it is done.
-ghost use Rattle.std.specs.Prelude.{◌≡◌, ◌++◌, ◌∷◌, map, OnOk};
+ghost use Rattle.std.specs.Prelude.{◌≡◌, ◌++◌, ◌∷◌, OnOk};
 ghost use Rattle.std.specs.List.{flat_map};
-ghost use Rattle.control_letters.specs.ControlLetter.{byte_of};
 ghost use Rattle.run_stories.specs.Requests.{is_told};
 ghost use Rattle.run_stories.specs.ActWords.{head_words, target_text, mode_words, names_text, condition_words, patience_text, wait_text, body_words};
 
 use crate::effect_words::push_service;
 use crate::moments::push_seconds;
-use control_letters::ControlLetter;
 use s6_events::{Condition, Mode, Name};
-use s6_script::push_number;
+use s6_script::{push_letters, push_number};
 use std::alloc::{AllocError, Allocator};
 use supervise_core::Row;
 use tree_core::{Act, ScanOrder, Target};
@@ -151,19 +149,6 @@ fn push_wait<A: Allocator>(
     push_names(text, names)?;
     text.extend_from_slice(condition_bytes(condition))?;
     push_patience(text, timeout)
-}
-
-// Adds the byte of each letter.
-fn push_letters<A: Allocator>(
-    text: &mut Vec<u8, A>,
-    letters: &[ControlLetter],
-) -> Result<(), AllocError>
-    ensures { OnOk result (text.new.items ≡ text.old.items ++ map byte_of letters.now) }
-{
-    for letter in letters {
-        text.push(letter.byte())?;
-    }
-    Ok(())
 }
 
 /// Adds what an act is about. Services are named by these rows. An error where memory is refused.

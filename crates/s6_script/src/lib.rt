@@ -18,6 +18,6 @@ pub use death_list::push_permafailon;
 pub use digits::{push_number, push_spaced};
 pub use parse::{LineFault, parse_act, parse_into, parse_line};
 pub use plain_spelling::spell_plain;
-pub use spelling::{push_act, push_named, push_svc};
+pub use spelling::{push_act, push_letters, push_named, push_svc};
 pub use subscribing::{push_send, push_subscribe};
 pub use waiting::push_wait;

@@ -19,8 +19,8 @@ use s6_events::{Exit, Name, Sid};
 use std::alloc::{AllocError, Allocator};
 use tree_core::{Act, Entry, ScanOrder};
 
-// Adds the byte of each letter.
-fn push_letters<A: Allocator>(
+/// Adds the byte of each letter. An error where memory is refused.
+pub fn push_letters<A: Allocator>(
     text: &mut Vec<u8, A>,
     letters: &[ControlLetter],
 ) -> Result<(), AllocError>

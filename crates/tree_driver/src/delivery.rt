@@ -1,6 +1,7 @@
 //! Handing out what steps gave.
-use crate::driver_state::{DriverState, Lasting, new_effect};
+use crate::driver_state::{DriverState, Lasting};
 use channel_names::Channels;
+use locked_services::new_effect;
 use office::Office;
 use order_lanes::{Backend, Lanes};
 use s6_events::{Actor, At, NoMemory};

@@ -2,6 +2,7 @@
 use channel_names::Channels;
 use client_desk::{ClientDesk, RunBoard};
 use inbox::Seat;
+use locked_services::new_effect;
 use order_lanes::{Lanes, Report};
 use run_history::KnownHistory;
 use s6_events::{At, NoMemory};
@@ -73,13 +74,6 @@ impl Lasting {
             None => new_effect(alloc),
         }
     }
-}
-
-/// An effect that holds nothing. `NoMemory` where memory is refused. It stands apart: inlined, a list of 768 orders would lie on the
-/// driver's stack for good.
-#[inline(never)]
-pub fn new_effect(alloc: Global) -> Result<Box<Effect<Global>>, NoMemory> {
-    Ok(Box::new(alloc, Effect::new(alloc))?)
 }
 
 /// What the driver keeps for a run: the seats at which it hands inputs in, the board from which statuses are told, how long the run
