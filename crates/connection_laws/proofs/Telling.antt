@@ -73,7 +73,10 @@ same made new = record { waiters = before made.waiters new.waiters; subscription
 
 fewer_released : (made new : Made) (released : List ℕ) (act : Option (Act Global))
     → Grows made new (record made { released = released; put_off = act })
-fewer_released made new released act = record { waiters = before made.waiters new.waiters; subscriptions = before made.subscriptions new.subscriptions }
+fewer_released made new released act = record {
+  waiters = before made.waiters new.waiters;
+  subscriptions = before made.subscriptions new.subscriptions;
+}
 
 equal : (xs ys : List ℕ) → xs ≡ ys → AreAmong xs ys
 equal xs ys are = λ id is. subst (λ (zs : List ℕ). is_among id zs ≡ true) are is
@@ -151,7 +154,10 @@ first (Step act ∷ rest) made last_step now new = admitted (admission_of act ma
 first (Status subject ∷ rest) made last_step now new = chosen (is_recent last_step now) _ _ made new (same made new) (same made new)
 first (Scan ∷ rest) made last_step now new = same made new
 first (Record ∷ rest) made last_step now new = same made new
-first (Follow services ∷ rest) made last_step now new = record { waiters = before made.waiters new.waiters; subscriptions = before made.subscriptions new.subscriptions }
+first (Follow services ∷ rest) made last_step now new = record {
+  waiters = before made.waiters new.waiters;
+  subscriptions = before made.subscriptions new.subscriptions;
+}
 first (Clock ∷ rest) made last_step now new = same made new
 first (Refused o ∷ rest) made last_step now new = same made new
 
@@ -189,9 +195,18 @@ left_of x xs ys new are = rw are (tail x xs new)
 ended : (released waiters subscriptions : List ℕ) (made : Made) (c : View) (new : Made) → made.waiters ≡ waiters → made.subscriptions ≡ subscriptions
     → c.made ≡ made
     → Grows made new (ends_by (next_ended released waiters subscriptions made) c).next.made
-ended (id ∷ released) waiters subscriptions made c new one two is = record { waiters = before made.waiters new.waiters; subscriptions = before made.subscriptions new.subscriptions }
-ended [] (id ∷ waiters) subscriptions made c new one two is = record { waiters = left_of id waiters made.waiters new.waiters one; subscriptions = before made.subscriptions new.subscriptions }
-ended [] [] (id ∷ subscriptions) made c new one two is = record { waiters = before made.waiters new.waiters; subscriptions = left_of id subscriptions made.subscriptions new.subscriptions two }
+ended (id ∷ released) waiters subscriptions made c new one two is = record {
+  waiters = before made.waiters new.waiters;
+  subscriptions = before made.subscriptions new.subscriptions;
+}
+ended [] (id ∷ waiters) subscriptions made c new one two is = record {
+  waiters = left_of id waiters made.waiters new.waiters one;
+  subscriptions = before made.subscriptions new.subscriptions;
+}
+ended [] [] (id ∷ subscriptions) made c new one two is = record {
+  waiters = before made.waiters new.waiters;
+  subscriptions = left_of id subscriptions made.subscriptions new.subscriptions two;
+}
 ended [] [] [] made c new one two is = rw is
     (record { waiters = before made.waiters new.waiters; subscriptions = before made.subscriptions new.subscriptions })
 

@@ -60,8 +60,14 @@ impl<C: Channels + Lanes> Model for RunningTree<C> {
     ghost view = { λ r. record { opening = r.opening; tree = r.tree.value; steps = r.run.steps; drains = r.drains.items; held = r.held; lanes = r.lanes.items } };
 
     ghost invariant = { λ r. IsSoundRunning
-        (record { opening = r.opening; tree = r.tree.value; steps = r.run.steps;
-            drains = r.drains.items; held = r.held; lanes = r.lanes.items }) };
+        (record {
+          opening = r.opening;
+          tree = r.tree.value;
+          steps = r.run.steps;
+          drains = r.drains.items;
+          held = r.held;
+          lanes = r.lanes.items;
+        }) };
 }
 
 impl<C: Channels + Lanes> RunningTree<C> {

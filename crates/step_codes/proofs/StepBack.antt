@@ -123,7 +123,19 @@ past_bool next b rest = then_back bool_in next (bool_byte b ∷ rest) b rest (bo
 abbrev row_from_10 : ℕ → List ℕ → Bool → Bool → Bool → Bool → Bool → Option ℕ → Option Exit → Option ℕ → Reads Row
 row_from_10 sid name up wanted_up normally_up ready paused pid ended up_down_for =
     then_in (option_in number_in) (λ ready_for. gives
-    (record { sid = sid; name = name; up = up; wanted_up = wanted_up; normally_up = normally_up; ready = ready; paused = paused; pid = pid; exit = ended; up_down_for = up_down_for; ready_for = ready_for }))
+    (record {
+      sid = sid;
+      name = name;
+      up = up;
+      wanted_up = wanted_up;
+      normally_up = normally_up;
+      ready = ready;
+      paused = paused;
+      pid = pid;
+      exit = ended;
+      up_down_for = up_down_for;
+      ready_for = ready_for;
+    }))
 
 abbrev row_from_9 : ℕ → List ℕ → Bool → Bool → Bool → Bool → Bool → Option ℕ → Option Exit → Reads Row
 row_from_9 sid name up wanted_up normally_up ready paused pid ended =
@@ -185,9 +197,23 @@ row_back r rest fits =
     ∙ (past_option exit_in exit_onto FitsExit exit_back
     (λ ended. row_from_9 r.sid r.name r.up r.wanted_up r.normally_up r.ready r.paused r.pid ended) r.exit from_9 fits.exit
     ∙ (past_option number_in number_onto (λ n. n < 2 ^ 64) number_back
-    (λ up_down_for. row_from_10 r.sid r.name r.up r.wanted_up r.normally_up r.ready r.paused r.pid r.exit up_down_for) r.up_down_for from_10 fits.up_down_for
+    (λ up_down_for. row_from_10 r.sid r.name r.up r.wanted_up r.normally_up r.ready r.paused r.pid r.exit up_down_for) r.up_down_for from_10
+    fits.up_down_for
     ∙ (past_option number_in number_onto (λ n. n < 2 ^ 64) number_back
-    (λ ready_for. gives (record { sid = r.sid; name = r.name; up = r.up; wanted_up = r.wanted_up; normally_up = r.normally_up; ready = r.ready; paused = r.paused; pid = r.pid; exit = r.exit; up_down_for = r.up_down_for; ready_for = ready_for })) r.ready_for rest fits.ready_for))))))))))
+    (λ ready_for. gives (record {
+      sid = r.sid;
+      name = r.name;
+      up = r.up;
+      wanted_up = r.wanted_up;
+      normally_up = r.normally_up;
+      ready = r.ready;
+      paused = r.paused;
+      pid = r.pid;
+      exit = r.exit;
+      up_down_for = r.up_down_for;
+      ready_for = ready_for;
+    })) r.ready_for rest
+    fits.ready_for))))))))))
 
 pub reply_back : (r : Reply Global) (rest : List ℕ) → FitsReply r → reply_in (reply_onto r rest) ≡ (r, rest)
 reply_back reply.Done rest fits = refl

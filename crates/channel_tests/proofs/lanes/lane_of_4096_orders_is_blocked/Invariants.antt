@@ -4,4 +4,9 @@ use Rattle.channel_tests.proofs.lanes.lane_of_4096_orders_is_blocked.Given as go
 
 -- the rings that were just opened
 abbrev pub ghosts-fill_one_lane : goal.ghosts-fill_one_lane
-ghosts-fill_one_lane g a = record { opening = no_tree; history = no_inputs; lane_ring = λ lane. if nat_eq lane 0 then a.first.ring else a.second.ring; asked_before = λ lane. [] }
+ghosts-fill_one_lane g a = record {
+  opening = no_tree;
+  history = no_inputs;
+  lane_ring = λ lane. if nat_eq lane 0 then a.first.ring else a.second.ring;
+  asked_before = λ lane. [];
+}

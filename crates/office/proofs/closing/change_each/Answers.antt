@@ -23,7 +23,8 @@ loop-preserved g c =
     let more = c.loop-test.true in
     let count = inv.0 in
     let some : 0 < length c.loop.items.items = omega arith in
-    let first = first_removed c.loop.items.items c.remove-item.new.self.items c.remove-item.result c.remove-item.ensures.value c.remove-item.ensures.items some in
+    let first = first_removed c.loop.items.items c.remove-item.new.self.items c.remove-item.result c.remove-item.ensures.value
+    c.remove-item.ensures.items some in
     let fewer = ap length first in
     let longer = ap length c.push_reserved.ensures.items in
     let counted = inv.1 in (

@@ -4,7 +4,8 @@ use Rattle.s6_script.proofs.words.number.Goals as goal
 
 pub loop-byte-preserved : goal.loop-byte-preserved
 loop-byte-preserved c = record {
-  read = one_digit_more c.args.word.now c.loop-byte.byte-index c.loop-byte.value _ c.loop-byte-test.true c.loop-byte.invariant.read c.with_digit-value.ensures;
+  read = one_digit_more c.args.word.now c.loop-byte.byte-index c.loop-byte.value _ c.loop-byte-test.true c.loop-byte.invariant.read
+      c.with_digit-value.ensures;
 }
 
 pub returns-clause-spelled : goal.returns-clause-spelled

@@ -15,7 +15,8 @@ invariant_of-self g c =
     let v : RoomView = record { running = c.self.inside.running; shots = g.D.Board.shots c.self.inside.board; is_shown = c.self.inside.is_shown } in
     let more = c.step_many-driven.ensures.steps in (
       shows_steps g.C.Lanes.opening v
-          (record { running = c.step_many-driven.new.self; shots = g.D.Board.shots c.self.inside.board; is_shown = false }) more.0 c.self.invariant.0 c.step_many-driven.ensures.opening refl more.2 refl,
+          (record { running = c.step_many-driven.new.self; shots = g.D.Board.shots c.self.inside.board; is_shown = false }) more.0 c.self.invariant.0
+          c.step_many-driven.ensures.opening refl more.2 refl,
       c.keep.ensures,
     )
 
@@ -25,7 +26,11 @@ invariant_of-self-else-driven-gt0 g c =
     let more = c.step_many-driven.ensures.steps in
     let none : c.step_many-driven.result.steps ≡ 0 = let high = c.if-driven-gt0.false in grind (arith, nat_tests) in
     let same = grows_none c.step_many-driven.result.steps v.running.steps c.step_many-driven.new.self.steps more none in (
-      shows_same g.C.Lanes.opening v (record { running = c.step_many-driven.new.self; shots = g.D.Board.shots c.self.inside.board; is_shown = c.self.inside.is_shown }) c.self.invariant.0 c.step_many-driven.ensures.opening refl same refl,
+      shows_same g.C.Lanes.opening v (record {
+        running = c.step_many-driven.new.self;
+        shots = g.D.Board.shots c.self.inside.board;
+        is_shown = c.self.inside.is_shown;
+      }) c.self.invariant.0 c.step_many-driven.ensures.opening refl same refl,
       c.self.invariant.1 ∙ sym (ap inputs_of same),
     )
 

@@ -15,8 +15,22 @@ use Rattle.locked_services.proofs.running.RunningTree.make_kept.Goals as goal
 pub invariant_of-self-2 : goal.invariant_of-self-2
 invariant_of-self-2 g c =
     let old = c.self.inside in
-    let v : RunningView = record { opening = old.opening; tree = old.tree.value; steps = old.run.steps; drains = old.drains.items; held = old.held; lanes = old.lanes.items } in
-    let w : RunningView = record { opening = old.opening; tree = c.apply_in_place.new.self; steps = c.add.new.self.steps; drains = old.drains.items; held = None; lanes = c.send_all.new.lanes.items } in
+    let v : RunningView = record {
+      opening = old.opening;
+      tree = old.tree.value;
+      steps = old.run.steps;
+      drains = old.drains.items;
+      held = old.held;
+      lanes = old.lanes.items;
+    } in
+    let w : RunningView = record {
+      opening = old.opening;
+      tree = c.apply_in_place.new.self;
+      steps = c.add.new.self.steps;
+      drains = old.drains.items;
+      held = None;
+      lanes = c.send_all.new.lanes.items;
+    } in
     let kept : g.I.KeptInput.input c.args.kept ≡ c.in-Some.input =
     let is = sym c.requires.held ∙ (ap (λ (v : RunningView). v.held) (sym c.self.view_is) ∙ c.in-Some.is) in cc (is) in
     let s : RunStep = record { input = c.in-Some.input; outcome = outcome_of c.apply_in_place.new.effect } in
