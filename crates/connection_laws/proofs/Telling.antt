@@ -28,23 +28,11 @@ use Rattle.server_rules.specs.Standing.{Made, admission_of, after_reply, change_
 use Rattle.server_rules.specs.StatusAge.{is_recent}
 use Rattle.connection_laws.specs.History.{Done, Event, Ask, Begin, Answered, Recorded, RefuseErrand, RefuseNext, Told, Leave, History, happens, made_by_reply, made_in, moved_by, opened, run}
 use Rattle.connection_laws.specs.Laws.{ToldItsOwn, asks_for, was_made}
-use Rattle.connection_laws.proofs.Following.{IsAskedFor, any_before, asked_for_none, asked_for_one}
+use Rattle.connection_laws.proofs.Following.{IsAskedFor, any_before, asked_for_none, asked_for_one, or_cases, or_left, or_more, or_right}
 
 -- all of these are among those
 abbrev AreAmong : List ℕ → List ℕ → Type 0
 AreAmong xs ys = (id : ℕ) → is_among id xs ≡ true → is_among id ys ≡ true
-
-or_left : (a b : Bool) → a ≡ true → (a || b) ≡ true
-or_left true b is = refl
-or_left false b is = search rules
-
-or_right : (a b : Bool) → b ≡ true → (a || b) ≡ true
-or_right true b is = refl
-or_right false b is = is
-
-or_more : (a b c : Bool) → (b ≡ true → c ≡ true) → (a || b) ≡ true → (a || c) ≡ true
-or_more true b c more is = refl
-or_more false b c more is = more is
 
 -- those that were before are among those with some more
 before : (xs ys : List ℕ) → AreAmong xs (xs ++ ys)
@@ -384,10 +372,6 @@ record IsKept (h : History) : Type 0 where
   waiters : AreAmong h.now.made.waiters h.waiters
   subscriptions : AreAmong h.now.made.subscriptions h.subscriptions
   followed : IsAskedFor h
-
-or_cases : (a b : Bool) (P : Type 0) → (a ≡ true → P) → (b ≡ true → P) → (a || b) ≡ true → P
-or_cases true b P left right is = left refl
-or_cases false b P left right is = right is
 
 -- among two lists is among one of them
 parts : (id : ℕ) (xs ys : List ℕ) (P : Type 0) → (is_among id xs ≡ true → P) → (is_among id ys ≡ true → P) → is_among id (xs ++ ys) ≡ true → P
