@@ -53,12 +53,12 @@ impl Progress {
         }
     }
 
-    /// It could not be started.
+    /// Notes that it could not be started.
     pub fn fail(&mut self) {
         self.stage = Stage::Failed;
     }
 
-    /// It lives. `is_output_read` is whether what it writes is read.
+    /// Notes that it lives. `is_output_read` is whether what it writes is read.
     pub fn begin(&mut self, program: &Program, pid: u32, is_output_read: bool) {
         self.is_output_read = is_output_read;
         self.stage = match program {
@@ -73,7 +73,7 @@ impl Progress {
         self.signals.begin_signal()
     }
 
-    /// The shell that sent it a signal has ended.
+    /// Notes that the shell that sent it a signal has ended.
     pub fn end_signal(&mut self) {
         self.signals.end_signal();
     }
@@ -83,7 +83,7 @@ impl Progress {
         self.signals.is_shell_out
     }
 
-    /// It was waited for, so its number may be another's from now on.
+    /// Notes that it was waited for, so that its number may be another's from now on.
     pub fn begin_to_end(&mut self) {
         self.signals.reap();
     }
@@ -98,12 +98,12 @@ impl Progress {
         self.is_output_read
     }
 
-    /// Nothing more of what it writes is read.
+    /// Notes that nothing more of what it writes is read.
     pub fn stop_reading(&mut self) {
         self.is_output_read = false;
     }
 
-    /// It wrote its first newline: what it writes from now on is told to nobody.
+    /// Notes that it wrote its first newline: what it writes from now on is told to nobody.
     pub fn stop_hearing(&mut self) {
         self.is_heard = true;
     }
@@ -113,12 +113,12 @@ impl Progress {
         !self.is_output_read || self.is_heard || self.is_given_up
     }
 
-    /// It ended in this way: from now on `next_report` may tell its end, and what it writes is wanted no more.
+    /// Notes that it ended in this way: from now on `next_report` may tell its end, and what it writes is wanted no more.
     pub fn end(&mut self, exit: Exit) {
         self.exit = Some(exit);
     }
 
-    /// Nobody listens any more. Returns whether that is new.
+    /// Notes that nobody listens any more. Returns whether that is new.
     pub fn give_up(&mut self) -> bool {
         let is_new = !self.is_given_up;
         self.is_given_up = true;
@@ -135,7 +135,7 @@ impl Progress {
         count <= 64usize.saturating_sub(self.written.len())
     }
 
-    /// It wrote these bytes, for which there is room.
+    /// Keeps these bytes that it wrote, for which there is room, until they are told.
     pub fn write(&mut self, bytes: &[u8]) {
         if !self.is_over() {
             let _ = self.written.try_extend_from_slice(bytes);

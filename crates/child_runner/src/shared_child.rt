@@ -55,13 +55,13 @@ impl ServiceProcess {
         }
     }
 
-    /// The child could not be started.
+    /// Notes that the child could not be started, and rings for the report of that.
     pub fn fail<R: Wait>(&self, rt: &R) {
         self.progress.lock(rt).fail();
         self.bell.ring(rt);
     }
 
-    /// The child runs.
+    /// Notes that the child runs, keeps what its threads are to take over, and rings for the report of its start.
     pub fn begin<R: Wait>(&self, rt: &R, child: Child<SystemProcess>, pipe: Option<Pipe>) {
         self.progress
             .lock(rt)
@@ -94,14 +94,15 @@ impl ServiceProcess {
         progress.begin_signal()
     }
 
-    /// The shell that sent the signal has ended.
+    /// Notes that the shell that sent the signal has ended, and wakes those that wait for that.
     pub fn end_signal<R: Wait>(&self, rt: &R) {
         self.progress.lock(rt).end_signal();
         self.changed.notify_all();
         self.bell.ring(rt);
     }
 
-    /// The child wrote these bytes, at most 64. It waits until there is room for them, or they are wanted no more.
+    /// Keeps these bytes that the child wrote, at most 64, until they are told. It waits until there is room for them, or they are wanted no
+    /// more.
     pub fn write<R: Wait>(&self, rt: &R, bytes: &[u8]) {
         let count = bytes.len();
         let progress = self.progress.lock(rt);
@@ -115,7 +116,7 @@ impl ServiceProcess {
         self.bell.ring(rt);
     }
 
-    /// Nothing more of what the child writes is read. Closes the ends of the pipe that are still here.
+    /// Notes that nothing more of what the child writes is read. Closes the ends of the pipe that are still here.
     pub fn stop_reading<R: Wait>(&self, rt: &R) {
         let writer = self.writer.lock(rt).take();
         drop(writer);
@@ -125,14 +126,14 @@ impl ServiceProcess {
         self.changed.notify_all();
     }
 
-    /// The child wrote its first newline, and what it wrote up to there was taken in: the report of its end waits for no more.
+    /// Notes that the child wrote its first newline, and that what it wrote up to there was taken in: the report of its end waits for no more.
     pub fn stop_hearing<R: Wait>(&self, rt: &R) {
         self.progress.lock(rt).stop_hearing();
         self.changed.notify_all();
     }
 
-    /// The child ended with `exit`, and was waited for: no signal begins from now on. Its end can be reported once all that it wrote, up to
-    /// its first newline, was read, or after a second, and not while a shell is under way.
+    /// Notes that the child ended with `exit`, and was waited for: no signal begins from now on. Its end can be reported once all that it
+    /// wrote, up to its first newline, was read, or after a second, and not while a shell is under way.
     pub fn end<R: Wait + Clock>(&self, rt: &R, exit: Exit) {
         self.progress.lock(rt).begin_to_end();
         self.write_end_mark(rt);
@@ -165,7 +166,7 @@ impl ServiceProcess {
         }
     }
 
-    /// Nobody listens to the child any more. Returns whether that is new.
+    /// Notes that nobody listens to the child any more. Returns whether that is new.
     pub fn give_up<R: Wait>(&self, rt: &R) -> bool {
         let is_new = self.progress.lock(rt).give_up();
         self.changed.notify_all();

@@ -31,7 +31,7 @@ impl Signals {
         }
     }
 
-    /// It lives, under this number.
+    /// Notes that it lives, under this number.
     pub fn begin(&mut self, pid: u32)
         ensures { self.new ≡ record self.old { pid = Some pid } }
     {
@@ -54,14 +54,14 @@ impl Signals {
         Some(pid)
     }
 
-    /// The shell has ended.
+    /// Notes that the shell has ended.
     pub fn end_signal(&mut self)
         ensures { self.new ≡ record self.old { is_shell_out = false } }
     {
         self.is_shell_out = false;
     }
 
-    /// It was waited for: no signal begins from now on.
+    /// Notes that it was waited for: no signal begins from now on.
     pub fn reap(&mut self)
         ensures { self.new ≡ record self.old { is_reaped = true } }
     {

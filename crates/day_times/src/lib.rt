@@ -28,7 +28,7 @@ fn day_text(millis: u64, places: u8) -> Option<DayText> {
     Some(printer.timestamp_text(instant))
 }
 
-// Whether it is this text.
+// Whether a time of day was written as this text. A time that has none is None.
 #[cfg(test)]
 fn is_told(told: Option<DayText>, text: &str) -> bool {
     match told {

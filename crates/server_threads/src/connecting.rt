@@ -24,7 +24,7 @@ pub fn start_listener<'s, S, R: Threads + Wait + Clock + Sync>(
         .is_ok()
 }
 
-// Serves connections until the server ends.
+// The body of that thread: gives each connection that comes threads of its own, until the server ends.
 fn serve_all<R: Threads + Wait + Clock + Sync>(rt: &R, server: &Server<Shared>) {
     serve_lines(rt, server);
 }
