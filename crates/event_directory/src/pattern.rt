@@ -13,11 +13,11 @@ use text_matcher::{BuildFault, Limits, TextMatcher};
 // The most letters of one text that are searched.
 pub(crate) const TEXT_LIMIT: usize = 1024;
 
-/// How large the automaton of a pattern may be. A letter costs as much at most as with a pattern of 256 letters, which has 260 states. So a
+/// How large the automaton of a pattern may be. A letter costs as much at most as with a pattern of 256 letters, which costs 261. So a
 /// letter at which 256 subscriptions look is heard soon, whatever their patterns, and these take little memory.
 pub const PATTERN_LIMITS: Limits = Limits {
     bytes: 16_384,
-    letter_cost: 260,
+    letter_cost: 261,
 };
 
 /// A regular expression of the crate `regex`, built from a text of 1 to 256 bytes 0x20 to 0x7e, with all that a search for it

@@ -33,14 +33,23 @@ fn builds_what_it_can(rt: HostRuntime) {
     wants_pattern(&rt, alloc, &long, None);
 }
 
-// A pattern has at most 260 states in which letters may stand, where an assertion counts eight times, and its tables take at most 16,384 bytes:
-// `.` takes some 200 of them.
+// A letter costs at most 261: as much as with `a{256}`. A choice costs two, an assertion nine, a set of seven ranges three. The tables of a pattern
+// take at most 16,384 bytes: `.` takes some 200 of them.
 #[test]
 fn a_pattern_past_the_limits_is_refused(rt: HostRuntime) {
     let alloc = rt.alloc();
     wants_pattern(&rt, alloc, "a{256}", None);
     wants_pattern(&rt, alloc, "a{257}", Some(PatternFault::Refused));
     wants_pattern(&rt, alloc, "((a?){30}){30}b", Some(PatternFault::Refused));
+    wants_pattern(&rt, alloc, "(?:a?){80}", None);
+    wants_pattern(&rt, alloc, "(?:a?){90}", Some(PatternFault::Refused));
+    wants_pattern(&rt, alloc, "(?:[acegikm]?){48}", None);
+    wants_pattern(
+        &rt,
+        alloc,
+        "(?:[acegikm]?){54}",
+        Some(PatternFault::Refused),
+    );
     wants_pattern(&rt, alloc, "(?:\\b|a){20}", None);
     wants_pattern(&rt, alloc, "(?:\\b|a){50}", Some(PatternFault::Refused));
     wants_pattern(&rt, alloc, ".{64}", None);

@@ -12,16 +12,22 @@ use regex_syntax::{Config, Parsed, parse};
 use std::alloc::{AllocError, Global};
 use std::marker::Model;
 
-// What an assertion costs, which looks at both sides of a place.
-const ASSERTION_COST: usize = 8;
+// What a letter costs at a state, where one that reads a single range of bytes costs 1. Measured in instructions these are 45; a group's end
+// takes 47, a choice 92, an assertion 430, and each range of a state that reads several 9.
+const CHOICE_COST: usize = 2;
+
+const ASSERTION_COST: usize = 9;
+
+const RANGES_FOR_ONE: usize = 5;
 
 /// How large the automaton of an expression may be.
 #[derive(Clone, Copy, Debug, PartialEq, Eq)]
 pub struct Limits {
     /// The most bytes of its tables, which the compiler may exceed by 24.
     pub bytes: usize,
-    /// The most that a letter below 128 may cost: one for each state in which a search of such letters may stand, and eight for an assertion.
-    /// The other states are never reached, however many there are.
+    /// The most that a letter below 128 may cost: one for each state in which a search of such letters may stand, but two for a choice of two
+    /// ways, nine for an assertion, and for a set of bytes one more for each five of its ranges. The other states are never reached, however
+    /// many there are.
     pub letter_cost: usize,
 }
 
@@ -175,7 +181,7 @@ impl TextMatcher {
     }
 }
 
-// How much a letter below 128 costs at most: one for each state in which a search of such letters may stand, and eight for an assertion.
+// How much a letter below 128 costs at most, as `Limits` says.
 fn letter_cost(nfa: &Nfa) -> usize {
     let mut cost: usize = 0;
     for state in &nfa.states {
@@ -184,19 +190,35 @@ fn letter_cost(nfa: &Nfa) -> usize {
     cost
 }
 
-// How much a state costs where a search of letters below 128 stands in it: nothing where it reads only bytes from 128 on, since such a search
-// never does. The transitions of a state ascend, so its first one tells.
+// How much a state costs where a search of letters below 128 stands in it.
 fn state_cost(nfa: &Nfa, state: State) -> usize {
-    let first = match state {
-        State::ByteRange(transition) => Some(transition),
-        State::Sparse { from, .. } => nfa.transitions.get(from as usize).copied(),
-        State::Look { .. } => return ASSERTION_COST,
-        _ => None,
-    };
-    match first {
-        Some(transition) if transition.start >= 128 => 0,
-        _ => 1,
+    match state {
+        State::ByteRange(transition) => reading_cost(usize::from(transition.start < 128)),
+        State::Sparse { from, to } => reading_cost(letter_ranges(nfa, from, to)),
+        State::Split { .. } => CHOICE_COST,
+        State::Look { .. } => ASSERTION_COST,
+        State::Save { .. } | State::Match | State::Fail => 1,
     }
+}
+
+// How much a state costs that reads so many ranges of bytes below 128: nothing where it reads none, since such a search never stands in it.
+fn reading_cost(ranges: usize) -> usize {
+    match ranges.checked_sub(1) {
+        None => 0,
+        Some(more) => more.div_ceil(RANGES_FOR_ONE).saturating_add(1),
+    }
+}
+
+// How many of these transitions, which ascend, begin below 128.
+fn letter_ranges(nfa: &Nfa, from: u32, to: u32) -> usize {
+    let mut count: usize = 0;
+    for place in from..to {
+        match nfa.transitions.get(place as usize) {
+            Some(transition) if transition.start < 128 => count = count.saturating_add(1),
+            _ => break,
+        }
+    }
+    count
 }
 
 // The automaton of the expression in this text.
