@@ -74,6 +74,7 @@ impl KeptInput for PlainInput<Global> {
         self.actor
     }
 
+    // Adds the code of its step, if that has one. Whether it has.
     fn push_step(&self, code: &mut Vec<u8>, effect: &Effect<Global>) -> Result<bool, AllocError> {
         push_step(code, self, effect)
     }
@@ -103,6 +104,7 @@ impl KeptInput for ToldInput {
         self.actor
     }
 
+    // Adds the code of its step, if that has one. Whether it has.
     #[inline(always)]
     fn push_step(&self, code: &mut Vec<u8>, effect: &Effect<Global>) -> Result<bool, AllocError> {
         push_told_step(code, self, effect)
