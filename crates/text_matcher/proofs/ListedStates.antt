@@ -1,5 +1,5 @@
 -- Lists of states, each once.
-use Rattle.std.proofs.Common.{◌≡◌, ◌++◌, refl, sym, ap, ◌∙◌, ℕ, zero, suc, List, [], ◌∷◌, Bool, false, true, replicate, get_or, append-nil, append_assoc, ⊎_elim, inl, inr, subst, arith}
+use Rattle.std.proofs.Common.{◌≡◌, ◌++◌, refl, sym, ap, ◌∙◌, ℕ, zero, suc, List, [], ◌∷◌, Bool, false, replicate, get_or, append-nil, append_assoc, ⊎_elim, inl, subst, arith}
 use Rattle.std.specs.Prelude.{Contains, ◌⊎◌, ◌<◌, ◌≤◌, length}
 use Rattle.std.proofs.lemmas.List.Sums.{count_by-le-length}
 use Rattle.std.proofs.lemmas.List.Elements.{Contains-append_left, Contains-push_cases}

@@ -1,11 +1,11 @@
 -- A search that goes over a text letter by letter, and what it finds.
-use Rattle.std.proofs.Common.{◌≡◌, ◌≢◌, refl, sym, ap, ap₂, subst, ◌∙◌, ℕ, zero, suc, ◌+◌, ◌-◌, ◌<◌, ◌≤◌, ◌++◌, List, [], ◌∷◌, length, Bool, true, false, All, Option, Some, None, arith, inl, inr, ⊎_elim, get_or, IsSome, is_some, cond, eqb, ne_eqb, append-nil}
+use Rattle.std.proofs.Common.{◌≡◌, refl, sym, ap, ap₂, subst, ◌∙◌, ℕ, zero, suc, ◌+◌, ◌-◌, ◌<◌, ◌≤◌, ◌++◌, List, [], ◌∷◌, length, Bool, true, false, All, Some, None, arith, inl, inr, ⊎_elim, get_or, is_some, eqb, ne_eqb}
 use Rattle.std.proofs.lemmas.Bool.{cond-false, cases_lt}
 use Rattle.std.proofs.lemmas.Option.{slice_get-get_or, same_Some}
 use Rattle.std.proofs.lemmas.List.{get_or_append_left, length-append, get_or_push}
 use Rattle.std.specs.Prelude.{◌⊎◌, Contains, slice_get}
-use Rattle.regex_hir.specs.Looks.{Side, holds, holds_between, side_before, side_after}
-use Rattle.regex_hir.specs.Text.{byte_before, char_at, char_before}
+use Rattle.regex_hir.specs.Looks.{holds, holds_between, side_before, side_after}
+use Rattle.regex_hir.specs.Text.{byte_before, char_before}
 use Rattle.regex_hir.specs.declared.look.Look.{Look}
 use Rattle.regex_hir.proofs.TextLemmas.{char_at_ascii, char_before_ascii}
 use Rattle.regex_nfa.specs.Paths as path
@@ -16,7 +16,10 @@ use Rattle.regex_nfa.specs.declared.nfa.Nfa.{Nfa}
 use Rattle.regex_nfa.specs.declared.state.State.TheVariants.{Match}
 use Rattle.regex_nfa.proofs.PathsLemmas.{IsSome-run_of_Accepts, run_none_of_no_path}
 use Rattle.regex_nfa.proofs.RunLemmas.{byte_below_some, byte_below_inside}
-use Rattle.text_matcher.specs.Walks.{Stands, begun, skipped, consumed, AllStand, ComesTo, EndsBefore, HasWalked, IsReached, HasNoAssertion}
+use Rattle.text_matcher.specs.Expression.{has_match}
+use Rattle.text_matcher.specs.Matching.{Matches}
+use Rattle.text_matcher.specs.Walks.{Stands, begun, skipped, consumed, AllStand, ComesTo, EndsBefore, HasMatchState, HasWalked, HasStood, HasNoAssertion}
+use Rattle.text_matcher.proofs.Searching.{found_by_walk}
 
 -- it stands within the bytes, or at their end
 pub stands_within : (nfa : Nfa) (hay : List ℕ) (i q : ℕ) → Stands nfa hay i q → i ≤ length hay
@@ -115,6 +118,10 @@ module _ (nfa : Nfa) (plain : HasNoAssertion nfa) where
       let before : k < n = omega (arith, le, next) in
       consumed i k p q next (plain_stand hay other n same k p (omega (arith, before)) s) (edge.0, sym (same k before) ∙ edge.1, edge.2)
 
+  plain_end : (hay other : List ℕ) (n : ℕ) → ((i : ℕ) → i < n → byte_below hay (length hay) i ≡ byte_below other (length other) i)
+      → EndsBefore nfa hay (n + 1) → EndsBefore nfa other (n + 1)
+  plain_end hay other n same w = (w.0, w.1, w.2, plain_stand hay other n same w.0 w.1 (omega (arith, w.2)) w.3, w.4)
+
 -- a text that goes on, of letters below 128
 module _ (xs ys : List ℕ) (ascii : All (λ b. b < 128) (xs ++ ys)) where
   there : (i : ℕ) → i < length xs → slice_get (xs ++ ys) i ≡ Some (get_or xs i 0)
@@ -164,24 +171,20 @@ module _ (xs ys : List ℕ) (ascii : All (λ b. b < 128) (xs ++ ys)) where
         walked.none e (same_end nfa (xs ++ ys) xs (length xs) (λ i lt. sym (keeps_byte i lt)) (λ i lt l. sym (keeps_looks i lt l)) ends);
   }
 
-  pub reach_goes_on : (nfa : Nfa) (behind reached : List ℕ) → HasNoAssertion nfa → IsReached nfa xs (length xs) behind reached
-      → IsReached nfa (xs ++ ys) (length xs) behind reached
-  reach_goes_on nfa behind reached plain known = record {
-    all = known.all;
-    closed = λ q r has edge. known.closed q r has (plain_edge nfa plain (xs ++ ys) xs (length xs) q r edge);
-    only = λ stand q has. plain_stand nfa plain xs (xs ++ ys) (length xs) keeps_byte (length xs) q (omega arith)
-        (known.only (λ p comes. plain_stand nfa plain (xs ++ ys) xs (length xs) (λ i lt. sym (keeps_byte i lt)) (length xs) p (omega arith)
-        (stand p comes)) q has);
-  }
+  pub stood_goes_on : (nfa : Nfa) (states : List ℕ) (has_matched : Bool) → HasNoAssertion nfa
+      → HasStood nfa xs (length xs) states has_matched → HasStood nfa (xs ++ ys) (length xs) states has_matched
+  stood_goes_on nfa states has_matched plain stood =
+      let back : (i : ℕ) → i < length xs → byte_below (xs ++ ys) (length (xs ++ ys)) i ≡ byte_below xs (length xs) i = λ i lt. sym (keeps_byte i lt) in
+      record {
+        only = λ q has. plain_stand nfa plain xs (xs ++ ys) (length xs) keeps_byte (length xs) q (omega arith) (stood.only q has);
+        all = λ q s. stood.all q (plain_stand nfa plain (xs ++ ys) xs (length xs) back (length xs) q (omega arith) s);
+        found = λ e. plain_end nfa plain xs (xs ++ ys) (length xs) keeps_byte (stood.found e);
+        none = λ e ends. stood.none e (plain_end nfa plain (xs ++ ys) xs (length xs) back ends);
+      }
 
 -- where it comes to a place, it stands there
 stands_of_come : (nfa : Nfa) (hay : List ℕ) (i q : ℕ) → ComesTo nfa hay i q → Stands nfa hay i q
 stands_of_come nfa hay i q = ⊎_elim (λ h. begun i q h.0 h.1) (λ w. consumed i w.0 w.1 q w.2 w.3 w.4)
-
--- the states in which it stands at place n
-pub record StandsIn (nfa : Nfa) (hay : List ℕ) (n : ℕ) (reached : List ℕ) : Type 0 where
-  pub only : AllStand nfa hay n reached
-  pub all : (q : ℕ) → Stands nfa hay n q → Contains reached q
 
 module _ (nfa : Nfa) (hay : List ℕ) (n : ℕ) (behind reached : List ℕ) (has_matched : Bool) (walked : HasWalked nfa hay n behind has_matched)
     (from : (q : ℕ) → Contains behind q → Contains reached q)
@@ -191,40 +194,42 @@ module _ (nfa : Nfa) (hay : List ℕ) (n : ℕ) (behind reached : List ℕ) (has
   listed i q e (skipped _ p _ s edge) = closed p q (listed i p e s) (subst (λ k. EmptyEdge nfa hay k p q) e edge)
   listed i q e (consumed _ k p _ next s edge) = from q (walked.all q (inr (k, p, sym e ∙ next, s, edge)))
 
-  pub it_stands : (AllStand nfa hay n behind → AllStand nfa hay n reached) → StandsIn nfa hay n reached
-  it_stands only = record {
-    only = only (λ q has. stands_of_come nfa hay n q (walked.comes q has));
-    all = λ q s. listed n q refl s;
-  }
+  pub stands_there : (now : Bool) → (AllStand nfa hay n behind → AllStand nfa hay n reached)
+      → (now ≡ true → (has_matched ≡ true) ⊎ HasMatchState nfa reached)
+      → (now ≡ false → (has_matched ≡ false) × (HasMatchState nfa reached → ⊥)) → HasStood nfa hay n reached now
+  stands_there now only found none =
+      let stand : AllStand nfa hay n reached = only (λ q has. stands_of_come nfa hay n q (walked.comes q has)) in
+      record {
+        only = stand;
+        all = λ q s. listed n q refl s;
+        found = λ e. ⊎_elim
+            (λ before. let w = walked.found before in (w.0, w.1, omega (arith, w.2), w.3, w.4))
+            (λ w. (n, w.0, omega arith, stand w.0 w.1, w.2))
+            (found e);
+        none = λ e w.
+            let h = none e in
+            elim (cases_lt w.0 n) [
+              | inl before ↦ walked.none h.0 (w.0, w.1, before, w.3, w.4)
+              | inr behind ↦ let here : w.0 ≡ n = omega (arith, behind, w.2) in h.1 (w.1, listed w.0 w.1 here w.3, w.4)
+            ];
+      }
 
 -- one letter more
-module _ (nfa : Nfa) (hay : List ℕ) (n b : ℕ) (behind reached next : List ℕ) (has_matched has_now : Bool)
-    (walked : HasWalked nfa hay n behind has_matched) (stands : StandsIn nfa hay n reached)
-    (letter : byte_below hay (length hay) n ≡ Some b) where
-  pub walks_on : ((r : ℕ) → Contains next r → (q : ℕ) × Contains reached q × (next_on nfa.transitions.items (state_of nfa q) b ≡ Some r))
-      → ((q r : ℕ) → Contains reached q → next_on nfa.transitions.items (state_of nfa q) b ≡ Some r → Contains next r)
-      → (has_now ≡ true → (has_matched ≡ true) ⊎ ((q : ℕ) × Contains reached q × (state_of nfa q ≡ Match)))
-      → (has_now ≡ false → (has_matched ≡ false) × ((q : ℕ) → Contains reached q → state_of nfa q ≡ Match → ⊥))
-      → HasWalked nfa hay (n + 1) next has_now
-  walks_on only all found none = record {
-    comes = λ r has. let w = only r has in inr (n, w.0, refl, stands.only w.0 w.1, (b, letter, w.2));
-    all = λ r. ⊎_elim (λ h. absurd (omega (arith, h.0))) (λ w.
-        let here : w.0 ≡ n = omega (arith, w.2) in
-        let own : w.4.0 ≡ b = same_Some w.4.0 b (sym w.4.1 ∙ (ap (byte_below hay (length hay)) here ∙ letter)) in
-        all w.1 r (stands.all w.1 (subst (λ k. Stands nfa hay k w.1) here w.3))
-        (ap (next_on nfa.transitions.items (state_of nfa w.1)) (sym own) ∙ w.4.2));
-    found = λ e. ⊎_elim
-        (λ before. let w = walked.found before in (w.0, w.1, omega (arith, w.2), w.3, w.4))
-        (λ w. (n, w.0, omega arith, stands.only w.0 w.1, w.2))
-        (found e);
-    none = λ e w.
-        let h = none e in
-        elim (cases_lt w.0 n) [
-          | inl before ↦ walked.none h.0 (w.0, w.1, before, w.3, w.4)
-          | inr behind ↦
-              let here : w.0 ≡ n = omega (arith, behind, w.2) in h.1 w.1 (stands.all w.1 (subst (λ k. Stands nfa hay k w.1) here w.3)) w.4
-        ];
-  }
+pub walks_on : (nfa : Nfa) (hay : List ℕ) (n b : ℕ) (states next : List ℕ) (has_matched : Bool) → HasStood nfa hay n states has_matched
+    → byte_below hay (length hay) n ≡ Some b
+    → ((r : ℕ) → Contains next r → (q : ℕ) × Contains states q × (next_on nfa.transitions.items (state_of nfa q) b ≡ Some r))
+    → ((q r : ℕ) → Contains states q → next_on nfa.transitions.items (state_of nfa q) b ≡ Some r → Contains next r)
+    → HasWalked nfa hay (n + 1) next has_matched
+walks_on nfa hay n b states next has_matched stood letter only all = record {
+  comes = λ r has. let w = only r has in inr (n, w.0, refl, stood.only w.0 w.1, (b, letter, w.2));
+  all = λ r. ⊎_elim (λ h. absurd (omega (arith, h.0))) (λ w.
+      let here : w.0 ≡ n = omega (arith, w.2) in
+      let own : w.4.0 ≡ b = same_Some w.4.0 b (sym w.4.1 ∙ (ap (byte_below hay (length hay)) here ∙ letter)) in
+      all w.1 r (stood.all w.1 (subst (λ k. Stands nfa hay k w.1) here w.3))
+      (ap (next_on nfa.transitions.items (state_of nfa w.1)) (sym own) ∙ w.4.2));
+  found = stood.found;
+  none = stood.none;
+}
 
 pub last_letter : (xs : List ℕ) (b : ℕ) → byte_below (xs ++ b ∷ []) (length (xs ++ b ∷ [])) (length xs) ≡ Some b
 last_letter xs b =
@@ -234,22 +239,20 @@ last_letter xs b =
     ∙ (slice_get-get_or (xs ++ b ∷ []) (length xs) 0 inside ∙ ap Some (get_or_push xs b 0 (length xs) refl))
 
 -- what it tells at the end of the text
-pub told : (nfa : Nfa) (hay behind reached : List ℕ) (has_matched result : Bool) → HasWalked nfa hay (length hay) behind has_matched
-    → StandsIn nfa hay (length hay) reached
-    → (result ≡ true → (has_matched ≡ true) ⊎ ((q : ℕ) × Contains reached q × (state_of nfa q ≡ Match)))
-    → (result ≡ false → (has_matched ≡ false) × ((q : ℕ) → Contains reached q → state_of nfa q ≡ Match → ⊥))
-    → result ≡ is_some (run nfa hay (length hay) nfa.unanchored 0)
-told nfa hay behind reached has_matched true walked stands found none =
-    sym (⊎_elim (λ e. let w = walked.found e in found_where_it_stands nfa hay w.0 w.1 w.3 w.4)
-    (λ w. found_where_it_stands nfa hay (length hay) w.0 (stands.only w.0 w.1) w.2) (found refl))
-told nfa hay behind reached has_matched false walked stands found none =
-    let h = none refl in
-    sym (none_where_none_stands nfa hay (λ i q s is. elim (cases_lt i (length hay)) [
-      | inl before ↦ walked.none h.0 (i, q, before, s, is)
-      | inr past ↦
-          let end : i ≡ length hay = omega (arith, past, stands_within nfa hay i q s) in
-          h.1 q (stands.all q (subst (λ k. Stands nfa hay k q) end s)) is
-    ]))
+told : (nfa : Nfa) (hay states : List ℕ) (has_matched : Bool) → HasStood nfa hay (length hay) states has_matched
+    → has_matched ≡ is_some (run nfa hay (length hay) nfa.unanchored 0)
+told nfa hay states true stood = let w = stood.found refl in sym (found_where_it_stands nfa hay w.0 w.1 w.3 w.4)
+told nfa hay states false stood =
+    sym (none_where_none_stands nfa hay (λ i q s is. let inside = stands_within nfa hay i q s in stood.none refl (i, q, omega (arith, inside), s, is)))
+
+pub found_at_end : (nfa : Nfa) (text hay states : List ℕ) (has_matched : Bool) → ∥ Matches nfa text ∥₁ → All (λ b. b < 128) hay
+    → HasStood nfa hay (length hay) states has_matched → has_matched ≡ has_match text hay
+found_at_end nfa text hay states has_matched built ascii stood =
+    told nfa hay states has_matched stood ∙ found_by_walk nfa text hay built (λ k d lt. let small = ascii k d lt in omega (arith, small))
+
+-- what is known of a text and a place, where they are told otherwise
+pub at_place : (P : List ℕ → ℕ → Type 0) (bytes hay : List ℕ) (end n : ℕ) → bytes ≡ hay → end ≡ n → P bytes end → P hay n
+at_place P bytes hay end n is here p = subst (λ (k : ℕ). P hay k) here (subst (λ (h : List ℕ). P h end) is p)
 
 -- where it begins
 pub begins : (nfa : Nfa) (hay behind : List ℕ) → Contains behind nfa.unanchored → ((q : ℕ) → Contains behind q → nfa.unanchored ≡ q)

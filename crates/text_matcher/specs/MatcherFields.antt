@@ -1,7 +1,7 @@
 -- What a `TextMatcher` holds.
 use Rattle.std.specs.Prelude.{◌≡◌, ℕ, ◌<◌, true, false, List, All, length, vec_len, string_bytes}
 use Rattle.text_matcher.specs.Matching.{Matches}
-use Rattle.text_matcher.specs.Walks.{HasWalked, IsReached, HasNoAssertion}
+use Rattle.text_matcher.specs.Walks.{HasWalked, HasStood, HasNoAssertion}
 use Rattle.text_matcher.specs.declared.text_matcher.TextMatcher.TheInside.{Inside}
 
 -- the text of the expression, and the letters that it heard
@@ -17,8 +17,9 @@ pub record IsBuilt (m : Inside) : Type 0 where
   pub matches : ∥ Matches m.nfa (string_bytes m.source) ∥₁
   pub ascii : All (λ b. b < 128) m.heard.items
   pub behind : m.behind.count ≡ vec_len m.nfa.states
-  pub reached : m.reached.count ≡ vec_len m.nfa.states
-  pub walked : HasWalked m.nfa m.heard.items (length m.heard.items) m.behind.items m.has_matched
+  pub spare : m.spare.count ≡ vec_len m.nfa.states
   pub plain : m.has_assertions ≡ false → HasNoAssertion m.nfa
-  pub standing : m.is_standing ≡ true → (m.has_assertions ≡ false)
-      × IsReached m.nfa m.heard.items (length m.heard.items) m.behind.items m.reached.items
+  pub walked : m.is_standing ≡ false
+      → HasWalked m.nfa m.heard.items (length m.heard.items) m.behind.items m.has_matched
+  pub stood : m.is_standing ≡ true → (m.has_assertions ≡ false)
+      × HasStood m.nfa m.heard.items (length m.heard.items) m.behind.items m.has_matched

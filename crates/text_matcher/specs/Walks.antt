@@ -16,11 +16,9 @@ pub data Stands (nfa : Nfa) (hay : List ℕ) : ℕ → ℕ → Type 0 where
 abbrev pub AllStand : Nfa → List ℕ → ℕ → List ℕ → Type 0
 AllStand nfa hay i states = (q : ℕ) → Contains states q → Stands nfa hay i q
 
--- these are the states in which it stands at place i, where it comes there in those of `behind`
-pub record IsReached (nfa : Nfa) (hay : List ℕ) (i : ℕ) (behind reached : List ℕ) : Type 0 where
-  pub all : (q : ℕ) → Contains behind q → Contains reached q
-  pub closed : (q r : ℕ) → Contains reached q → EmptyEdge nfa hay i q r → Contains reached r
-  pub only : AllStand nfa hay i behind → AllStand nfa hay i reached
+-- one of these states says that there is a match
+abbrev pub HasMatchState : Nfa → List ℕ → Type 0
+HasMatchState nfa states = (q : ℕ) × Contains states q × (state_of nfa q ≡ Match)
 
 -- no state is an assertion, so that where it stands doesn't depend on what comes
 abbrev pub HasNoAssertion : Nfa → Type 0
@@ -41,3 +39,10 @@ pub record HasWalked (nfa : Nfa) (hay : List ℕ) (n : ℕ) (behind : List ℕ) 
   pub all : (q : ℕ) → ComesTo nfa hay n q → Contains behind q
   pub found : has_matched ≡ true → EndsBefore nfa hay n
   pub none : has_matched ≡ false → EndsBefore nfa hay n → ⊥
+
+-- these are the states in which it stands at place n, and this tells whether a match ended there or before
+pub record HasStood (nfa : Nfa) (hay : List ℕ) (n : ℕ) (states : List ℕ) (has_matched : Bool) : Type 0 where
+  pub only : AllStand nfa hay n states
+  pub all : (q : ℕ) → Stands nfa hay n q → Contains states q
+  pub found : has_matched ≡ true → EndsBefore nfa hay (n + 1)
+  pub none : has_matched ≡ false → EndsBefore nfa hay (n + 1) → ⊥

@@ -5,15 +5,17 @@ ghost use Rattle.text_matcher.specs.Matching.{Matches};
 
 use crate::build_fault::BuildFault;
 use crate::state_list::StateList;
-use crate::walk::{has_assertion, has_matched_now, read_over, stand_once};
+use crate::walk::{has_assertion, read_over, stand_beside, stand_once};
 use regex_compile::compile;
 use regex_nfa::{Nfa, State};
 use regex_syntax::{Config, Parsed, parse};
 use std::alloc::{AllocError, Global};
 use std::marker::Model;
+use std::mem;
 
-// What a letter costs at a state, where one that reads a single range of bytes costs 1. Measured in instructions these are 45; a group's end
-// takes 47, a choice 92, an assertion 430, and each range of a state that reads several 9.
+// What a letter costs at a state, where one that reads a single range of bytes costs 1. Measured in instructions these are 46, or 60 where the
+// automaton has an assertion, since it then goes twice over each state. A group's end takes 37 or 63, a choice 45 or 112, an assertion 201, and each
+// range of a state that reads several 10.
 const CHOICE_COST: usize = 2;
 
 const ASSERTION_COST: usize = 9;
@@ -39,14 +41,14 @@ pub struct TextMatcher {
     source: String,
     nfa: Nfa,
     heard: Vec<u8>,
-    // The states to which the last letter led.
+    // The states in which a search comes behind the last letter; where it stands there already, those in which it stands.
     behind: StateList,
-    // Whether a match ended before the last letter.
-    has_matched: bool,
-    // The states in which a search stands at one place.
-    reached: StateList,
-    // Whether it stands in these behind the last letter, whatever comes.
+    // Whether it stands there already, whatever comes.
     is_standing: bool,
+    // Whether a match ended before the last letter; where it stands behind it already, whether one ended there or before.
+    has_matched: bool,
+    // A second list: for the states to which a letter leads, or those in which a search stands at the end.
+    spare: StateList,
     // Whether an assertion may look at what comes.
     has_assertions: bool,
 }
@@ -59,9 +61,9 @@ impl Drop for TextMatcher {
             nfa: _nfa,
             heard: _heard,
             behind: _behind,
-            has_matched: _has_matched,
-            reached: _reached,
             is_standing: _,
+            has_matched: _has_matched,
+            spare: _spare,
             has_assertions: _,
         } = self;
     }
@@ -97,7 +99,7 @@ impl TextMatcher {
         let has_assertions = has_assertion(&nfa);
         let mut behind = StateList::new(alloc, states)?;
         behind.add(nfa.unanchored);
-        let reached = StateList::new(alloc, states)?;
+        let spare = StateList::new(alloc, states)?;
         let heard = Vec::with_capacity(alloc, letters)?;
         let source = String::from_str(alloc, text)?;
         Ok(TextMatcher {
@@ -105,9 +107,9 @@ impl TextMatcher {
             nfa,
             heard,
             behind,
-            has_matched: false,
-            reached,
             is_standing: false,
+            has_matched: false,
+            spare,
             has_assertions,
         })
     }
@@ -133,8 +135,8 @@ impl TextMatcher {
         self.heard.clear();
         self.behind.clear();
         self.behind.add(self.nfa.unanchored);
-        self.has_matched = false;
         self.is_standing = false;
+        self.has_matched = false;
     }
 
     /// Hears one letter more. An error where memory is refused, which is never while there is room: it heard nothing then.
@@ -147,16 +149,16 @@ impl TextMatcher {
     {
         let place = self.heard.len();
         self.heard.push(letter)?;
-        stand_once(
+        self.has_matched = stand_once(
             &self.nfa,
             &self.heard,
             place,
-            &self.behind,
-            &mut self.reached,
+            &mut self.behind,
             self.is_standing,
+            self.has_matched,
         );
-        self.has_matched = has_matched_now(&self.nfa, &self.reached, self.has_matched);
-        read_over(&self.nfa, letter, &self.reached, &mut self.behind);
+        read_over(&self.nfa, letter, &self.behind, &mut self.spare);
+        mem::swap(&mut self.behind, &mut self.spare);
         self.is_standing = false;
         Ok(())
     }
@@ -168,16 +170,26 @@ impl TextMatcher {
         ensures same { self.new ≡ self.old }
     {
         let end = self.heard.len();
-        stand_once(
+        if self.has_assertions {
+            return stand_beside(
+                &self.nfa,
+                &self.heard,
+                end,
+                &self.behind,
+                &mut self.spare,
+                self.has_matched,
+            );
+        }
+        self.has_matched = stand_once(
             &self.nfa,
             &self.heard,
             end,
-            &self.behind,
-            &mut self.reached,
+            &mut self.behind,
             self.is_standing,
+            self.has_matched,
         );
-        self.is_standing = !self.has_assertions;
-        has_matched_now(&self.nfa, &self.reached, self.has_matched)
+        self.is_standing = true;
+        self.has_matched
     }
 }
 

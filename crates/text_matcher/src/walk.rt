@@ -1,5 +1,5 @@
 //! A walk over a text that grows: where a search stands behind the letters that came so far.
-ghost use Rattle.std.specs.Prelude.{◌≡◌, ℕ, ◌+◌, ◌<◌, ◌≤◌, ◌⊎◌, Contains, Some, true, false, length, slice_index, vec_len};
+ghost use Rattle.std.specs.Prelude.{◌≡◌, ◌++◌, ℕ, ◌+◌, ◌<◌, ◌≤◌, ◌⊎◌, Contains, Some, true, false, length, slice_index, vec_len};
 ghost use Rattle.regex_nfa.specs.Paths.{EmptyEdge};
 ghost use Rattle.regex_nfa.specs.Run.{state_of};
 ghost use Rattle.regex_nfa.specs.States.{next_on};
@@ -7,13 +7,14 @@ ghost use Rattle.regex_hir.specs.declared.look.Look.{Look};
 ghost use Rattle.regex_nfa.specs.declared.state.State.TheVariants as state;
 ghost use Rattle.regex_nfa.specs.declared.state.State.TheVariants.{Match};
 ghost use Rattle.text_matcher.specs.StateLists.{Grows};
-ghost use Rattle.text_matcher.specs.Walks.{AllStand, IsReached, HasNoAssertion};
+ghost use Rattle.text_matcher.specs.Walks.{AllStand, HasMatchState, HasNoAssertion, HasWalked, HasStood};
 
 use crate::state_list::StateList;
 use regex_nfa::{Nfa, State, StateId, holds};
 
-// Adds the states to which edges lead from this one at place `at` that read no byte.
-fn follow(nfa: &Nfa, bytes: &[u8], at: usize, state: StateId, reached: &mut StateList)
+// Adds the states to which edges lead from this one at place `at` that read no byte. Whether this one says that there is a match.
+#[inline(always)]
+fn follow(nfa: &Nfa, bytes: &[u8], at: usize, state: StateId, reached: &mut StateList) -> bool
     requires state { state < vec_len nfa.now.states }
     requires count { reached.old.count ≡ vec_len nfa.now.states }
     ensures count { reached.new.count ≡ reached.old.count }
@@ -22,8 +23,11 @@ fn follow(nfa: &Nfa, bytes: &[u8], at: usize, state: StateId, reached: &mut Stat
         → Contains reached.new.items r }
     ensures only { (r : ℕ) → Contains reached.new.items r
         → Contains reached.old.items r ⊎ EmptyEdge nfa.now bytes.now at state r }
+    ensures yes { result ≡ true → state_of nfa.now state ≡ Match }
+    ensures no { result ≡ false → state_of nfa.now state ≡ Match → ⊥ }
 {
     match nfa.state(state) {
+        State::Match => return true,
         State::Split { first, second } => {
             reached.add(first);
             reached.add(second);
@@ -36,10 +40,12 @@ fn follow(nfa: &Nfa, bytes: &[u8], at: usize, state: StateId, reached: &mut Stat
         }
         _ => {}
     }
+    false
 }
 
-// Adds the states that edges lead to at place `at` that read no byte, one after the other.
-fn close(nfa: &Nfa, bytes: &[u8], at: usize, reached: &mut StateList)
+// Adds the states that edges lead to at place `at` that read no byte, one after the other. Whether a match ended before, or one of all these states
+// says that there is one.
+fn close(nfa: &Nfa, bytes: &[u8], at: usize, reached: &mut StateList, has_matched: bool) -> bool
     requires count { reached.old.count ≡ vec_len nfa.now.states }
     ensures count { reached.new.count ≡ reached.old.count }
     ensures grows { Grows reached.old.items reached.new.items }
@@ -47,57 +53,96 @@ fn close(nfa: &Nfa, bytes: &[u8], at: usize, reached: &mut StateList)
         → EmptyEdge nfa.now bytes.now at q r → Contains reached.new.items r }
     ensures only { AllStand nfa.now bytes.now at reached.old.items
         → AllStand nfa.now bytes.now at reached.new.items }
+    ensures found { result ≡ true
+        → (has_matched ≡ true) ⊎ HasMatchState nfa.now reached.new.items }
+    ensures none { result ≡ false
+        → (has_matched ≡ false) × (HasMatchState nfa.now reached.new.items → ⊥) }
 {
+    let mut is_found = has_matched;
     let mut place = 0;
     while place < reached.len() {
         let state = reached.get(place);
-        follow(nfa, bytes, at, state, reached);
+        if follow(nfa, bytes, at, state, reached) {
+            is_found = true;
+        }
         place += 1;
     }
+    is_found
 }
 
-// Makes `reached` the same states as `from`.
-fn copy_states(from: &StateList, reached: &mut StateList)
-    requires count { reached.old.count ≡ from.now.count }
-    ensures count { reached.new.count ≡ reached.old.count }
-    ensures all { (q : ℕ) → Contains from.now.items q → Contains reached.new.items q }
-    ensures only { (q : ℕ) → Contains reached.new.items q → Contains from.now.items q }
+// Makes `beside` the states that edges lead to from these at place `at` that read no byte. Whether a match ended before, or one of these says that
+// there is one.
+fn follow_all(
+    nfa: &Nfa,
+    bytes: &[u8],
+    at: usize,
+    states: &StateList,
+    beside: &mut StateList,
+    has_matched: bool,
+) -> bool
+    requires states { states.now.count ≡ vec_len nfa.now.states }
+    requires beside { beside.old.count ≡ vec_len nfa.now.states }
+    ensures count { beside.new.count ≡ beside.old.count }
+    ensures all { (q r : ℕ) → Contains states.now.items q
+        → EmptyEdge nfa.now bytes.now at q r → Contains beside.new.items r }
+    ensures only { AllStand nfa.now bytes.now at states.now.items
+        → AllStand nfa.now bytes.now at beside.new.items }
+    ensures found { result ≡ true
+        → (has_matched ≡ true) ⊎ HasMatchState nfa.now states.now.items }
+    ensures none { result ≡ false
+        → (has_matched ≡ false) × (HasMatchState nfa.now states.now.items → ⊥) }
 {
-    reached.clear();
-    for place in 0..from.len() {
-        reached.add(from.get(place));
+    let mut is_found = has_matched;
+    beside.clear();
+    for place in 0..states.len() {
+        if follow(nfa, bytes, at, states.get(place), beside) {
+            is_found = true;
+        }
     }
+    is_found
 }
 
-/// Makes `reached` the states in which a search stands at place `at` that comes there in those of `behind`.
-pub fn stand(nfa: &Nfa, bytes: &[u8], at: usize, behind: &StateList, reached: &mut StateList)
-    requires behind { behind.now.count ≡ vec_len nfa.now.states }
-    requires reached { reached.old.count ≡ vec_len nfa.now.states }
-    ensures count { reached.new.count ≡ reached.old.count }
-    ensures reached { IsReached nfa.now bytes.now at behind.now.items reached.new.items }
-{
-    copy_states(behind, reached);
-    close(nfa, bytes, at, reached);
-}
-
-/// The same, unless they are these states already.
-pub fn stand_once(
+/// Makes `beside` the other states in which a search stands at place `at` that comes there in those of `behind`. Whether a match ended there or before.
+pub fn stand_beside(
     nfa: &Nfa,
     bytes: &[u8],
     at: usize,
     behind: &StateList,
-    reached: &mut StateList,
-    is_standing: bool,
-)
+    beside: &mut StateList,
+    has_matched: bool,
+) -> bool
     requires behind { behind.now.count ≡ vec_len nfa.now.states }
-    requires reached { reached.old.count ≡ vec_len nfa.now.states }
-    requires standing { is_standing ≡ true
-        → IsReached nfa.now bytes.now at behind.now.items reached.old.items }
-    ensures count { reached.new.count ≡ reached.old.count }
-    ensures reached { IsReached nfa.now bytes.now at behind.now.items reached.new.items }
+    requires beside { beside.old.count ≡ vec_len nfa.now.states }
+    requires walked { HasWalked nfa.now bytes.now at behind.now.items has_matched }
+    ensures count { beside.new.count ≡ beside.old.count }
+    ensures stood { HasStood nfa.now bytes.now at (behind.now.items ++ beside.new.items) result }
 {
-    if !is_standing {
-        stand(nfa, bytes, at, behind, reached);
+    let is_found = follow_all(nfa, bytes, at, behind, beside, has_matched);
+    close(nfa, bytes, at, beside, is_found)
+}
+
+/// Makes the states in which a search comes to place `at` those in which it stands there, unless they are these already. Whether a match ended there
+/// or before.
+pub fn stand_once(
+    nfa: &Nfa,
+    bytes: &[u8],
+    at: usize,
+    states: &mut StateList,
+    is_standing: bool,
+    has_matched: bool,
+) -> bool
+    requires count { states.old.count ≡ vec_len nfa.now.states }
+    requires walked { is_standing ≡ false
+        → HasWalked nfa.now bytes.now at states.old.items has_matched }
+    requires stood { is_standing ≡ true
+        → HasStood nfa.now bytes.now at states.old.items has_matched }
+    ensures count { states.new.count ≡ states.old.count }
+    ensures stood { HasStood nfa.now bytes.now at states.new.items result }
+{
+    if is_standing {
+        has_matched
+    } else {
+        close(nfa, bytes, at, states, has_matched)
     }
 }
 
@@ -113,33 +158,6 @@ pub fn has_assertion(nfa: &Nfa) -> bool
         }
     }
     false
-}
-
-// Whether one of these states says that there is a match.
-fn has_match_state(nfa: &Nfa, states: &StateList) -> bool
-    requires count { states.now.count ≡ vec_len nfa.now.states }
-    ensures yes { result ≡ true
-        → (q : ℕ) × Contains states.now.items q × (state_of nfa.now q ≡ Match) }
-    ensures no { result ≡ false → (q : ℕ) → Contains states.now.items q
-        → state_of nfa.now q ≡ Match → ⊥ }
-{
-    for place in 0..states.len() {
-        if let State::Match = nfa.state(states.get(place)) {
-            return true;
-        }
-    }
-    false
-}
-
-/// Whether a match ended before, or one of these states says that there is one.
-pub fn has_matched_now(nfa: &Nfa, states: &StateList, has_matched: bool) -> bool
-    requires count { states.now.count ≡ vec_len nfa.now.states }
-    ensures yes { result ≡ true → (has_matched ≡ true)
-        ⊎ ((q : ℕ) × Contains states.now.items q × (state_of nfa.now q ≡ Match)) }
-    ensures no { result ≡ false → (has_matched ≡ false)
-        × ((q : ℕ) → Contains states.now.items q → state_of nfa.now q ≡ Match → ⊥) }
-{
-    has_matched || has_match_state(nfa, states)
 }
 
 // Adds the state to which this byte leads from this one, if any.

@@ -1,4 +1,4 @@
-use Rattle.std.proofs.Common.{◌≡◌, ◌∙◌, sym, ap, ⊎_elim, inl, inr}
+use Rattle.std.proofs.Common.{◌∙◌, sym, ap, ⊎_elim, inl, inr}
 use Rattle.regex_nfa.specs.Paths.{by_first, by_second, by_save, by_look}
 use Rattle.regex_nfa.specs.declared.state.State.TheVariants.{Split, Save, Look}
 use Rattle.text_matcher.proofs.ListedStates.{grown, grows_on, added}

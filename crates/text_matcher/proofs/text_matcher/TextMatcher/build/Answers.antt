@@ -15,12 +15,12 @@ invariant_of-result c =
       matches = ∣ subst (Matches nfa) (sym c.in_ok-source.ensures.ok) c.in_ok-nfa.ensures.matches ∣₁;
       ascii = λ k d lt. absurd (omega (arith, lt, ap length none));
       behind = c.add.ensures.count ∙ (ap (λ (l : StatesListed). l.count) c.in_ok-behind.ensures ∙ c.len-states.ensures);
-      reached = ap (λ (l : StatesListed). l.count) c.in_ok-reached.ensures ∙ c.len-states.ensures;
-      walked =
+      spare = ap (λ (l : StatesListed). l.count) c.in_ok-spare.ensures ∙ c.len-states.ensures;
+      walked = λ _.
           subst (λ (hay : List ℕ). HasWalked nfa hay (length hay) states false) (sym none)
           (begins nfa [] states c.add.ensures.listed
           (λ q has. first_added c.in_ok-behind.behind.items states nfa.unanchored q (ap (λ (l : StatesListed). l.items) c.in_ok-behind.ensures)
           c.add.ensures.items has));
       plain = c.has_assertion-has_assertions.ensures.no;
-      standing = λ e. let bad : false ≡ true = e in cc;
+      stood = λ e. let bad : false ≡ true = e in cc;
     }
