@@ -70,9 +70,11 @@ pub fn hand_out(
     posts: &mut Vec<Post>,
 ) -> Result<(), NoMemory>
     ensures connections { OnOk result (connections.new.items
-        ≡ (handed_out seats.now at roster.now (outcome_of effect.now) connections.old.items).connections) }
+        ≡ (handed_out seats.now at roster.now (outcome_of effect.now)
+        connections.old.items).connections) }
     ensures posts { OnOk result (posts.new.items ≡ posts.old.items
-        ++ (handed_out seats.now at roster.now (outcome_of effect.now) connections.old.items).posts) }
+        ++ (handed_out seats.now at roster.now (outcome_of effect.now)
+        connections.old.items).posts) }
     ensures refused { OnErr result ((connections.new ≡ connections.old)
         × (posts.new.items ≡ posts.old.items)) }
 {

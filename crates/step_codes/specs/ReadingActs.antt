@@ -57,7 +57,8 @@ act_behind kind =
     if kind == 0 then gives act.Tick
     else (if kind == 1 then of_life (λ sid generation. then_in number_in (λ pid. gives (act.Started sid generation pid)))
     else (if kind == 2 then of_life (λ sid generation. gives (act.StartFailed sid generation))
-    else (if kind == 3 then of_life (λ sid generation. then_in (list_in byte_in) (λ bytes. gives (act.Notify sid generation (record { items = bytes }))))
+    else (if kind == 3 then of_life (λ sid generation. then_in (list_in byte_in) (λ bytes.
+    gives (act.Notify sid generation (record { items = bytes }))))
     else (if kind == 4 then of_life (λ sid generation. then_in exit_in (λ ended. gives (act.Death sid generation ended)))
     else (if kind == 5 then of_life (λ sid generation. then_in exit_in (λ ended. gives (act.FinishEnded sid generation ended)))
     else (if kind == 6 then then_in text_in (λ name. gives (act.Status name))

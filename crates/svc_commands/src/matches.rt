@@ -121,7 +121,8 @@ pub fn text_of<'a>(matches: &ArgMatches<'a>, id: &str) -> Option<&'a str>
 // The value of an option, or a word told by its place, as a number, if it was given. BadNumber where it was given and is no number.
 pub fn number_in(matches: &ArgMatches<'_>, id: &str) -> Result<Option<u32>, UsageFault>
     ensures { let given = first_of id.now (rows_of (found_of matches.now)) in
-        MatchResult result (λ number. (is_bad_number given ≡ false) × (number ≡ option_and_then number_of given))
+        MatchResult result
+        (λ number. (is_bad_number given ≡ false) × (number ≡ option_and_then number_of given))
         (λ fault. (is_bad_number given ≡ true) × (fault ≡ UsageFault.BadNumber)) }
 {
     match text_of(matches, id) {

@@ -22,7 +22,8 @@ pub(crate) fn name_of(word: &[u8]) -> Result<Name, UsageFault>
 // The words as names. BadName where one of them is none; else TooMany where they are more than 16.
 pub(crate) fn names_in(words: &[&str]) -> Result<Names, UsageFault>
     ensures { let texts = map (λ w. w.now) words.now in
-        MatchResult result (λ names. (names.items ≡ texts) × (names_fault texts ≡ None)) (λ fault. names_fault texts ≡ Some fault) }
+        MatchResult result (λ names. (names.items ≡ texts) × (names_fault texts ≡ None))
+        (λ fault. names_fault texts ≡ Some fault) }
 {
     if !are_names(words) {
         return Err(UsageFault::BadName);

@@ -37,7 +37,8 @@ pub fn compile_permafailon<'a>(
     ensures { let texts = map (λ w. w.now) words.entry.now in
         let rows = rows_for permafail_app texts in
         let kinds = kinds_for permafail_app texts in
-        MatchResult result (λ command. IsTaken kinds (permafail_fault rows) × IsPermafailCommand rows command)
+        MatchResult result
+        (λ command. IsTaken kinds (permafail_fault rows) × IsPermafailCommand rows command)
         (IsRefusal kinds (permafail_fault rows)) }
 {
     let Ok(command) = permafailon_command(alloc) else {
@@ -65,7 +66,8 @@ fn permafail_command(
     matches: &ArgMatches<'_>,
 ) -> Result<PermafailCommand, UsageFault>
     ensures { let rows = rows_of (found_of matches.now) in
-        MatchResult result (λ command. (permafail_fault rows ≡ None) × IsPermafailCommand rows command)
+        MatchResult result
+        (λ command. (permafail_fault rows ≡ None) × IsPermafailCommand rows command)
         (λ fault. (fault ≡ UsageFault.NoMemory) ⊎ (permafail_fault rows ≡ Some fault)) }
 {
     let secs = number_in(matches, "secs")?;
@@ -87,8 +89,10 @@ fn permafail_command(
 // The list of exits, where it was given.
 fn exits_in(alloc: Global, matches: &ArgMatches<'_>) -> Result<Option<DeathList>, UsageFault>
     ensures { let given = exits_given (rows_of (found_of matches.now)) in
-        MatchResult result (λ list. (are_bad_exits given ≡ false) × (list ≡ option_and_then death_list given))
-        (λ fault. (fault ≡ UsageFault.NoMemory) ⊎ ((are_bad_exits given ≡ true) × (fault ≡ UsageFault.BadList))) }
+        MatchResult result
+        (λ list. (are_bad_exits given ≡ false) × (list ≡ option_and_then death_list given))
+        (λ fault. (fault ≡ UsageFault.NoMemory)
+        ⊎ ((are_bad_exits given ≡ true) × (fault ≡ UsageFault.BadList))) }
 {
     match text_of(matches, "list") {
         Some(text) => Ok(Some(exits_written(alloc, text.as_bytes())?)),
@@ -99,7 +103,8 @@ fn exits_in(alloc: Global, matches: &ArgMatches<'_>) -> Result<Option<DeathList>
 // The list of exits that a text spells.
 fn exits_written(alloc: Global, text: &[u8]) -> Result<DeathList, UsageFault>
     ensures { MatchResult result (λ list. death_list text.now ≡ Some list)
-        (λ fault. (fault ≡ UsageFault.NoMemory) ⊎ ((death_list text.now ≡ None) × (fault ≡ UsageFault.BadList))) }
+        (λ fault. (fault ≡ UsageFault.NoMemory)
+        ⊎ ((death_list text.now ≡ None) × (fault ≡ UsageFault.BadList))) }
 {
     match DeathList::parse(alloc, text) {
         Ok(Some(list)) => Ok(list),

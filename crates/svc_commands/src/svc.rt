@@ -41,7 +41,8 @@ fn read_word(letters: &mut Letters, name: &mut Option<Name>, word: &[u8]) -> Res
     ensures { MatchResult result (λ _. AddsName word.now name.old name.new
         × IsRead svc_letters name_fault word.now letters.old.items
         (is_some name.old) letters.new.items (is_some name.new))
-        (λ fault. IsRefused svc_letters name_fault word.now letters.old.items (is_some name.old) fault) }
+        (λ fault.
+        IsRefused svc_letters name_fault word.now letters.old.items (is_some name.old) fault) }
 {
     if let Some(run) = run_of(word) {
         return add_run(letters, run);

@@ -86,7 +86,8 @@ fn stat_command(alloc: Global, matches: &ArgMatches<'_>) -> Result<StatCommand, 
 fn fields_of(alloc: Global, list: &[u8]) -> Result<Vec<Field>, UsageFault>
     ensures { MatchResult result
         (λ fields. (is_bad_list (Some list.now) ≡ false) × (fields.items ≡ fields_in list.now))
-        (λ fault. (fault ≡ UsageFault.NoMemory) ⊎ ((is_bad_list (Some list.now) ≡ true) × (fault ≡ UsageFault.BadList))) }
+        (λ fault. (fault ≡ UsageFault.NoMemory)
+        ⊎ ((is_bad_list (Some list.now) ≡ true) × (fault ≡ UsageFault.BadList))) }
 {
     let Ok(items) = items_of(alloc, list) else {
         return Err(UsageFault::NoMemory);

@@ -34,7 +34,8 @@ pub fn compile_svwait<'a>(alloc: Global, words: &'a [&'a str]) -> Result<WaitCom
     ensures { let texts = map (λ w. w.now) words.entry.now in
         let rows = rows_for wait_app texts in
         let kinds = kinds_for wait_app texts in
-        MatchResult result (λ command. IsTaken kinds (wait_fault false rows) × IsWaitCommand rows command)
+        MatchResult result
+        (λ command. IsTaken kinds (wait_fault false rows) × IsWaitCommand rows command)
         (IsRefusal kinds (wait_fault false rows)) }
 {
     let Ok(command) = svwait_command(alloc) else {
@@ -60,7 +61,8 @@ pub(crate) fn wait_command(
     lacks_program: bool,
 ) -> Result<WaitCommand, UsageFault>
     ensures { let rows = rows_of (found_of matches.now) in
-        MatchResult result (λ command. (wait_fault lacks_program rows ≡ None) × IsWaitCommand rows command)
+        MatchResult result
+        (λ command. (wait_fault lacks_program rows ≡ None) × IsWaitCommand rows command)
         (λ fault. wait_fault lacks_program rows ≡ Some fault) }
 {
     if conditions(matches) > 1 || modes(matches) > 1 {
@@ -134,7 +136,8 @@ fn mode(matches: &ArgMatches<'_>) -> Mode
 // The timeout in milliseconds, 0 where none was given.
 fn timeout(matches: &ArgMatches<'_>) -> Result<u32, UsageFault>
     ensures { let rows = rows_of (found_of matches.now) in
-        MatchResult result (λ timeout. (is_bad_number (timeout_given rows) ≡ false) × (timeout ≡ timeout_of rows))
+        MatchResult result
+        (λ timeout. (is_bad_number (timeout_given rows) ≡ false) × (timeout ≡ timeout_of rows))
         (λ fault. (is_bad_number (timeout_given rows) ≡ true) × (fault ≡ UsageFault.BadNumber)) }
 {
     Ok(number_in(matches, "t")?.unwrap_or(0))

@@ -108,7 +108,8 @@ impl<A: Allocator + Copy> Slots<A> {
         requires name { IsSomeAnd (slice_get self.old.services place)
             (λ s. s.chart.name ≡ standing.now.chart.name) }
         ensures services { (s : Supervised) → slice_get self.old.services place ≡ Some s
-            → self.new.services ≡ slice_set self.old.services place (with_view standing.now death s) }
+            → self.new.services
+            ≡ slice_set self.old.services place (with_view standing.now death s) }
         ensures room { self.new.room ≡ self.old.room }
     {
         // For the proof: its clause says that no two names are equal.

@@ -174,7 +174,8 @@ module _ (xs ys : List ℕ) (ascii : All (λ b. b < 128) (xs ++ ys)) where
   pub stood_goes_on : (nfa : Nfa) (states : List ℕ) (has_matched : Bool) → HasNoAssertion nfa
       → HasStood nfa xs (length xs) states has_matched → HasStood nfa (xs ++ ys) (length xs) states has_matched
   stood_goes_on nfa states has_matched plain stood =
-      let back : (i : ℕ) → i < length xs → byte_below (xs ++ ys) (length (xs ++ ys)) i ≡ byte_below xs (length xs) i = λ i lt. sym (keeps_byte i lt) in
+      let back : (i : ℕ) → i < length xs → byte_below (xs ++ ys) (length (xs ++ ys)) i ≡ byte_below xs (length xs) i =
+      λ i lt. sym (keeps_byte i lt) in
       record {
         only = λ q has. plain_stand nfa plain xs (xs ++ ys) (length xs) keeps_byte (length xs) q (omega arith) (stood.only q has);
         all = λ q s. stood.all q (plain_stand nfa plain (xs ++ ys) xs (length xs) back (length xs) q (omega arith) s);
@@ -243,7 +244,8 @@ told : (nfa : Nfa) (hay states : List ℕ) (has_matched : Bool) → HasStood nfa
     → has_matched ≡ is_some (run nfa hay (length hay) nfa.unanchored 0)
 told nfa hay states true stood = let w = stood.found refl in sym (found_where_it_stands nfa hay w.0 w.1 w.3 w.4)
 told nfa hay states false stood =
-    sym (none_where_none_stands nfa hay (λ i q s is. let inside = stands_within nfa hay i q s in stood.none refl (i, q, omega (arith, inside), s, is)))
+    sym (none_where_none_stands nfa hay (λ i q s is.
+    let inside = stands_within nfa hay i q s in stood.none refl (i, q, omega (arith, inside), s, is)))
 
 pub found_at_end : (nfa : Nfa) (text hay states : List ℕ) (has_matched : Bool) → ∥ Matches nfa text ∥₁ → All (λ b. b < 128) hay
     → HasStood nfa hay (length hay) states has_matched → has_matched ≡ has_match text hay

@@ -140,7 +140,8 @@ fn fill_effect<A: Allocator + Copy>(
     requires empty { IsEmpty effect.old }
     requires few { length registry.now.planned.orders ≤ order_limit }
     ensures reply { OnOk result (effect.new.reply ≡ chosen_reply (chosen_of choice.now)
-        registry.now.shown.services (work_prepared registry.now) (answers_of waiters.now letters.now)) }
+        registry.now.shown.services (work_prepared registry.now)
+        (answers_of waiters.now letters.now)) }
     ensures events { OnOk result (effect.new.events.items ≡ registry.now.planned.events) }
     ensures orders { OnOk result (effect.new.orders.items ≡ registry.now.planned.orders) }
     ensures matched { OnOk result

@@ -86,7 +86,8 @@ impl<A: Allocator + Copy> Tree<A> {
         effect: &mut Effect<A>,
     ) -> Result<(), NoMemory>
         ensures step { OnOk result ((m : Machine) → StandsFor self.old m →
-            (outcome_of effect.new ≡ outcome m input.old) × StandsFor self.new (after m input.old)) }
+            (outcome_of effect.new ≡ outcome m input.old)
+            × StandsFor self.new (after m input.old)) }
         ensures unchanged { OnErr result ((input.new ≡ input.old) × (self.new ≡ self.old)) }
         ensures spent { self.old.steps ≡ step_limit → IsOk result }
         ensures quiet { IsQuiet input.old self.old.clock (charts_of self.old.services)

@@ -57,7 +57,8 @@ loop-place-preserved c =
                 | inr behind ↦
                     let here : k ≡ c.loop-place.place = omega (arith, behind, lt) in
                     c.follow.ensures.no w.if-follow.false (subst (λ q. state_of c.args.nfa.now q ≡ Match)
-                    (ap (λ n. get_or new n 0) here ∙ kept_at old new c.loop-place.place c.follow.ensures.grows inside ∙ sym c.get-state.ensures.item) is)
+                    (ap (λ n. get_or new n 0) here ∙ kept_at old new c.loop-place.place c.follow.ensures.grows inside
+                    ∙ sym c.get-state.ensures.item) is)
               ],
             )
       ];

@@ -17,8 +17,8 @@ bounds-waiters-place g c =
     let inside : c.place_from-place.result < length (waiters_view c.args.waiters.now) =
     next_inside (with_moments c.args.moments.now) (touched_by c.args.moments.now) c.loop-id.start c.place_from-place.result c.loop-id.id-index
     c.id-item.result (waiters_view c.args.waiters.now) (waiters_view c.loop-id.waiters) c.args.touched.now
-    (omega (arith, c.loop-id.invariant.within, c.loop-id.auto.waiters, length-map c.args.waiters.now waiter_view)) c.loop-id.invariant.waiters c.loop-id.invariant.left
-    c.loop-id-test.true c.id-item.is c.place_from-place.ensures.from c.place_from-place.ensures.first in
+    (omega (arith, c.loop-id.invariant.within, c.loop-id.auto.waiters, length-map c.args.waiters.now waiter_view)) c.loop-id.invariant.waiters
+    c.loop-id.invariant.left c.loop-id-test.true c.id-item.is c.place_from-place.ensures.from c.place_from-place.ensures.first in
     omega (arith, inside, c.loop-id.auto.waiters, length-map c.args.waiters.now waiter_view)
 
 pub change-requires : goal.change-requires
@@ -26,8 +26,8 @@ change-requires g c =
     let inside : c.place_from-place.result < length (waiters_view c.args.waiters.now) =
     next_inside (with_moments c.args.moments.now) (touched_by c.args.moments.now) c.loop-id.start c.place_from-place.result c.loop-id.id-index
     c.id-item.result (waiters_view c.args.waiters.now) (waiters_view c.loop-id.waiters) c.args.touched.now
-    (omega (arith, c.loop-id.invariant.within, c.loop-id.auto.waiters, length-map c.args.waiters.now waiter_view)) c.loop-id.invariant.waiters c.loop-id.invariant.left
-    c.loop-id-test.true c.id-item.is c.place_from-place.ensures.from c.place_from-place.ensures.first in
+    (omega (arith, c.loop-id.invariant.within, c.loop-id.auto.waiters, length-map c.args.waiters.now waiter_view)) c.loop-id.invariant.waiters
+    c.loop-id.invariant.left c.loop-id-test.true c.id-item.is c.place_from-place.ensures.from c.place_from-place.ensures.first in
     All-get_or IsCounted c.loop-id.waiters c.place_from-place.result c.index-waiters-place.result
     (omega (arith, inside, c.loop-id.auto.waiters, length-map c.args.waiters.now waiter_view)) c.loop-id.invariant.counted
 

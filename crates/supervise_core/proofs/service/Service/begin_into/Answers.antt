@@ -10,4 +10,5 @@ returns-clause-agrees g c = λ history.
 
 pub returns-clause-grammar : goal.returns-clause-grammar
 returns-clause-grammar g c =
-    leads_begun (new_service c.args.sid c.args.name c.args.config) c.begin_into-chart.result c.begin_into-chart.new.out c.begin_into-chart.ensures.gives
+    leads_begun (new_service c.args.sid c.args.name c.args.config) c.begin_into-chart.result c.begin_into-chart.new.out
+    c.begin_into-chart.ensures.gives
