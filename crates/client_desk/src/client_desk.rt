@@ -91,8 +91,8 @@ impl ClientDesk {
         }
     }
 
-    /// Has the connection on this seat wait until the run is recorded. Whether it waits; where runs are not recorded it doesn't, and its
-    /// request is refused by `OwnAnswer::Record`.
+    /// Has the connection on this seat wait until the run is recorded, and returns true. Where runs are not recorded it returns false, and
+    /// the request is refused by `OwnAnswer::Record`.
     pub fn await_record<R: Wait>(&mut self, context: &Context<'_, R>, seat: usize) -> bool {
         let waits = self.has_record && self.recorders.try_push(seat).is_ok();
         if !waits {
@@ -121,6 +121,7 @@ impl ClientDesk {
             context.shared().rows.forget_gone(
                 context.rt,
                 &mut board.reader,
+                // Without the moment of the last step, nothing is forgotten.
                 board.is_shown.then_some(self.now),
                 &mut self.notes.roster,
             );

@@ -22,7 +22,8 @@ fn post_text<R: Wait>(context: &Context<'_, R>, seat: usize, text: &Result<Vec<u
 }
 
 impl ClientDesk {
-    /// Posts all of these, in order. They are of a step with this reply, which answers those that asked for it.
+    /// Posts all of these, in order. They are what one step tells connections. `reply` is the reply to that step: it is the text of each
+    /// answer `TheReply`.
     pub fn post_all<C: Channels, R: Wait>(
         &mut self,
         context: &Context<'_, R>,
@@ -73,6 +74,7 @@ impl ClientDesk {
             context.rt,
             shared.alloc,
             &mut board.reader,
+            // The moment of the last step, where the board shows that step.
             board.is_shown.then_some(self.now),
             &self.notes.roster,
             subject,
@@ -156,6 +158,7 @@ impl ClientDesk {
     pub fn tell_recorded<R: Wait>(&mut self, context: &Context<'_, R>, steps: u64) {
         let recorders = mem::replace(&mut self.recorders, ArrayVec::new());
         for seat in &recorders {
+            // `recorded` gives an answer unless the client has left.
             let Some(connection) = self.connections.get_mut(*seat) else {
                 continue;
             };

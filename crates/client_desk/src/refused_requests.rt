@@ -20,6 +20,7 @@ impl ClientDesk {
         let Some(connection) = self.connections.get_mut(seat) else {
             return;
         };
+        // `refuse_errand` gives an answer unless the client has left.
         if let Todo::Give(answer) = connection.refuse_errand(reason) {
             self.post_own(context, seat, answer);
         }
@@ -39,7 +40,8 @@ impl ClientDesk {
         self.wake_all(context);
     }
 
-    // Refuses the next request of the connection on this seat. False where there is none, or something is under way.
+    // Refuses the next request of the connection on this seat, by `refused NoMemory`. False where there is no request, or where something is
+    // under way for the connection: then nothing is refused.
     fn is_refused<R: Wait>(&mut self, context: &Context<'_, R>, seat: usize) -> bool {
         let Some(connection) = self.connections.get_mut(seat) else {
             return false;

@@ -201,6 +201,7 @@ impl<C: Channels + Lanes, D: Board<C>> Room<C, D> {
         if !self.running.fill(number, effect)? {
             return Ok(None);
         }
+        // Each step that can be filled in has both.
         match (self.running.actor(number), self.running.moment(number)) {
             (Some(actor), Some(moment)) => Ok(Some((actor, moment))),
             _ => unreachable!(),

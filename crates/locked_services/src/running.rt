@@ -160,6 +160,7 @@ impl<C: Channels + Lanes> RunningTree<C> {
         ensures refused { OnErr result ((self.new.held ≡ self.old.held)
             × (self.new.tree ≡ self.old.tree) × (self.new.steps ≡ self.old.steps)) }
     {
+        // An input is held: the clause `held` asks for it.
         let Some(input) = &mut self.held else {
             unreachable!()
         };
@@ -188,6 +189,7 @@ impl<C: Channels + Lanes> RunningTree<C> {
         ensures refused { OnErr result ((self.new.held ≡ self.old.held)
             × (self.new.tree ≡ self.old.tree) × (self.new.steps ≡ self.old.steps)) }
     {
+        // An input is held: the clause `held` asks for it.
         let Some(input) = &self.held else {
             unreachable!()
         };
@@ -210,6 +212,7 @@ impl<C: Channels + Lanes> RunningTree<C> {
         ensures refused { OnErr result ((self.new.held ≡ self.old.held)
             × (self.new.tree ≡ self.old.tree) × (self.new.steps ≡ self.old.steps)) }
     {
+        // An input is held: the clause `held` asks for it.
         let Some(input) = &self.held else {
             unreachable!()
         };

@@ -75,7 +75,8 @@ impl<W: Write + Drop> Recorder<W> {
         Ok(())
     }
 
-    /// Appends the run of an office to the record, if there is one. Nobody else may use the office meanwhile.
+    /// Appends the run of an office to the record, if there is one. Nobody else may use the office meanwhile. After `NoMemory` a further call
+    /// for the same run goes on behind the bytes that are written already.
     pub fn append<C: Channels + Lanes, D: Board<C>, B: Backend, R: Wait>(
         &mut self,
         rt: &R,
@@ -85,6 +86,7 @@ impl<W: Write + Drop> Recorder<W> {
         let Some(writer) = self.writer.as_mut() else {
             return Ok(());
         };
+        // This gives back the memory that was set aside, so that there is some for the text of the run.
         self.reserve = Vec::new(self.alloc);
         let mut rest = RestWriter {
             writer,
@@ -104,6 +106,7 @@ impl<W: Write + Drop> Recorder<W> {
                 self.already_written = self.already_written.saturating_add(written);
                 Err(RecordFault::NoMemory)
             }
+            // A write or the flush has failed, or an input has no spelling.
             _ => Err(RecordFault::Write),
         }
     }
@@ -149,6 +152,7 @@ pub fn create_recorder<R: Files<File = File>>(
         return Ok(Recorder::new(alloc, None));
     };
     let file = open_record(rt, path)?;
+    // Another server has the lock. A lock that fails otherwise, as on a file system that has none, is no error.
     if let Err(TryLockError::WouldBlock) = file.try_lock() {
         return Err(ErrorKind::WouldBlock.into());
     }
@@ -158,7 +162,7 @@ pub fn create_recorder<R: Files<File = File>>(
     Ok(Recorder::new(alloc, Some(writer)))
 }
 
-// Opens the file, or makes it where there is none. Only a regular one is opened: to open a pipe would wait for its reader.
+// Makes the file at this path, or opens the one that is there. Only a regular file is opened: to open a pipe would wait for its reader.
 fn open_record<R: Files<File = File>>(rt: &R, path: &str) -> io::Result<File> {
     let mut options = OpenOptions::new();
     options.append(true).create_new(true).mode(RECORD_MODE);
@@ -176,6 +180,7 @@ fn open_standing<R: Files<File = File>>(rt: &R, path: &str) -> io::Result<File> 
     }
     let file = OpenOptions::new().append(true).open(rt, path)?;
     let opened = file.metadata()?;
+    // The file was replaced between the look and the opening.
     if !FileIdentity::of(&found).is_that_of(&FileIdentity::of(&opened)) {
         return Err(ErrorKind::InvalidInput.into());
     }

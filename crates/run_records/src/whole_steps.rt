@@ -69,6 +69,7 @@ impl WholeSteps {
         let alloc = *self.records.allocator();
         let first = self.orders.len();
         let count = effect.orders.len();
+        // There is room: the clauses ask for it.
         if self
             .orders
             .extend_from_slice(effect.orders.as_slice())
@@ -115,6 +116,7 @@ fn fill_effect(orders: &[Order], one: &Record, effect: &mut Effect<Global>) -> R
     let alloc = *effect.events.allocator();
     effect.orders.clear();
     let part = &orders[one.first..one.first + one.count];
+    // An effect has room for the orders of any step.
     if effect.orders.try_extend_from_slice(part).is_err() {
         unreachable!()
     }

@@ -9,8 +9,8 @@ use std::process::ExitCode;
 use tree_front::{Begun, BegunTree, Standard, begin_program, end_program};
 use tree_server::{HANDOVER, run_tree};
 
-// After how many steps a run ends, and the next goes on from its tree: what S6_TREE_HANDOVER says, from 1 to HANDOVER, and HANDOVER where it says
-// 0, no number, or nothing.
+// After how many steps a run ends, and the next goes on from its tree. That is the number in the environment variable S6_TREE_HANDOVER. It is
+// HANDOVER where that is not set or can't be read, is no number, is 0 or is greater than HANDOVER.
 fn handover<R: Env + Alloc>(rt: &R) -> u64
     ensures least { 1 ≤ result }
     ensures most { result ≤ 260000 }

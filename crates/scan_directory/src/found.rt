@@ -13,7 +13,7 @@ use tree_core::Listing;
 pub struct Remark {
     pub name: Name,
     pub fault: DirFault,
-    /// Whether the directory can't be used, so that the service is told as unread. Else the service runs all the same.
+    /// Whether the directory can't be used: then the answer to `states` has an `unread` line for the service. Else the service runs all the same.
     pub is_unread: bool,
 }
 

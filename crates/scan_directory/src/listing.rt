@@ -30,9 +30,9 @@ struct ReadEntries {
 const LAST_MOMENT: u64 = 1_000_000_000_000_000;
 
 /// Reads each entry of the directory whose name is that of a service, and lists it, even where its directory can't be used. A fault in a
-/// directory is told on `errors`, and so is a name that is no service's and doesn't begin with a dot, each by one write. A listing that a
-/// line of a script couldn't spell at every moment is told there too, and refused: `InvalidData`. Another error comes where memory is
-/// refused, or the directory can't be read. Page `s6-svscan`.
+/// directory is told on `errors`, and so is a name that is no service's and doesn't begin with a dot, each by one write. A scan is recorded
+/// as one line of a script: a listing that is too long for such a line is told there too, and refused as `InvalidData`. Another error
+/// comes where memory is refused, or the directory can't be read. Page `s6-svscan`.
 pub fn read_listing<R: Files + Copy + Drop, E: Write>(
     rt: &R,
     alloc: Global,
@@ -60,9 +60,11 @@ pub fn read_listing<R: Files + Copy + Drop, E: Write>(
 fn listing_of(alloc: Global, entries: Vec<Entry>) -> io::Result<Listing<Global>>
     ensures fits { IfOk result (λ listing. FitsLine (scan_at last_moment listing)) }
 {
+    // This never fails: 0 is the number of an actor.
     let Some(actor) = Actor::new(0) else {
         return Err(ErrorKind::InvalidData.into());
     };
+    // This never fails: it is the last valid moment.
     let Some(at) = At::new(LAST_MOMENT) else {
         return Err(ErrorKind::InvalidData.into());
     };
@@ -76,11 +78,13 @@ fn listing_of(alloc: Global, entries: Vec<Entry>) -> io::Result<Listing<Global>>
     match spelt {
         Ok(()) => {}
         Err(SpellFault::NoMemory) => return Err(ErrorKind::OutOfMemory.into()),
+        // It is `Unspelt`: `io::sink` takes every write, so `Write` never comes.
         Err(_) => return Err(ErrorKind::InvalidData.into()),
     }
     let PlainInput { act, .. } = scan;
     match act {
         PlainAct::Scan(entries) => Ok(Listing::new(entries)),
+        // This never comes: the act was made a scan above.
         _ => Err(ErrorKind::InvalidData.into()),
     }
 }
@@ -219,6 +223,7 @@ fn read_service<R: Files, E: Write>(
     remarks: &mut Vec<Remark>,
     errors: &mut E,
 ) -> Result<Option<Config>, AllocError> {
+    // A name has ASCII characters alone, so the dash is never taken.
     let text = str::from_utf8(name.as_bytes()).unwrap_or("-");
     let path = format!(in alloc; "{directory}/{text}")?;
     let mut files = ServiceFiles::of(rt, alloc, path.as_str());

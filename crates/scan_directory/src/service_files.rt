@@ -115,6 +115,7 @@ fn look<R: Files>(rt: &R, alloc: Global, directory: &str, file: ServiceFile) -> 
         Err(error) => match error.kind() {
             ErrorKind::NotFound => Reading::Absent,
             ErrorKind::OutOfMemory => Reading::NoMemory,
+            // For any other error, it is looked up whether the file is there at all.
             _ => match fs::metadata(rt, path.as_str()) {
                 Ok(_) => Reading::Unread,
                 Err(_) => Reading::Unknown,
@@ -123,8 +124,8 @@ fn look<R: Files>(rt: &R, alloc: Global, directory: &str, file: ServiceFile) -> 
     }
 }
 
-// The bytes of a regular file; only the first 4,097 where it has more. A file of another kind is not opened: to open a pipe would wait for
-// its writer.
+// The bytes of a regular file; only the first 4,097 where it has more. A file of another kind is not opened, since to open a pipe would wait
+// for its writer: the error is `InvalidInput`.
 fn read_file<R: Files>(rt: &R, alloc: Global, path: &str) -> io::Result<Vec<u8>> {
     if !fs::metadata(rt, path)?.is_file() {
         return Err(ErrorKind::InvalidInput.into());
@@ -147,6 +148,7 @@ impl servicedir::Files for ServiceFiles {
 
     ghost refused = { λ f. f.refused };
 
+    // Whether the file is there. One that can't be read counts as there.
     fn has(&mut self, _name: Name, file: ServiceFile) -> Result<bool, ReadFault> {
         match self.found(file) {
             Reading::Absent => Ok(false),
@@ -156,6 +158,7 @@ impl servicedir::Files for ServiceFiles {
         }
     }
 
+    // A copy of what was read of the file; None where it is absent. A failure is counted.
     fn text<A: Allocator + Copy>(
         &mut self,
         alloc: A,
@@ -177,6 +180,7 @@ fn copy_of<A: Allocator + Copy>(alloc: A, found: &Reading) -> Result<Option<Vec<
 {
     match found {
         Reading::Absent => Ok(None),
+        // The guard always holds, since `read_file` gives no more bytes. It is there for the clause `bound`.
         Reading::Text(text) if text.len() <= READING_LIMIT => {
             match Vec::from_slice(alloc, text.as_slice()) {
                 Ok(copy) => Ok(Some(copy)),

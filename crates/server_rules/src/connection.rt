@@ -23,7 +23,7 @@ use std::marker::Model;
 use std::mem;
 use tree_core::{Act, Reply};
 
-/// How many steps of a connection may be under way together: as many as its ring holds.
+/// How many steps of a connection may be under way together: as many as its ring, where its acts wait to be taken by the tree, holds.
 const STEP_LIMIT: usize = 64;
 
 /// A connection: in `phase` what is under way for it, in `asked` the requests that aren't begun, in `standing` what it made and follows. Each
@@ -122,8 +122,8 @@ impl Connection {
         }
     }
 
-    // Begins a step with this act. For a waiter too many, one that was released is ended first, if there is one, and the act put off; else, and
-    // for a subscription too many, the answer is `Busy`.
+    // Begins a step with this act. If it would make a waiter too many and one was released, that one is ended first, and the act is put off
+    // until then. If none was released, or the act would make a subscription too many, the answer is `Busy`.
     fn begin_step(&mut self, act: Act<Global>) -> Todo
         ensures next { self.new ≡ (begin_admitted
             (admission_of act self.old.made) act self.old).next }
@@ -137,6 +137,7 @@ impl Connection {
                     self.standing.put_off(act);
                     self.hand_in(Errand::Replacement, Act::Cancel(id))
                 }
+                // This never comes: `AfterReleased` says that there is one.
                 None => Todo::Give(Answer::Own(OwnAnswer::Busy)),
             },
             Admission::Refused => Todo::Give(Answer::Own(OwnAnswer::Busy)),
@@ -164,6 +165,7 @@ impl Connection {
     {
         match self.standing.take_put_off() {
             Some(act) => self.hand_in(Errand::Step(StandingChange::MakesWaiter), act),
+            // This never comes: the phase is `PutOff` only while an act is put off.
             None => {
                 self.phase = Phase::Idle;
                 Todo::Give(Answer::Own(OwnAnswer::Busy))
@@ -182,6 +184,7 @@ impl Connection {
             return Todo::Nothing;
         }
         let Some(Request::Step(act)) = self.asked.pop_front() else {
+            // `is_step_next` has just said that a step is next.
             unreachable!()
         };
         self.phase = Phase::Stepping(count + 1);
@@ -271,6 +274,7 @@ impl Connection {
                 self.phase = Phase::Leaving;
                 Todo::Nothing
             }
+            // Nothing is under way, so no reply is awaited.
             Phase::Idle | Phase::PutOff | Phase::Leaving | Phase::Gone => Todo::Nothing,
         }
     }
@@ -304,7 +308,7 @@ impl Connection {
         }
     }
 
-    // Takes the reply to what was under way by itself, for a client that has left: nothing is posted.
+    // Takes the reply to what was under way by itself, for a client that has left: nothing is posted. A record is ended by `recorded`.
     fn finish_left(&mut self, errand: Errand, reply: &Reply<Global>)
         requires room { has_room_on errand self.old.made ≡ true }
         requires under { self.old.phase ≡ phase.Left errand }
@@ -313,6 +317,7 @@ impl Connection {
         match errand {
             Errand::Step(change) => {
                 self.phase = Phase::Leaving;
+                // What the step made is noted, so that it is ended too.
                 self.standing.note_reply(change, reply);
             }
             Errand::Scan | Errand::Status(_) | Errand::Replacement => self.phase = Phase::Leaving,
@@ -320,7 +325,7 @@ impl Connection {
         }
     }
 
-    /// The run that was to be recorded is in the record, which has `steps` steps now.
+    /// The run that was to be recorded is in the record, which has `steps` steps now. Nothing changes where the connection waits for no record.
     pub fn recorded(&mut self, steps: u64) -> Todo
         ensures next { self.new ≡ (recorded_move steps self.old).next }
         ensures todo { result ≡ (recorded_move steps self.old).todo }
@@ -338,7 +343,7 @@ impl Connection {
         }
     }
 
-    /// The scan, or the record, that is under way can't be made, for this reason.
+    /// The scan, or the record, that is under way can't be made, for this reason. Nothing changes where neither is under way.
     pub fn refuse_errand(&mut self, reason: OwnAnswer) -> Todo
         ensures next { self.new ≡ (refuse_errand_move reason self.old).next }
         ensures todo { result ≡ (refuse_errand_move reason self.old).todo }
@@ -413,7 +418,7 @@ impl Connection {
         };
     }
 
-    /// Whether there is something to begin.
+    /// Whether nothing is under way for it, and there is something to begin.
     pub fn is_ready(&self) -> bool
         ensures { result ≡ is_ready self.now }
     {

@@ -202,6 +202,7 @@ impl Pace {
         match round.halt {
             Halt::Full => After::Stop(RunEnd::Full),
             Halt::Idle => self.after_steps(round),
+            // The lane has carried orders since the step was blocked, so it has room again.
             Halt::Blocked(lane) if !round.carrying.is_busy_at(lane) => After::GoOn,
             Halt::Blocked(_) | Halt::NoMemory => After::Wait(Some(round.retry_time())),
         }

@@ -9,7 +9,7 @@ pub enum OwnAnswer {
     Line,
     /// The pattern of a subscription is not valid.
     Pattern,
-    /// The ring of the connection is full.
+    /// The ring of the scanner, by which scans are handed in, is full.
     Full,
     /// The connection has the last seat, where nobody may wait, subscribe or follow; or it has as many waiters or subscriptions as it may
     /// have.

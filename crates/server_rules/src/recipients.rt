@@ -50,6 +50,7 @@ pub fn askers_of(place: Place, is_scan: bool, served: &Askers) -> Askers
     ensures { result.items ≡ askers_of place is_scan served.now.items }
 {
     let mut askers = ArrayVec::new();
+    // The list has room for all seats, so it takes whatever is added.
     let _ = match place {
         Place::Scanner if is_scan => askers.try_extend_from_slice(served.as_slice()),
         Place::Client(seat) => askers.try_extend_from_slice(&[seat]),
@@ -81,6 +82,7 @@ pub fn hand_out(
     let (matched, released) = (effect.matched.as_slice(), effect.released.as_slice());
     let news = matched.len().saturating_add(released.len());
     let told = effect.events.len().saturating_mul(SEAT_COUNT);
+    // Room for all posts is taken first, so that nothing can fail half-way.
     posts.reserve(seats.len().saturating_add(told.saturating_add(news)))?;
     answer_all(seats, &effect.reply, connections, posts);
     tell_letters(at, roster, effect.events.as_slice(), connections, posts);

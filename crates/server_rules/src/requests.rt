@@ -64,7 +64,7 @@ fn seated(actor: Actor, request: Request) -> Request
     request
 }
 
-// The request of a line that is of the server alone, and in no script; None for any other line.
+// The request of a line that only the server knows, and that is no act of a script; None for any other line.
 fn own_request(line: &[u8]) -> Option<Request>
     ensures { result ≡ own_request line.now }
 {
@@ -118,7 +118,7 @@ fn act_request(alloc: Global, line: &[u8]) -> Request
     }
 }
 
-// What an act asks for. Reports, listings and ticks are for the server's own actors.
+// What an act asks for. A client can't hand in reports, listings and ticks, which the server itself makes: such a line is refused.
 fn request_of(act: Act<Global>) -> Request
     ensures { result ≡ request_of act }
 {

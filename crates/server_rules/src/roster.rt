@@ -275,6 +275,7 @@ fn dash() -> Name
     ensures { result ≡ 45 ∷ [] }
 {
     let Some(name) = Name::new(b"-") else {
+        // A dash alone is a valid name.
         unreachable!()
     };
     name

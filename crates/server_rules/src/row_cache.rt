@@ -14,8 +14,9 @@ use status_board::{BoardReader, Shot};
 use std::alloc::{AllocError, Global};
 use std::sync::{Mutex, Wait};
 
-/// The rows of a shot, the roster, and what the last scan could not read. `step` is the moment of the last step before the rows were read, in
-/// milliseconds; None where they may not be those of the board any more. `has_roster` is whether the roster is of the same step as the rows.
+/// The rows of a shot (all rows of the board after one step), the roster, and what the last scan could not read. `step` is the moment of the
+/// last step before the rows were read, in milliseconds; None where they may not be those of the board any more. `has_roster` is whether the
+/// roster is of the same step as the rows.
 #[derive(Drop)]
 struct CachedRows {
     shot: Box<Shot>,

@@ -146,7 +146,7 @@ impl Standing {
         !(self.waiters.is_empty() && self.subscriptions.is_empty()) || self.follows.is_any()
     }
 
-    /// Notes what an act made or ended, by the reply to it.
+    /// Notes what an act made or ended, by the reply to it. Where the reply refuses the act, nothing changes.
     pub fn note_reply(&mut self, change: StandingChange, reply: &Reply<Global>)
         requires { has_room_for change self.old ≡ true }
         ensures { self.new ≡ after_reply change reply.now self.old }

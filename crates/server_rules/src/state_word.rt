@@ -53,7 +53,7 @@ fn stays_down(ending: Option<Ending>) -> StateWord
     }
 }
 
-// The state of a service whose supervisor is there.
+// The state of a service whose supervisor is there. The row of a service that died is `ready` once its `finish` is done.
 fn supervised_state(ending: Option<Ending>, row: &Row) -> StateWord
     ensures { result ≡ supervised_state ending row.now }
 {

@@ -54,6 +54,7 @@ impl StepNotes {
         if let Reply::Scanned(report) = &effect.reply {
             self.roster.add(report.listed())?;
         }
+        // The tree's clock never goes back, even where an input has an earlier moment.
         if self.clock < moment {
             self.clock = moment;
         }

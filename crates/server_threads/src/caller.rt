@@ -77,7 +77,7 @@ impl Caller {
             .wait_while(rt, turn, |turn| turn.unanswered > 0 && !turn.is_over);
     }
 
-    /// Notes that a connection is there, which was answered without asking the driver.
+    /// Notes that a connection is there, which was answered without asking the driver. So `await_nobody` waits for it too.
     pub fn note_here<R: Wait>(&self, rt: &R) {
         self.turn.lock(rt).is_here = true;
     }

@@ -39,6 +39,7 @@ pub fn end_connections<R: Wait + Clock>(rt: &R, server: &Server<Shared>) {
     for seat in 0..SEAT_COUNT {
         if let Some(mailbox) = server.mailbox(rt, seat) {
             mailbox.close(rt);
+            // So the thread that reads the connection sees its end.
             let _ = mailbox.stream().shutdown(Shutdown::Read);
         }
     }

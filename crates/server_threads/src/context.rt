@@ -30,14 +30,14 @@ impl<'a, R: Wait> Context<'a, R> {
     }
 
     /// Posts a text to the connection on this seat, if there is one; call `wake` afterwards, so that it is written. `Err` says that memory
-    /// for the text was refused. Then the connection is ended, since what it reads would not be whole; so it is where too much waits for
-    /// it, or memory is refused here.
+    /// for the text was refused: then the connection is ended, since a text would be missing in what it reads.
     pub fn post(&self, seat: usize, text: Result<&[u8], AllocError>) {
         let Some(mailbox) = self.server.mailbox(self.rt, seat) else {
             return;
         };
         match text {
             Ok(text) => {
+                // Where too much waits or memory is refused, `add` itself ends the connection.
                 let _ = mailbox.add(self.rt, text);
             }
             Err(_) => mailbox.end(self.rt),

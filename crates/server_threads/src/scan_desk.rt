@@ -12,7 +12,7 @@ pub type ReadScan = Result<Found, OwnAnswer>;
 pub enum Task {
     /// It reads the directory.
     Read,
-    /// It drops a closed run, which would take the driver too long.
+    /// It frees the memory of a closed run. The driver leaves that to it, since it takes long.
     Drop(Run),
     /// It ends.
     End,

@@ -44,6 +44,7 @@ impl Answers for Shared {
         }
     }
 
+    // Answers a line that is too long by `refused Line`, after all that was asked before it.
     fn refuse_long_line<R: Wait>(&self, rt: &R, seat: usize, mailbox: &Mailbox) {
         self.settle(rt, seat);
         let _ = mailbox.post(rt, OwnAnswer::Line.text());
@@ -77,6 +78,7 @@ impl Shared {
         request: &Request,
         mailbox: &Mailbox,
     ) -> bool {
+        // Answers come in the order asked, so this one must not overtake an earlier one.
         if !caller.is_answered(rt) {
             return false;
         }

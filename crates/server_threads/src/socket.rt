@@ -25,7 +25,7 @@ pub struct SocketFile {
 
 impl SocketFile {
     /// Removes the file at this path, if it is still this one. Call it while the listener is open: as long as it is, the system gives the
-    /// number of its file to no other.
+    /// inode number of its socket to no other file.
     pub fn remove<R: Files>(&self, rt: &R, path: &str) {
         if let Ok(found) = fs::symlink_metadata(rt, path) {
             if self.identity.is_that_of(&FileIdentity::of(&found)) {
@@ -67,6 +67,7 @@ fn lock_folder<R: Files<File = File>>(rt: &R, folder: &str) -> io::Result<File> 
             return Ok(lock);
         }
     }
+    // The folder was removed or replaced at each try.
     Err(ErrorKind::AddrInUse.into())
 }
 
@@ -90,6 +91,7 @@ fn try_lock<R: Files<File = File>>(rt: &R, folder: &str) -> io::Result<Option<Fi
         return Err(ErrorKind::AddrInUse.into());
     }
     let locked = FileIdentity::of(&lock.metadata()?);
+    // The lock counts only if the path still leads to the locked folder.
     match fs::symlink_metadata(rt, folder) {
         Ok(now) if locked.is_that_of(&FileIdentity::of(&now)) => Ok(Some(lock)),
         _ => Ok(None),
@@ -106,6 +108,7 @@ fn place<R: Net + Files>(
     check_replaceable(rt, path)?;
     let listener = bind(rt, made)?;
     let found = fs::symlink_metadata(rt, made)?;
+    // The folder must have the same owner as the socket, which this process has just made.
     if fs::symlink_metadata(rt, folder)?.uid() != found.uid() {
         return Err(ErrorKind::PermissionDenied.into());
     }
@@ -139,6 +142,7 @@ fn check_replaceable<R: Net + Files>(rt: &R, path: &str) -> io::Result<()> {
     match UnixStream::connect(rt, path) {
         Ok(_living) => Err(ErrorKind::AddrInUse.into()),
         Err(error) if says_abandoned(error.kind()) => Ok(()),
+        // This failure doesn't say that nobody listens, so the socket is kept.
         Err(error) => Err(error),
     }
 }

@@ -99,6 +99,7 @@ fn push_entry(text: &mut Vec<u8>, remarks: &[Remark], entry: &Entry) -> Result<(
     let fault = fault_of(remarks, entry.name);
     match entry.config {
         Some(config) => push_supervised(text, entry.name, config, fault),
+        // `read_listing` has a remark for each entry without a configuration, so `Io` never stands in for one.
         None => push_refused(text, entry.name.as_bytes(), fault.unwrap_or(DirFault::Io)),
     }
 }
@@ -124,7 +125,7 @@ fn usable_count(entries: &[Entry]) -> usize
         .count()
 }
 
-// Adds a line where there are more services than a tree supervises.
+// Adds a line if `count`, the number of usable services, is more than a tree supervises.
 fn push_full(text: &mut Vec<u8>, count: usize) -> Result<(), AllocError>
     ensures { OnOk result (text.new.items ≡ text.old.items ++ full_line count) }
 {
@@ -151,7 +152,7 @@ fn is_refused(entries: &[Entry]) -> bool
     has_unread(entries) || usable_count(entries) > MOST_SERVICES
 }
 
-/// What svscan would do with these entries.
+/// What svscan would do with these entries. `remarks` are the faults that were found when the services' directories were read.
 pub fn checked_entries(
     alloc: Global,
     remarks: &[Remark],
@@ -178,13 +179,13 @@ pub fn push_unexecutable(text: &mut Vec<u8>, name: Name, file: &str) -> Result<(
     text.extend_from_slice(b" can't be started: nobody may execute it\n")
 }
 
-// The name, with its quotes, of which a line of svscan tells that it is no name of a service; None for any other line.
+// The bad name, with its quotes, in a line `svscan: 'NAME' is no name of a service`; None for any other line.
 fn bad_name_in(line: &[u8]) -> Option<&[u8]> {
     line.strip_prefix(b"svscan: ".as_slice())?
         .strip_suffix(b" is no name of a service".as_slice())
 }
 
-/// Adds a line for each name of which these lines of svscan tell that it is no name of a service. Returns whether there was one.
+/// Adds a line for each bad name in `told`, which is what `read_listing` wrote on its `errors`. Returns whether there was one.
 pub fn push_bad_names(text: &mut Vec<u8>, told: &[u8]) -> Result<bool, AllocError> {
     let mut is_there = false;
     for line in told.split(|byte| *byte == b'\n') {

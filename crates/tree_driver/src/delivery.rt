@@ -13,7 +13,8 @@ use std::mem;
 use std::sync::Wait;
 use tree_core::{Effect, Reply};
 
-/// Hands out what all steps gave. False where memory is refused: the next call begins with the step for which it was.
+/// Hands out what the steps gave that were not handed out yet. False where memory is refused for one of them: the next call begins with that
+/// step.
 pub fn deliver_all<C: Channels + Lanes, D: Board<C>, B: Backend, R: Wait>(
     context: &Context<'_, R>,
     office: &Office<C, D, B>,
@@ -43,12 +44,13 @@ fn deliver_each<C: Channels + Lanes, D: Board<C>, B: Backend, R: Wait>(
     for _ in 0..u64::MAX {
         let number = state.pace.steps.saturating_add(1);
         let told = office.step(context.rt, &mut state.known, number, effect)?;
+        // No step of this number is made yet.
         let Some((actor, moment)) = told else {
             break;
         };
         hand_out_of(context, state, actor, number, moment, effect)?;
         if state.posts.iter().any(|post| post.tells_states()) {
-            // Where memory is refused, whoever tells the states sees that steps are missing.
+            // Where memory is refused, the roster misses steps: `post_all` sees that, and answers `refused NoMemory`.
             let _ = catch_up(context, office, state);
         }
         let DriverState {
@@ -139,8 +141,10 @@ fn note_scanner<C: Channels + Lanes, R: Wait>(
     lasting.awaits_first = false;
     let unread = mem::replace(&mut lasting.unread, Vec::new(context.alloc()));
     context.shared().rows.set_unread(context.rt, unread);
+    // Those who asked for the scan get its reply from `posts`.
     let _ = lasting.plans.end_scan();
     if let Reply::Scanned(report) = reply {
+        // Where memory is refused, these services are not told of now.
         if let Ok(lines) = lasting.full.lines_of(report.listed()) {
             lasting.lines = lines;
         }

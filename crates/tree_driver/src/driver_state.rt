@@ -29,7 +29,7 @@ pub struct Lasting {
     pub full: FullServices,
     /// Lines that are still to be told on standard error.
     pub lines: Vec<u8>,
-    /// The reports that no seat took yet, by lane.
+    /// By lane: the report that the lane's seat has not taken yet.
     pub kept: Vec<Option<Report>>,
     /// What the last step gave: the driver reads each step's effect into it, so that all use the same memory. None before the first step,
     /// and while it is taken out.
@@ -41,7 +41,7 @@ pub struct Lasting {
 }
 
 impl Lasting {
-    /// Of a tree to which nothing was handed in, and whose first scan found this listing. `NoMemory` where memory is refused.
+    /// What the first run begins with: nothing was handed in, and the first scan found this listing. `NoMemory` where memory is refused.
     pub fn new(alloc: Global, first_listing: Found, has_record: bool) -> Result<Lasting, NoMemory> {
         let mut kept = Vec::with_capacity(alloc, LANE_COUNT)?;
         for _ in 0..LANE_COUNT {
@@ -62,7 +62,7 @@ impl Lasting {
         })
     }
 
-    /// The report of this lane that no seat took, if there is one.
+    /// Takes out the report of this lane that the lane's seat did not take; None where there is none.
     pub fn take_kept(&mut self, lane: usize) -> Option<Report> {
         self.kept.get_mut(lane)?.take()
     }
@@ -80,7 +80,7 @@ impl Lasting {
 /// is (`pace`), the scan that was handed in and isn't answered yet (`scan`), and, in `lasting`, what outlasts the run.
 #[derive(Drop)]
 pub struct DriverState<'a, C: Channels + Lanes> {
-    /// The seats at which inputs are handed in, by their actors.
+    /// The seats at which inputs are handed in, by their actors. A seat here is the input end of an actor's ring, and no seat of a connection.
     pub seats: Vec<Seat<C>>,
     pub board: RunBoard<C>,
     /// The inputs of the run that are known so far. It exists for proofs alone; calls of the office make it longer.
@@ -96,7 +96,7 @@ pub struct DriverState<'a, C: Channels + Lanes> {
 }
 
 impl<'a, C: Channels + Lanes> DriverState<'a, C> {
-    /// Of a run in which no step was made.
+    /// The state of a run in which no step was made.
     pub fn new(
         alloc: Global,
         seats: Vec<Seat<C>>,
@@ -151,6 +151,7 @@ impl<'a, C: Channels + Lanes> DriverState<'a, C> {
         if is_taken {
             self.scan = Some(number);
             self.lasting.unread = remarks;
+            // The other remarks are about services that can run all the same.
             self.lasting.unread.retain(|remark| remark.is_unread);
         }
         is_taken

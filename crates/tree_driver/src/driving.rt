@@ -71,6 +71,7 @@ pub fn round_after<C: Channels + Lanes, D: Board<C>, B: Backend, R: Wait>(
     state.pace.is_lane_busy = !carrying.busy.is_empty();
     let is_idle = halt == Halt::Idle;
     if is_idle {
+        // No input is left that could still change what is due.
         state.lasting.plans.due = office.next_due(context.rt, &mut state.known);
     }
     Round {
@@ -93,6 +94,7 @@ fn hand_in_all<C: Channels + Lanes, R: Wait>(
 ) {
     if let Some(listing) = state.lasting.first_listing.take() {
         state.lasting.plans.begin_scan();
+        // It is the first input of the first run, so there is room for it.
         let _ = state.submit_scan(now, listing);
     }
     if state.lasting.awaits_first {
@@ -145,7 +147,7 @@ fn refusal_of<C: Channels + Lanes>(
     }
 }
 
-/// Makes all steps that can be made, and hands out what they gave. Why no step more was made.
+/// Makes all steps that can be made, and hands out what they gave. Returns why no further step was made.
 pub fn drive_some<C: Channels + Lanes, D: Board<C>, B: Backend, R: Wait>(
     context: &Context<'_, R>,
     office: &Office<C, D, B>,
@@ -159,12 +161,14 @@ pub fn drive_some<C: Channels + Lanes, D: Board<C>, B: Backend, R: Wait>(
         }
         note_steps(context, state, driven);
         if driven.stop == DriveStop::Idle {
+            // Every input is done, so the tree's clock is at the last moment that was handed in.
             state.lasting.clients.now = state.lasting.handed_in;
         }
         if !deliver_all(context, office, state) {
             return Halt::NoMemory;
         }
         match driven.stop {
+            // It made as many steps as it may make at once: it goes on.
             DriveStop::Count => {}
             DriveStop::Idle => return Halt::Idle,
             DriveStop::Blocked(lane) => return Halt::Blocked(lane),

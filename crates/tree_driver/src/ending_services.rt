@@ -1,4 +1,4 @@
-//! The end of a tree that can't go on: its services are ended in order.
+//! The end of a tree that can't go on, since its run was not recorded: its services are told to end, and waited for.
 use crate::driver_state::DriverState;
 use crate::driving::{drive_some, hand_in_due, round_after, wait_for_bell};
 use crate::lanes::hand_in_reports;
@@ -24,6 +24,7 @@ pub fn end_services<C: Channels + Lanes, D: Board<C>, B: Backend, R: Wait + Cloc
 ) {
     let clock = context.shared().clock;
     let begun = clock.millis(context.rt);
+    // All inputs of the run are done, so the ring has room for it.
     let _ = state.hand_in(SCANNER, begun, Act::Scanctl(ScanOrder::Terminate));
     for _ in context.rt.forever() {
         let now = clock.millis(context.rt);
@@ -34,6 +35,7 @@ pub fn end_services<C: Channels + Lanes, D: Board<C>, B: Backend, R: Wait + Cloc
         hand_in_due(state, now);
         let is_full = hand_in_reports(context, office, state, now);
         let halt = drive_some(context, office, state);
+        // `true`: the run still takes reports and ticks.
         let round = round_after(context, office, state, halt, now, true, is_full);
         match round.after_ending() {
             After::GoOn => {}

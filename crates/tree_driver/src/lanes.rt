@@ -11,7 +11,7 @@ use std::sync::Wait;
 /// The most orders that a lane carries before the next one gets its turn.
 const ORDERS: u64 = 256;
 
-/// Has each lane carry at most 256 orders. Whether one has more to carry, and which take no order now.
+/// Has each lane carry at most 256 orders. Returns whether one may have more to carry, and which lanes take no order now.
 pub fn carry_all<C: Channels + Lanes, D: Board<C>, B: Backend, R: Wait>(
     context: &Context<'_, R>,
     office: &Office<C, D, B>,
@@ -19,6 +19,7 @@ pub fn carry_all<C: Channels + Lanes, D: Board<C>, B: Backend, R: Wait>(
     let mut carrying = Carrying::new();
     for lane in 0..office.lanes() {
         match office.carry(context.rt, lane, ORDERS) {
+            // It carried 256 orders, and further ones may be left.
             Carried::Asked => carrying.has_more = true,
             Carried::Idle => {}
             Carried::Refused(_) => {
@@ -41,6 +42,7 @@ pub fn hand_in_reports<C: Channels + Lanes, D: Board<C>, B: Backend, R: Wait>(
     for lane in 0..LANE_COUNT {
         for _ in 0..u64::MAX {
             let kept = state.lasting.take_kept(lane);
+            // `LANE_COUNT` is the most; an office may have fewer lanes.
             let next = if kept.is_some() || lane >= office.lanes() {
                 kept
             } else {

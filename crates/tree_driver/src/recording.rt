@@ -14,8 +14,8 @@ use std::io::Write;
 use std::sync::Wait;
 use std::time::Clock;
 
-// Drives a run to its end, and records it. How the tree has ended; None where the next run follows. Where the record fails at a handover,
-// the services are ended in order first.
+// Drives a run to its end, and records it. Returns how the tree has ended; None where the next run follows. Where the record fails at a
+// handover, the tree can't go on: its services are told to end, and waited for, before that is returned.
 pub(crate) fn drive_to_end<
     C: Channels + Lanes,
     D: Board<C>,

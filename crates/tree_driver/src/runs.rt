@@ -87,6 +87,7 @@ fn run_next<B: Backend, R: Wait + Clock + Copy + Drop, W: Write + Drop, E: Write
     between: &mut Option<Between<B>>,
     lasting: &mut Lasting,
 ) -> Option<Result<(), ServeFault>> {
+    // None only where `first_tree` was refused memory.
     let Some(before) = between.take() else {
         return Some(Err(ServeFault::NoMemory));
     };
@@ -129,6 +130,7 @@ fn wait_or_end<B: Drop, R: Wait + Clock>(
     lasting: &mut Lasting,
 ) -> AfterRun<B> {
     match fault {
+        // These numbers stay the same, so a further try would fail too.
         OpenFault::Actors | OpenFault::Lanes => AfterRun::Over(Err(ServeFault::Lanes)),
         OpenFault::NoMemory | OpenFault::Board if lasting.first_listing.is_some() => {
             AfterRun::Over(Err(ServeFault::NoMemory))
@@ -146,8 +148,8 @@ pub(crate) fn refuse_and_wait<R: Wait + Clock>(context: &Context<'_, R>, lasting
     wait_for_bell(context, Some(RETRY_WAIT));
 }
 
-// Opens the office, and runs it. The run's channels name its rings and its board. Where it can't be opened, `wait_or_end` says what
-// comes then. `lasting` is what outlasts a run: the clients, and what the next run begins with.
+// Opens the office, and runs it. The type `C` names the run's rings and its board, for the proof alone. Where the office can't be opened,
+// `wait_or_end` says what comes then. `lasting` is what outlasts a run: the clients, and what the next run begins with.
 fn run_named<
     B: Backend,
     C: Channels + Lanes,
@@ -232,7 +234,7 @@ fn take_memory<C: Channels, R: Wait + Clock, W: Write + Drop>(
 }
 
 // Finishes every seat, and closes the office, in which nothing is left to be done. `finish_room` is an empty list with room for what each seat
-// gives when it is finished. Returns what the next run begins with.
+// gives when it is finished. Returns what the next run begins with; `Close` where the office can't be closed.
 fn close<C: Channels + Lanes, D: Board<C>, B: Backend, R: Wait>(
     context: &Context<'_, R>,
     office: Office<C, D, B>,
@@ -254,7 +256,7 @@ fn close<C: Channels + Lanes, D: Board<C>, B: Backend, R: Wait>(
                 ..
             },
         ) => {
-            // Another thread drops it. One from before that was not taken yet is dropped here.
+            // The thread that reads the scan directory drops this run. An earlier one that it has not taken yet is dropped here.
             let _before = context.shared().scans.leave_run(context.rt, run);
             AfterRun::Next(Between { tree, backends })
         }

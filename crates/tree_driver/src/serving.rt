@@ -61,6 +61,7 @@ fn begin_some<C: Channels + Lanes, R: Wait>(
             Todo::Free => state.lasting.clients.free(context, seat),
             Todo::Nothing | Todo::Tell => {}
         }
+        // Nothing more is begun for this connection in this round.
         break;
     }
 }

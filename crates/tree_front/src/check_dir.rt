@@ -43,13 +43,15 @@ pub fn check_directory<R: Files + Copy + Drop, W: Write, E: Write>(
     }
 }
 
-// The report on all entries, and whether something is refused or can't be started.
+// The report on all entries, and whether something is refused or can't be started. The error is `OutOfMemory` where memory is refused,
+// `InvalidData` where a line of a script can't say what is in the directory, and another where the directory can't be read.
 fn report_of<R: Files + Copy + Drop>(
     rt: &R,
     alloc: Global,
     directory: &str,
 ) -> io::Result<(Vec<u8>, bool)> {
     let mut told = Vec::new(alloc);
+    // `told` gets what svscan would write on standard error; only the bad names are taken from it.
     let Found { listing, remarks } = read_listing(rt, alloc, directory, &mut told)?;
     let entries = sorted_entries(alloc, listing.entries())?;
     let mut checked = checked_entries(alloc, remarks.as_slice(), entries.as_slice())?;
@@ -81,6 +83,7 @@ fn add_programs<R: Files>(
     entry: &Entry,
     text: &mut Vec<u8>,
 ) -> io::Result<bool> {
+    // The directory of this service can't be used: the report says so already.
     let Some(config) = entry.config else {
         return Ok(false);
     };
@@ -90,7 +93,7 @@ fn add_programs<R: Files>(
     Ok(has_told_of_run || has_told_of_finish)
 }
 
-// Adds a line for this program of a service, where nobody may execute it. Whether it did.
+// Adds a line for this program of a service, where nobody may execute it. Returns whether it added one.
 fn add_program<R: Files>(
     rt: &R,
     alloc: Global,
@@ -99,6 +102,7 @@ fn add_program<R: Files>(
     file: &str,
     text: &mut Vec<u8>,
 ) -> io::Result<bool> {
+    // The name of a service is ASCII, so it is always a text.
     let service = str::from_utf8(name.as_bytes()).unwrap_or("-");
     let path = format!(in alloc; "{directory}/{service}/{file}")?;
     if is_executable(rt, path.as_str()) {

@@ -30,7 +30,8 @@ enum ConnectFault {
     Write,
 }
 
-// The fault where copying from the connection to standard output failed by an error of this kind.
+// The fault where copying from the connection to standard output failed by an error of this kind. The error doesn't say which of the two
+// failed: an error of these three kinds is taken for one of the connection, any other for one of standard output.
 fn fault_of(kind: ErrorKind) -> ConnectFault {
     match kind {
         ErrorKind::ConnectionReset | ErrorKind::ConnectionAborted | ErrorKind::TimedOut => {

@@ -17,6 +17,7 @@ pub fn open_standard<R: Files<File = File>>(rt: &R) {
         let Ok(file) = opened else {
             return;
         };
+        // All three are open, and this one is closed again.
         if file.as_raw_fd() > LAST_STANDARD {
             return;
         }

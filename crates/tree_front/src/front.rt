@@ -1,4 +1,4 @@
-//! What the words ask for. A client, a check or a help text is done here; a tree, a connection or a replay is left to the caller.
+//! What the words of the command line ask for. A client, a check or a help text is done here; a tree, a connection or a replay is left to the caller.
 ghost use Rattle.std.specs.Prelude.{◌≡◌};
 
 use crate::asked::{Program, asks_help, program_named};
@@ -54,9 +54,11 @@ pub fn run_words<R: Env + Net + Files + Processes + Clock + Copy + Drop, W: Writ
 ) -> Asked {
     let words = match words_of(rt, alloc) {
         Ok(words) => words,
+        // A word is no text in UTF-8.
         Err(error) if error.kind() == io::ErrorKind::InvalidData => {
             return Asked::Done(refuse_bytes(errors));
         }
+        // Memory for the words was refused.
         Err(_) => return refuse_program(rt, alloc, errors),
     };
     match program_of(words.as_slice()) {
@@ -67,6 +69,7 @@ pub fn run_words<R: Env + Net + Files + Processes + Clock + Copy + Drop, W: Writ
             let word = words.get(1).map(|word| word.as_str());
             Asked::Done(refuse_tool(word, errors))
         }
+        // A client, `svcheck` or `help`.
         program => Asked::Done(match borrowed(alloc, words.as_slice()) {
             Ok(further) => run_program(rt, alloc, program, further.as_slice(), output, errors),
             Err(_) => tell_no_memory(name_of(program), errors),
@@ -86,6 +89,7 @@ fn run_program<R: Env + Net + Files + Processes + Clock + Copy + Drop, W: Write,
     match program {
         Program::Client(tool) => run_client(rt, alloc, tool, words, output, errors),
         Program::Svcheck => run_check(rt, alloc, words, output, errors),
+        // `Program::Help`: the caller has done all others.
         _ => print_help_of(words, output, errors),
     }
 }
@@ -123,7 +127,9 @@ fn name_of(program: Program) -> &'static str {
     }
 }
 
-// What is done where memory for the words was refused. The first word alone decides, if there is memory for that one.
+// What is done where memory for the words was refused. The word behind the program's name decides alone, if there is memory for that one.
+// Where it names a program that needs all words, the refusal of memory is told. All else is left to `replay_tool`, which takes no memory for
+// the words.
 fn refuse_program<R: Env, E: Write>(rt: &R, alloc: Global, errors: &mut E) -> Asked {
     let Ok(word) = first_word(rt, alloc) else {
         return Asked::Done(tell_no_memory("s6_tree", errors));
@@ -184,7 +190,7 @@ fn run_check<R: Files + Copy + Drop, W: Write, E: Write>(
     }
 }
 
-// Reads the words behind `svscan`: a place, or `--help`. Others are refused.
+// Reads the words behind `svscan`: a place, or `--help`. Others are refused. The first two of `words` are the program's name and `svscan`.
 fn read_place<W: Write, E: Write>(words: Vec<String>, output: &mut W, errors: &mut E) -> Asked {
     match words.as_slice() {
         [_, _, word] if asks_help(word.as_str()) => {
@@ -198,11 +204,12 @@ fn read_place<W: Write, E: Write>(words: Vec<String>, output: &mut W, errors: &m
     }
     match place_of(words) {
         Some(place) => Asked::Tree(place),
+        // Too many words were refused above, so one is missing.
         None => Asked::Done(refuse_words("svscan", Misuse::Missing, None, SVSCAN_FORM, errors)),
     }
 }
 
-// Reads the words behind `connect`: a socket, or `--help`. Others are refused.
+// Reads the words behind `connect`: a socket, or `--help`. Others are refused. The first two of `words` are the program's name and `connect`.
 fn read_socket<W: Write, E: Write>(words: Vec<String>, output: &mut W, errors: &mut E) -> Asked {
     match words.as_slice() {
         [_, _, word] if asks_help(word.as_str()) => {
@@ -224,11 +231,13 @@ fn read_socket<W: Write, E: Write>(words: Vec<String>, output: &mut W, errors: &
     let mut words = words;
     match words.pop() {
         Some(socket) if words.len() == 2 => Asked::Connect(socket),
+        // Too many words were refused above, so the socket is missing.
         _ => Asked::Done(refuse_words("connect", Misuse::Missing, None, CONNECT_FORM, errors)),
     }
 }
 
-// The scan directory, the socket and the record; None where the words are too few or too many.
+// The scan directory, the socket and the record; None where the words are too few or too many. The first two of `words` are the program's name
+// and `svscan`.
 fn place_of(words: Vec<String>) -> Option<TreePlace> {
     let mut words = words;
     if words.len() < 4 || words.len() > 5 {

@@ -12,8 +12,8 @@ use std::io::Write;
 /// The status of a program to which the system refused something.
 const SYSTEM_STATUS: u8 = 111;
 
-/// Tells by two lines that the system refused this program memory. Where not all of them can be written, a front of them is. The exit
-/// status, 111.
+/// Tells by two lines that the system refused this program memory. Where they can't be written whole, only their beginning is. Returns the
+/// exit status, 111.
 pub fn tell_no_memory<E: Write>(program: &str, errors: &mut E) -> u8
     ensures status { result ≡ 111 }
     ensures lines { Appends (E.contents errors.old) (E.contents errors.new)

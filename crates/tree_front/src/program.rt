@@ -135,6 +135,7 @@ fn begin_tree<
         + 'static,
     N: Write + Send + Drop + 'static,
 >(rt: R, alloc: Global, root: &str, notes_output: N) -> Result<TreeParts<R>, ServeFault> {
+    // The shell that is tried runs beside what follows; `run_tree` asks how it ended.
     let probe = ShellProbe::start(&rt, alloc);
     let Some(notes) = start_notes(rt, alloc, notes_output) else {
         return Err(ServeFault::Thread);

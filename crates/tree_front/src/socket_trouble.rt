@@ -15,7 +15,7 @@ use tree_server::{ServeFault, tell_serve_fault};
 /// How many bytes of a path are told.
 const PATH_BYTES: usize = 107;
 
-/// How many bytes the path of a server's socket has at most.
+/// How many bytes the path of a server's socket has at most: it is made at PATH.new/s, and the system takes at most 107 bytes.
 const LONGEST_SOCKET: usize = 101;
 
 /// Why no socket can be made at a path, as far as can be seen afterwards.

@@ -26,7 +26,8 @@ pub fn refuse_words<E: Write>(
     USAGE_STATUS
 }
 
-// What the second line says behind the wrong word, or behind `a word`: that it is missing, or one too many.
+// What the second line says behind the wrong word, or behind `a word`: that it is missing, or one too many. `refuse_words` is called
+// for these two alone.
 fn complaint_of(misuse: Misuse) -> &'static str
     ensures { result.now ≡ complaint_of misuse }
 {

@@ -38,7 +38,7 @@ struct Parts {
 
 /// Runs a tree of the services of a directory, and serves clients on a socket, until the tree has ended. Its threads live from its first
 /// run to its last. Faults of service directories are noted, and so is each new run. No service is started, and no record is touched,
-/// before the probe has found a shell. Page `s6-svscan`.
+/// before `probe` has found that `/bin/sh` runs, by which signals are sent. Page `s6-svscan`.
 pub fn run_tree<
     B: Backend + Send,
     K: Backend + Send,
@@ -63,7 +63,7 @@ pub fn run_tree<
     }
 }
 
-// All that is needed before a service is started.
+// Makes all that is needed before a service is started. The error says what could not be made or read: `NoMemory` where memory was refused.
 fn prepare<R: Files<File = File> + Wait + Clock + Copy + Drop>(
     rt: &R,
     alloc: Global,
@@ -79,7 +79,7 @@ fn prepare<R: Files<File = File> + Wait + Clock + Copy + Drop>(
         Ok(found) => found,
         Err(error) => return Err(fault_of(&error, ServeFault::Directory)),
     };
-    // The probe's shell ran beside all that.
+    // The shell was started before all that. This waits until it has ended.
     if !probe.has_shell() {
         return Err(ServeFault::Shell);
     }
@@ -119,7 +119,8 @@ fn fault_of(error: &io::Error, fault: ServeFault) -> ServeFault {
 }
 
 // Serves the tree in threads, and reads its scan directory in this one, until the tree has ended. Each of the `links` carries the orders of a
-// lane to the lane's thread, and its reports back. The error says why the tree did not run to its end.
+// lane to the lane's thread, and its reports back. The error says why the tree did not run to its end: `Socket` where the system refused a
+// further descriptor of the listener, `Thread` where a thread could not be started.
 fn serve<
     B: Backend + Send,
     K: Backend + Send,
@@ -178,7 +179,7 @@ fn serve<
     outcome.get(rt)
 }
 
-// Tells by one write that clients can come.
+// Tells by one write that clients can connect, and when the tree began. Nothing is told where memory is refused, or after the year 9999.
 fn tell_serving<E: Write>(shared: &Shared, socket: &str, errors: &mut E) {
     let Some(day) = day_second(shared.clock.since) else {
         return;

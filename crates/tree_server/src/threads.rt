@@ -28,7 +28,7 @@ pub struct DriverParts<B, W> {
     pub settings: RunSettings<W>,
 }
 
-/// Starts the driver, the thread that drives the tree. Whether it runs.
+/// Starts the driver, the thread that drives the tree. Returns false where the system refuses the thread.
 pub fn start_driver<'s, S, B, W, R>(
     scope: &Scope<'s, S>,
     rt: &'s R,
@@ -75,10 +75,11 @@ fn drive_all<B: Backend, W: Write + Drop, R: Wait + Clock + Copy + Drop>(
         first_listing,
     );
     outcome.note(rt, done);
+    // The thread that reads the scan directory reads no more then, and ends the other threads.
     server.answers().scans.end(rt);
 }
 
-/// Starts the thread of a lane. Whether it runs.
+/// Starts the thread of a lane. Returns false where the system refuses the thread.
 pub fn start_lane<'s, S, K, R>(
     scope: &Scope<'s, S>,
     rt: &'s R,
