@@ -85,7 +85,7 @@ impl ClientDesk {
         }
     }
 
-    // Posts an answer that is told neither from the board nor from a reply.
+    // Posts an own answer: one that the server gives by itself, and that is not the reply to a step. A status is none: it is read from the board.
     pub(crate) fn post_own<R: Wait>(
         &mut self,
         context: &Context<'_, R>,

@@ -22,7 +22,7 @@ pub fn told_its_own()
     ensures { (events : List Event) → ToldItsOwn (run events opened) }
 {}
 
-/// A connection that is gone has no waiter and no subscription, follows no service, and has no wait that is put off.
+/// A connection that is gone (`Phase::Gone`) has no waiter and no subscription, follows no service, and has no wait that is put off.
 pub fn nothing_is_left()
     ensures { (events : List Event) → NothingIsLeft (run events opened) }
 {}

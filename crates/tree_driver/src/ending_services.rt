@@ -24,6 +24,8 @@ pub fn end_services<C: Channels + Lanes, D: Board<C>, B: Backend, R: Wait + Cloc
 ) {
     let clock = context.shared().clock;
     let begun = clock.millis(context.rt);
+    // No scan is begun any more; one that is asked for would go before each tick.
+    state.lasting.plans.askers.clear();
     // All inputs of the run are done, so the ring has room for it.
     let _ = state.hand_in(SCANNER, begun, Act::Scanctl(ScanOrder::Terminate));
     for _ in context.rt.forever() {
