@@ -1,9 +1,9 @@
 //! The names that proofs give to the rings and the board of one office.
 use std::marker::Brand;
 
-/// Which rings and which history a run has. A value that comes out of a lock has such a type as parameter, and so has what it is to meet
-/// outside of the lock: then both are about the same ring or the same history. A program picks the names anew in each call, once it has
-/// made what they name, so the values of one run are never taken for those of another.
+/// Names, for proofs, of the rings and the history of one run. It is a type parameter of what is kept under a lock, and of what is used with
+/// it outside of the lock: so a proof knows that both are of the same ring or the same history. A program picks new names for each run, once
+/// it has made what they name, so the values of one run are never taken for those of another.
 pub trait Channels {
     ghost use Rattle.std.specs.Prelude.{ℕ};
     ghost use Rattle.logbook.specs.Pages.{Book};

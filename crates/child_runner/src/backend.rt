@@ -22,9 +22,9 @@ use std::process::{Child, Command, Processes, Stdio, SystemProcess};
 use std::rt::Files;
 use std::sync::{Arc, Wait};
 
-/// A backend whose services are processes. The directory of a service is `root/NAME`, and its programs run there. `roster` lists the children of
-/// all backends of a keeper, `processes` those of this one whose end wasn't told yet; `turn` is which of them is asked first for a report. Page
-/// `s6-supervise`.
+/// A backend whose services are processes. The directory of a service is `root/NAME`, and its programs run there. `roster` lists the children
+/// of all backends of a keeper, `processes` those of this one whose end was not reported yet; `turn` is which of them is asked first for a
+/// report, and `roll` which starts may still be reported on. Page `s6-supervise`.
 #[derive(Drop)]
 pub struct ProcessBackend<R> {
     rt: R,
@@ -183,7 +183,7 @@ impl<R: Processes<Started = SystemProcess> + Files + Wait + Drop> ProcessBackend
         }
     }
 
-    // The index of this start's child, if its end wasn't told yet.
+    // The index of this start's child, if its end wasn't reported yet.
     fn place_of(&self, start: &Start) -> Option<usize> {
         self.processes
             .as_slice()
@@ -200,6 +200,7 @@ impl<R: Processes<Started = SystemProcess> + Files + Wait + Drop> ProcessBackend
         if let Some(place) = self.place_of(start) {
             self.send(place, signal)?;
         }
+        // The roll takes no memory for an order that starts nothing, so this is not refused once the signal was sent.
         match self.roll.note(order) {
             Ok(()) => Ok(()),
             Err(_) => Err(AskFault::NoMemory),
@@ -211,6 +212,7 @@ impl<R: Processes<Started = SystemProcess> + Files + Wait + Drop> ProcessBackend
     fn send(&mut self, place: usize, signal: u8) -> Result<(), AskFault>
         ensures { self.new ≡ self.old }
     {
+        // There is a child at this index: `place_of` gave it.
         let Some(process) = self.processes.get(place) else {
             return Ok(());
         };
@@ -225,6 +227,7 @@ impl<R: Processes<Started = SystemProcess> + Files + Wait + Drop> ProcessBackend
     fn tell_deaf(&mut self, place: usize)
         ensures { self.new ≡ self.old }
     {
+        // There is a child at this index: `place_of` gave it.
         let Some(process) = self.processes.get(place) else {
             return;
         };
@@ -234,6 +237,7 @@ impl<R: Processes<Started = SystemProcess> + Files + Wait + Drop> ProcessBackend
         }
         let text = deaf_text(self.alloc, self.root.as_str(), &process.name);
         self.note(&text);
+        // Where memory is refused, the note comes again with the next signal.
         let _ = self.deaf.push(sid);
     }
 

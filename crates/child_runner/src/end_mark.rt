@@ -9,7 +9,7 @@ use memchr::{memmem, memrchr};
 /// program keeps the descriptor open. It is written in one go, and no program writes it by chance. Its first byte occurs in it only once.
 pub(crate) const END_MARK: [u8; 16] = *b"\0child-has-ended";
 
-/// How much of a child's output that was read may be told.
+/// How much of a child's output that was read may be told to the tree.
 #[derive(Clone, Copy, PartialEq, Eq, Debug)]
 pub(crate) struct Telling {
     /// How many bytes are the child's.

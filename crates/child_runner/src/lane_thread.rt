@@ -128,6 +128,7 @@ fn give_reports<B: Backend, R: Wait>(
         }
         driver.ring(rt);
     }
+    // So many reports never come.
     false
 }
 

@@ -8,15 +8,16 @@ use arrayvec::ArrayVec;
 use order_lanes::Report;
 use s6_events::Exit;
 
-/// How far the start of a child has come, and whether that was told to the tree.
+/// How far the start of a child has come, and whether it was reported to the tree.
 #[derive(Clone, Copy, PartialEq, Eq, Debug)]
 enum Stage {
+    /// Its start was ordered, and has neither failed nor succeeded yet.
     Starting,
-    /// It could not be started, which is still to be told.
+    /// It could not be started, which is still to be reported.
     Failed,
-    /// It lives under this process number, which is still to be told.
+    /// It lives under this process number, which is still to be reported.
     Fresh(u32),
-    /// Its start was told.
+    /// Nothing of its start is still to be reported.
     Living,
 }
 
@@ -63,6 +64,7 @@ impl Progress {
         self.is_output_read = is_output_read;
         self.stage = match program {
             Program::Run => Stage::Fresh(pid),
+            // The start of a `finish` is not reported.
             Program::Finish => Stage::Living,
         };
         self.signals.begin(pid);
@@ -148,6 +150,7 @@ impl Progress {
     {
         match self.stage {
             Stage::Starting => None,
+            // It is the child's last report: the backend drops the child then.
             Stage::Failed => Some(Report::StartFailed(start.sid, start.generation)),
             Stage::Fresh(pid) => {
                 self.stage = Stage::Living;
@@ -166,6 +169,7 @@ impl Progress {
             return self.end_report(start);
         }
         let mut bytes = ArrayVec::new();
+        // Both have room for 64 bytes.
         let _ = bytes.try_extend_from_slice(self.written.as_slice());
         self.written.clear();
         Some(Report::Notify(start.sid, start.generation, bytes))

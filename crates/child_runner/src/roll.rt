@@ -1,4 +1,4 @@
-//! A backend's roll: what it was asked and gave, and which of its starts still live.
+//! A backend's roll: what it was asked and gave, and which of the starts that it was asked have not ended.
 ghost use Rattle.std.specs.Prelude.{◌≡◌, ◌<◌, ◌++◌, ◌∷◌, [], List, length, IsTrue, Some, slice_get};
 ghost use Rattle.std.specs.Prelude.{OnOk, OnErr, IfSome, IfNone, remove, if◌then◌else◌};
 ghost use Rattle.std.specs.List.{All};
@@ -149,6 +149,7 @@ impl Roll {
         ensures none { IfNone result (self.new ≡ self.old) }
     {
         let place = place_of_start(self.living.as_slice(), &report)?;
+        // The list of what was given takes no memory, so this is not refused.
         let Ok(()) = add_given(&mut self.given, &report) else {
             return None;
         };

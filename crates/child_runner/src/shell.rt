@@ -85,7 +85,8 @@ fn is_lasting(error: &io::Error) -> bool {
     )
 }
 
-// A shell that can't run `kill` ends with 126 or 127.
+// What became of a signal, by the end of its shell. A shell that can't run `kill` ends with 126 or 127; any other end counts as sent, since
+// the child may have ended before.
 fn sending_of(ended: io::Result<ExitStatus>) -> Sending {
     match ended {
         Ok(status) if matches!(status.code(), Some(126 | 127)) => Sending::NoShell,

@@ -88,7 +88,7 @@ fn exit_of(status: io::Result<ExitStatus>) -> Exit {
     Exit::Killed(u8::try_from(signal).unwrap_or(0))
 }
 
-/// The most bytes that were read and not told yet: as many as a report holds.
+/// The most bytes that were read and not told to the tree yet: as many as a report holds.
 const PART: usize = 64;
 
 /// What the thread that reads a child's output keeps: what was read and not told yet, how many bytes more may be told, and whether the first
@@ -126,7 +126,7 @@ fn listen_to<R: Wait>(rt: &R, process: &ServiceProcess, reader: &mut PipeReader)
     }
 }
 
-// Reads what there is room for. False at the end.
+// Reads what there is room for. False at the end, and where reading fails.
 fn read_more(reader: &mut PipeReader, heard: &mut ArrayVec<u8, PART>) -> bool {
     let mut bytes = [0u8; PART];
     let room = PART.saturating_sub(heard.len()).min(PART);

@@ -4,8 +4,8 @@ ghost use Rattle.control_letters.specs.ControlLetter.{byte_of, letter_of_byte, s
 
 use arrayvec::ArrayVec;
 
-/// What a service may be told, each by one letter. Page `s6-svc`; the letters that stand for a signal do something only while `run`
-/// is there.
+/// A command of a user to the supervisor of a service, each of one letter. Page `s6-svc`; the letters that stand for a signal do
+/// something only while `run` is there.
 #[derive(Clone, Copy, Debug, Default, PartialEq, Eq)]
 pub enum ControlLetter {
     /// `a`: SIGALRM.

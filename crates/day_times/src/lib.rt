@@ -28,7 +28,7 @@ fn day_text(millis: u64, places: u8) -> Option<DayText> {
     Some(printer.timestamp_text(instant))
 }
 
-// Whether a time of day was written as this text. A time that has none is None.
+// Whether there is a text of a time of day, and it is this one.
 #[cfg(test)]
 fn is_told(told: Option<DayText>, text: &str) -> bool {
     match told {

@@ -10,7 +10,8 @@ use s6_events::{At, NoMemory, Sid};
 use std::alloc::Allocator;
 use std::marker::Model;
 
-/// The timers that are set, at most one for each service. They are kept twice: in rising serial, and in the order of their moments.
+/// The timers that are set, at most one for each service. They are kept twice: in `timers` in rising serial, to find that of a service,
+/// and in `queue` in the order of their moments, to find those that are due.
 #[derive(Drop)]
 pub struct Deadlines<A: Allocator> {
     timers: Vec<Timer, A>,
@@ -48,14 +49,14 @@ impl<A: Allocator> Model for DeadlinesPlan<A> {
     ghost view = { λ p. p.changes.items };
 }
 
-// Whether the timer is that of a service below this one.
+// Whether the timer is that of a service with a lower serial.
 fn is_below(timer: &Timer, sid: Sid) -> bool
     ensures { result ≡ nat_lt timer.now.sid sid }
 {
     timer.sid.0 < sid.0
 }
 
-// Whether the serial of the first timer, if there is one, is not below this one.
+// Whether the place of this serial is the first one: no timer has a lower serial.
 fn comes_first(timers: &[Timer], sid: Sid) -> bool
     ensures yes { result ≡ true → IfSome (slice_get timers.now 0) (λ t. nat_lt t.sid sid ≡ false) }
     ensures no { result ≡ false
@@ -67,7 +68,7 @@ fn comes_first(timers: &[Timer], sid: Sid) -> bool
     !is_below(first, sid)
 }
 
-// Whether the serials of all timers are below this one.
+// Whether the place of this serial is the end: all timers have lower serials.
 fn comes_last(timers: &[Timer], sid: Sid) -> bool
     requires { rises timers.now ≡ true }
     ensures { result ≡ list_all (λ t. nat_lt t.sid sid) timers.now }
@@ -114,7 +115,8 @@ fn is_at(timers: &[Timer], place: usize, sid: Sid) -> bool
     timers.get(place).is_some_and(|timer| timer.sid == sid)
 }
 
-// Adds the services whose timers are set to a moment at most `now`, in rising serial. The queue has the same timers.
+// Adds the services whose timers are set to a moment at most `now`, in rising serial. `queue` has the same timers as `timers`, and tells
+// by its first one whether there are any.
 fn add_due<B: Allocator>(
     timers: &[Timer],
     queue: &[Timer],
@@ -167,7 +169,7 @@ impl<A: Allocator + Copy> Deadlines<A> {
         Ok(())
     }
 
-    // Sets a timer for which there is room.
+    // Sets the timer of a service, for which there is room in both lists.
     fn put(&mut self, sid: Sid, at: At)
         requires { 0 < self.old.spare_capacity }
         ensures timers { self.new.timers ≡ with_timer sid at self.old.timers }
@@ -250,7 +252,7 @@ impl<A: Allocator + Copy> Deadlines<A> {
         Ok(DeadlinesPlan { changes: planned })
     }
 
-    /// Makes the changes of a plan. These deadlines made the plan, and nothing has changed since.
+    /// Makes the changes of a plan. It has to be a plan of these deadlines, and nothing may have changed since it was made.
     pub fn commit(&mut self, plan: DeadlinesPlan<A>)
         requires { length plan ≤ self.old.spare_capacity }
         ensures { self.new.timers ≡ with_timer_changes plan self.old.timers }

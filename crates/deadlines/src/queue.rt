@@ -83,6 +83,7 @@ pub fn take_out<A: Allocator>(queue: &mut Vec<Timer, A>, timer: &Timer)
     ensures len { vec_len queue.new + 1 ≡ vec_len queue.old }
     ensures capacity { vec_capacity queue.new ≡ vec_capacity queue.old }
 {
+    // The timer is in the queue, so that it is the first one that doesn't go off before itself.
     let place = place_in(queue, timer);
     queue.remove(place);
 }

@@ -64,7 +64,7 @@ fn code_of(word: &[u8]) -> Option<u8>
     Some(code as u8)
 }
 
-// The item that a word with no dash spells.
+// The item that a word with no dash spells: an exit code or a signal; None where it spells neither.
 fn code_or_signal(word: &[u8]) -> Option<DeathItem>
     ensures { result ≡ spelled_exit (number_up_to 255 word.now) (signal_of_word word.now) }
 {
@@ -74,7 +74,7 @@ fn code_or_signal(word: &[u8]) -> Option<DeathItem>
     }
 }
 
-// The item that two words with a dash between them spell.
+// The range that two words with a dash between them spell; None where one is no exit code, or the first is above the second.
 fn range_of(low: &[u8], high: &[u8]) -> Option<DeathItem>
     ensures { result ≡ spelled_range (number_up_to 255 low.now) (number_up_to 255 high.now) }
 {
@@ -113,7 +113,7 @@ fn words_of<A: Allocator + Copy>(alloc: A, text: &[u8]) -> Result<Vec<&[u8], A>,
     text.split(|byte| *byte == b',').collect(alloc)
 }
 
-// The list that some words spell.
+// The list that these words spell, an item each; None where one spells no item, or there are more than 32.
 fn list_in(words: &[&[u8]]) -> Option<DeathList>
     ensures { result ≡ list_of (map (λ w. w.now) words.now) }
 {

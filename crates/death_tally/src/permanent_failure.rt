@@ -40,6 +40,7 @@ pub fn permafails<A: Allocator + Copy>(
 ) -> bool
     ensures { result ≡ are_permanent_failure now seconds count list.now tally.now.kept }
 {
+    // The two parts in which the deaths lie; together they are all that are kept.
     let (front, back) = tally.as_slices();
     let counted = count_of(front, now, seconds, list) + count_of(back, now, seconds, list);
     counted >= u64::from(count)

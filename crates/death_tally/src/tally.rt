@@ -13,6 +13,7 @@ use std::marker::Model;
 #[derive(Drop)]
 pub struct Tally<A: Allocator> {
     ring: Option<HeapCircularBuffer<(At, Exit), A>>,
+    // How many deaths it keeps at most.
     most: u16,
 }
 
@@ -49,6 +50,7 @@ impl<A: Allocator + Copy> Tally<A> {
             → Tallies self.new (all ++ (at, exit) ∷ []) }
     {
         if let Some(ring) = &mut self.ring {
+            // A full ring gives back its oldest death, which is forgotten here.
             let _oldest = ring.push_back((at, exit));
         }
     }

@@ -20,7 +20,7 @@ pub enum LostNote {
     NoMemory = 3,
 }
 
-// By hand, since `?` from a derive does not say which fault it makes.
+// Written by hand: of a `From` that a derive makes, no contract says which fault `?` gives.
 impl From<AllocError> for LostNote {
     ghost use Rattle.std.specs.Prelude.{◌≡◌};
     ghost use Rattle.error_notes.specs.declared.note_list.LostNote.TheVariants.{NoMemory};
@@ -100,7 +100,7 @@ impl<A: Allocator + Copy> NoteList<A> {
         Ok(())
     }
 
-    /// A note was lost before it could be posted.
+    /// Counts a note that was lost before it could be posted.
     pub fn lose(&mut self)
         ensures { self.new ≡ record self.old { lost = one_more self.old.lost } }
     {
@@ -121,7 +121,7 @@ impl<A: Allocator + Copy> NoteList<A> {
         lost
     }
 
-    /// Nothing more is posted; what waits may still be taken.
+    /// Closes the list: from now on nothing more is posted. What waits may still be taken.
     pub fn close(&mut self)
         ensures { self.new ≡ record self.old { is_open = false } }
     {

@@ -91,6 +91,7 @@ impl<'a, R: Wait> Log for NoteWriter<'a, R> {
 
     fn flush(&self) {}
 
+    // It has no target of its own for records that name none.
     fn target(&self) -> &str {
         ""
     }

@@ -10,8 +10,11 @@ use std::time::{Clock, Duration};
 pub struct Notes {
     pub(crate) alloc: Global,
     list: Mutex<NoteList<Global>>,
+    // Notified when a note is posted or lost, and at the close.
     changed: Condvar,
+    // Whether the thread that writes has written all that was posted before the close.
     all_written: Mutex<bool>,
+    // Notified once that is so.
     written: Condvar,
 }
 
@@ -30,6 +33,7 @@ impl Notes {
     /// Posts a note: one or more whole lines, each with its newline. It is written behind all that were posted before, whole or not at
     /// all. Where it doesn't fit, where memory is refused, or once the list was closed, it is lost, and counted.
     pub fn post<R: Wait>(&self, rt: &R, note: &[u8]) {
+        // A note that is lost is counted by the list.
         let _ = self.list.lock(rt).post(note);
         self.changed.notify_all();
     }
@@ -40,7 +44,7 @@ impl Notes {
         self.changed.notify_all();
     }
 
-    /// Nothing more is posted. What waits is still written.
+    /// Closes the notes: from now on nothing more is posted. What waits is still written.
     pub fn close<R: Wait>(&self, rt: &R) {
         self.list.lock(rt).close();
         self.changed.notify_all();
@@ -69,7 +73,7 @@ impl Notes {
         Some(list.take_all(text))
     }
 
-    /// All was written.
+    /// Tells those that wait for it (`await_written`) that all was written.
     pub(crate) fn finish<R: Wait>(&self, rt: &R) {
         *self.all_written.lock(rt) = true;
         self.written.notify_all();

@@ -37,6 +37,7 @@ fn write_lines<E: Write>(errors: &mut E, text: &[u8]) {
 // Writes the line that says how many notes were lost.
 fn write_loss<E: Write>(errors: &mut E, lost: u64) {
     let mut line = ArrayString::<64>::new();
+    // It always fits: the line has at most 45 bytes.
     let _ = writeln!(line, "svscan: {lost} notes were lost");
     let _ = errors.write_all(line.as_bytes());
 }

@@ -31,8 +31,9 @@ use std::marker::Model;
 #[derive(Drop)]
 pub struct Directories<F: Finds, A: Allocator> {
     register: Register<F, A>,
-    // Whether the letters of a step are prepared in `register`.
+    // Whether the letters of a step are prepared in `register`, for `commit` to hear them.
     is_prepared: bool,
+    // The change that the prepared step still has to make.
     pending: Pending<F, A>,
     // Counts the calls of `prepare`, modulo 2^64. The plan that one gives has this as its number.
     number: u64,
@@ -69,7 +70,8 @@ impl<F: Finds, A: Allocator + Copy> Directories<F, A> {
         }
     }
 
-    /// What the subscription of this serial has heard, or None where there is none. Page `s6-ftrig-listen1`.
+    /// The letters at which the texts of this subscription matched, and whether it still listens; None where there is none of this
+    /// serial. Page `s6-ftrig-listen1`.
     pub fn list(&self, id: SubId) -> Option<SubView<'_>>
         ensures { (d : WrittenDirectories) → AreHeard F.test self.now.shown d →
             option_map (λ v. (v.letters.now, v.state)) result ≡ list_named F.test id d }
@@ -77,7 +79,7 @@ impl<F: Finds, A: Allocator + Copy> Directories<F, A> {
         self.stored_list(id)
     }
 
-    // As `list`; its clause speaks only of what is stored.
+    // As `list`, for the proof: its clause speaks only of what is stored.
     fn stored_list(&self, id: SubId) -> Option<SubView<'_>>
         ensures { option_map (λ v. (v.letters.now, v.state)) result ≡ view_in id self.now.shown }
     {
@@ -89,8 +91,8 @@ impl<F: Finds, A: Allocator + Copy> Directories<F, A> {
     /// what comes after the step. Nothing that is shown changes, and what was prepared before is forgotten.
     ///
     /// A change may be refused, and the answer says why: Exists where a free directory has the name that is to be made; TooMany where
-    /// 256 free directories, or 256 subscriptions, stand already; NoSuch where the free directory that is named, or the
-    /// subscription, does not stand. Only the moments are heard then.
+    /// there are 256 free directories, or 256 subscriptions, already; NoSuch where there is no such free directory, or no such
+    /// subscription. Only the moments are heard then.
     ///
     /// The next serial has to be below 2^63. NoMemory where memory is refused: nothing is prepared then. A step with no moment and no
     /// change takes no memory, and gives nothing. Pages `s6-mkfifodir`, `s6-ftrig-notify` and `s6-ftrig-listen1`; the order of a step
@@ -113,11 +115,12 @@ impl<F: Finds, A: Allocator + Copy> Directories<F, A> {
         ensures quiet { moments.now ≡ [] → directory_request_of change.now ≡ no_directory_request
             → IsOkAnd result (λ plan. (plan.matches.items ≡ []) × (plan.answer ≡ answer.Done)) }
     {
+        // For the proof: with the `?` each outcome is a path of its own.
         let plan = self.prepare_stored(moments, change)?;
         Ok(plan)
     }
 
-    // As `prepare`; its clauses speak only of what is stored.
+    // As `prepare`, for the proof: its clauses speak only of what is stored.
     #[inline(always)]
     fn prepare_stored(
         &mut self,
@@ -152,7 +155,7 @@ impl<F: Finds, A: Allocator + Copy> Directories<F, A> {
         self.prepare_heard(moments, change)
     }
 
-    // A step that somebody may hear, or that changes something. It stands apart, since most steps are heard by nobody.
+    // A step that somebody may hear, or that changes something. It is a function of its own, since most steps are heard by nobody.
     #[inline(never)]
     fn prepare_heard(
         &mut self,
@@ -186,9 +189,9 @@ impl<F: Finds, A: Allocator + Copy> Directories<F, A> {
         })
     }
 
-    /// Makes the step of this plan, which has to be the last one that `prepare` gave, by its number. It takes no memory. Where the step
-    /// makes a subscription, that gets the pattern that is offered, and repeats or not, as is offered with it; where no pattern is
-    /// offered, it is not made. Afterwards nothing is prepared.
+    /// Makes the step of this plan, which has to be the last one that `prepare` gave: contracts tell that by its number. It takes no
+    /// memory. Where the step makes a subscription, `offered` is its pattern, and whether it is sought again after each match; without
+    /// one, no subscription is made. Afterwards nothing is prepared.
     pub fn commit(&mut self, plan: DirectoriesPlan<A>, offered: Option<(F, bool)>)
         requires number { plan_number plan ≡ self.old.number }
         ensures after { self.new.shown
@@ -196,13 +199,14 @@ impl<F: Finds, A: Allocator + Copy> Directories<F, A> {
             (option_map (λ o. (F.source o.0, o.1)) offered) }
         ensures idle { self.new.prepared ≡ nothing_prepared self.new.shown }
     {
+        // What is to be done lies in `self`: the plan only had the matches and the answer for the caller.
         drop(plan);
         if self.is_prepared || !is_nothing(&self.pending) {
             self.make(offered);
         }
     }
 
-    // `commit` of a step that somebody hears, or that changes something. It stands apart, since most steps are heard by nobody.
+    // `commit` of a step that somebody hears, or that changes something. It is a function of its own, since most steps are heard by nobody.
     #[inline(never)]
     fn make(&mut self, offered: Option<(F, bool)>)
         ensures after { self.new.shown
@@ -230,7 +234,7 @@ impl<F: Finds, A: Allocator + Copy> Directories<F, A> {
         }
     }
 
-    // The change that was prepared is forgotten. It stands apart, since most steps prepare none.
+    // The change that was prepared is forgotten. It is a function of its own, since most steps prepare none.
     #[inline(never)]
     fn drop_pending(&mut self)
         ensures shown { self.new.shown ≡ self.old.shown }

@@ -21,12 +21,15 @@ use std::marker::Model;
 /// The subscriptions of one event directory, in the order in which they were made, so in rising serial. Page `fifodir`; that
 /// they are remembered in memory, and not in a folder of pipes, is chosen here.
 ///
-/// They share one text, and each live subscription knows where its own text begins in it. What comes before all of these is
-/// dropped, and a letter that no live subscription hears is not kept.
+/// They share one text, and each live subscription knows where its own text begins in it. To hear a letter is to add it to that text, and
+/// to seek the pattern of each live subscription in its own. What comes before all their texts is dropped, and a letter that no live
+/// subscription hears is not kept.
 ///
-/// The letters of a step are planned and then heard: `prepare` takes all memory and changes nothing that is shown, `commit`
-/// takes none. `send` does both for one letter. A call that is refused memory leaves the plan that stood before it: `commit` still
-/// hears the letters of that plan, and no others. The caller limits how many subscriptions there are.
+/// The letters of a step are planned and then heard: `prepare` takes all memory and changes nothing that is shown, `commit` takes none.
+/// What letters will give is first worked out in a draft of each subscription (it is prepared); what `prepare` has worked out is then
+/// kept in a second draft (it is planned) until `commit`. `send` prepares one letter and hears it at once. A call that is refused memory
+/// leaves an earlier plan as it was: `commit` still hears the letters of that plan, and no others. The caller limits how many
+/// subscriptions there are.
 #[derive(Drop)]
 pub struct Directory<F: Finds, A: Allocator> {
     subscriptions: Vec<Subscription<F, A>, A>,
@@ -73,8 +76,8 @@ impl<F: Finds, A: Allocator + Copy> Directory<F, A> {
     }
 
     /// Subscribes from now on, with a serial greater than those before: for one match, or again after each match. Page
-    /// `s6-ftrig-listen1`. It does not hear the letters of a plan that stands. Where memory is refused, the pattern comes back and
-    /// nothing has changed.
+    /// `s6-ftrig-listen1`. It does not hear the letters of a plan that is not committed yet. Where memory is refused, the pattern comes
+    /// back and nothing has changed.
     pub fn subscribe(&mut self, id: SubId, pattern: F, repeats: bool) -> Result<(), F>
         requires { All (λ s. s.id < id) self.old.standing }
         ensures ok { OnOk result (self.new.standing
@@ -96,7 +99,7 @@ impl<F: Finds, A: Allocator + Copy> Directory<F, A> {
         Ok(())
     }
 
-    /// Subscribes from now on, in the place that `prepare` made. It does not hear the letters of a plan that stands.
+    /// Subscribes from now on, in the place that `prepare` made. It does not hear the letters of a plan that is not committed yet.
     pub fn join(&mut self, id: SubId, pattern: F, repeats: bool)
         requires room { 0 < self.old.room }
         requires greater { All (λ s. s.id < id) self.old.standing }
@@ -112,7 +115,7 @@ impl<F: Finds, A: Allocator + Copy> Directory<F, A> {
         self.take_in(id, pattern, repeats);
     }
 
-    // As `join`; its clauses speak only of what is stored.
+    // As `join`, for the proof: its clauses speak only of what is stored.
     pub(crate) fn take_in(&mut self, id: SubId, pattern: F, repeats: bool)
         requires { 0 < self.old.room }
         ensures after { self.new.standing ≡
@@ -159,7 +162,7 @@ impl<F: Finds, A: Allocator + Copy> Directory<F, A> {
         self.subscriptions.is_empty()
     }
 
-    /// Ends the subscription of this serial, if there is one, also in a plan that stands.
+    /// Ends the subscription of this serial, if there is one, also in a plan that is not committed yet.
     pub fn unsubscribe(&mut self, id: SubId)
         ensures after { self.new.standing ≡ kept_without id self.old.standing }
         ensures planned { self.new.planned ≡ kept_without id self.old.planned }
@@ -170,7 +173,8 @@ impl<F: Finds, A: Allocator + Copy> Directory<F, A> {
         self.leave(id);
     }
 
-    // As `unsubscribe`; its clauses speak only of what is stored. While a plan stands, no letter is dropped from the text.
+    // As `unsubscribe`, for the proof: its clauses speak only of what is stored. Where there is no plan, letters that are only prepared
+    // are given up, and those that no subscription needs any more are dropped; else the text stays until the plan is committed.
     fn leave(&mut self, id: SubId)
         ensures after { self.new.standing ≡ kept_without id self.old.standing }
         ensures planned { self.new.planned ≡ kept_without id self.old.planned }
@@ -195,7 +199,7 @@ impl<F: Finds, A: Allocator + Copy> Directory<F, A> {
         self.stored_view(id)
     }
 
-    // As `list`; its clause speaks only of what is stored.
+    // As `list`, for the proof: its clause speaks only of what is stored.
     fn stored_view(&self, id: SubId) -> Option<SubView<'_>>
         ensures { option_map (λ v. (v.letters.now, v.state)) result ≡ view_of id self.now.standing }
     {
@@ -206,8 +210,8 @@ impl<F: Finds, A: Allocator + Copy> Directory<F, A> {
         })
     }
 
-    /// Sends one letter: each live subscription looks at it. Returns the hits, in rising serial. A plan that stood is forgotten.
-    /// Page `s6-ftrig-notify`. NoMemory where memory is refused: nothing has changed then, and a plan that stood still stands.
+    /// Sends one letter: each live subscription hears it. Returns the hits, in rising serial. An earlier plan is forgotten. Page
+    /// `s6-ftrig-notify`. NoMemory where memory is refused: nothing has changed then, and an earlier plan is still there.
     pub fn send(&mut self, letter: Letter) -> Result<Vec<(SubId, Hit), A>, NoMemory>
         ensures hits { IfOk result (λ hits. hits.items
             ≡ hits_from F.test letter self.old.standing) }
@@ -221,11 +225,12 @@ impl<F: Finds, A: Allocator + Copy> Directory<F, A> {
         ensures err { OnErr result
             ((self.new.standing ≡ self.old.standing) × (self.new.planned ≡ self.old.planned)) }
     {
+        // For the proof: with the `?` each outcome is a path of its own.
         let hits = self.hear(letter)?;
         Ok(hits)
     }
 
-    // As `send`; its clauses speak only of what is stored.
+    // As `send`, for the proof: its clauses speak only of what is stored.
     fn hear(&mut self, letter: Letter) -> Result<Vec<(SubId, Hit), A>, NoMemory>
         ensures hits { IfOk result (λ hits. hits.items
             ≡ hits_from F.test letter self.old.standing) }
@@ -252,7 +257,7 @@ impl<F: Finds, A: Allocator + Copy> Directory<F, A> {
         self.text.truncate(self.heard);
     }
 
-    // Prepares one more letter, and returns the hits that it will give. It is not kept where no subscription listens.
+    // Prepares one more letter, and returns the hits that it will give. The letter is not kept where no subscription listens.
     pub(crate) fn prepare_more(&mut self, letter: Letter) -> Result<Vec<(SubId, Hit), A>, NoMemory>
         ensures hits { IfOk result (λ hits. hits.items
             ≡ hits_from F.test letter self.old.prepared) }
@@ -271,8 +276,8 @@ impl<F: Finds, A: Allocator + Copy> Directory<F, A> {
         Ok(hits)
     }
 
-    /// Plans the letters of one step, and makes a place for one more subscription. Nothing is heard yet, and a plan that stood
-    /// before is forgotten. NoMemory where memory is refused: nothing has changed then, and a plan that stood still stands.
+    /// Plans the letters of one step, and makes a place for one more subscription. Nothing is heard yet, and an earlier plan is
+    /// forgotten. NoMemory where memory is refused: nothing has changed then, and an earlier plan is still there.
     pub fn prepare(&mut self, letters: &[Letter]) -> Result<LettersPlan<A>, NoMemory>
         ensures hits { IfOk result (λ plan. plan
             ≡ hits_from_letters F.test letters.now self.old.standing) }
@@ -286,11 +291,12 @@ impl<F: Finds, A: Allocator + Copy> Directory<F, A> {
         ensures same { self.new.standing ≡ self.old.standing }
         ensures still { OnErr result (self.new.planned ≡ self.old.planned) }
     {
+        // For the proof: with the `?` each outcome is a path of its own.
         let plan = self.prepare_stored(letters)?;
         Ok(plan)
     }
 
-    // As `prepare`; its clauses speak only of what is stored.
+    // As `prepare`, for the proof: its clauses speak only of what is stored.
     fn prepare_stored(&mut self, letters: &[Letter]) -> Result<LettersPlan<A>, NoMemory>
         ensures hits { IfOk result (λ plan. plan
             ≡ hits_from_letters F.test letters.now self.old.standing) }
@@ -307,7 +313,7 @@ impl<F: Finds, A: Allocator + Copy> Directory<F, A> {
         Ok(LettersPlan { hits })
     }
 
-    // What is prepared becomes the plan, with a copy of its letters.
+    // What is prepared becomes the plan, with a copy of its letters. These leave the text, whose memory keeps the room for them.
     fn stand_by(&mut self) -> Result<(), NoMemory>
         ensures planned { OnOk result (self.new.planned ≡ self.old.prepared) }
         ensures still { OnErr result (self.new.planned ≡ self.old.planned) }
@@ -322,8 +328,8 @@ impl<F: Finds, A: Allocator + Copy> Directory<F, A> {
         Ok(())
     }
 
-    /// Hears the letters of the plan that stands, and returns the hits of `plan`. Afterwards no plan stands, so that a second commit
-    /// hears nothing.
+    /// Hears the letters of the plan, if one is not committed yet, and returns the hits of `plan`. Afterwards there is none, so that a
+    /// second commit hears nothing.
     pub fn commit(&mut self, plan: LettersPlan<A>) -> Vec<Vec<(SubId, Hit), A>, A>
         ensures after { self.new.standing ≡ self.old.planned }
         ensures idle { self.new.planned ≡ self.new.standing }
@@ -334,7 +340,7 @@ impl<F: Finds, A: Allocator + Copy> Directory<F, A> {
         plan.hits
     }
 
-    // Hears what is planned, if a plan stands. Afterwards none does.
+    // Hears what is planned, if there is a plan that is not committed yet. Afterwards there is none.
     fn hear_planned(&mut self)
         ensures after { self.new.standing ≡ self.old.planned }
         ensures idle { self.new.planned ≡ self.new.standing }
@@ -349,7 +355,7 @@ impl<F: Finds, A: Allocator + Copy> Directory<F, A> {
         self.heard = forget(&mut self.text, &self.subscriptions);
     }
 
-    // Hears what is prepared. Afterwards no plan stands.
+    // Hears what is prepared. Afterwards there is no plan.
     pub(crate) fn hear_prepared(&mut self)
         ensures after { self.new.standing ≡ self.old.prepared }
         ensures idle { self.new.planned ≡ self.new.standing }
@@ -391,7 +397,7 @@ fn prepare_letters<F: Finds, A: Allocator + Copy>(
     Ok(hits)
 }
 
-// Drops the letters at which no live subscription looks, and returns how many are left.
+// Drops the first letters, which are in the text of no live subscription, and returns how many are left.
 fn forget<F: Finds, A: Allocator + Copy>(
     text: &mut Vec<Letter, A>,
     subscriptions: &[Subscription<F, A>],

@@ -25,10 +25,10 @@ pub enum DirectoryFault {
     /// No free directory has this name, or no subscription this serial.
     #[error("no such directory or subscription")]
     NoSuch = 1,
-    /// 256 free directories, or 256 subscriptions, stand already.
+    /// There are 256 free directories, or 256 subscriptions, already.
     #[error("256 stand")]
     TooMany = 2,
-    /// A free directory has this name.
+    /// There is a free directory of this name already.
     #[error("the directory exists")]
     Exists = 3,
 }

@@ -42,6 +42,7 @@ impl<A: Allocator> Model for SubscriptionImage<A> {
 #[derive(Drop)]
 pub struct SourceImage<A: Allocator> {
     pub source: Source,
+    /// Its subscriptions, in rising serial.
     pub standing: Vec<SubscriptionImage<A>, A>,
 }
 

@@ -1,4 +1,4 @@
-//! Event directories: which subscription hears which letter of a text, and what it has heard.
+//! Event directories and their subscriptions: a subscription hears a letter when its pattern is sought in the text that ends with it.
 #![tactic(auto)]
 
 mod directories;

@@ -70,6 +70,7 @@ pub fn hear<F: Finds, A: Allocator + Copy>(
             let hits = listened[place].prepare_more(letter)?;
             matches.extend_from_slice(&hits)?;
         }
+        // Nobody has subscribed to this source.
         None => {}
     }
     Ok(())
@@ -112,6 +113,7 @@ pub fn take_in_at<F: Finds, A: Allocator + Copy>(
 {
     match place_in(listened, source) {
         Some(place) => listened[place].take_in(id, pattern, repeats),
+        // `reserve_at` found this directory when the place was made, and it stays while it has a subscription.
         None => unreachable!(),
     }
 }

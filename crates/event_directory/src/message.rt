@@ -38,6 +38,7 @@ impl Message {
         }
         let mut kept = ArrayVec::new();
         if kept.try_extend_from_slice(bytes).is_err() {
+            // The length was tested above, and there is room for 64.
             unreachable!()
         }
         Some(Message { bytes: kept })

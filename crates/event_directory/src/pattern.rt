@@ -24,7 +24,7 @@ pub const PATTERN_LIMITS: Limits = Limits {
 /// needs. A clause sees it as its text. Page `s6-ftrig-listen1`; s6 takes POSIX expressions.
 #[derive(Drop)]
 pub struct Pattern {
-    // Behind a pointer, since acts that may hold a pattern are moved about.
+    // In a box, since a matcher is large, and acts that may hold a pattern are moved about.
     matcher: Box<TextMatcher, Global>,
 }
 
@@ -90,7 +90,8 @@ fn fault_of(fault: BuildFault) -> PatternFault
     }
 }
 
-// The matcher hears these letters and no others. A text mostly grows by a letter, and those that it heard before it needn't hear again.
+// The matcher hears these letters and no others. Where they are those that it heard and some more, it hears only these more: a text
+// mostly grows by a letter.
 fn hear_all(matcher: &mut TextMatcher, letters: &[Letter]) -> Result<(), NoMemory>
     ensures heard { OnOk result (matcher.new.heard ≡ letters.now) }
     ensures source { matcher.new.source ≡ matcher.old.source }

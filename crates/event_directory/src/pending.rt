@@ -12,9 +12,9 @@ pub enum Pending<F: Finds, A: Allocator> {
     Nothing,
     /// The free directory of this name is made.
     Make(Name),
-    /// A subscription to this source is made; the source has a directory already.
+    /// A subscription to this source is made; its event directory is there already, since others listen to it.
     Join(Source),
-    /// A subscription is made to a source that has no directory yet: it gets this one.
+    /// A subscription is made to a source to which nobody listens yet: this becomes its event directory.
     Start(SourceDirectory<F, A>),
     /// The subscription of this serial, which is to this source, ends.
     Unsubscribe(SubId, Source),

@@ -94,7 +94,7 @@ fn unsubscribe_refusal(subscribers: &[(SubId, Source)], id: SubId) -> Option<Dir
     }
 }
 
-/// Why a change is refused, where these free directories and these subscribers stand; None where it is not.
+/// Why a change is refused, where these are all free directories and all subscriptions; None where it is not refused.
 pub fn refusal(
     names: &[Name],
     subscribers: &[(SubId, Source)],

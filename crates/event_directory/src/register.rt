@@ -23,14 +23,14 @@ use s6_events::{Moment, Name, NoMemory, SubId};
 use std::alloc::Allocator;
 use std::marker::Model;
 
-/// The free directories and the subscriptions, as they are and as they are being prepared.
+/// The free directories and the subscriptions: as they are, and as they will be once the letters that are prepared are heard.
 #[derive(Drop)]
 pub struct Register<F: Finds, A: Allocator> {
     // The names of the free directories, in the order in which they were made.
     names: Vec<Name, A>,
     // The serial and the source of each subscription, in rising serial.
     subscribers: Vec<(SubId, Source), A>,
-    // The directory of each source that has a subscription.
+    // The event directory of each source that has a subscription; another source has none.
     listened: Vec<SourceDirectory<F, A>, A>,
     // The serial of the next subscription.
     next: u64,

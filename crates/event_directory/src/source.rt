@@ -9,9 +9,9 @@ use s6_events::{Name, Sid};
 /// same name.
 #[derive(Clone, Copy, PartialEq, Eq, Debug)]
 pub enum Source {
-    /// What the supervisors of the service of this serial tell.
+    /// The marks of the service of this serial, as letters.
     Service(Sid),
-    /// What is sent to the free directory of this name.
+    /// The letters that are sent to the free directory of this name.
     Directory(Name),
 }
 

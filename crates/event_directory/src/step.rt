@@ -15,7 +15,8 @@ use crate::register::Register;
 use s6_events::{Moment, NoMemory, SubId};
 use std::alloc::Allocator;
 
-// Prepares the end of the subscription of this serial.
+// Prepares the end of the subscription of this serial. Without such a subscription nothing is left to do; `refusal` has refused that
+// before.
 fn prepare_leave<F: Finds, A: Allocator + Copy>(
     register: &Register<F, A>,
     id: SubId,
@@ -116,7 +117,7 @@ fn hear_step<F: Finds, A: Allocator + Copy>(
     register.hear_moments(moments, matches)
 }
 
-/// Makes the change of a prepared step.
+/// Makes the change of a prepared step. `offered` is the pattern for a new subscription, and whether it repeats; without it none is made.
 pub fn finish_step<F: Finds, A: Allocator + Copy>(
     register: &mut Register<F, A>,
     pending: Pending<F, A>,

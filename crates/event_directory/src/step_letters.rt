@@ -32,6 +32,7 @@ fn hear_moment<F: Finds, A: Allocator + Copy>(
         ++ hits_of_moment F.test moment (map followed_after listened.old)) }
 {
     match moment {
+        // A clock reading is no letter.
         Moment::Clock(_) => Ok(()),
         Moment::Event(sid, mark) => hear(listened, Source::Service(sid), mark.letter(), matches),
     }
@@ -77,6 +78,7 @@ fn hear_byte<F: Finds, A: Allocator + Copy>(
 {
     match Letter::new(byte) {
         Some(letter) => hear(listened, Source::Directory(name), letter, matches),
+        // A message has no byte that is not a letter.
         None => unreachable!(),
     }
 }

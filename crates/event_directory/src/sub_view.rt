@@ -1,12 +1,12 @@
 //! What is seen of a subscription: its letters and its state.
 use s6_events::Letter;
 
-/// Whether a subscription still listens. It stands until it is unsubscribed, whatever its state.
+/// Whether a subscription still listens. It is there until it is unsubscribed, whatever its state.
 #[derive(Clone, Copy, PartialEq, Eq, Debug)]
 pub enum State {
     /// It looks at the next letter.
     Live,
-    /// It was to match once, and has.
+    /// It was made for one match, and has had it.
     Done,
     /// Its text grew past 1,024 letters without a match.
     Overlong,

@@ -12,7 +12,8 @@ use s6_events::{Letter, NoMemory, SubId};
 use std::alloc::Allocator;
 use std::marker::Model;
 
-/// What a subscription will have heard once certain letters are heard that are not heard yet.
+/// What a subscription will have heard once certain letters are heard that are not heard yet. The three fields mean what those of
+/// `Subscription` do.
 #[derive(Drop)]
 pub struct Draft<A: Allocator> {
     // The letters at which its texts will match, after those that it has heard.
@@ -49,9 +50,11 @@ pub struct Subscription<F: Finds, A: Allocator> {
     // The letters at which its texts matched. There is room behind them for those of each draft.
     letters: Vec<Letter, A>,
     state: State,
-    // How far from the end of its directory's text its own begins: the letters since its last match, while it is live.
+    // How many letters from the end of its directory's text its own text begins, while it is live: those since its last match.
     offset: usize,
+    // As it will be after the letters that are being prepared.
     prepared: Draft<A>,
+    // As it will be after the letters of a plan that is not committed yet.
     planned: Draft<A>,
 }
 
@@ -195,12 +198,14 @@ impl<F: Finds, A: Allocator + Copy> Subscription<F, A> {
         if self.prepared.state != State::Live {
             return Ok(None);
         }
+        // This letter would be the 1,025th of its text.
         if self.prepared.offset >= TEXT_LIMIT {
             self.prepared.state = State::Overlong;
             self.prepared.offset = 0;
             return Ok(Some(Hit::Overlong));
         }
         let offset = self.prepared.offset + 1;
+        // Its own text is the end of `text`: the letters since its last match, this one included.
         if !self.pattern.finds(&text[text.len() - offset..])? {
             self.prepared.offset = offset;
             return Ok(None);
@@ -214,7 +219,7 @@ impl<F: Finds, A: Allocator + Copy> Subscription<F, A> {
         Ok(Some(Hit::Matched(letter)))
     }
 
-    /// Exchanges what is prepared and what is planned.
+    /// Exchanges the two drafts: what is prepared becomes planned, and what is planned prepared.
     pub fn exchange(&mut self)
         ensures same { self.new.standing ≡ self.old.standing }
         ensures prepared { self.new.prepared ≡ self.old.planned }
@@ -232,6 +237,7 @@ impl<F: Finds, A: Allocator + Copy> Subscription<F, A> {
         self.planned.letters.clear();
         match self.letters.append(&mut self.prepared.letters) {
             Ok(()) => {}
+            // `prepare_hit` made room in `letters` for those of the draft.
             Err(_) => unreachable!(),
         }
         self.state = self.prepared.state;

@@ -1,5 +1,4 @@
-//! The first two arguments of the program `finish`, which say how `run` ended. The third, the name, is added in `commands.rt` of
-//! child_runner.
+//! The first two arguments of the program `finish`, which say how `run` ended; `order_commands.rt` of child_runner adds the name.
 ghost use Rattle.std.specs.Prelude.{◌≡◌};
 ghost use Rattle.finish_core.specs.FinishArguments.{finish_arguments};
 

@@ -79,8 +79,8 @@ impl<C: Channels> Drain<C> {
         }
     }
 
-    /// Takes out the oldest submission as `take_next` does, and puts it into `held`, where it is moved no more. Whether the ring had one;
-    /// where it had none, `held` is as it was.
+    /// Takes out the oldest submission as `take_next` does, and puts it straight into `held`, so that it is moved only once. Returns whether
+    /// the ring had one; where it had none, `held` is as it was.
     pub fn take_into(&mut self, held: &mut Option<Input<Global>>) -> bool
         ensures actor { self.new.actor ≡ self.old.actor }
         ensures held { IsTrue result → IsSome held.new }
@@ -106,7 +106,7 @@ impl<C: Channels> Drain<C> {
         true
     }
 
-    /// Whether all that the seat of the same actor ever submitted was taken out; None where the ring didn't tell what that is.
+    /// Whether all that the seat of the same actor ever submitted was taken out; None where its ring told nothing when the seat ended (`Finished`).
     pub fn is_drained(&mut self, finished: &mut Finished<C>) -> Option<bool>
         requires { finished.old.actor ≡ self.old.actor }
         ensures actor { self.new.actor ≡ self.old.actor }

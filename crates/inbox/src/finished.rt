@@ -13,7 +13,7 @@ use std::marker::{Model, PhantomData};
 #[derive(Drop)]
 pub struct Finished<C: Channels> {
     actor: Actor,
-    // Its end of the ring, which tells all that was submitted; None where the other end was gone.
+    // The seat's end of the ring, which tells all that was submitted; None where the drain was dropped before the seat ended.
     pub(crate) ring: Option<rtrb::Finished<Submission>>,
     channels: PhantomData<C>,
 }

@@ -86,6 +86,7 @@ pub fn open_rings(alloc: Global, actors: u8) -> Result<Vec<Ring>, NoMemory>
 {
     let mut rings = Vec::new(alloc);
     for number in 0..actors {
+        // The number is below 16, as that of each actor is.
         let Some(actor) = Actor::new(number) else {
             unreachable!()
         };
@@ -111,6 +112,7 @@ pub struct Full;
 #[derive(Drop)]
 pub struct Seat<C: Channels> {
     actor: Actor,
+    // How many submissions were handed in so far.
     count: u64,
     producer: Producer<Submission>,
     // Names the run: a seat of another run has another type.

@@ -15,6 +15,7 @@ pub const STACK_SIZE: usize = 256 * 1024;
 pub fn serve<W: Answers + Sync, R: Threads + Wait + Clock + Sync>(rt: &R, server: &Server<W>) {
     thread::scope(thread::scope_env(), rt, |scope| {
         if !start_last(scope, rt, server) {
+            // Without both threads, nobody gets the last seat.
             server.last_seat_reader.end(rt);
         }
         accept_all(scope, rt, server);
@@ -36,6 +37,7 @@ fn start_last<'s, E, W: Answers + Sync, R: Threads + Wait + Clock + Sync>(
         .spawn_scoped(scope, move || read_last(rt, server))
         .is_ok();
     if !reads {
+        // The thread that writes is ended by the one that reads, which isn't there.
         server.last_seat_writer.end(rt);
     }
     writes && reads
@@ -47,11 +49,13 @@ fn accept_all<'s, E, W: Answers + Sync, R: Threads + Wait + Clock + Sync>(
     rt: &'s R,
     server: &'s Server<W>,
 ) {
+    // The last answer of `wait_to_accept`: how often a seat had become free by then.
     let mut freed = 0;
     for stream in server.listener.incoming() {
         match stream {
             Ok(stream) => {
                 seat_one(scope, rt, server, stream);
+                // The spare descriptor may have been given up for this connection.
                 server.keep_spare(rt);
             }
             Err(error) => {
@@ -72,6 +76,7 @@ fn seat_one<'s, E, W: Answers + Sync, R: Threads + Wait + Clock + Sync>(
     stream: UnixStream,
 ) {
     let Ok(mailbox) = Arc::new(server.alloc, Mailbox::new(server.alloc, stream)) else {
+        // Without memory for its mailbox, the connection is closed without a word.
         return;
     };
     if is_seated(scope, rt, server, &mailbox) {

@@ -23,6 +23,7 @@ pub fn converse_at<W: Answers + Sync, R: Threads + Wait + Clock + Sync>(
     seat: usize,
 ) {
     let Some(mailbox) = server.mailbox(rt, seat) else {
+        // There is none, or it can't be shared with this thread for want of memory.
         server.free_seat(rt, seat);
         return;
     };
@@ -93,6 +94,7 @@ pub fn read_last<W: Answers, R: Wait + Clock>(rt: &R, server: &Server<W>) {
 
 // Serves the connection on the last seat to its end: reads and answers its lines, while the seat's other thread writes what is posted.
 fn converse_last<W: Answers, R: Wait + Clock>(rt: &R, server: &Server<W>, mailbox: &Arc<Mailbox>) {
+    // This handle is for the thread that writes.
     let Ok(own) = mailbox.clone() else {
         return;
     };
@@ -124,6 +126,7 @@ fn write_all<R: Wait>(rt: &R, alloc: Global, mailbox: &Mailbox) {
             break;
         }
         if mailbox.stream().write_all(text.as_slice()).is_err() {
+            // So that the thread that reads ends too.
             mailbox.end(rt);
             break;
         }
@@ -156,6 +159,7 @@ fn read_some(mut stream: &UnixStream, buffer: &mut LineBuffer<Global>) -> bool {
     match stream.read(&mut bytes) {
         Ok(0) => false,
         Ok(count) => buffer.add(&bytes[..count]).is_ok(),
+        // After an interrupt nothing was read, and it is tried again.
         Err(error) => error.kind() == ErrorKind::Interrupted,
     }
 }
@@ -185,6 +189,7 @@ fn answer_lines<W: Answers, R: Wait + Clock>(
                 server.answers.refuse_long_line(rt, seat, mailbox);
                 next = Next::Close;
             }
+            // Memory for the line was refused.
             Err(_) => next = Next::Close,
         }
         if next == Next::Close {

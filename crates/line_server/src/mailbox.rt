@@ -12,6 +12,7 @@ use std::sync::{Condvar, Mutex, Wait};
 pub struct Mailbox {
     stream: UnixStream,
     outbox: Mutex<Outbox<Global>>,
+    // Notified when a text is posted, and when nothing more will be.
     changed: Condvar,
 }
 
@@ -53,7 +54,7 @@ impl Mailbox {
         self.changed.notify_all();
     }
 
-    /// Nothing more is posted. What was posted is still written.
+    /// Closes the mailbox: from now on nothing more is posted. What was posted is still written.
     pub fn close<R: Wait>(&self, rt: &R) {
         self.outbox.lock(rt).close();
         self.changed.notify_all();

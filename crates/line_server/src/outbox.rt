@@ -34,7 +34,7 @@ impl PostFault {
     }
 }
 
-// By hand, since `?` from a derive does not say which fault it makes.
+// Written by hand: of a `From` that a derive makes, no contract says which fault `?` gives.
 impl From<AllocError> for PostFault {
     ghost use Rattle.std.specs.Prelude.{◌≡◌};
     ghost use Rattle.line_server.specs.declared.outbox.PostFault.TheVariants.{NoMemory};
@@ -103,7 +103,7 @@ impl<A: Allocator + Copy> Outbox<A> {
         std::mem::swap(&mut self.bytes, text);
     }
 
-    /// Nothing more is posted; what waits may still be taken.
+    /// Closes the outbox: from now on nothing more is posted. What waits may still be taken.
     pub fn close(&mut self)
         ensures { self.new ≡ record self.old { is_open = false } }
     {

@@ -1,4 +1,4 @@
-//! Who is connected: a seat for each connection.
+//! Who is connected: a connection has one of 11 seats, and is known by the number of its seat, from 0.
 use crate::mailbox::Mailbox;
 use crate::silence::{SeatUse, first_silent};
 use std::alloc::{AllocError, Global};
@@ -17,7 +17,8 @@ struct Sitting {
     doing: SeatUse,
 }
 
-// What the connection of a seat does. One that is kept counts as needed, and so does a free seat: neither gives way.
+// What the connection of a seat does. One that is kept though it says nothing (`Answers::keeps`) counts as needed, and so does a free seat:
+// neither gives way.
 fn use_of(sitting: &Option<Sitting>, is_kept: bool) -> SeatUse {
     match sitting {
         Some(sitting) if !is_kept => sitting.doing,
@@ -29,6 +30,7 @@ fn use_of(sitting: &Option<Sitting>, is_kept: bool) -> SeatUse {
 #[derive(Drop)]
 pub struct Seats {
     sittings: Vec<Option<Sitting>>,
+    // How often a seat became free, modulo 2^64.
     freed: u64,
     is_ending: bool,
 }

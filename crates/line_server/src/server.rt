@@ -15,7 +15,7 @@ use std::time::{Clock, Duration};
 /// connection ends before.
 const ACCEPT_WAIT: u64 = 100;
 
-/// How long a connection that knocks waits at most for a seat that will be free, in milliseconds.
+/// How long a new connection waits at most for a seat that will be free, in milliseconds.
 const KNOCK_WAIT: u64 = 100;
 
 /// What happens to a connection after a line was answered.
@@ -56,8 +56,8 @@ pub fn millis_of<R: Clock>(rt: &R) -> u64 {
     }
 }
 
-/// A server of lines, for at most 11 connections at one time. A further one is sent `busy` and a newline, and closed. But where one of the
-/// 11 has said nothing for two seconds, and waits for nothing, that one is closed, and its seat goes to the one that knocks.
+/// A server of lines, for at most 11 connections at one time. A further one is sent `busy` and a newline, and closed. But where one of the 11
+/// has said nothing for two seconds, and waits for nothing, that one is closed, and its seat goes to the new one.
 ///
 /// The threads of the last seat run from the start, and one descriptor is kept in reserve. So where the system has no thread or no
 /// descriptor for a connection, one can still come.
@@ -90,6 +90,7 @@ impl<W: Answers> Server<W> {
     where
         W: Drop,
     {
+        // As a stream, so that `end` can shut it down: then `accept` returns.
         let waker = UnixStream::from(OwnedFd::from(listener.try_clone()?));
         let spare = listener.try_clone()?;
         Ok(Server {
@@ -137,6 +138,7 @@ impl<W: Answers> Server<W> {
         rt: &R,
         mailbox: &Arc<Mailbox>,
     ) -> Result<bool, AllocError> {
+        // `own` is the handle of the seat, and `read` that of the thread that reads.
         let (own, read) = (mailbox.clone()?, mailbox.clone()?);
         if !self.seats.lock(rt).take_last(own, millis_of(rt)) {
             return Ok(false);
@@ -201,7 +203,9 @@ impl<W: Answers> Server<W> {
         freed: u64,
     ) -> Option<u64> {
         let millis = match error.kind() {
+            // The system lacks nothing: the next connection is accepted at once.
             ErrorKind::ConnectionAborted | ErrorKind::Interrupted => 0,
+            // A descriptor is free now, so it is tried again at once.
             _ if self.give_up_spare(rt) => 0,
             _ => {
                 self.end_silent(rt);

@@ -1,8 +1,8 @@
-//! Which connection gives its seat to one that knocks.
+//! Which connection gives its seat to a new one.
 ghost use Rattle.std.specs.Prelude.{◌≡◌, All, IfSome, IfNone, Some, true, false, option_map, slice_get};
 ghost use Rattle.line_server.specs.Silence.{gives_way};
 
-/// After this long without a line, in milliseconds, a connection may lose its seat to another one that knocks.
+/// After this long without a line, in milliseconds, a connection may lose its seat to a new one.
 pub const SILENCE_LIMIT: u64 = 2_000;
 
 /// What the connection of a seat does.

@@ -1,6 +1,7 @@
 //! Where a thread gets one thing after another to work on.
 use std::sync::{Condvar, Mutex, Wait};
 
+// What was given and not taken yet, whether the thread works on what it took, and whether the desk was ended.
 #[derive(Drop)]
 struct Work<T> {
     given: Option<T>,
@@ -55,7 +56,7 @@ impl<T: Drop> WorkDesk<T> {
         self.changed.notify_all();
     }
 
-    /// Waits until all that was given is done.
+    /// Waits until all that was given is done; after the end of the desk, only until what the thread has taken is done.
     pub fn await_done<R: Wait>(&self, rt: &R) {
         let _work = self.changed.wait_while(rt, self.work.lock(rt), |work| {
             work.is_under_way || (work.given.is_some() && !work.is_over)

@@ -6,8 +6,8 @@ use s6_events::NoMemory;
 use std::alloc::Global;
 use tree_core::{Effect, Image, Tree};
 
-/// An effect that holds nothing. `NoMemory` where memory is refused. It stands apart: inlined, its list of 768 orders would lie on the
-/// stack of whoever calls it, for as long as that call takes.
+/// An effect that holds nothing. `NoMemory` where memory is refused. It is not inlined: else its list of 768 orders would lie on the stack of
+/// whoever calls it, for as long as that call takes.
 #[inline(never)]
 pub fn new_effect(alloc: Global) -> Result<Box<Effect<Global>>, NoMemory> {
     Ok(Box::new(alloc, Effect::new(alloc))?)

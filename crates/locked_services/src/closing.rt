@@ -1,4 +1,4 @@
-//! The end of a run.
+//! The end of a run. A finish is here what is left of a seat that has ended (`inbox::Finished`), and not the finish script of a service.
 ghost use Rattle.std.specs.Prelude.{◌≡◌, ◌<◌, ◌⊎◌, ℕ, length, Some, true, false, IfNone, IfSome, IsSome};
 ghost use Rattle.locked_services.specs.Submissions.{AreNumbered, taken_from};
 ghost use Rattle.locked_services.specs.Closing.{AreComplete, AreKnown, AreSameDrains, AreTaken, AreTold, IsInputLeft, finishes_of};

@@ -7,7 +7,7 @@ use inbox::Drain;
 use std::alloc::Global;
 use tree_core::Input;
 
-/// Takes the oldest submission of the first ring that gives one, and puts it into `held`, where no input is held. Whether a ring gave one.
+/// Takes the oldest submission of the first ring that gives one, and puts it into `held`, which is None before. Returns whether a ring gave one.
 pub fn take_next<C: Channels>(drains: &mut Vec<Drain<C>>, held: &mut Option<Input<Global>>) -> bool
     requires numbered { AreNumbered drains.old.items }
     requires free { held.old ≡ None }

@@ -57,6 +57,7 @@ fn keep<N: Whole, C: Channels + Lanes, R: Wait>(
     requires longer { IsPrefix history.old (inputs_of running.now.steps) }
     ensures { history.new ≡ inputs_of running.now.steps }
 {
+    // For the proof: its clause `sound` says what holds of the steps.
     let _steps = running.steps();
     history.extend::<N, R>(rt);
 }
@@ -245,7 +246,7 @@ impl<C: Channels + Lanes, D: Board<C>> Room<C, D> {
         self.running.steps()
     }
 
-    // Makes at most `most` steps.
+    // Makes at most `most` steps, and returns how many it made and why it ended.
     fn step_many<R: Wait>(&mut self, rt: &R, most: u64) -> Driven
         ensures opening { self.new.running.opening ≡ self.old.running.opening }
         ensures shots { self.new.shots ≡ self.old.shots }
@@ -314,7 +315,7 @@ impl<C: Channels + Lanes, D: Board<C>> Room<C, D> {
         self.is_shown
     }
 
-    /// Whether the tree has ended: it is closing, and the supervisor of each service that stands has ended.
+    /// Whether the tree has ended: it is closing, and the supervisor of each service in the tree has ended.
     pub fn ended(&self) -> bool
         ensures { (m : Machine) → StandsFor self.now.running.opening m
             → result ≡ has_ended (end_of m self.now.running.steps) }

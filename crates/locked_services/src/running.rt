@@ -164,6 +164,7 @@ impl<C: Channels + Lanes> RunningTree<C> {
         let Some(input) = &mut self.held else {
             unreachable!()
         };
+        // Room for the step is made first: nothing may be refused once the tree has made it.
         self.run.reserve(kept.actor())?;
         let effect = &mut *self.effect;
         self.tree.apply_in_place(input, effect)?;
@@ -175,7 +176,7 @@ impl<C: Channels + Lanes> RunningTree<C> {
         Ok(())
     }
 
-    // Makes the step of the input that is held, of any kind. It stands apart, since most inputs are ticks and reports.
+    // Makes the step of the input that is held, of any kind. It is not inlined, since most inputs are ticks and reports.
     #[inline(never)]
     fn make_any(&mut self) -> Result<(), NoMemory>
         requires held { IsSome self.old.held }
@@ -252,7 +253,7 @@ impl<C: Channels + Lanes> RunningTree<C> {
         }
     }
 
-    /// Makes at most `most` steps.
+    /// Makes at most `most` steps, and returns how many it made and why it ended.
     pub fn step_many(&mut self, most: u64) -> Driven
         ensures opening { self.new.opening ≡ self.old.opening }
         ensures steps { Grows result.steps self.old.steps self.new.steps }
@@ -291,8 +292,7 @@ impl<C: Channels + Lanes> RunningTree<C> {
         self.run.len()
     }
 
-    /// The present state, to be published: the rows of all services, and at how many steps of the tree they stood. `NoMemory` where memory is
-    /// refused.
+    /// The present state, to be published: the rows of all services, and how many steps the tree has made. `NoMemory` where memory is refused.
     pub fn rows(&self) -> Result<StandingRows<Global>, NoMemory>
         ensures begins { (m : Machine) × StandsFor self.now.opening m }
         ensures rows { IfOk result (λ rows. (m : Machine) → StandsFor self.now.opening m →
@@ -420,7 +420,7 @@ impl<C: Channels + Lanes> RunningTree<C> {
         (tree, run)
     }
 
-    /// Whether the tree has ended: it is closing, and the supervisor of each service that stands has ended.
+    /// Whether the tree has ended: it is closing, and the supervisor of each service in the tree has ended.
     pub fn ended(&self) -> bool
         ensures { (m : Machine) → StandsFor self.now.opening m
             → result ≡ has_ended (end_of m self.now.steps) }

@@ -5,8 +5,8 @@ ghost use Rattle.order_lanes.specs.declared.desk.Carried.TheVariants.{Asked, Idl
 use order_lanes::{Backend, Carried, Desk, Lanes};
 use std::sync::{Mutex, Wait};
 
-/// Asks the desk's backend one order after another, at most `most`, until none is left or the backend hands one back. Returns what the last
-/// `carry_one` did.
+/// Asks the desk's backend one order after another, at most `most`, which is 1 or more, until none is left or the backend hands one back.
+/// Returns what the last `carry_one` did.
 pub fn carry_many<B: Backend, L: Lanes>(desk: &mut Desk<B, L>, most: u64) -> Carried
     requires { 1 ≤ most }
     ensures rest { (desk.new.lane ≡ desk.old.lane) × (desk.new.given ≡ desk.old.given) }

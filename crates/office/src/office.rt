@@ -263,7 +263,7 @@ impl<C: Channels + Lanes, D: Board<C>, B: Backend> Office<C, D, B> {
         room.write_run(head, writer)
     }
 
-    /// Whether the tree has ended: it is closing, and the supervisor of each service that stands has ended.
+    /// Whether the tree has ended: it is closing, and the supervisor of each service in the tree has ended.
     pub fn ended<W: Wait>(&self, rt: &W, known: &mut KnownHistory<C>) -> bool
         ensures longer { IsPrefix known.old known.new }
         ensures told { IsTold C.opening known.new (λ v. (m : Machine)

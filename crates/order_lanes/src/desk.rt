@@ -127,6 +127,7 @@ impl<B: Backend, L: Lanes> Desk<B, L> {
                 self.held = None;
                 Carried::Asked
             }
+            // The order that comes back is a copy of the one that is held.
             Err((_, fault)) => Carried::Refused(fault),
         }
     }

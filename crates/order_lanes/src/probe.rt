@@ -15,9 +15,13 @@ pub struct Probe<R> {
     rt: R,
     // The reports that are still to be given, the next one last.
     waiting: Vec<Report>,
+    // How often it still answers `Busy`.
     busy: u32,
+    // What it was asked.
     asked: Vec<Order>,
+    // What it gave, for contracts alone: a snapshot has no bytes.
     given: Vec<Snapshot<Report>>,
+    // What it was asked, for the test to read.
     log: Arc<Mutex<Vec<Order>>, Global>,
 }
 
@@ -89,6 +93,7 @@ impl<R: Wait + Drop> Backend for Probe<R> {
     /// The first report that waits and whose start was asked. Those before it, whose start wasn't asked, are dropped.
     fn report(&mut self) -> Option<Report> {
         for _ in 0..self.waiting.len() {
+            // Where memory is refused, no report is given, and the next one still waits.
             self.given.reserve(1).ok()?;
             let report = self.waiting.pop()?;
             if is_of_asked(self.asked.as_slice(), &report) {

@@ -35,7 +35,7 @@ pub fn act_of(report: &Report) -> Act<Global>
     }
 }
 
-// Whether the report is of `run` of this service and generation.
+// Whether the report may be of `run` of this service and generation. That of a failed start may be of `run` or of `finish`.
 fn is_of_run(service: Sid, number: u64, report: &Report) -> bool
     ensures { result ≡ is_of_run service number report.now }
 {
@@ -48,7 +48,7 @@ fn is_of_run(service: Sid, number: u64, report: &Report) -> bool
     }
 }
 
-// Whether the report is of `finish` of this service and generation.
+// Whether the report may be of `finish` of this service and generation. That of a failed start may be of `run` or of `finish`.
 fn is_of_finish(service: Sid, number: u64, report: &Report) -> bool
     ensures { result ≡ is_of_finish service number report.now }
 {

@@ -41,6 +41,7 @@ enum Asked {
 // Whether the command line has a word at this place; the program's name is at 0.
 fn has_word(env: &impl Env, place: usize) -> bool {
     let mut word = [0; LONGEST_WORD];
+    // A word that is longer than the array is there too: its error is `TooLong`.
     !matches!(env.arg(place, &mut word), Err(FillError::NotPresent))
 }
 
@@ -49,6 +50,7 @@ fn is_word(env: &impl Env, place: usize, text: &[u8]) -> bool {
     let mut word = [0; LONGEST_WORD];
     match env.arg(place, &mut word) {
         Ok(count) => &word[..count] == text,
+        // No word is there, or one that is longer than any known one.
         Err(_) => false,
     }
 }
@@ -64,6 +66,7 @@ fn day_at(env: &impl Env, place: usize) -> Option<u64> {
 
 // What the command line asks for, where words follow `replay --story`.
 fn asked_of_story(env: &impl Env) -> Asked {
+    // Behind `--story` only `--since TIME` may come.
     if !is_word(env, 3, b"--since") || has_word(env, 5) {
         return Asked::ReplayUsage;
     }

@@ -252,6 +252,7 @@ impl<C: Lanes> WholeHistory<C> {
         let fresh = self.cell.split_pass::<AllSoFar>(&mut self.pass);
         let all = KnownHistory::over(fresh);
         let pass = mem::replace(known, all).into_pass();
+        // The old pass goes back. For the proof: the read shows that its claim was a beginning of all inputs.
         self.cell.join_pass::<AllSoFar>(&mut self.pass, pass);
         self.cell.load_as::<Checks, R>(rt, &mut self.pass);
     }

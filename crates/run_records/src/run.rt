@@ -21,8 +21,8 @@ const ACTORS: usize = 16;
 /// The most steps of a run.
 pub const RUN_LIMIT: usize = 262_144;
 
-/// The room of a new run. Each block has more than 32 MiB: such a block the C library takes from the system by itself, whatever was given
-/// back before, and gives it back when the run is dropped. A page of a block uses memory only once it is written.
+/// The room of a new run. Each block has more than 32 MiB, so the C library always takes it from the system by itself, and gives it back to
+/// the system when the run is dropped. A page of a block uses memory only once it is written.
 const ROOM: LogRoom = LogRoom {
     starts: 8_388_608,
     bytes: 67_108_864,

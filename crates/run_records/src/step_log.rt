@@ -44,6 +44,7 @@ pub enum Stored<'a> {
 /// was refused. Contracts see each step as its input and all that it gave.
 #[derive(Drop)]
 pub struct StepLog {
+    // The codes of steps, one behind the other.
     codes: Vec<u8>,
     // Where each step is kept, oldest first.
     starts: Vec<Start>,
@@ -95,7 +96,7 @@ impl StepLog {
         self.whole.reserve()
     }
 
-    // Adds the code of a step, if it has one and there is memory for it. Whether it was added.
+    // Adds the code of a step, if it has one and there is memory for it. Returns whether it was added.
     #[inline(always)]
     fn push_code<I: KeptInput>(&mut self, input: &I, effect: &Effect<Global>) -> bool
         requires { 1 ≤ self.old.room }
@@ -105,6 +106,7 @@ impl StepLog {
     {
         let start = self.codes.len();
         if start > u32::MAX as usize {
+            // A start has 32 bits: a step whose code would begin further on is kept whole.
             return false;
         }
         self.scratch.clear();
@@ -136,7 +138,7 @@ impl StepLog {
         }
     }
 
-    // Adds a step as it is, for which there is room. It stands apart, since most steps have a code.
+    // Adds a step as it is, for which there is room. It is not inlined, since most steps have a code.
     #[inline(never)]
     fn push_whole(&mut self, input: PlainInput<Global>, effect: &mut Effect<Global>)
         requires room { LogHasRoom self.old }

@@ -5,7 +5,7 @@ use s6_events::NoMemory;
 use std::alloc::Global;
 use std::marker::Model;
 
-/// The room that a list takes with its first step: a block of more than 32 MiB, as those of the log.
+/// The room that a list takes with its first step: a block of more than 32 MiB, as those of the log (`ROOM` in `run.rt`).
 const FIRST_ROOM: usize = 4_194_305;
 
 /// The places of one actor's steps in a run, oldest first.
@@ -43,6 +43,7 @@ impl StepPlaces {
                 return Ok(());
             }
         }
+        // Where so much is refused, room for one step will do.
         self.list.reserve(1)?;
         Ok(())
     }

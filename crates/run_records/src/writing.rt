@@ -24,7 +24,7 @@ pub enum RunFault {
     /// The writer answered an error, or took no byte. The beginning was written, which may end anywhere.
     #[error("the run was not written")]
     Write,
-    /// A growth was refused. The steps before were written.
+    /// Memory was refused. The steps before were written.
     #[error("out of memory")]
     NoMemory,
     /// The input of the step of this number, from 1, has no spelling, or one that is too long for an input line. The steps before were
@@ -134,6 +134,7 @@ fn write_step<W: Write>(
     match spell_step(alloc, text, input, reply) {
         Ok(()) => {}
         Err(SpellFault::Unspelt) => return Err(RunFault::Unspelt(number)),
+        // It is `NoMemory`: `Write` never comes from `spell_step`.
         Err(_) => return Err(RunFault::NoMemory),
     }
     match write_whole(writer, text.as_slice()) {

@@ -148,6 +148,7 @@ fn write_mark<W: Write>(
     at: At,
 ) -> io::Result<()> {
     let x = layout.left.saturating_add(scale.place(at) / 10);
+    // The line goes from the top of the lanes to 6 pixels below the axis.
     let height = layout.axis.saturating_sub(TOP).saturating_add(6);
     let y = layout.axis.saturating_add(20);
     write!(
@@ -227,7 +228,7 @@ fn write_shade<W: Write>(writer: &mut W, intervals: &[Interval], shade: Shade) -
     writer.write_all(b"\"/>\n")
 }
 
-/// Writes a lane: its name at the left, and its intervals.
+/// Writes a lane: its name at the left, and its intervals. `place` is its number from the top, from 0.
 pub fn write_lane<W: Write>(
     writer: &mut W,
     layout: Layout,
@@ -244,6 +245,7 @@ pub fn write_lane<W: Write>(
         "<g class=\"lane\" transform=\"translate({left} {middle})\">\n"
     )?;
     writer.write_all(b"<text x=\"-8\" y=\"4\" text-anchor=\"end\">")?;
+    // A name has no byte that XML escapes.
     writer.write_all(name.as_bytes())?;
     writer.write_all(b"</text>\n")?;
     for shade in SHADES {

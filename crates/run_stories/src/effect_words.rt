@@ -83,7 +83,7 @@ fn push_process<A: Allocator>(text: &mut Vec<u8, A>, pid: u32) -> Result<(), All
     push_number(text, u64::from(pid))
 }
 
-// Adds the words of a spawn.
+// Adds the words of a spawn, with the process number where the step's act told it.
 fn push_spawned<A: Allocator>(text: &mut Vec<u8, A>, cause: Cause) -> Result<(), AllocError>
     ensures { OnOk result (text.new.items ≡ text.old.items ++ spawned_words cause) }
 {
@@ -96,7 +96,7 @@ fn push_spawned<A: Allocator>(text: &mut Vec<u8, A>, cause: Cause) -> Result<(),
     }
 }
 
-// Adds the words of a death.
+// Adds the words of a death, with how `run` ended where the step's act told it.
 fn push_died<A: Allocator>(text: &mut Vec<u8, A>, cause: Cause) -> Result<(), AllocError>
     ensures { OnOk result (text.new.items ≡ text.old.items ++ died_words cause) }
 {
@@ -109,7 +109,8 @@ fn push_died<A: Allocator>(text: &mut Vec<u8, A>, cause: Cause) -> Result<(), Al
     }
 }
 
-// Adds the words of a finish that is done.
+// Adds the words of a service that is down with its `finish` done: how `finish` ended where the step's act told it, or just `down`, as where
+// no `finish` ran.
 fn push_done<A: Allocator>(text: &mut Vec<u8, A>, cause: Cause) -> Result<(), AllocError>
     ensures { OnOk result (text.new.items ≡ text.old.items ++ done_words cause) }
 {
@@ -288,7 +289,7 @@ pub fn subscription_bytes() -> &'static [u8]
     b"subscription "
 }
 
-// Adds the words of a hit, and the end of its line.
+// Adds the end of a match's line: the letter at which the text matched, or that the subscription gave up since the text grew too long.
 fn push_hit<A: Allocator>(text: &mut Vec<u8, A>, hit: Hit) -> Result<(), AllocError>
     ensures { OnOk result (text.new.items ≡ text.old.items ++ hit_words hit) }
 {

@@ -19,6 +19,7 @@ pub struct Change {
 #[derive(Drop)]
 pub struct TimelineLane<A: Allocator> {
     pub name: Name,
+    // What its marks say of the service that has this name, or had it last.
     standing: Standing,
     pub changes: Vec<Change, A>,
 }
@@ -97,7 +98,8 @@ impl<A: Allocator + Copy> TimelineLanes<A> {
     }
 
     /// Notes what lanes show after a step: those of the services with an event in it, and that of `named`, if there is such a service.
-    /// Services are named by these rows. An error where memory is refused.
+    /// `named` is the service to which the step sent letters, which may change what its lane shows without an event. Services are named by
+    /// these rows. An error where memory is refused.
     pub fn note_step(
         &mut self,
         alloc: A,

@@ -128,7 +128,7 @@ fn push_name_line<A: Allocator>(
     text.extend_from_slice(words)
 }
 
-// Adds the line of a listed name.
+// Adds the line of a name that a scan found and that no service had before.
 fn push_listed<A: Allocator>(
     text: &mut Vec<u8, A>,
     now: At,
@@ -143,7 +143,7 @@ fn push_listed<A: Allocator>(
     }
 }
 
-// Adds a line for each listed name.
+// Adds a line for each name that a scan found and that no service had before.
 fn push_all_listed<A: Allocator>(
     text: &mut Vec<u8, A>,
     now: At,

@@ -45,6 +45,7 @@ impl Scale {
                 unit *= 10;
             }
         }
+        // Now the width stands for less than ten units.
         if whole <= unit.saturating_mul(2) {
             (unit / 5).max(1)
         } else if whole <= unit.saturating_mul(5) {

@@ -74,7 +74,8 @@ fn make_body<A: Allocator>(
     push_body(body, rows.as_slice(), act)
 }
 
-// Fills the text with the story of a step that the tree took. `told`, `head`, `body` and `cause` are those of its act.
+// Fills the text with the story of a step that the tree took. Of its act, `told` is whether it has a line of its own once it is done, `head`
+// what it is, `body` what it is about, and `cause` what it tells of a program.
 fn make_story<A: Allocator + Copy>(
     tree: &Tree<A>,
     rows: &mut ArrayVec<Row, SERVICE_LIMIT>,
@@ -94,6 +95,7 @@ fn make_story<A: Allocator + Copy>(
 {
     let now = tree.now();
     text.clear();
+    // Services that a scan dropped are named by the rows before it, and all others by those after it.
     push_reply_lines(
         text,
         now,
@@ -128,6 +130,7 @@ fn tell_step<A: Allocator + Copy>(
         effect,
         ..
     } = scratch;
+    // The act is read before the step, which takes it.
     let told = is_told(&input.act);
     let head = head_of(&input.act);
     let cause = cause_of(&input.act);

@@ -37,7 +37,7 @@ impl<A: Allocator + Copy> Watcher<A> {
     }
 }
 
-// The service to which a user sends letters; None for any other act.
+// The service to which a user sends letters by this act; None for any other act.
 fn lettered<A: Allocator>(act: &Act<A>) -> Option<Name> {
     match act {
         Act::Svc(name, _) => Some(*name),
@@ -162,6 +162,7 @@ fn draw_all<A: Allocator + Copy, W: Write>(
     let lanes = watcher.lanes.lanes.as_slice();
     let layout = Layout::of(lanes.len(), longest_name(lanes));
     let scale = Scale {
+        // Where there was no step, the picture shows one moment.
         first: watcher.first.unwrap_or(last),
         last,
     };

@@ -1,5 +1,4 @@
-//! The list of all moments, of which the first ones may be forgotten. How a mark changes the current letter of a service is in
-//! `current_letter.rt`.
+//! The history: all moments in order, of which the first ones may be forgotten.
 ghost use Rattle.std.specs.Prelude.{◌≡◌, ◌==◌, ◌+◌, ◌-◌, ◌^◌, ◌<◌, ◌≤◌, ◌++◌, ◌∷◌, [], length, drop, vec_len, vec_capacity, IsOk, IfOk, OnOk, OnErr, option_map};
 ghost use Rattle.s6_events.specs.History.{end_of, from_place, forgotten_by};
 
@@ -16,7 +15,7 @@ pub struct History<A: Allocator> {
     // How many of the first ones in `moments` are forgotten. They are dropped once they are at least half of `moments`.
     skipped: usize,
     moments: Vec<Moment, A>,
-    // The memory of the moments of the last step, for those of the next.
+    // The list of the plan that was committed last, kept so that the next step can use its memory.
     spare: Vec<Moment, A>,
 }
 
@@ -61,7 +60,7 @@ impl<A: Allocator + Copy> History<A> {
         }
     }
 
-    /// How many moments were pushed.
+    /// How many moments were pushed, those that are forgotten included.
     pub fn len(&self) -> u64
         ensures value { result ≡ end_of self.now }
         ensures bound { result < 2 ^ 63 }
@@ -69,7 +68,7 @@ impl<A: Allocator + Copy> History<A> {
         self.dropped + self.moments.len() as u64
     }
 
-    // How many are forgotten.
+    // How many moments are forgotten: the place of the first one that is not.
     fn start(&self) -> u64
         ensures value { result ≡ self.now.forgotten }
         ensures bound { result ≤ end_of self.now }
@@ -128,6 +127,7 @@ impl<A: Allocator + Copy> History<A> {
         let place = place.min(end);
         if place > start {
             self.skipped += (place - start) as usize;
+            // Only then, so that a drop never moves more moments to the front than it drops.
             if self.skipped * 2 >= self.moments.len() {
                 self.drop_skipped();
             }
@@ -141,7 +141,7 @@ impl<A: Allocator + Copy> History<A> {
         ensures room { self.old.spare_capacity ≤ self.new.spare_capacity }
     {
         let kept = self.moments.len() - self.skipped;
-        // Where nobody waits, a step forgets all of its moments.
+        // Where none is kept, as after a step while nobody waits, there is nothing to move.
         if kept > 0 {
             self.moments.rotate_left(self.skipped);
         }
@@ -150,7 +150,7 @@ impl<A: Allocator + Copy> History<A> {
         self.skipped = 0;
     }
 
-    /// A list for the moments of the next step, with none in it: it has the memory of those of the last step that was made.
+    /// An empty list for the moments of the next step. It has the memory of the list that was committed last.
     pub fn lend(&mut self) -> Vec<Moment, A>
         ensures none { result.items ≡ [] }
         ensures same { self.new ≡ self.old }
@@ -175,13 +175,14 @@ impl<A: Allocator + Copy> History<A> {
         Ok(HistoryPlan { moments })
     }
 
-    /// Pushes the moments of a plan. This history made the plan, and nothing was pushed since.
+    /// Pushes the moments of a plan. It has to be a plan of this history, and no moment may have been pushed since it was made.
     pub fn commit(&mut self, plan: HistoryPlan<A>)
         requires room { length plan ≤ self.old.spare_capacity }
         requires count { end_of self.old + length plan < 2 ^ 63 }
         ensures forgotten { self.new.forgotten ≡ self.old.forgotten }
         ensures kept { self.new.kept ≡ self.old.kept ++ plan }
     {
+        // `prepare` made the room, so that this asks for no memory.
         self.moments.extend_from_slice(&plan.moments).unwrap();
         self.spare = plan.moments;
     }

@@ -1,4 +1,4 @@
-//! Serials and actors, all of which are chosen here.
+//! The serials of services, subscriptions and waiters, and the actors that give inputs; all of these are chosen here.
 ghost use Rattle.std.specs.Prelude.{◌≡◌, ◌≤◌, None, Some, nat_le, if◌then◌else◌};
 
 use std::marker::Model;

@@ -3,11 +3,11 @@ use crate::at::At;
 use crate::ids::Sid;
 use crate::mark::Mark;
 
-/// What joins the history: the clock moved on, or a supervisor told a mark of its service.
+/// An entry of the history: the clock moved on, or the supervisor of a service gave a mark.
 #[derive(Clone, Copy, PartialEq, Eq, Debug)]
 pub enum Moment {
     /// The clock moved on to this moment.
     Clock(At),
-    /// The supervisor of this service told this mark.
+    /// The supervisor of this service gave this mark.
     Event(Sid, Mark),
 }

@@ -5,8 +5,9 @@ use crate::name::Name;
 /// The number of SIGKILL.
 pub const SIGKILL: u8 = 9;
 
-/// What the outside is asked to do for a service. The second field is the generation: the number of the run, from 1, that is
-/// started or signalled. Page `s6-supervise`, "Detailed operation"; that starts and signals are orders is chosen here.
+/// What the outside is asked to do for a service. The first field is the serial of the service, the second the generation: the number of
+/// its run, from 1, that is started or signalled. Page `s6-supervise`, "Detailed operation"; that starts and signals are orders is chosen
+/// here.
 #[derive(Clone, Copy, PartialEq, Eq, Debug)]
 pub enum Order {
     /// Spawn `run` of the service of this name; the last field is the descriptor on which it will say that it is ready.

@@ -30,7 +30,7 @@ pub enum Compared {
     End,
 }
 
-// The text of a reply: its line without the first two bytes.
+// The text of a reply: its line without the `= ` at its front.
 fn text_of(line: &[u8]) -> &[u8]
     ensures { result.now ≡ text_in line.now }
 {
@@ -108,6 +108,7 @@ fn check_all<A: Allocator + Copy, R: BufRead>(
 {
     match read_head(reader) {
         Ok(Version::Two) => {}
+        // A script of version 1 has no replies to compare.
         Ok(Version::One) => return Err(ReplayFault::Head),
         Err(fault) => return Err(fault),
     }
@@ -115,6 +116,7 @@ fn check_all<A: Allocator + Copy, R: BufRead>(
         match compare_step(alloc, patterns, reader, tree, scratch, done) {
             Err(fault) => return Err(fault),
             Ok(Compared::End) => return Ok(Checked::Legal(done)),
+            // The head line is line 1, and each step before has two lines.
             Ok(Compared::Other) => return Ok(Checked::Differs(done * 2 + 3)),
             Ok(Compared::Same) => {}
         }

@@ -8,7 +8,8 @@ use thiserror::Error;
 /// their numbers and their order are this program's own.
 #[derive(Clone, Copy, Debug, PartialEq, Eq, Error)]
 pub enum ReplayFault {
-    /// The input does not begin with the head line and its newline. Nothing was written.
+    /// The input does not begin with a head line, which is `s6-script 1` or `s6-script 2` and a newline; or it has the one of the two
+    /// versions that `check` or `migrate` doesn't take. Nothing was written.
     #[error("no head line")]
     Head,
     /// This line is not the one that belongs there, an input line or in version 2 the reply line of an input; or it is past a limit: an

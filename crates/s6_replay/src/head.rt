@@ -1,4 +1,4 @@
-//! The head line of a script.
+//! The head line of a script: `s6-script 1` or `s6-script 2`, by the version of its format.
 ghost use Rattle.std.specs.Prelude.{◌∷◌, [], ◌++◌, codes, OnOk, IfOk, IfErr};
 ghost use Rattle.std.specs.Io.KnownBytes.{Consumes};
 ghost use Rattle.s6_replay.specs.Script.{head_line};
@@ -28,7 +28,7 @@ fn read_literal<R: BufRead>(reader: &mut R, text: &[u8]) -> Result<(), ReplayFau
     Ok(())
 }
 
-// Reads the digit of a version.
+// Reads the digit of a version. `Head` where it is another byte, or the input ends; `Read` where the reader answered an error.
 fn read_version<R: BufRead>(reader: &mut R) -> Result<Version, ReplayFault>
     ensures ok { IfOk result (λ version. Consumes (R.remaining reader.old) (R.remaining reader.new)
         (version_digit version ∷ [])) }

@@ -47,6 +47,7 @@ pub fn read_line<A: Allocator + Copy, R: BufRead, const LIMIT: usize>(
             return Ok(ended);
         }
     }
+    // LIMIT bytes came and no newline: the line is too long, unless the input ends here.
     let mut byte = [0; 1];
     match reader.read(&mut byte) {
         Err(_) => Err(ReadFault::Read),
@@ -55,8 +56,8 @@ pub fn read_line<A: Allocator + Copy, R: BufRead, const LIMIT: usize>(
     }
 }
 
-// Reads one byte more of a line, and tells how the line ended if it did. Only `read` says for sure that the input has
-// ended: an empty buffer says so of a reader whose bytes are known, and of no other.
+// Reads one byte more of a line, and tells how the line ended if it did. It calls `read`, which answers 0 at the end of any input. That an empty
+// buffer means the end is promised only for a reader whose bytes are known.
 fn read_byte<A: Allocator + Copy, R: BufRead, const LIMIT: usize>(
     reader: &mut R,
     line: &mut Vec<u8, A>,

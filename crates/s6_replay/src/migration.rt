@@ -65,6 +65,7 @@ fn record_input<A: Allocator + Copy, W: Write>(
     match write_whole(writer, text.as_slice()) {
         Ok(()) => Ok(given),
         Err(WriteFault::Write) => Err(ReplayFault::Write),
+        // This never comes from `write_whole`.
         Err(WriteFault::NoMemory) => Err(ReplayFault::NoMemory),
     }
 }
@@ -135,6 +136,7 @@ fn migrate_all<A: Allocator + Copy, R: BufRead, W: Write>(
 {
     match read_head(reader) {
         Ok(Version::One) => {}
+        // A script of version 2 has its replies already.
         Ok(Version::Two) => return Err(ReplayFault::Head),
         Err(fault) => return Err(fault),
     }

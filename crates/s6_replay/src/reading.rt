@@ -28,6 +28,7 @@ pub struct Scratch<A: Allocator> {
     pub text: Vec<u8, A>,
     /// The input of the step that was read last, until the tree takes it.
     pub input: Input<A>,
+    /// What the tree gave for the input that it took last.
     pub effect: Effect<A>,
 }
 

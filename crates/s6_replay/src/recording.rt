@@ -75,6 +75,7 @@ pub fn write_input<A: Allocator + Copy, W: Write>(
         return Err(SpellFault::Unspelt);
     }
     if text.len() >= INPUT_LINE_LIMIT {
+        // With its newline, the line would be longer than a script allows.
         return Err(SpellFault::Unspelt);
     }
     write_whole(writer, text.as_slice())?;

@@ -69,7 +69,7 @@ fn push_listed<A: Allocator>(text: &mut Vec<u8, A>, listed: &Listed) -> Result<(
     Ok(())
 }
 
-// Adds what became of each name that a scan found and for which no service stood.
+// Adds what became of each name that a scan found and that no service had before.
 fn push_all_listed<A: Allocator>(text: &mut Vec<u8, A>, all: &[Listed]) -> Result<(), AllocError>
     ensures { OnOk result (text.new.items ≡ text.old.items ++ flat_map listed_text all.now) }
 {

@@ -1,4 +1,4 @@
-//! The limits within which an act has a spelling.
+//! The limits within which an act has a spelling. Where a type keeps a limit by itself, the function that looks for it is there for the proof.
 ghost use Rattle.std.specs.Prelude.{◌≡◌, ◌<◌, ◌≤◌, ◌^◌, All, IsTrue, IfSome, length, nat_le, ◌&&◌};
 ghost use Rattle.std.specs.List.{list_all};
 ghost use Rattle.hex.specs.Hex.{IsBytes};

@@ -15,7 +15,8 @@ use servicedir::signal_name;
 use std::alloc::{AllocError, Allocator};
 use tree_core::Act;
 
-/// Reads a permafailon from the words behind its verb. Where its list of exits is none, it gives a tick, which `parse.rt` then refuses.
+/// Reads a permafailon from the words behind its verb. Where the word for the list spells no list of exits, it gives a tick: that has another
+/// spelling than the words, so `parse.rt` refuses the line.
 pub fn permafailon_of<A: Allocator + Copy>(
     alloc: A,
     words: &mut Words<'_>,

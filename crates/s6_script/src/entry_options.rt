@@ -186,6 +186,7 @@ fn descriptor_of(word: &[u8]) -> u8
     ensures fits { IsTrue (is_served result) }
 {
     match number(word, 9) as u8 {
+        // Readiness can't be written to these: the option is spelled otherwise with 1, and so refused.
         0 | 2 => 1,
         descriptor => descriptor,
     }
@@ -197,6 +198,7 @@ fn signal_of(word: &[u8]) -> u8
     ensures low { 1 ≤ result }
     ensures high { result ≤ 64 }
 {
+    // No signal has the number 0: the option is spelled otherwise with 1, and so refused.
     number(word, 64).max(1) as u8
 }
 
@@ -225,6 +227,7 @@ fn setting_of(word: &[u8]) -> Setting
     } else if let Some(value) = value_of(word, b"signal=") {
         Setting::Signal(signal_of(value))
     } else {
+        // It is `down`, or no option: that is spelled otherwise, and so refused.
         Setting::Down
     }
 }

@@ -116,8 +116,9 @@ fn has_form_of(word: &[u8], other: &[u8]) -> bool
     word.len() == other.len() && last_of(word) == last_of(other)
 }
 
-// Reads a verb. No two verbs have the same length and the same last byte. A word that has them and is no verb is refused later, since the
-// verb is spelled in another way. Those that come most often are looked for first.
+// Reads a verb. No two verbs have the same length and the same last byte. A word that has those of a verb gives this verb, and any other word
+// gives `Tick`. A word that is no verb is refused later, since the verb that it gave is spelled otherwise. Verbs that come most often are
+// looked for first.
 fn verb_of(word: &[u8]) -> Verb
     ensures { (v : Verb) → word.now ≡ verb_word v → result ≡ v }
 {
@@ -231,7 +232,7 @@ fn letters_of(word: &[u8]) -> Letters
     letters
 }
 
-// Reads bytes from their digits: 1 to 64, whatever the word is.
+// Reads bytes from their hexadecimal digits: 1 to 64, whatever the word is.
 #[inline(never)]
 fn bytes_of(word: &[u8]) -> ArrayVec<u8, 64>
     ensures spelled { (bytes : List ℕ) → 1 ≤ length bytes → length bytes ≤ 64 → IsBytes bytes
@@ -248,10 +249,12 @@ fn bytes_of(word: &[u8]) -> ArrayVec<u8, 64>
     prove!(places == count);
     let mut bytes = ArrayVec::new();
     if count == 0 || hex::decode_to_slice(word, part).is_err() {
+        // The word spells no bytes: one byte, which is spelled otherwise, stands for it.
         bytes.push(0);
         return bytes;
     }
     if bytes.try_extend_from_slice(part).is_err() {
+        // The list has room for 64 bytes, and these are no more.
         unreachable!()
     }
     bytes
@@ -294,7 +297,7 @@ fn act_of<A: Allocator + Copy>(
     Ok(UnbuiltAct::Whole(act))
 }
 
-// Reads an act that is asked for. It stands apart: inlined, each line would fill a place for each of these acts.
+// Reads an act that is asked for. It is not inlined: else reading each line would fill a place for each of these acts.
 #[inline(never)]
 fn request_of<A: Allocator + Copy>(
     alloc: A,
@@ -319,6 +322,7 @@ fn request_of<A: Allocator + Copy>(
         Verb::Unsubscribe => Act::Unsubscribe(SubId(serial_of(words.take_next()))),
         Verb::Send => send_of(words),
         Verb::Mkdir => Act::MakeDir(name_of(words.take_next())),
+        // `act_of` reads the acts of all other verbs.
         _ => unreachable!(),
     };
     Ok(UnbuiltAct::Whole(act))
@@ -353,7 +357,7 @@ pub fn parse_act<A: Allocator + Copy>(
     parse_other(alloc, patterns, words, &mut text)
 }
 
-// `parse_act`, with a text of the caller in which the act is spelled again. It stands apart, since most acts are read word for word.
+// `parse_act`, with a text of the caller in which the act is spelled again. It is not inlined, since most acts are read word for word.
 #[inline(never)]
 fn parse_other<A: Allocator + Copy>(
     alloc: A,

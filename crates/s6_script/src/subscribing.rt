@@ -18,7 +18,7 @@ use s6_events::{Name, NoMemory};
 use std::alloc::{AllocError, Allocator};
 use tree_core::{Act, Target};
 
-// Reads which event directory is meant.
+// Reads which event directory is meant: that of a service behind `svc`, else a free one. A word that is neither `svc` nor `dir` is refused later.
 fn target_of(words: &mut Words<'_>) -> Target
     ensures spelled { (target : Target) → IsTrue (is_name (target_name target)) →
         slice_index_or words.old 0 [] ≡ target_word target
@@ -68,13 +68,14 @@ pub fn subscribe_of<A: Allocator + Copy>(
     Ok(UnbuiltAct::Subscribe(target, text, repeats))
 }
 
-// Reads a message; some message, where the word is none.
+// Reads a message; where the word is none, some message, with which the line is refused later.
 fn message_of(word: &[u8]) -> Message
     ensures spelled { is_message word.now ≡ true → result ≡ word.now }
     ensures fits { is_message result ≡ true }
 {
     match Message::new(word) {
         Some(message) => message,
+        // One printable byte is a message.
         None => Message::new(b"s").unwrap(),
     }
 }

@@ -9,7 +9,8 @@ use event_directory::{Pattern, PatternFault};
 use std::alloc::{Allocator, Global};
 use tree_core::{Act, Target};
 
-// An act that was read: a whole one, or a subscription with the text of its pattern, which isn't built yet. The text may be that of no pattern.
+// An act that was read: a whole one, or a subscription with the text of its pattern, which isn't built yet, and whether it goes on after a
+// match. The text may be that of no pattern.
 #[derive(Drop)]
 pub enum UnbuiltAct<A: Allocator> {
     Whole(Act<A>),

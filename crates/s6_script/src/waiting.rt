@@ -14,7 +14,7 @@ use s6_events::{Condition, Mode, Name, NoMemory};
 use std::alloc::{AllocError, Allocator};
 use tree_core::{Act, Names};
 
-// Reads a condition.
+// Reads a condition; where the word is none, some condition, with which the line is refused later (`parse.rt`).
 fn condition_of(word: &[u8]) -> Condition
     ensures { (condition : Condition) → word.now ≡ condition_word condition → result ≡ condition }
 {
@@ -33,7 +33,7 @@ fn condition_of(word: &[u8]) -> Condition
     }
 }
 
-// Reads a mode.
+// Reads a mode; where the word is none, some mode, with which the line is refused later (`parse.rt`).
 fn mode_of(word: &[u8]) -> Mode
     ensures { (mode : Mode) → word.now ≡ mode_word mode → result ≡ mode }
 {

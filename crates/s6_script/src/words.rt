@@ -15,6 +15,7 @@ use std::marker::Model;
 #[derive(Drop)]
 pub struct Words<'a> {
     rest: &'a [u8],
+    // Whether a word is left. If none is, `rest` says nothing.
     more: bool,
 }
 
@@ -199,7 +200,7 @@ pub fn is_word(word: &[u8], text: &[u8]) -> bool
     word == text
 }
 
-// Reads a name.
+// Reads a name; where the word is none, some name, with which the line is refused later (`parse.rt`).
 pub fn name_of(word: &[u8]) -> Name
     ensures spelled { is_name word.now ≡ true → result ≡ word.now }
     ensures fits { is_name result ≡ true }

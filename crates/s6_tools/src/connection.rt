@@ -37,6 +37,7 @@ pub fn ask_within<R: Net + Clock>(
             asked => return asked,
         }
     }
+    // So many tries never come.
     Err(ToolFault::Busy)
 }
 
@@ -94,6 +95,7 @@ impl ToolConnection {
         let sent = self.send(request)?;
         let answer = self.answer();
         match answer {
+            // The server may have written this and ended the connection before it read the whole request.
             Ok(Answer::Busy) | Ok(Answer::Refused(_)) => {}
             _ => sent?,
         }
@@ -116,6 +118,7 @@ impl ToolConnection {
     pub fn ask_states(&mut self, alloc: Global) -> Result<Vec<ListEntry>, ToolFault> {
         let sent = self.send(b"states")?;
         let entries = self.read_entries(alloc)?;
+        // What reading gave counts first: the server may have refused and ended before it read the request.
         sent?;
         Ok(entries)
     }
@@ -130,6 +133,7 @@ impl ToolConnection {
                 None => return Ok(entries),
             }
         }
+        // So many lines never come.
         Err(ToolFault::Socket)
     }
 
@@ -169,6 +173,7 @@ impl ToolConnection {
                 return Ok(read_answer(self.line.as_slice()));
             }
         }
+        // So many lines never come.
         Err(ToolFault::Socket)
     }
 

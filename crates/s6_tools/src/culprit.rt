@@ -10,7 +10,7 @@ use crate::misuse::Misuse;
 use crate::tool::Tool;
 use crate::wrong_word::{Wrong, is_wrong};
 
-/// Where to look for a word of a command line.
+/// Where to look for a word of a command line. Places are counted from 0, behind the socket's path.
 #[derive(Clone, Copy, Debug, PartialEq, Eq)]
 enum Clue {
     /// Nowhere: no word is wrong, or it isn't known which.
@@ -106,7 +106,7 @@ fn seen_by<'a>(clue: Clue, words: &'a [&'a str]) -> Option<&'a str>
     }
 }
 
-// The kind of a word with an option, or a letter behind a dash, that this tool doesn't have; by this kind the wrong word is found.
+// The kind of the wrong word where a tool doesn't have an option, or a letter behind a dash.
 fn strange_of(tool: Tool) -> Wrong
     ensures { result ≡ strange_of tool }
 {

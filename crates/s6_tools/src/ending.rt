@@ -39,6 +39,7 @@ pub fn tell_fault<E: Write>(
 ) -> u8
     ensures { result ≡ status_of_fault tool fault.now }
 {
+    // This is always `Ok`: the text fits into a `Told`.
     if let Ok(told) = told_of(tool, socket, words, fault) {
         let _ = errors.write_all(told.as_slice());
     }

@@ -113,7 +113,8 @@ pub fn run_ftrig_notify<R: Net + Clock>(
     Ok(0)
 }
 
-/// Waits until the letters of an event directory match a pattern, and prints the letter that made them match. Page `s6-ftrig-wait`.
+/// Waits until the letters of an event directory match a pattern, and prints the letter that made them match. The status is 1 where too many
+/// letters came without a match. Page `s6-ftrig-wait`.
 pub fn run_ftrig_wait<R: Net + Clock, W: Write>(
     rt: &R,
     alloc: Global,

@@ -12,8 +12,8 @@ use std::io::Write;
 use std::net::Net;
 use std::time::Clock;
 
-/// Prints each letter of each service, or of the services named, as it comes, until the connection ends. The tool is this program's own,
-/// not one of s6; for the letters see page `s6-supervise`, "Events".
+/// Prints each letter of each service, or of the services named, as it comes, until the connection ends: then the fault is `Socket`. The tool
+/// is this program's own, not one of s6; for the letters see page `s6-supervise`, "Events".
 pub fn run_follow<R: Net + Clock, W: Write>(
     rt: &R,
     alloc: Global,
@@ -29,6 +29,7 @@ pub fn run_follow<R: Net + Clock, W: Write>(
             print_letter(alloc, &letter, start, &command, output)?;
         }
     }
+    // So many lines never come.
     Ok(0)
 }
 
@@ -47,6 +48,7 @@ fn follow<R: Net + Clock>(
             asked => return asked,
         }
     }
+    // So many tries never come.
     Err(ToolFault::Busy)
 }
 
@@ -77,6 +79,7 @@ fn print_letter<W: Write>(
     if !names.is_empty() && !is_among(names, &letter.name) {
         return Ok(());
     }
+    // No server tells a moment past the year 9999.
     let day = day_millisecond(start.saturating_add(letter.at)).ok_or(ToolFault::Socket)?;
     let text = letter_line(alloc, command.is_json, day.as_bytes(), letter)?;
     if output.write_all(text.as_slice()).is_err() || output.flush().is_err() {

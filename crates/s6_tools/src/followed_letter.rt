@@ -9,7 +9,7 @@ use crate::words::{is_word, word_or_none};
 use s6_events::Name;
 use std::alloc::{AllocError, Global};
 
-/// A letter of a service.
+/// A letter of a service: what its supervisor writes to its event directory (`s`, `u`, `U`, `d`, `D`, `O` or `x`).
 #[derive(Clone, Copy, Debug, PartialEq, Eq)]
 pub struct FollowedLetter {
     /// The tree's clock when it was told, in milliseconds.

@@ -29,6 +29,7 @@ pub fn run_svscanctl<R: Net + Clock>(
 ) -> Result<u8, ToolFault> {
     let command = compile_svscanctl(words)?;
     let Some((first, further)) = command.letters.as_slice().split_first() else {
+        // This never comes: `compile_svscanctl` gives at least one letter.
         return Ok(0);
     };
     let (mut connection, _answer) = ask_server(rt, alloc, socket, scan_request(*first))?;

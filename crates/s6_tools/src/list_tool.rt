@@ -44,6 +44,7 @@ fn ask_states<R: Net + Clock>(
             asked => return asked,
         }
     }
+    // So many tries never come.
     Err(ToolFault::Busy)
 }
 
@@ -55,6 +56,7 @@ pub fn ask_states_once<R: Net>(
 ) -> Result<Vec<ListEntry>, ToolFault> {
     let mut connection = ToolConnection::open(rt, alloc, socket)?;
     let start = connection.ask_clock()?;
+    // The answer to `clock` ends with an empty line.
     connection.next_line()?;
     let mut entries = connection.ask_states(alloc)?;
     for entry in entries.iter_mut() {

@@ -1,5 +1,5 @@
-//! The requests of the tools. Each is a line of a script without its moment and its actor, so a request asks for the act that the line
-//! spells.
+//! The requests of the tools. Most are a line of a script without its moment and its actor, and ask for the act that this line spells;
+//! `scanctl a` and `follow` are no acts, and only the server knows them.
 ghost use Rattle.std.specs.Prelude.{◌≡◌, ◌++◌, ◌∷◌, [], IfOk, OnOk, false};
 ghost use Rattle.std.specs.List.{join_with_byte};
 ghost use Rattle.tree_core.specs.declared.input.Act.TheVariants.{Svc, Status, Permafailon, Wait, Subscribe, Send, MakeDir};

@@ -59,6 +59,7 @@ fn hex_digit(digit: u8) -> u8
     requires { digit < 16 }
     ensures { result ≡ hex_digit digit }
 {
+    // 87 is the byte `a` less 10.
     if digit < 10 { b'0' + digit } else { 87 + digit }
 }
 

@@ -106,6 +106,7 @@ pub fn run_client<R: Net + Processes + Clock, W: Write, E: Write>(
         Err(fault) => {
             let (socket, further) = match words {
                 [socket, further @ ..] => (*socket, further),
+                // Not even a socket was named: the fault is `Missing`.
                 [] => ("", words),
             };
             let fault = with_scan_fault(rt, alloc, socket, subject_of(tool, further), fault);

@@ -44,6 +44,7 @@ fn subscribe<R: Net + Clock>(
             Err(fault) => await_room(rt, fault, &mut patience)?,
         }
     }
+    // So many tries never come.
     Ok(None)
 }
 
@@ -96,6 +97,7 @@ fn start_program<R: Processes>(rt: &R, alloc: Global, words: &[&str]) -> Result<
         command.arg(*argument)?;
     }
     match command.spawn(rt) {
+        // Nobody waits for the program.
         Ok(_child) => Ok(()),
         Err(_) => Err(ToolFault::Program),
     }

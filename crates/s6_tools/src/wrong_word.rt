@@ -23,7 +23,7 @@ pub enum Wrong {
     Plain,
     /// A word that is neither an option nor a name.
     NoName,
-    /// A word that is neither an option nor a name, and has no comma.
+    /// A word that is neither an option nor a name, and has no comma: a list of the fields of `svstat` has one.
     NoSingleName,
     /// A word that is no number.
     NoNumber,
@@ -77,7 +77,7 @@ fn has_byte(letters: &[u8], byte: u8) -> bool
     letters.iter().any(|letter| *letter == byte)
 }
 
-// Whether a letter behind the dash, and before that of the option with a value, is none of these.
+// Whether one of the letters behind the dash is none of these. The letters behind `valued` are not looked at: they are the value of that option.
 fn has_strange_letter(letters: &[u8], valued: u8, word: &[u8]) -> bool
     ensures { result ≡ has_strange_letter letters.now valued word.now }
 {

@@ -12,7 +12,7 @@ pub struct Config {
     /// The descriptor on which the daemon writes a newline when it is ready: 1, or 3 to 9. None: it never tells that it is ready. Page
     /// `notifywhenup`; that 0, 2 and descriptors over 9 are not served is chosen here.
     pub notification_fd: Option<u8>,
-    /// How many milliseconds after it was told to go down a service that is not dead gets SIGKILL; 0: never.
+    /// How many milliseconds after its down signal a service that has not died gets SIGKILL; 0: never.
     pub timeout_kill: u32,
     /// How many milliseconds after its start a `finish` that has not ended gets SIGKILL; 0: never.
     pub timeout_finish: u32,

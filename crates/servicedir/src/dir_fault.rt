@@ -4,8 +4,9 @@ ghost use Rattle.std.specs.Prelude.{◌≡◌};
 use crate::files::ReadFault;
 use thiserror::Error;
 
-/// Why a service directory was not read. `NotifyFd` is only ever a note beside a configuration. `BadName` is for a program that
-/// lists a scan directory and finds an entry whose name is no service name. `NotLongrun`, `NotifyFd` and `BadName` are chosen here.
+/// Why a service directory was not read. `NotifyFd` never keeps one from being read: it is only the `note` of a `Found`. `BadName` is for
+/// a program that lists a scan directory and finds an entry whose name is no service name. `NotLongrun`, `NotifyFd` and `BadName` are
+/// chosen here.
 #[derive(Clone, Copy, Debug, PartialEq, Eq, Error)]
 pub enum DirFault {
     /// There is no `run`. Page `servicedir`.
@@ -17,7 +18,7 @@ pub enum DirFault {
     /// `notification-fd` names no descriptor that is served.
     #[error("the notification descriptor is not served")]
     NotifyFd = 3,
-    /// The reading of a file failed, and the directory counted it.
+    /// A file could not be read; the `Files` that was asked has counted that.
     #[error("a file could not be read")]
     Io = 4,
     /// The directory's name is no name of a service.

@@ -47,18 +47,18 @@ impl ServiceFile {
     }
 }
 
-/// Why a reading gave nothing.
+/// Why a reading of a file failed.
 #[derive(Clone, Copy, PartialEq, Eq, Debug)]
 pub enum ReadFault {
-    /// It failed; the directory counts it. That a file is absent is no failure.
+    /// The file could not be looked at or read; the `Files` that was asked counts that. That a file is absent is no failure.
     Io,
-    /// Memory was refused; the directory counts it.
+    /// Memory was refused; the `Files` that was asked counts that.
     NoMemory,
 }
 
-/// Service directories as they are read. What they give stays the same while they are read: a real directory may change
-/// meanwhile, so an implementation takes its files first. A reading is bounded: of a file of over 4096 bytes it gives the
-/// first 4097, and so the reader knows that the text is too long to be valid.
+/// Where the files of service directories are read. What this gives stays the same while they are read: since a real directory may change
+/// meanwhile, an implementation takes a copy of its files first. A reading is bounded: of a file of over 4096 bytes it gives the first
+/// 4097, and so the reader knows that the text is too long to be valid.
 pub trait Files {
     ghost use Rattle.servicedir.specs.declared.files.ServiceFile.{ServiceFile};
 

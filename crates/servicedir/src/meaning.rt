@@ -9,7 +9,7 @@ use crate::dir_fault::DirFault;
 use crate::number::{parse_number, without_newline};
 use crate::signal::parse_signal;
 
-/// The greatest length of a text that may be valid.
+/// The most bytes of a file whose text may be valid.
 const TEXT_LIMIT: usize = 4096;
 
 /// The most deaths that are kept.
@@ -52,7 +52,7 @@ pub(crate) fn served_descriptor(number: Option<u32>) -> Option<u8>
     }
 }
 
-// The note for a notification-fd that is there, where this is the served descriptor that it names, or it names none.
+// The note about a notification-fd that is there. `descriptor` is the served one that its text names; None where it names none.
 pub(crate) fn note_of_descriptor(descriptor: Option<u8>) -> Option<DirFault>
     ensures { result ≡ note_beside descriptor }
 {

@@ -132,7 +132,7 @@ fn read_found<A: Allocator + Copy, F: Files>(
     })
 }
 
-// The descriptor of notification-fd, and the note.
+// The served descriptor that notification-fd names, if it names one, and the `note` of a `Found`.
 fn readiness<A: Allocator + Copy, F: Files>(
     alloc: A,
     files: &mut F,
@@ -209,7 +209,7 @@ fn signal<A: Allocator + Copy, F: Files>(
     }
 }
 
-// Whether a file is there.
+// Whether a file is there. Here, as in `text`, the `?` makes a `DirFault` of a `ReadFault`.
 fn has<F: Files>(files: &mut F, name: Name, file: ServiceFile) -> Result<bool, DirFault>
     requires { fault_before file (F.gives files.old name) ≡ None }
     ensures there { IfOk result (λ there. there ≡ is_some (F.gives files.old name file)) }
@@ -225,7 +225,7 @@ fn has<F: Files>(files: &mut F, name: Name, file: ServiceFile) -> Result<bool, D
     Ok(files.has(name, file)?)
 }
 
-// The bytes of a file, as a reading gives them.
+// The bytes of a file, at most the first 4097; None where it is absent.
 fn text<A: Allocator + Copy, F: Files>(
     alloc: A,
     files: &mut F,

@@ -22,7 +22,7 @@ pub trait Board<C: Channels>: Drop {
         ensures added { OnOk result (shots self.new ≡ shots self.old ++ shot.now ∷ []) }
         ensures same { OnErr result (shots self.new ≡ shots self.old) };
 
-    /// Publishes this shot as `publish` does, and keeps its rows: none is copied.
+    /// Publishes these rows as `publish` does a shot. The board keeps them, so none is copied.
     fn publish_rows(&mut self, rows: StandingRows<Global>) -> Result<(), NoMemory>
         ensures added { OnOk result (shots self.new ≡ shots self.old ++ rows ∷ []) }
         ensures same { OnErr result (shots self.new ≡ shots self.old) };

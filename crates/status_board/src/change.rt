@@ -9,7 +9,8 @@ use std::alloc::{AllocError, Allocator};
 use std::marker::Model;
 use supervise_core::Row;
 
-/// The rows of all services as they stand, which lie in memory of their own. Contracts see them as a shot.
+/// The rows of all services as they are after some step, in a list on the heap. A `Shot` has a fixed 256 places for them. Contracts see them
+/// as a shot.
 #[derive(Drop)]
 pub struct StandingRows<A: Allocator> {
     // How many steps the tree had made when the rows were taken.
@@ -61,6 +62,7 @@ impl<A: Allocator> StandingRows<A> {
             .try_extend_from_slice(self.rows.as_slice())
             .is_err()
         {
+            // There are at most `ROW_LIMIT` rows, for which a shot has room.
             unreachable!()
         }
     }
@@ -94,7 +96,7 @@ impl<C: Channels, A: Allocator> Change<C, A> {
         Change { rows, published }
     }
 
-    // Copies the one that was published last into a shot.
+    // Copies the shot that was published last into this one.
     pub(crate) fn copy_into(&self, shot: &mut Shot)
         ensures { last_shot self.now ≡ Some shot.new }
     {

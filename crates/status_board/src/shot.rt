@@ -47,6 +47,7 @@ impl Shot {
             .try_extend_from_slice(other.rows.as_slice())
             .is_err()
         {
+            // Both shots have room for `ROW_LIMIT` rows.
             unreachable!()
         }
     }

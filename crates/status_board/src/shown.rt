@@ -55,7 +55,7 @@ impl<C: Channels, A: Allocator> Absorb<Next<C, A>> for Shown<C, A> {
 
     ghost applied = { λ s next. tt };
 
-    // Brings one of the two copies up to date. A place that was never filled, since memory was refused, changes nothing.
+    // Brings one of the two copies up to date. A place that was not filled, since `publish_rows` gave up before that, changes nothing.
     fn absorb_first(
         &mut self,
         operation: &Next<C, A>,

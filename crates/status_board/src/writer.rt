@@ -44,6 +44,7 @@ impl Model for NewBoard {
 impl NewBoard {
     /// A new history.
     pub fn new() -> NewBoard {
+        // The history of a `logbook` has two words: the first counts the shots, and the second is not used.
         let (log, mut first, _second) = Seen::open(Start::alone(), 0, 0);
         NewBoard {
             word: Word::tracked(0, &mut first),
@@ -164,11 +165,13 @@ impl<C: Channels, R: Wait + Drop, A: Allocator + Copy> BoardWriter<C, R, A> {
         // All memory is there. There is one writer, so what it knows of the history is all of it; the shot is added to a copy of that.
         let mut published = self.published.copied();
         if !published.add(&self.word, &rows) {
+            // This would come only after 2^64 - 1 shots.
             return Err(NoMemory);
         }
         self.published = published.copied();
+        // The place is new, so this sets it.
         let _set = next.try_set(Change::new(rows, published));
-        // It never fails: a copy can take any `Change` over.
+        // It never fails in fact: a copy only shares the new place once more, which takes no memory.
         let _shown = self.handle.publish();
         Ok(())
     }

@@ -53,6 +53,7 @@ fn push_life(code: &mut Vec<u8>, kind: u8, sid: Sid, generation: u64) -> Result<
     ensures sid { OnOk result (sid < 2 ^ 64) }
     ensures generation { OnOk result (generation < 2 ^ 64) }
 {
+    // The kind has one byte, and each number at most nine.
     code.reserve(19)?;
     code.push_reserved(kind);
     put_number(code, sid.0);
@@ -157,7 +158,7 @@ fn take_letters(alloc: Global, code: &mut Code<'_>) -> Result<Vec<u8>, AllocErro
     Ok(letters)
 }
 
-/// Takes an act. An error where memory is refused.
+/// Takes an act. Bytes that are no such code give some act. An error where memory is refused.
 pub fn take_act(alloc: Global, code: &mut Code<'_>) -> Result<PlainAct<Global>, AllocError>
     ensures { IfOk result (λ plain. (one : Act Global) → (rest : List ℕ) → FitsAct one
         → code.old ≡ act_onto one rest → (act_of plain ≡ one) × (code.new ≡ rest)) }

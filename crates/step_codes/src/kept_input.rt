@@ -54,7 +54,7 @@ pub trait KeptInput: Drop {
     fn actor(&self) -> Actor
         ensures { result ≡ (input self.now).actor };
 
-    /// Adds the code of its step, if that has one. Whether it has. An error where memory is refused.
+    /// Adds the code of its step, if that has one, and returns whether it has. An error where memory is refused.
     fn push_step(&self, code: &mut Vec<u8>, effect: &Effect<Global>) -> Result<bool, AllocError>
         ensures added { IfOk result (λ has_code. IsTrue has_code
             → Adds code.old.items code.new.items
@@ -74,7 +74,7 @@ impl KeptInput for PlainInput<Global> {
         self.actor
     }
 
-    // Adds the code of its step, if that has one. Whether it has.
+    // Adds the code of its step, if that has one, and returns whether it has.
     fn push_step(&self, code: &mut Vec<u8>, effect: &Effect<Global>) -> Result<bool, AllocError> {
         push_step(code, self, effect)
     }
@@ -104,13 +104,13 @@ impl KeptInput for ToldInput {
         self.actor
     }
 
-    // Adds the code of its step, if that has one. Whether it has.
+    // Adds the code of its step, if that has one, and returns whether it has.
     #[inline(always)]
     fn push_step(&self, code: &mut Vec<u8>, effect: &Effect<Global>) -> Result<bool, AllocError> {
         push_told_step(code, self, effect)
     }
 
-    // It is asked for only where a step has no code.
+    // Called only for a step that is not kept as a code: it has none, or it could not be added.
     #[inline(never)]
     fn into_plain(self) -> PlainInput<Global> {
         let act = plain_of(self.act);
@@ -122,7 +122,7 @@ impl KeptInput for ToldInput {
     }
 }
 
-/// The same input in a few words, if it is a tick or a report that has them.
+/// The same input in a few words, if it is a tick or any report but a notification; else None.
 #[inline(always)]
 pub fn told_of(input: &Input<Global>) -> Option<ToldInput>
     ensures { IfSome result (λ told. told ≡ input.now) }

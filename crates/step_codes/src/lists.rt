@@ -1,4 +1,4 @@
-//! Lists.
+//! The codes of lists.
 ghost use Rattle.std.specs.Prelude.{◌≡◌, ◌<◌, ◌^◌, ℕ, [], ◌++◌, List, length, OnOk};
 ghost use Rattle.step_codes.specs.Adding.{Adds};
 ghost use Rattle.step_codes.specs.ListCodes.{items_onto, list_onto, AllFit};

@@ -1,4 +1,4 @@
-//! Marks, and how programs ended.
+//! The codes of marks, and of how programs ended.
 use crate::coded::{Code, Coded};
 use s6_events::{Exit, Mark};
 use std::alloc::AllocError;

@@ -1,4 +1,4 @@
-//! Names.
+//! The codes of names: a byte that tells how long the name is, and its bytes.
 use crate::coded::{Code, Coded};
 use s6_events::Name;
 use std::alloc::AllocError;

@@ -17,6 +17,7 @@ fn put_behind(code: &mut Vec<u8>, first: u8, bytes: &[u8])
 {
     code.push_reserved(first);
     if code.extend_from_slice(bytes).is_err() {
+        // There is room: the clause asks for it.
         unreachable!()
     }
 }
@@ -56,7 +57,7 @@ pub(crate) fn put_number(code: &mut Vec<u8>, number: u64)
     }
 }
 
-// Adds a number that is more than one byte. It stands apart, since most numbers are small.
+// Adds a number that is more than one byte. It is not inlined, since most numbers are small.
 #[inline(never)]
 fn push_wide(code: &mut Vec<u8>, number: u64) -> Result<(), AllocError>
     requires { 251 ≤ number }

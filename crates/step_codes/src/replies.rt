@@ -135,7 +135,7 @@ pub fn push_reply(code: &mut Vec<u8>, reply: &Reply<Global>) -> Result<(), Alloc
     }
 }
 
-/// Takes a reply.
+/// Takes a reply. Bytes that are no such code give some reply.
 pub fn take_reply(code: &mut Code<'_>) -> Reply<Global>
     ensures { (one : Reply Global) (rest : List ℕ) → FitsReply one → code.old ≡ reply_onto one rest
         → (result ≡ one) × (code.new ≡ rest) }

@@ -1,4 +1,4 @@
-//! What users ask with: letters, orders for all services, conditions, and whose event directory is meant.
+//! The codes of what users ask with: letters, orders for all services, conditions, and whose event directory is meant.
 use crate::coded::{Code, Coded};
 use control_letters::ControlLetter;
 use s6_events::{Condition, Mode, Name};

@@ -46,13 +46,15 @@ fn push_head(code: &mut Vec<u8>, actor: Actor, at: At) -> Result<(), AllocError>
     ensures actor { actor ≤ 15 }
     ensures at { at ≤ last_moment }
 {
+    // The actor has one byte, and the moment at most nine.
     code.reserve(10)?;
     code.push_reserved(actor.number());
     put_number(code, at.millis());
     Ok(())
 }
 
-/// Adds the code of a step, if it has one. Whether it has. An error where memory is refused.
+/// Adds the code of a step, if it has one, and returns whether it has: it has none where its act or its reply has none, or where a
+/// subscription matched. An error where memory is refused.
 pub fn push_step(
     code: &mut Vec<u8>,
     input: &PlainInput<Global>,
@@ -72,7 +74,7 @@ pub fn push_step(
     Ok(true)
 }
 
-/// Adds the code of the step of a tick or a report, as `push_step` does. Whether it has one. An error where memory is refused.
+/// Adds the code of the step of a tick or a report, as `push_step` does, and returns whether it has one. An error where memory is refused.
 #[inline(always)]
 pub fn push_told_step(
     code: &mut Vec<u8>,

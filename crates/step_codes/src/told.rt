@@ -1,4 +1,4 @@
-//! What a step tells: events and releases.
+//! The codes of what a step tells: events and releases.
 use crate::coded::{Code, Coded};
 use s6_events::{Mark, Sid, WaitId};
 use std::alloc::AllocError;

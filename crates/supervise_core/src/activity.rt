@@ -1,4 +1,4 @@
-//! What a scan makes of a service that stands: it becomes active or inactive.
+//! What a scan makes of a service that was added before: it becomes active where its directory is listed, else inactive.
 ghost use Rattle.std.specs.Prelude.{◌≡◌};
 ghost use Rattle.supervise_core.specs.Chart.{with_activity};
 
@@ -17,6 +17,7 @@ impl ChartState {
             if !active {
                 self.timer = None;
             } else if !self.active {
+                // Its directory was away. Where it was listed all along, the timer of the supervisor's end still runs.
                 self.timer = Some(now.later(SUPERVISOR_PAUSE));
             }
         }

@@ -14,7 +14,7 @@ pub enum Change {
     Report(Report),
     /// A user sent these letters.
     Control(Letters),
-    /// Its timer goes off, where its moment has come.
+    /// Its timer goes off, if it is set to a moment that is not after now; else nothing happens.
     Fire,
     /// Its directory was read again.
     SetConfig(Config),

@@ -11,12 +11,14 @@ use super::phase::Phase;
 use s6_events::{At, Exit, Name, Report, Sid};
 use servicedir::Config;
 
-/// The state of a service and its supervisor, without its tally of deaths. It is copyable and takes each change as its service
-/// does, so that the marks and orders of a change are known before it is made. No change takes memory.
+/// The state of a service and its supervisor, without its tally of deaths. (The chart is the table of what each change does in each
+/// phase.) It is copyable and takes each change as its service does, so that the marks and orders of a change are known before it is
+/// made. No change takes memory.
 #[derive(Clone, Copy, Debug, PartialEq, Eq)]
 pub struct ChartState {
     pub sid: Sid,
     pub name: Name,
+    /// What its directory said when it was last read; how many deaths are kept stays as it first said.
     pub config: Config,
     pub phase: Phase,
     /// It is started again when it is down.
@@ -33,7 +35,7 @@ pub struct ChartState {
     pub generation: u64,
     /// The process number of the last run that was spawned.
     pub pid: u32,
-    /// The descriptor on which the last run says that it is ready.
+    /// The descriptor on which the last run says that it is ready, as it was configured when that run was ordered.
     pub notification_fd: Option<u8>,
     /// The moment of its last death.
     pub died_at: At,
@@ -90,7 +92,7 @@ impl ChartState {
         chart
     }
 
-    /// Takes any of the changes.
+    /// Takes any of the changes, and returns the marks and orders that it gives.
     pub fn change(&mut self, change: &Change, now: At) -> Out
         requires { self.old.generation + 1 < 2 ^ 64 }
         ensures gives { MatchesMove (changed_by change.now now self.old) self.new result }
@@ -102,8 +104,8 @@ impl ChartState {
         out
     }
 
-    /// As `change`, but it adds the marks and orders to what is in `out`. For letters `out` must hold no order, even where they are
-    /// few.
+    /// As `change`, but it adds the marks and orders to what is in `out`. For letters `out` must hold no order, even where they are few:
+    /// there has to be room for the orders of 63 letters.
     pub fn change_onto(&mut self, change: &Change, now: At, out: &mut Out)
         requires marks { length out.old.events.items + most_marks change.now ≤ 4 }
         requires room { length out.old.orders.items + most_orders change.now ≤ 126 }

@@ -68,6 +68,7 @@ impl ChartState {
         ensures runs { self.new.generation + runs_left self.new.phase
             ≤ self.old.generation + runs_left self.old.phase }
     {
+        // The supervisor has ended, so that no letter does anything.
         if self.phase == Phase::Gone {
             return;
         }
@@ -76,6 +77,7 @@ impl ChartState {
             ControlLetter::Down => self.be_told_down(now, out),
             ControlLetter::Once => {
                 self.wanted_up = false;
+                // A start that the timer would bring is given up.
                 if self.phase == Phase::Down {
                     self.timer = None;
                 }
@@ -95,7 +97,7 @@ impl ChartState {
         }
     }
 
-    // `u`: it is wanted up, and started where it is down.
+    // `u`: it is wanted up, and started where it is down. Once its supervisor was told to end, `u` does nothing.
     fn be_told_up(&mut self, out: &mut Out)
         requires room { length out.old.orders.items < 126 }
         requires next { self.old.generation + runs_left self.old.phase < 2 ^ 64 }
@@ -110,7 +112,8 @@ impl ChartState {
         }
     }
 
-    // `d`: it is no longer wanted up, and gets its down signal now or once it is spawned.
+    // `d`: it is no longer wanted up. It gets its down signal where it is up, or once it is spawned; where it is down, a start that the
+    // timer would bring is given up.
     fn be_told_down(&mut self, now: At, out: &mut Out)
         requires { length out.old.orders.items < 125 }
         ensures { AppendsMove (down_move self.old.phase now (as_unwanted self.old)) self.new out.old
@@ -125,7 +128,7 @@ impl ChartState {
         }
     }
 
-    // A letter that stands for a signal, which `run` gets where it is there.
+    // Orders the signal that the letter stands for, where `run` is there; else it does nothing.
     fn pass_signal(&mut self, letter: ControlLetter, out: &mut Out)
         requires { length out.old.orders.items < 126 }
         ensures gives { AppendsMove
@@ -135,6 +138,7 @@ impl ChartState {
         ensures phase { self.new.phase ≡ self.old.phase }
         ensures runs { self.new.generation ≡ self.old.generation }
     {
+        // `take_letter` hands on only letters that stand for a signal.
         let Some(number) = letter.signal() else {
             return;
         };

@@ -1,4 +1,4 @@
-//! The moves that reports, letters and timers are made of.
+//! The moves of which reports, letters and timers are made: a start, a down signal, `finish`, and what comes after it.
 ghost use Rattle.std.specs.Prelude.{◌≡◌, ◌+◌, ◌<◌, ◌≤◌, ◌^◌, ◌++◌, length};
 ghost use Rattle.supervise_core.specs.Moves.{run_move, begin_move, down_signal_move, kill_timer, end_move, settle_move, finish_move};
 ghost use Rattle.supervise_core.specs.MatchesMove.{AppendsMove};
@@ -9,7 +9,7 @@ use super::phase::Phase;
 use finish_core::{finish_args, restart_due};
 use s6_events::{At, Exit, Mark, Order};
 
-/// SIGCONT, which follows each down signal.
+/// SIGCONT, which follows each down signal, so that a stopped `run` gets that signal.
 const CONTINUE: u8 = 18;
 
 /// The milliseconds after which an ended supervisor whose directory is active starts again.
@@ -27,12 +27,13 @@ impl ChartState {
         self.phase = Phase::Starting;
         self.down_pending = false;
         self.timer = None;
+        // Kept for this run, since the configuration may change while it is there.
         self.notification_fd = self.config.notification_fd;
         let order = Order::Run(self.sid, self.generation, self.name, self.notification_fd);
         out.orders.push(order);
     }
 
-    // The supervisor starts.
+    // The supervisor starts: mark `s`, and `run` is ordered unless the directory has `down`.
     pub(crate) fn begin_supervisor(&mut self, out: &mut Out)
         requires marks { length out.old.events.items < 4 }
         requires room { length out.old.orders.items < 126 }
@@ -64,7 +65,8 @@ impl ChartState {
         self.timer = self.kill_timer(now);
     }
 
-    // The timer of a run that was told to go down: where one is set, it is kept.
+    // When the run that gets a down signal is to be killed: as set by an earlier down signal, else after `timeout_kill`; None where that
+    // is 0.
     fn kill_timer(&self, now: At) -> Option<u64>
         ensures { result ≡ kill_timer now self.now.config.timeout_kill self.now.timer }
     {
@@ -90,7 +92,7 @@ impl ChartState {
         out.orders.push(Order::Finish(self.sid, self.generation, self.name, code, signal));
     }
 
-    // The supervisor ends.
+    // The supervisor ends: mark `x`. Where the directory is listed, the timer is set to start a new one.
     pub(crate) fn end_supervisor(&mut self, now: At, out: &mut Out)
         requires { length out.old.events.items < 4 }
         ensures { AppendsMove (end_move now self.old) self.new out.old out.new }
@@ -104,7 +106,8 @@ impl ChartState {
         };
     }
 
-    // `finish` is done: the supervisor ends, or the service rests, or it is started now or later.
+    // `finish` is done, or there is none: the supervisor ends, if it was told to; else the service is started, now or by the timer, if it
+    // is wanted up; else it stays down.
     pub(crate) fn settle(&mut self, now: At, out: &mut Out)
         requires marks { length out.old.events.items < 4 }
         requires room { length out.old.orders.items < 126 }

@@ -9,6 +9,7 @@ use s6_events::{Mark, Order};
 #[derive(Drop)]
 pub struct Out {
     pub events: ArrayVec<Mark, 4>,
+    /// Room for the most that one change gives: two orders for each of 63 letters.
     pub orders: ArrayVec<Order, 126>,
     pub stale: bool,
 }

@@ -114,7 +114,7 @@ impl ChartState {
         }
     }
 
-    // The run could not be spawned.
+    // The run could not be spawned: the supervisor ends, if it was told to; else `run` is tried again after 60000 ms, if it is wanted up.
     fn miss_spawn(&mut self, now: At, out: &mut Out)
         requires { length out.old.events.items < 4 }
         ensures gives { AppendsMove (failed_spawn_move now self.old) self.new out.old out.new }

@@ -28,6 +28,7 @@ use std::marker::Model;
 /// A service under its supervisor, with its last deaths. No change of it takes memory.
 #[derive(Drop)]
 pub struct Service<A: Allocator> {
+    // All of it but its tally.
     standing: ServiceState,
     tally: Tally<A>,
 }
@@ -43,7 +44,7 @@ impl<A: Allocator> Model for Service<A> {
 impl<A: Allocator + Copy> Service<A> {
     /// A new active service, whose supervisor starts: mark `s`, and the first run is ordered unless the directory has `down`. It takes
     /// the memory of its tally, for as many deaths as the configuration says. `NoMemory` where that is refused. Page `s6-supervise`,
-    /// "Detailed operation", and `servicedir`, `max-death-tally`.
+    /// "Detailed operation", and `servicedir`, `max-death-tally`. Nothing of it depends on the moment.
     pub fn begin(
         alloc: A,
         sid: Sid,
@@ -88,7 +89,7 @@ impl<A: Allocator + Copy> Service<A> {
         Ok(Service { standing, tally })
     }
 
-    /// A copy of its state without its deaths. The copy takes the same changes.
+    /// A copy of its chart state, which is its state without its deaths. The copy takes the same changes.
     pub fn chart(&self) -> ChartState
         ensures { result ≡ self.now.chart }
     {
@@ -135,7 +136,7 @@ impl<A: Allocator + Copy> Service<A> {
         })
     }
 
-    /// All of it but its tally. A copy of that takes the same changes.
+    /// All of it but its tally. A copy of that takes the same changes, and `adopt` then takes it over.
     pub fn standing(&self) -> &ServiceState
         ensures { result.now ≡ service_view self.now }
     {

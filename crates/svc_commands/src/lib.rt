@@ -1,4 +1,4 @@
-//! The words of the control tools, read into values.
+//! The command lines of the control tools, as `s6-svc` and `s6-svstat`, read into values.
 #![tactic(auto)]
 
 mod letter_law;

@@ -12,7 +12,7 @@ use clap::{Arg, ArgAction, ArgMatches, Command};
 use servicedir::parse_number;
 use std::alloc::{AllocError, Global};
 
-// A command with no option, and with no help of its own.
+// A command with no option, and with no help of its own. The words that it is given do not begin with the name of the program.
 pub fn bare_command<'a>(alloc: Global, name: &'a str) -> Command<'a>
     ensures { app_of result ≡ plain_app name.entry.now }
 {
@@ -49,7 +49,7 @@ pub fn with_option<'a>(
     command.arg(option)
 }
 
-// The command with any number of names.
+// The command with any number of positional arguments, which are the names.
 pub fn with_names<'a>(alloc: Global, command: Command<'a>) -> Result<Command<'a>, AllocError>
     ensures { IfOk result (λ r. app_of r ≡ with_rule (app_of command.entry) names_rule) }
 {
@@ -57,7 +57,7 @@ pub fn with_names<'a>(alloc: Global, command: Command<'a>) -> Result<Command<'a>
     command.arg(names)
 }
 
-// The command with one more word, told by its place.
+// The command with one more positional argument.
 pub fn with_word<'a>(
     alloc: Global,
     command: Command<'a>,
@@ -111,14 +111,15 @@ pub fn matches_in<'a>(
     }
 }
 
-// The value of an option, or a word told by its place.
+// The value of the option, or the positional argument, of this id; None where it was not given.
 pub fn text_of<'a>(matches: &ArgMatches<'a>, id: &str) -> Option<&'a str>
     ensures { option_map (λ s. s.now) result ≡ first_of id.now (rows_of (found_of matches.now)) }
 {
     matches.get_str(id)
 }
 
-// The value of an option, or a word told by its place, as a number, if it was given. BadNumber where it was given and is no number.
+// The value of the option, or the positional argument, of this id as a number; None where it was not given. BadNumber where it is no
+// number.
 pub fn number_in(matches: &ArgMatches<'_>, id: &str) -> Result<Option<u32>, UsageFault>
     ensures { let given = first_of id.now (rows_of (found_of matches.now)) in
         MatchResult result
@@ -139,7 +140,7 @@ fn number_written(text: &[u8]) -> Result<u32, UsageFault>
     parse_number(text).ok_or(UsageFault::BadNumber)
 }
 
-// The names that were given.
+// The names that were given; None where there was none.
 pub fn name_words<'m, 'a>(matches: &'m ArgMatches<'a>) -> Option<&'m [&'a str]>
     ensures { option_map (λ s. map (λ v. v.now) s.now) result
         ≡ all_of (codes "names") (rows_of (found_of matches.entry.now)) }

@@ -25,6 +25,7 @@ pub(crate) fn names_in(words: &[&str]) -> Result<Names, UsageFault>
         MatchResult result (λ names. (names.items ≡ texts) × (names_fault texts ≡ None))
         (λ fault. names_fault texts ≡ Some fault) }
 {
+    // All words are looked at before any is counted, so that BadName comes before TooMany.
     if !are_names(words) {
         return Err(UsageFault::BadName);
     }

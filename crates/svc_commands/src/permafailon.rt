@@ -70,6 +70,7 @@ fn permafail_command(
         (λ command. (permafail_fault rows ≡ None) × IsPermafailCommand rows command)
         (λ fault. (fault ≡ UsageFault.NoMemory) ⊎ (permafail_fault rows ≡ Some fault)) }
 {
+    // These lines are in the order of the faults.
     let secs = number_in(matches, "secs")?;
     let count = number_in(matches, "count")?;
     let list = exits_in(alloc, matches)?;
@@ -86,7 +87,7 @@ fn permafail_command(
     })
 }
 
-// The list of exits, where it was given.
+// The list of exits; None where none was given, BadList where the word is no such list.
 fn exits_in(alloc: Global, matches: &ArgMatches<'_>) -> Result<Option<DeathList>, UsageFault>
     ensures { let given = exits_given (rows_of (found_of matches.now)) in
         MatchResult result
@@ -100,7 +101,7 @@ fn exits_in(alloc: Global, matches: &ArgMatches<'_>) -> Result<Option<DeathList>
     }
 }
 
-// The list of exits that a text spells.
+// The list of exits that a text spells; BadList where it spells none.
 fn exits_written(alloc: Global, text: &[u8]) -> Result<DeathList, UsageFault>
     ensures { MatchResult result (λ list. death_list text.now ≡ Some list)
         (λ fault. (fault ≡ UsageFault.NoMemory)

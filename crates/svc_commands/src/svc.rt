@@ -36,7 +36,7 @@ pub fn compile_svc(words: &[&str]) -> Result<SvcCommand, UsageFault>
     }
 }
 
-// Adds the letters of a run, or takes the name.
+// Adds the letters of a word that begins with a dash (a run), or takes any other word as the name.
 fn read_word(letters: &mut Letters, name: &mut Option<Name>, word: &[u8]) -> Result<(), UsageFault>
     ensures { MatchResult result (λ _. AddsName word.now name.old name.new
         × IsRead svc_letters name_fault word.now letters.old.items
@@ -64,7 +64,8 @@ fn only_name(before: Option<Name>, word: &[u8]) -> Result<Name, UsageFault>
     }
 }
 
-// Adds the letters of a run.
+// Adds the letters of a run; `run` is what stands behind its dash. Unknown where it is empty or a letter means nothing, TooMany at a 64th
+// letter.
 fn add_run(letters: &mut Letters, run: &[u8]) -> Result<(), UsageFault>
     ensures { MatchResult result
         (λ _. (run_fault svc_letters (length letters.old.items) run.now ≡ None)
@@ -80,7 +81,7 @@ fn add_run(letters: &mut Letters, run: &[u8]) -> Result<(), UsageFault>
     Ok(())
 }
 
-// Adds what one byte means.
+// Adds what one byte means: `u` and `O` for `o`, else the letter that it stands for. Unknown where it stands for none.
 #[tactic(auto, unfolding(crate::specs::LetterWords::svc_letters))]
 fn add_byte(letters: &mut Letters, byte: u8) -> Result<(), UsageFault>
     ensures { MatchResult result

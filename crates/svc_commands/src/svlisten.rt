@@ -13,7 +13,7 @@ use crate::usage_fault::UsageFault;
 use clap::Command;
 use std::alloc::{AllocError, Global};
 
-/// A wait, and the program that is started once the waiter stands: its own name first, then its arguments. Page `s6-svlisten`.
+/// A wait, and the program that is started once the waiter is made: its own name first, then its arguments. Page `s6-svlisten`.
 #[derive(Debug, Drop)]
 pub struct ListenCommand<'a> {
     pub wait: WaitCommand,
@@ -38,6 +38,7 @@ pub fn compile_svlisten<'a>(
     let Ok(command) = svlisten_command(alloc) else {
         return Err(UsageFault::NoMemory);
     };
+    // The words of svlisten itself.
     let own = before_dashes(words);
     let program = after_dashes(words);
     let matches = matches_in(command, own)?;
@@ -71,7 +72,7 @@ fn before_dashes<'a>(words: &'a [&'a str]) -> &'a [&'a str]
     &words[..cut_at(words)]
 }
 
-// The words after the first `--`.
+// The words after the first `--`; none where there is no `--`.
 fn after_dashes<'a>(words: &'a [&'a str]) -> &'a [&'a str]
     ensures { map (λ w. w.now) result.now ≡ program_words (map (λ w. w.now) words.entry.now) }
 {

@@ -47,7 +47,7 @@ pub fn compile_svscanctl(words: &[&str]) -> Result<ScanCommand, UsageFault>
     Ok(ScanCommand { letters })
 }
 
-// Adds the letters of a run.
+// Adds the letters of a run. TooMany where the word is none, since svscanctl takes no other word.
 fn read_word(letters: &mut ScanLetters, word: &[u8]) -> Result<(), UsageFault>
     ensures { MatchResult result
         (λ _. IsRead scan_letters no_name word.now letters.old.items true letters.new.items true)
@@ -76,7 +76,7 @@ fn add_run(letters: &mut ScanLetters, run: &[u8]) -> Result<(), UsageFault>
     Ok(())
 }
 
-// Adds what one byte means.
+// Adds what one byte means; Unknown where it means nothing.
 fn add_byte(letters: &mut ScanLetters, byte: u8) -> Result<(), UsageFault>
     ensures { MatchResult result
         (λ _. (letter_fault (length letters.old.items) (scan_letters byte) ≡ None)

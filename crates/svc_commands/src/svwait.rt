@@ -84,7 +84,8 @@ pub(crate) fn wait_command(
     })
 }
 
-// How often the options are given in all that say what is waited for: `-u`, `-U`, `-d`, `-D`, `-r` and `-R`.
+// How often the options are given in all that say what is waited for: `-u`, `-U`, `-d`, `-D`, and for svlisten `-r` and `-R`, of which
+// svwait counts none.
 fn conditions(matches: &ArgMatches<'_>) -> u32
     ensures { result ≡ condition_count (rows_of (found_of matches.now)) }
 {

@@ -5,14 +5,14 @@ use thiserror::Error;
 /// order are chosen here.
 #[derive(Clone, Copy, Debug, PartialEq, Eq, Error)]
 pub enum UsageFault {
-    /// An option or a letter that the command does not have, an option without its value or given twice, a dash with no letter, or
-    /// a word where none is taken.
+    /// An option or a letter that the command does not have, an option without its value or given twice, a dash with no letter, or a word
+    /// more than svstat or permafailon takes.
     #[error("an option or a word is not known here: leave it out, or spell it as the command's page does")]
     Unknown = 1,
     /// Something that the command needs is not there: a letter, a name, a number, the fields, the exits, or the program.
     #[error("a letter, a name, a number, a list or the program is missing: add it")]
     Missing = 2,
-    /// More than 63 letters, a second name where one is taken, more than 16 names, two conditions or two modes.
+    /// More than 63 letters, a second name for svc, any name for svscanctl, more than 16 names, two conditions or two modes.
     #[error("there are too many letters, names, conditions or modes: leave some out")]
     TooMany = 3,
     /// The timeout, the seconds or the count is no number from 0 to 4294967295, in digits.

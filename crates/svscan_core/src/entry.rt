@@ -10,14 +10,14 @@ pub struct Entry {
     pub config: Option<Config>,
 }
 
-/// What became of a listed name for which no service stood.
+/// What became of a listed name for which there was no service.
 #[derive(Clone, Copy, Debug, PartialEq, Eq)]
 pub enum Listed {
-    /// It has a new service, of this serial.
+    /// The service of this name was added, with this serial.
     Added(Sid, Name),
-    /// As many services stood as may stand.
+    /// No service was added, since there were `SERVICE_LIMIT` already.
     Full(Name),
-    /// Its directory couldn't be read.
+    /// No service was added, since the directory couldn't be read.
     Unread(Name),
 }
 

@@ -34,6 +34,7 @@ fn image_at<A: Allocator + Copy>(
 {
     match slots.nth(place) {
         Some(service) => service.image(alloc),
+        // `images_of` asks only for places below the number of services.
         None => unreachable!(),
     }
 }

@@ -36,7 +36,8 @@ impl<A: Allocator + Copy> SortedListing<A> {
         self.found.contains_key(name)
     }
 
-    /// The configuration that was read of the directory of the name.
+    /// The configuration that was read of the directory of the name; None where the name is not listed, or its directory couldn't be
+    /// read.
     pub fn config_of(&self, name: &Name) -> Option<Config>
         ensures { result ≡ listed_config self.now name.now }
     {
@@ -65,6 +66,7 @@ pub fn sort_listing<A: Allocator + Copy>(
 {
     let mut found = BTreeMap::new(alloc);
     for entry in listing {
+        // No name stands twice, so that no other entry is replaced.
         let _other = found.insert(entry.name, entry.config)?;
     }
     Ok(SortedListing { found })

@@ -24,9 +24,11 @@ use supervise_core::{Change, Out, ServiceState};
 /// How a step changes the service at a place.
 #[derive(Clone, Copy)]
 pub struct ChangedService {
+    /// The place of the service among all, in rising serial from 0.
     pub place: usize,
+    /// Its state and status after the change.
     pub standing: ServiceState,
-    /// A death that joins its tally.
+    /// The death that the change adds to its tally, if any.
     pub death: Option<(At, Exit)>,
 }
 
@@ -39,7 +41,7 @@ pub struct Moves<A: Allocator> {
     pub orders: Vec<Order, A>,
 }
 
-/// The service at a place, as the step has it so far.
+/// The service at a place, as the step has it so far: after the last change of it, if it was changed.
 pub fn standing_at<'a, A: Allocator + Copy>(
     slots: &'a Slots<A>,
     touched: &'a [ChangedService],
@@ -57,7 +59,7 @@ pub fn standing_at<'a, A: Allocator + Copy>(
     Some(standing)
 }
 
-// The same, where of these changes those from `before` on are of other services, and needn't be looked at.
+// As `standing_at`, but only the first `before` changes are looked at: those behind them are known to be of other services.
 fn standing_before<'a, A: Allocator + Copy>(
     slots: &'a Slots<A>,
     touched: &'a [ChangedService],
@@ -177,6 +179,7 @@ impl<A: Allocator + Copy> Moves<A> {
             self.new.touched.items) }
     {
         let touched = self.touched.as_slice();
+        // None where there is no service at this place.
         let Some(standing) = standing_before(slots, touched, before, place) else {
             return Ok(());
         };
@@ -250,6 +253,7 @@ impl<A: Allocator + Copy> Moves<A> {
         let Some(place) = place_of(slots, sid) else {
             return Ok(false);
         };
+        // `place_of` found a service there, so that this is never None.
         let Some(standing) = standing_at(slots, self.touched.as_slice(), place) else {
             return Ok(false);
         };

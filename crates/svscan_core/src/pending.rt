@@ -30,8 +30,9 @@ use supervise_core::{ChartState, Out};
 pub struct Pending<A: Allocator> {
     pub moves: Moves<A>,
     pub scan: Scanning<A>,
+    /// Whether the work was a report that was stale.
     pub stale: bool,
-    /// What the step does to the timers, once it is worked out.
+    /// What the step does to the timers; it is listed once all else is worked out.
     pub timers: Vec<TimerChange, A>,
 }
 
@@ -115,7 +116,7 @@ impl<A: Allocator + Copy> Pending<A> {
         self.timers.clear();
     }
 
-    // Does the work on the services as the step has them so far.
+    // Works out the work on the services as the step has them so far: after the due timers, if these went off.
     fn do_work(
         &mut self,
         slots: &Slots<A>,
@@ -212,7 +213,7 @@ impl<A: Allocator + Copy> Pending<A> {
     }
 }
 
-// Each service whose timer is due takes its rule: where none is due, no service is looked at.
+// The timer of each service goes off, if it is due; `due` has the serials of these services. Where it is empty, no service is looked at.
 fn fire_due<A: Allocator + Copy>(
     slots: &Slots<A>,
     moves: &mut Moves<A>,

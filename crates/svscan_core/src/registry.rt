@@ -46,7 +46,7 @@ pub struct Registry<A: Allocator> {
     pending: Pending<A>,
     // Counts the steps that were worked out, modulo 2^64. The plan of the last one has this as its number.
     number: u64,
-    // Kept for its memory: a change of one service gives its marks and orders there.
+    // The marks and orders of one service's change, while a step is worked out. It is kept here since it is large.
     out: Out,
 }
 
@@ -76,8 +76,8 @@ impl<A: Allocator + Copy> Registry<A> {
         }
     }
 
-    /// How many services stand: at most `SERVICE_LIMIT`. No two of them have the same name, and their serials rise and are below the next
-    /// one.
+    /// How many services there are: at most `SERVICE_LIMIT`. No two of them have the same name, and their serials rise and are below the
+    /// next one.
     pub fn len(&self) -> usize
         ensures count { result ≡ length self.now.shown.services }
         ensures sound { IsSound self.now.shown.next_sid (charts_of self.now.shown.services) }
@@ -238,7 +238,7 @@ impl<A: Allocator + Copy> Registry<A> {
         self.pending.scan.dropped_sids.as_slice()
     }
 
-    /// What becomes of each listed name for which no service stood, in the order of the names' bytes.
+    /// What becomes of each listed name for which there was no service, in the order of the names' bytes.
     pub fn listed(&self) -> &[Listed]
         ensures { result.now ≡ self.now.planned.listed }
     {
@@ -274,6 +274,7 @@ impl<A: Allocator + Copy> Registry<A> {
         ensures { self.new.shown
             ≡ table_of (registry_prepared self.old.shown.services self.old.planned) }
     {
+        // Only the contract reads the number: the caller hands in the plan of the last step.
         let RegistryPlan { number: _ } = plan;
         let Pending { moves, scan, .. } = &mut self.pending;
         commit_changes(
@@ -285,7 +286,7 @@ impl<A: Allocator + Copy> Registry<A> {
         self.next_sid = scan.next_sid;
     }
 
-    // Works out the work alone: no timer goes off.
+    // Works out a step that has this work alone: no timer goes off.
     fn prepare_alone(&mut self, work: &ServiceWork, now: At) -> Result<RegistryPlan, NoMemory>
         requires listing { IsOrderly self.old.shown.next_sid (work_asked work.now) }
         requires generations { HaveGenerations 1 (charts_of self.old.shown.services) }
@@ -302,7 +303,7 @@ impl<A: Allocator + Copy> Registry<A> {
         Ok(RegistryPlan::of(self.number))
     }
 
-    // Does the work at once.
+    // Does the work at once: it is worked out, what it gives is copied, and it is committed.
     fn make(&mut self, work: &ServiceWork, now: At) -> Result<Answer<A>, NoMemory>
         requires listing { IsOrderly self.old.shown.next_sid (work_asked work.now) }
         requires generations { HaveGenerations 1 (charts_of self.old.shown.services) }
@@ -316,11 +317,10 @@ impl<A: Allocator + Copy> Registry<A> {
         Ok(answer)
     }
 
-    /// Takes a listing of the scan directory, at once. Each service whose name is listed becomes active and takes the configuration
-    /// that was read; each other one becomes inactive. An inactive one whose supervisor has ended is dropped. Each name for which no
-    /// service stands gets one, in the order of the names' bytes, unless its directory couldn't be read or `SERVICE_LIMIT` services
-    /// stand. No name stands in the listing twice. `NoMemory` where memory is refused: nothing that is shown changes then. Page
-    /// `s6-svscan`.
+    /// Takes a listing of the scan directory, at once. Each service whose name is listed becomes active and takes the configuration that
+    /// was read; each other one becomes inactive. An inactive one whose supervisor has ended is dropped. Each name that has no service
+    /// gets one, in the order of the names' bytes, unless its directory couldn't be read or there are `SERVICE_LIMIT` services. The
+    /// listing has no name twice. `NoMemory` where memory is refused: nothing that is shown changes then. Page `s6-svscan`.
     pub fn scan(&mut self, listing: &[Entry], now: At) -> Result<Answer<A>, NoMemory>
         requires listing { repeats_name (names_in listing.now) ≡ false }
         requires generations { HaveGenerations 1 (charts_of self.old.shown.services) }

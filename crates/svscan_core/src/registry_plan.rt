@@ -23,7 +23,7 @@ impl Model for RegistryPlan {
 }
 
 /// What a scan, or a command to all services, gives: the marks and orders of each service in the order made, the serials that were
-/// dropped, and what became of each listed name for which no service stood.
+/// dropped, and what became of each listed name for which there was no service.
 #[derive(Drop)]
 pub struct Answer<A: Allocator> {
     pub events: Vec<Event, A>,

@@ -32,8 +32,11 @@ pub struct Scanning<A: Allocator> {
     pub dropped: Vec<Name, A>,
     /// Their serials, which rise.
     pub dropped_sids: Vec<Sid, A>,
+    /// The new services, in rising serial.
     pub added: Vec<Service<A>, A>,
+    /// What becomes of each listed name for which there is no service.
     pub listed: Vec<Listed, A>,
+    /// The serial of the next new service.
     pub next_sid: u64,
 }
 
@@ -169,7 +172,8 @@ impl<A: Allocator + Copy> Scanning<A> {
         Ok(())
     }
 
-    // Adds a service for a name for which none stands, unless its directory couldn't be read or the limit is reached.
+    // Adds a service for a name that has none, unless its directory couldn't be read (`found` is None) or the limit is reached.
+    // `retained` services stay.
     fn add_new_name(
         &mut self,
         alloc: A,
@@ -202,7 +206,7 @@ impl<A: Allocator + Copy> Scanning<A> {
         self.add_service(alloc, moves, name, config, out)
     }
 
-    // As `add_new_name`, but it passes over a name for which a service stands.
+    // As `add_new_name`, but a name that has a service is passed over.
     fn add_name(
         &mut self,
         slots: &Slots<A>,
@@ -266,9 +270,9 @@ impl<A: Allocator + Copy> Scanning<A> {
 }
 
 /// Works out what the listing does to the services as the step has them so far. Each is looked at; those whose directory and supervisor
-/// are both gone leave; and each listed name for which none stands gets a new one, in the order of the names' bytes, unless its
-/// directory couldn't be read, while fewer than `SERVICE_LIMIT` stand. Nothing of it is done yet. `NoMemory` where memory for the plan
-/// is refused. Page `s6-svscan`.
+/// are both gone leave; and each listed name that has no service gets a new one, in the order of the names' bytes, unless its directory
+/// couldn't be read, while there are fewer than `SERVICE_LIMIT`. Nothing of it is done yet. `NoMemory` where memory for the plan is
+/// refused. Page `s6-svscan`.
 pub fn plan_scan<A: Allocator + Copy>(
     slots: &Slots<A>,
     moves: &mut Moves<A>,

@@ -1,4 +1,4 @@
-//! Where the services stand: slots, with an index of their names.
+//! Where the services are kept: slots, with an index of their names.
 ghost use Rattle.std.specs.Prelude.{◌≡◌, [], ◌∷◌, ◌++◌, ◌+◌, ◌<◌, ◌≤◌, false, length, find, bytes_eq, slice_get, slice_set, option_map, vec_capacity, None, Some, IsSomeAnd, OnOk, IsOk};
 ghost use Rattle.std.specs.List.{list_any};
 ghost use Rattle.slab.specs.Slab.{get, slab_len, Updates};
@@ -14,8 +14,8 @@ use std::hash::{BuildHasherDefault, FoldHasher};
 use std::marker::Model;
 use supervise_core::{Service, ServiceState};
 
-/// The services that stand, each in a slot of its own, and an index from their names to the slots, in the order in which they were
-/// added.
+/// The services, each in a slot of its own, and an index from their names to the slots, in the order in which they were added. A service
+/// keeps its slot; its place is where its name is in the index.
 #[derive(Drop)]
 pub struct Slots<A: Allocator> {
     slots: Slab<Service<A>, A>,
@@ -71,7 +71,7 @@ impl<A: Allocator + Copy> Slots<A> {
         }
     }
 
-    /// How many services stand. No two of them have the same name.
+    /// How many services there are. No two of them have the same name.
     pub fn len(&self) -> usize
         ensures count { result ≡ length self.now.services }
         ensures names { repeats_name (names_of (charts_of self.now.services)) ≡ false }
@@ -96,7 +96,7 @@ impl<A: Allocator + Copy> Slots<A> {
         self.slots.get(*slot)
     }
 
-    /// Whether a service of this name stands.
+    /// Whether there is a service of this name.
     pub fn has(&self, name: &Name) -> bool
         ensures { result ≡ list_any (λ s. bytes_eq name.now s.chart.name) self.now.services }
     {
@@ -131,7 +131,7 @@ impl<A: Allocator + Copy> Slots<A> {
         }
     }
 
-    /// Makes room for `count` more services. `NoMemory` where memory is refused; the services that stand stay as they are.
+    /// Makes room for `count` more services. `NoMemory` where memory is refused; the services stay as they are.
     pub fn reserve(&mut self, count: usize) -> Result<(), NoMemory>
         ensures services { self.new.services ≡ self.old.services }
         ensures room { OnOk result (count ≤ self.new.room) }

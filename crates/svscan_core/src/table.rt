@@ -64,7 +64,7 @@ pub fn change<A: Allocator + Copy>(
     Some(out)
 }
 
-// The state once its timer went off.
+// The state once its timer went off; its marks and orders are not wanted.
 fn fire_timer(standing: ServiceState, now: At) -> ServiceState
     requires { standing.chart.generation + 1 < 2 ^ 64 }
     ensures chart { result.chart ≡ (fire_move now standing.chart).chart }

@@ -18,8 +18,11 @@ use supervise_core::{Change, Out, ServiceState};
 /// What each service in turn takes: the rule of its timer, a command to all services, or a look at its directory.
 #[derive(Clone, Copy)]
 pub enum Visit<'a, A: Allocator> {
+    /// Its timer goes off, if it is due.
     Fire,
+    /// It takes a command to all services.
     Command(ScanOrder),
+    /// The listing tells whether its directory is there, and what its files say.
     Look(&'a SortedListing<A>),
 }
 

@@ -16,7 +16,7 @@ pub enum BuildFault {
 }
 
 impl BuildFault {
-    // The fault for an error of the parser.
+    // The fault for an error of the parser: NoMemory where memory was refused, else Refused.
     pub(crate) fn of_parser(kind: ErrorKind) -> BuildFault
         ensures { result ≡ of_parser kind }
     {
@@ -26,7 +26,7 @@ impl BuildFault {
         }
     }
 
-    // The fault for an error of the compiler.
+    // The fault for an error of the compiler: NoMemory where memory was refused, else Refused.
     pub(crate) fn of_compiler(error: regex_compile::Error) -> BuildFault
         ensures { result ≡ of_compiler error }
     {

@@ -9,7 +9,9 @@ use std::marker::Model;
 /// States of an automaton, each once, in the order in which they were added.
 #[derive(Drop)]
 pub struct StateList {
+    // The states that are listed, in their order.
     states: Vec<StateId>,
+    // The same states as a set, by which `add` tells whether one is listed.
     marks: StateSet,
 }
 

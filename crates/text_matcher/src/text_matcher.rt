@@ -1,4 +1,4 @@
-//! A matcher: an expression, its automaton, and a text that it hears letter by letter.
+//! A matcher: an expression, its automaton, and a text that it takes in (hears) letter by letter.
 ghost use Rattle.std.specs.Prelude.{◌≡◌, ◌++◌, ◌∷◌, ◌<◌, [], All, IfOk, OnOk, OnErr, true};
 ghost use Rattle.text_matcher.specs.Expression.{is_expression, has_match};
 ghost use Rattle.text_matcher.specs.Matching.{Matches};
@@ -33,23 +33,26 @@ pub struct Limits {
     pub letter_cost: usize,
 }
 
-/// A regular expression of the crate `regex`, and a text of letters that it hears one by one, with all that a search of that text needs. A
-/// letter costs a look at each state of the automaton in which a search stands, however long the text is.
+/// A regular expression of the crate `regex`, and a text of letters that it hears one by one, with all that a search of that text needs.
+/// A search comes behind a letter in the states to which that letter leads; it stands there in these, and in all to which edges that read
+/// no byte lead from them. A letter costs a look at each state of the automaton in which a search stands, however long the text is.
 ///
 /// A clause sees it as the text of the expression, and the letters that it heard.
 pub struct TextMatcher {
     source: String,
     nfa: Nfa,
     heard: Vec<u8>,
-    // The states in which a search comes behind the last letter; where it stands there already, those in which it stands.
+    // The states in which a search comes behind the last letter; where `is_standing`, all those in which it stands there.
     behind: StateList,
-    // Whether it stands there already, whatever comes.
+    // Whether `behind` has all states in which a search stands, whatever comes: only without assertions, after `has_match`.
     is_standing: bool,
-    // Whether a match ended before the last letter; where it stands behind it already, whether one ended there or before.
+    // Whether a match ended before the last letter; where `is_standing`, whether one ended before or behind it.
     has_matched: bool,
-    // A second list: for the states to which a letter leads, or those in which a search stands at the end.
+    // A second list, whose states are of use within one call only. In `hear` it is for the states to which the letter leads. In
+    // `has_match`, for an automaton with assertions, `stand_beside` gathers in it the other states in which a search stands at the end:
+    // those to which edges lead that read no byte, some of which may be in `behind` too.
     spare: StateList,
-    // Whether an assertion may look at what comes.
+    // Whether the automaton has an assertion, which may look at the next letter.
     has_assertions: bool,
 }
 
@@ -98,6 +101,7 @@ impl TextMatcher {
         let states = nfa.states.len();
         let has_assertions = has_assertion(&nfa);
         let mut behind = StateList::new(alloc, states)?;
+        // Where a search begins that may skip letters before a match.
         behind.add(nfa.unanchored);
         let spare = StateList::new(alloc, states)?;
         let heard = Vec::with_capacity(alloc, letters)?;
@@ -128,7 +132,7 @@ impl TextMatcher {
         &self.heard
     }
 
-    /// Forgets the letters that it heard.
+    /// Forgets the letters that it heard: a search begins anew.
     pub fn restart(&mut self)
         ensures { self.new ≡ record self.old { heard = [] } }
     {
@@ -149,6 +153,7 @@ impl TextMatcher {
     {
         let place = self.heard.len();
         self.heard.push(letter)?;
+        // First the place before this letter: its assertions may look at the letter, which is why it was pushed before.
         self.has_matched = stand_once(
             &self.nfa,
             &self.heard,
@@ -171,6 +176,7 @@ impl TextMatcher {
     {
         let end = self.heard.len();
         if self.has_assertions {
+            // `behind` and `has_matched` stay as they are, since an assertion may hold here only until the next letter comes.
             return stand_beside(
                 &self.nfa,
                 &self.heard,

@@ -1,4 +1,4 @@
-//! A walk over a text that grows: where a search stands behind the letters that came so far.
+//! The walk of a search through an automaton, over a text that grows: in which states it is behind the letters that came so far.
 ghost use Rattle.std.specs.Prelude.{◌≡◌, ◌++◌, ℕ, ◌+◌, ◌<◌, ◌≤◌, ◌⊎◌, Contains, Some, true, false, length, slice_index, vec_len};
 ghost use Rattle.regex_nfa.specs.Paths.{EmptyEdge};
 ghost use Rattle.regex_nfa.specs.Run.{state_of};
@@ -12,7 +12,8 @@ ghost use Rattle.text_matcher.specs.Walks.{AllStand, HasMatchState, HasNoAsserti
 use crate::state_list::StateList;
 use regex_nfa::{Nfa, State, StateId, holds};
 
-// Adds the states to which edges lead from this one at place `at` that read no byte. Whether this one says that there is a match.
+// Adds to `reached` the states to which edges that read no byte lead from this one, at place `at`. Returns whether this one says that
+// there is a match.
 #[inline(always)]
 fn follow(nfa: &Nfa, bytes: &[u8], at: usize, state: StateId, reached: &mut StateList) -> bool
     requires state { state < vec_len nfa.now.states }
@@ -38,13 +39,14 @@ fn follow(nfa: &Nfa, bytes: &[u8], at: usize, state: StateId, reached: &mut Stat
                 reached.add(next);
             }
         }
+        // The other states read a byte, or lead nowhere.
         _ => {}
     }
     false
 }
 
-// Adds the states that edges lead to at place `at` that read no byte, one after the other. Whether a match ended before, or one of all these states
-// says that there is one.
+// Adds to `reached`, one after the other, all states to which edges that read no byte lead from those in it, at place `at`. Returns
+// whether a match ended before (`has_matched`), or one of all these states says that there is one.
 fn close(nfa: &Nfa, bytes: &[u8], at: usize, reached: &mut StateList, has_matched: bool) -> bool
     requires count { reached.old.count ≡ vec_len nfa.now.states }
     ensures count { reached.new.count ≡ reached.old.count }
@@ -70,8 +72,8 @@ fn close(nfa: &Nfa, bytes: &[u8], at: usize, reached: &mut StateList, has_matche
     is_found
 }
 
-// Makes `beside` the states that edges lead to from these at place `at` that read no byte. Whether a match ended before, or one of these says that
-// there is one.
+// Fills `beside` with the states to which edges that read no byte lead from `states`, at place `at`: only those one edge away. Returns
+// whether a match ended before (`has_matched`), or one of `states` says that there is one.
 fn follow_all(
     nfa: &Nfa,
     bytes: &[u8],
@@ -102,7 +104,8 @@ fn follow_all(
     is_found
 }
 
-/// Makes `beside` the other states in which a search stands at place `at` that comes there in those of `behind`. Whether a match ended there or before.
+/// Fills `beside` with the other states in which a search stands at place `at`, where it comes there in those of `behind`: all to which
+/// edges lead that read no byte. Returns whether a match ended there or before.
 pub fn stand_beside(
     nfa: &Nfa,
     bytes: &[u8],
@@ -121,8 +124,8 @@ pub fn stand_beside(
     close(nfa, bytes, at, beside, is_found)
 }
 
-/// Makes the states in which a search comes to place `at` those in which it stands there, unless they are these already. Whether a match ended there
-/// or before.
+/// Adds to `states`, in which a search comes to place `at`, all others in which it stands there, unless they are in it already
+/// (`is_standing`). Returns whether a match ended there or before.
 pub fn stand_once(
     nfa: &Nfa,
     bytes: &[u8],
@@ -176,7 +179,7 @@ fn read_from(nfa: &Nfa, byte: u8, state: StateId, behind: &mut StateList)
     }
 }
 
-/// Makes `behind` the states to which this byte leads from those of `reached`.
+/// Fills `behind` with the states to which this byte leads from those of `reached`.
 pub fn read_over(nfa: &Nfa, byte: u8, reached: &StateList, behind: &mut StateList)
     requires reached { reached.now.count ≡ vec_len nfa.now.states }
     requires behind { behind.old.count ≡ vec_len nfa.now.states }

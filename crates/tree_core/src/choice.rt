@@ -27,15 +27,23 @@ use wait_conditions::WaitChange;
 /// What a step does for its act: why that is refused, or what it asks of the services, the waiters or the event directories.
 #[derive(Drop)]
 pub enum Choice<'a> {
+    /// The act is refused, and no part is asked.
     Refuse(Refusal),
+    /// Nothing is asked: a tick.
     Nothing,
+    /// The service of this serial takes this report, which may be stale.
     Report(Sid, Change),
+    /// The service of this serial takes these control letters.
     Letters(Sid, Change),
     Listing(&'a [Entry]),
     Command(ScanOrder),
+    /// The reply is this status row; no part is asked.
     Show(Row),
+    /// The reply has the last deaths of the service of this name, if there is one; no part is asked.
     Tally(Name),
+    /// The reply tells this: whether the last deaths of a service are a permanent failure; no part is asked.
     Failure(bool),
+    /// A waiter for these services is asked for, with a timeout in milliseconds, 0 for none.
     Wait(Condition, Mode, u32, ArrayVec<Sid, NAME_LIMIT>),
     Cancel(WaitId),
     MakeDirectory(Name),
@@ -96,7 +104,7 @@ impl Choice<'_> {
     }
 }
 
-// The report that an act tells, and the service that it names; None for an act that is asked for, and for a tick.
+// The report that an act is, and the service that it names; None for a request of a user, and for a tick.
 #[inline(always)]
 fn report_in<A: Allocator>(act: &Act<A>) -> Option<(Sid, Report)>
     ensures { result ≡ report_in act.now }
@@ -119,8 +127,8 @@ fn report_in<A: Allocator>(act: &Act<A>) -> Option<(Sid, Report)>
     }
 }
 
-/// What a step does for this act. The due timers of these services have not gone off yet; the act is done as if they had. It is put where it
-/// is to lie, since it is large.
+/// What a step does for this act. The due timers of these services have not gone off yet; the act is done as if they had. The answer is
+/// written into `choice`, since it is large.
 #[inline(always)]
 pub fn choose<'a, A: Allocator + Copy>(
     alloc: A,
@@ -153,7 +161,8 @@ pub fn choose<'a, A: Allocator + Copy>(
     }
 }
 
-// What an act does that is asked for. It stands apart: inlined, each step would fill a place for each of its answers.
+// As `choose`, for an act that is neither a report nor a tick. It is a function of its own: inlined, each step would fill a place for
+// each of its answers.
 #[inline(never)]
 fn choose_request<'a, A: Allocator + Copy>(
     alloc: A,
@@ -180,7 +189,7 @@ fn choose_request<'a, A: Allocator + Copy>(
     Ok(())
 }
 
-// The same, as a value.
+// As `choose_request`, but the choice is returned.
 fn chosen_for<'a, A: Allocator + Copy>(
     alloc: A,
     registry: &Registry<A>,
@@ -220,6 +229,7 @@ fn chosen_for<'a, A: Allocator + Copy>(
         Act::Unsubscribe(id) => Ok(Choice::Unsubscribe(*id)),
         Act::Send(target, message) => Ok(send(*target, message)),
         Act::MakeDir(name) => Ok(Choice::MakeDirectory(*name)),
+        // `choose` has dealt with the reports and the tick.
         _ => unreachable!(),
     }
 }

@@ -70,6 +70,7 @@ impl<A: Allocator + Copy> Effect<A> {
         ensures matched { self.new.matched.items ≡ [] }
         ensures released { self.new.released.items ≡ [] }
     {
+        // Most replies are Done already, and are not written again.
         if !matches!(self.reply, Reply::Done) {
             self.reply = Reply::Done;
         }
@@ -92,6 +93,7 @@ impl<A: Allocator + Copy> Effect<A> {
     {
         // Most steps order nothing.
         if !orders.is_empty() && self.orders.try_extend_from_slice(orders).is_err() {
+            // The list is empty before, and has room for the orders of any step.
             unreachable!()
         }
         self.events.extend_from_slice(events)?;

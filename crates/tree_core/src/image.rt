@@ -6,13 +6,17 @@ use std::marker::Model;
 use svscan_core::RegistryImage;
 use wait_conditions::WaitsImage;
 
-/// All that a tree stores, as plain data. A clause sees it as what its tree stores, so it stands for just what its tree stands for.
+/// All that a tree stores, as plain data. A clause sees it as what its tree stores, so that both agree with the same states of the
+/// written machine (`specs/`).
 #[derive(Drop)]
 pub struct Image<A: Allocator> {
     pub clock: At,
+    /// How many inputs it has taken.
     pub steps: u64,
+    /// Whether it was told to terminate.
     pub closing: bool,
     pub registry: RegistryImage<A>,
+    /// How many of the first moments of the history are forgotten: those before `kept`.
     pub forgotten: u64,
     pub kept: Vec<Moment, A>,
     pub waits: WaitsImage<A>,

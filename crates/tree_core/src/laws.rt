@@ -1,6 +1,6 @@
 //! Laws of the written machine. Each is the contract of a function that does nothing, so that its statement is proved; that statement is in
 //! the file of `specs/` that the contract cites. The code that keeps them: `restart.rt` of finish_core for the pause before a run; and, in
-//! supervise_core, `reports.rt` for no run after a permanent failure, `moves.rt` for marks and generations, `letters.rt` for signals.
+//! supervise_core, `reports.rt` for no run after a permanent failure, `moves.rt` for marks and generations, `control.rt` for signals.
 ghost use Rattle.std.specs.Prelude.{List, ℕ};
 ghost use Rattle.svscan_core.specs.Listing.{in_byte_order};
 ghost use Rattle.tree_core.specs.ByteOrder.{IsInByteOrder};

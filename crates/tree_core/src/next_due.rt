@@ -17,6 +17,7 @@ fn service_at<A: Allocator + Copy>(registry: &Registry<A>, place: usize) -> &Ser
 {
     match registry.at(place) {
         Some(service) => service,
+        // The callers ask only for places below the number of services.
         None => unreachable!(),
     }
 }

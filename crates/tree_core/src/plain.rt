@@ -94,7 +94,8 @@ impl<A: Allocator + Copy> Act<A> {
         }
     }
 
-    // The same of an act that is asked for. It stands apart: inlined, each step would fill a place for each of its answers.
+    // The same, of an act that is neither a report nor a tick. It is a function of its own: inlined, each step would fill a place for
+    // each of its answers.
     #[inline(never)]
     fn plain_request(&self, alloc: A) -> Result<PlainAct<A>, AllocError>
         requires { is_request self.now ≡ true }
@@ -122,6 +123,7 @@ impl<A: Allocator + Copy> Act<A> {
                 copy_of(alloc, message.as_bytes())?,
             ),
             Act::MakeDir(name) => PlainAct::MakeDir(*name),
+            // `plain` has dealt with the reports and the tick.
             _ => unreachable!(),
         })
     }

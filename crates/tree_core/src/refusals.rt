@@ -1,6 +1,6 @@
-//! Why an act is refused before a part is asked, and the order in which that is looked for. Else the part that is asked may refuse it: a
-//! stale report in `reports.rt` of supervise_core; a full list in `waiter_limits.rt` of wait_conditions and `refusing.rt` of
-//! event_directory.
+//! Why an act is refused before a part (services, waiters, event directories) is asked, and the order in which that is looked for. Else
+//! the part that is asked may refuse it: a stale report in `reports.rt` of supervise_core; a full list in `waiter_limits.rt` of
+//! wait_conditions and `refusing.rt` of event_directory.
 ghost use Rattle.std.specs.Prelude.{◌≡◌, ◌==◌, ◌+◌, ◌<◌, ◌≤◌, ◌^◌, ◌++◌, List, map, find, bytes_eq, length, option_map, All, IfOk, None, Some, if◌then◌else◌};
 ghost use Rattle.std.specs.List.{list_any};
 ghost use Rattle.death_tally.specs.PermanentFailure.{are_permanent_failure};
@@ -37,6 +37,7 @@ pub fn copy_of<T: Copy + Default, const N: usize>(list: &ArrayVec<T, N>) -> Arra
 {
     let mut copy = ArrayVec::new();
     if copy.try_extend_from_slice(list.as_slice()).is_err() {
+        // Both lists have room for `N` items.
         unreachable!()
     }
     copy
@@ -161,7 +162,7 @@ fn serials_of<A: Allocator + Copy>(
 }
 
 /// The choice for a wait for the services of these names. Empty, Repeated, TooMany (over 16 names), NoService: the first of these that
-/// applies. Where 1,024 waiters stand, it is refused last, by `refusal_for` of wait_conditions. `NoMemory` where memory is refused.
+/// applies. Where there are 1,024 waiters already, it is refused last, by `refusal_for` of wait_conditions. `NoMemory` where memory is refused.
 pub fn wait<'a, A: Allocator + Copy>(
     alloc: A,
     registry: &Registry<A>,

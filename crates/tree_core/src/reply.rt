@@ -7,27 +7,27 @@ use std::marker::Model;
 use supervise_core::Row;
 use svscan_core::Listed;
 
-/// Why an act was refused. A refused act changes nothing itself; the clock and the timers of its step stand. The reasons are
-/// chosen here.
+/// Why an act was refused. A refused act changes nothing itself; still the clock moves on in its step, and the due timers go off, but for
+/// `Spent`. The reasons are chosen here.
 #[derive(Clone, Copy, Debug, PartialEq, Eq)]
 pub enum Refusal {
     /// No service has this name or serial.
     NoService = 1,
-    /// A report of another run, or of a run that is not in the phase that awaits it.
+    /// A report of another run than the present one, or one that is not awaited in the present phase of the service.
     Stale = 2,
     /// A message from outside to the event directory of a service.
     Reserved = 3,
     /// A limit of the tree is reached.
     TooMany = 4,
-    /// No free directory, subscription or waiter has this name or serial.
+    /// There is no free directory of this name, or no subscription or waiter of this serial.
     NoSuch = 5,
-    /// The tree is closing.
+    /// The tree is closing, since a terminate was done; it takes no listing and no command to all services.
     Closing = 6,
     /// A name was given twice.
     Repeated = 7,
     /// No name was given.
     Empty = 8,
-    /// A free directory has this name.
+    /// There is a free directory of this name already.
     Exists = 9,
     /// The supervisor of the service has ended.
     Ended = 10,
@@ -35,8 +35,8 @@ pub enum Refusal {
     Spent = 11,
 }
 
-/// What a scan answers: the services that were dropped, in rising serial, and what became of each name for which no service
-/// stood, in the order of the names' bytes.
+/// What a scan answers: the services that were dropped, in rising serial, and what became of each name for which
+/// there was no service, in the order of the names' bytes.
 #[derive(Drop)]
 pub struct ScanReport<A: Allocator> {
     dropped: Vec<Sid, A>,
@@ -67,7 +67,7 @@ impl<A: Allocator> ScanReport<A> {
         self.dropped.as_slice()
     }
 
-    /// What became of each name for which no service stood.
+    /// What became of each name for which there was no service.
     pub fn listed(&self) -> &[Listed]
         ensures { result.now ≡ self.now.listed }
     {

@@ -30,6 +30,7 @@ fn row_at<A: Allocator + Copy>(registry: &Registry<A>, place: usize, now: At) ->
 {
     match registry.at(place) {
         Some(service) => service.row(now),
+        // The callers ask only for places below the number of services.
         None => unreachable!(),
     }
 }

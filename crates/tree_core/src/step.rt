@@ -36,6 +36,7 @@ pub struct StepPlan<A: Allocator> {
     pub timers: DeadlinesPlan<A>,
     pub history: HistoryPlan<A>,
     pub waiters: WaitsPlan<A>,
+    /// The plan of the event directories.
     pub letters: DirectoriesPlan<A>,
 }
 
@@ -60,6 +61,7 @@ fn waiter_reply<A: Allocator>(told: &WaitAnswer) -> Reply<A>
 {
     match told {
         WaitAnswer::Added(id, _) => Reply::Waiter(*id),
+        // `wait` of `refusals.rt` has refused bad names before, so that only the limit of waiters is left.
         WaitAnswer::Refused(_) => Reply::Refused(Refusal::TooMany),
         WaitAnswer::Cancelled(false) => Reply::Refused(Refusal::NoSuch),
         WaitAnswer::Cancelled(true) | WaitAnswer::Nothing => Reply::Done,
@@ -80,7 +82,7 @@ fn directory_reply<A: Allocator>(told: &DirectoryAnswer) -> Reply<A>
 }
 
 // The reply to a choice, whose work the registry has worked out. `waiters` and `directories` are the answers to what it asks of the
-// waiters and of the event directories. It stands apart, since most steps are just done.
+// waiters and of the event directories. It is a function of its own, since most replies are just Done.
 #[inline(never)]
 fn reply_to<A: Allocator + Copy>(
     alloc: A,
@@ -115,7 +117,7 @@ fn reply_to<A: Allocator + Copy>(
     })
 }
 
-// Whether the reply is Done, whatever the parts answered.
+// Whether the reply is known to be Done without a look at the answers of the waiters and of the event directories.
 fn is_just_done<A: Allocator + Copy>(registry: &Registry<A>, choice: &Choice) -> bool
     ensures { result ≡ true → (services : List Supervised) → (told : ListenersAnswer)
         → chosen_reply {A = A} (chosen_of choice.now) services
@@ -165,7 +167,8 @@ fn fill_effect<A: Allocator + Copy>(
 }
 
 /// Works out the step of an input, at this clock: each part prepares its share, and the effect is filled. Only here is worked out what
-/// the clock is after the step, and which services are due. It is called at one place, and its plan is large: inlined, that isn't moved.
+/// the clock is after the step, and which services are due. It is called at one place, and is inlined there so that its plan, which is
+/// large, isn't moved.
 #[inline(always)]
 pub fn plan_step<A: Allocator + Copy>(
     registry: &mut Registry<A>,

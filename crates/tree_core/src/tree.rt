@@ -35,12 +35,14 @@ use supervise_core::Row;
 use svscan_core::Registry;
 use wait_conditions::{WaitState, Waits, earlier_of};
 
-/// All services, waiters and event directories, their clock and their history: the written machine, as far as it is remembered. A tree
-/// keeps the allocator that it was made with.
+/// All services, waiters and event directories, with their clock and their history, of which the moments are forgotten that no waiter
+/// needs any more. A tree keeps the allocator that it was made with.
 #[derive(Drop)]
 pub struct Tree<A: Allocator> {
     clock: At,
+    // How many inputs it has taken, at most 2^48.
     steps: u64,
+    // Whether a terminate was done.
     closing: bool,
     registry: Registry<A>,
     deadlines: Deadlines<A>,
@@ -113,6 +115,7 @@ impl<A: Allocator + Copy> Tree<A> {
             Ok(plan) => plan,
             Err(refused) => return Err(refused),
         };
+        // From here on nothing can be refused, so that the pattern may leave the input.
         let offer = take_offer(&mut input.act, &plan.letters.answer);
         self.clock = plan.now;
         self.steps += 1;
@@ -217,14 +220,15 @@ impl<A: Allocator + Copy> Tree<A> {
         earlier_of(next_timer(&self.registry), self.waits.next_deadline())
     }
 
-    /// Whether it has ended: it is closing, and the supervisor of each service that stands has ended.
+    /// Whether it has ended: it is closing, and the supervisor of each service has ended.
     pub fn ended(&self) -> bool
         ensures { (m : Machine) → StandsFor self.now m → result ≡ has_ended m }
     {
         self.closing && are_gone(&self.registry)
     }
 
-    /// All that it stores as plain data: an image stands for just what its tree stands for. `NoMemory` where memory is refused.
+    /// All that it stores as plain data: an image agrees with the same states of the written machine (`specs/`) as its tree. `NoMemory`
+    /// where memory is refused.
     pub fn image(&self) -> Result<Image<A>, NoMemory>
         ensures { IfOk result (λ image. image ≡ self.now) }
     {
@@ -261,6 +265,7 @@ fn kept_of<A: Allocator + Copy>(history: &History<A>, forgotten: u64) -> &[Momen
 {
     match history.from(forgotten) {
         Some(moments) => moments,
+        // Each step forgets only what is before `needed_from`, which is the place that is asked for.
         None => unreachable!(),
     }
 }
@@ -277,7 +282,8 @@ fn take_offer<A: Allocator>(act: &mut Act<A>, told: &DirectoryAnswer) -> Option<
     }
 }
 
-// The pattern that an act offers. It stands apart: inlined, each step would fill places for two acts.
+// Takes the pattern that an act offers out of it, and leaves a tick. It is a function of its own: inlined, each step would fill places
+// for two acts.
 #[inline(never)]
 fn take_pattern<A: Allocator>(act: &mut Act<A>) -> Option<(Pattern, bool)>
     ensures { option_map (λ o. (o.0, o.1)) result ≡ offer_of act.old }

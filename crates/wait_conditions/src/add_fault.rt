@@ -17,7 +17,7 @@ pub enum AddFault {
     /// More than 16 services are named.
     #[error("over 16 services")]
     TooManyServices = 3,
-    /// 1,024 waiters stand already.
+    /// There are 1,024 waiters already.
     #[error("as many waiters stand as may")]
     TooMany = 4,
     /// Memory was refused.

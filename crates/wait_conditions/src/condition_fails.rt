@@ -1,5 +1,6 @@
-//! Why a condition that does not hold fails, if it does: for good, where it asks for up and the newest of u and O is an O; else where the
-//! newest of s and x is an x. Both are brought up to date with each mark, in `supervisor_state.rt`.
+//! When a condition that does not hold is given up (fails): for good, where it asks for up and the newest u or O since the waiter was
+//! made is an O; else where the newest s or x of the service is an x. Both are brought up to date with each mark, in
+//! `supervisor_state.rt`.
 ghost use Rattle.std.specs.Prelude.{◌≡◌};
 ghost use Rattle.wait_conditions.specs.Fails.{failure_at};
 ghost use Rattle.wait_conditions.specs.OneMore.{ended_after, failed_after};
@@ -37,7 +38,8 @@ pub fn next_failed(mark: Option<Mark>, failed: bool) -> bool
     }
 }
 
-/// Why a condition that doesn't hold fails, if it does.
+/// Why a condition that doesn't hold of a service is given up; None where it may hold yet. `failed`: the service failed for good since
+/// the waiter was made, and was not started since; `ended`: its supervisor has ended.
 pub fn condition_failure(condition: Condition, failed: bool, ended: bool) -> Option<Failure>
     ensures { result ≡ failure_at condition failed ended }
 {

@@ -4,7 +4,7 @@ ghost use Rattle.wait_conditions.specs.Holds.{suits, holds_at};
 
 use s6_events::{Condition, Mark};
 
-// Whether a service with this current letter is as the condition asks, apart from whether it was started since the waiter began.
+// Whether a service with this current letter is as the condition asks, apart from whether it was started since the waiter was made.
 fn letter_suits(condition: Condition, letter: Mark) -> bool
     ensures { result ≡ suits condition letter }
 {
@@ -16,7 +16,7 @@ fn letter_suits(condition: Condition, letter: Mark) -> bool
     }
 }
 
-/// Whether a condition holds of a service with this current letter. `spawned`: it was started since the waiter began.
+/// Whether a condition holds of a service with this current letter. `spawned`: it was started since the waiter was made.
 pub fn condition_holds(condition: Condition, letter: Mark, spawned: bool) -> bool
     ensures { result ≡ holds_at condition letter spawned }
 {

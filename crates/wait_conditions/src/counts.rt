@@ -46,7 +46,7 @@ impl Counts {
         }
     }
 
-    // The counters once one of the services has changed.
+    // The counters once one of the services, counted as `was`, has become `now`.
     fn after(self, was: &WatchedService, now: &WatchedService) -> Counts
         requires holding { self.holding ≤ 16 }
         requires failing { self.failing ≤ 16 }

@@ -19,8 +19,10 @@ pub struct WaiterImage<A: Allocator> {
     pub condition: Condition,
     pub mode: Mode,
     pub deadline: Option<u64>,
+    /// How many moments had come when it was made.
     pub place: u64,
     pub watched: Vec<WatchedService, A>,
+    /// Whether it waits still, or with which verdict it was released.
     pub standing: WaitState,
 }
 

@@ -19,7 +19,7 @@ pub fn earlier_of(one: Option<u64>, other: Option<u64>) -> Option<u64>
     }
 }
 
-// The deadline of a waiter that waits still.
+// The deadline of a waiter that waits still; None where it has none, or was released.
 fn awaited_until(waiter: &Waiter) -> Option<u64>
     ensures { result ≡ stored_until (waiter_view waiter.now) }
 {

@@ -1,4 +1,4 @@
-//! A step of the waiters, worked out on copies of those that it touches.
+//! A step of the waiters, worked out on copies of those that its moments touch (`copy_touched`).
 ghost use Rattle.std.specs.Prelude.{◌≡◌, ◌++◌, [], ◌∷◌, All, map, filter, if◌then◌else◌, IfOk, OnOk, IsOk};
 ghost use Rattle.s6_events.specs.Rising.{AreRising};
 ghost use Rattle.wait_conditions.specs.Kept.{waiter_view, with_moments, releases_seen};
@@ -63,7 +63,7 @@ fn copy_among_all<A: Allocator>(
     Ok(copies)
 }
 
-// Copies of the waiters that watch this service, whose watchers these are.
+// Copies of the waiters that watch this service; `watchers` has their serials, which rise.
 fn copy_watching<A: Allocator>(
     alloc: A,
     waiters: &[Waiter],
@@ -83,12 +83,14 @@ fn copy_watching<A: Allocator>(
     for watcher in watchers {
         let place = place_from(waiters, start, watcher.waiter);
         push_copy(&mut copies, &waiters[place])?;
+        // The serials rise, so that the next waiter is behind this one.
         start = place + 1;
     }
     Ok(copies)
 }
 
-/// Copies of the waiters that these moments touch. No waiter that waits has a deadline before `due`.
+/// Copies of the waiters that these moments touch: those that wait, where a moment is a mark of one of their services or reaches their
+/// deadline. No waiter that waits has a deadline before `due`.
 pub fn copy_touched<A: Allocator>(
     alloc: A,
     waiters: &[Waiter],
@@ -144,7 +146,7 @@ pub fn release_all<A: Allocator + Copy>(
     Ok(released)
 }
 
-/// The moments once more, in the memory that is spare; none is left there then.
+/// A copy of the moments, in the memory of `spare`, which is left with none.
 pub fn keep_moments<A: Allocator + Copy>(
     spare: &mut Vec<Moment, A>,
     moments: &[Moment],

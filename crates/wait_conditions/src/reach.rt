@@ -39,6 +39,7 @@ pub fn reach_of(moments: &[Moment], due: u64) -> Reach
     for moment in moments {
         match moment {
             Moment::Clock(at) => {
+                // A clock reading touches only waiters whose deadline it reaches.
                 if at.millis() >= due {
                     return Reach::Anybody;
                 }

@@ -76,8 +76,8 @@ pub fn is_touched_by_any(waiter: &Waiter, moments: &[Moment]) -> bool
     moments.iter().any(|moment| is_touched(waiter, moment))
 }
 
-// The place of the waiter of this serial. It is that of the first waiter that passes a test, where `id` is the first serial of those
-// that pass.
+// The place of the first waiter whose serial is not below `id`: that of `id` itself, where there is one. Its clause speaks of a waiter
+// that is the first to pass some test, whatever the test is.
 fn place_in(waiters: &[Waiter], id: WaitId) -> usize
     requires { AreRising (map (λ k. k.id) (waiters_view waiters.now)) }
     ensures bound { result ≤ length waiters.now }
@@ -88,8 +88,7 @@ fn place_in(waiters: &[Waiter], id: WaitId) -> usize
     waiters.partition_point(|waiter| waiter.id.0 < id.0)
 }
 
-/// The place of the waiter of this serial, at `start` or behind it. From there on it is that of the first waiter that passes a test,
-/// where `id` is the first serial of those that pass.
+/// As `place_in`, but only the waiters from `start` on are looked at.
 pub fn place_from(waiters: &[Waiter], start: usize, id: WaitId) -> usize
     requires start { start ≤ length waiters.now }
     requires rising { AreRising (map (λ k. k.id) (waiters_view waiters.now)) }
@@ -113,7 +112,7 @@ fn take_in_moments(waiter: &mut Waiter, moments: &[Moment])
     }
 }
 
-// A waiter takes in these moments, and watches no service any more where they release it.
+// A waiter takes in these moments; where they release it, it is taken out of `watchers`.
 fn change<A: Allocator>(waiter: &mut Waiter, watchers: &mut Watchers<A>, moments: &[Moment])
     requires { IsCounted waiter.old }
     ensures waiter { waiter_view waiter.new ≡ with_moments moments.now (waiter_view waiter.old) }
@@ -152,6 +151,7 @@ pub fn change_touched<A: Allocator>(
     for id in touched {
         let place = place_from(waiters, start, *id);
         change(&mut waiters[place], watchers, moments);
+        // The serials rise, so that the next waiter is behind this one.
         start = place + 1;
     }
 }

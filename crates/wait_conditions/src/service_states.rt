@@ -10,7 +10,7 @@ use s6_events::{Moment, NoMemory, Sid};
 use std::alloc::Allocator;
 use std::marker::Model;
 
-/// What is known of the services of one run: of each serial above the run before, up to `last`.
+/// What is known of the services of one run of serials: of each one above the `last` of the run before it, up to its own `last`.
 #[derive(Clone, Copy, Debug)]
 pub struct StateRun {
     pub last: Sid,
@@ -18,8 +18,8 @@ pub struct StateRun {
 }
 
 /// What the marks say of every service, in runs of neighbouring serials of which the same is known. Services that were dropped have all
-/// ended, so they share the runs between those that stand. However long a tree runs, there are at most two runs for each service that
-/// stands, and one more.
+/// ended, so they share the runs between those that were not. However long a tree runs, there are at most two runs for each service that
+/// was not dropped, and one more.
 #[derive(Drop)]
 pub struct ServiceStates<A: Allocator> {
     runs: Vec<StateRun, A>,
@@ -46,7 +46,7 @@ fn state_of_service(runs: &[StateRun], sid: Sid) -> SupervisorState
     SupervisorState::unseen()
 }
 
-// The place of the first run that reaches up to this serial, or the end.
+// The place of the run that this serial is in, which is the first that reaches up to it; or the end, where none does.
 fn place_of(runs: &[StateRun], sid: Sid) -> usize
     ensures bound { result ≤ length runs.now }
     ensures before { list_all (λ r. nat_lt r.last sid) (take result runs.now) ≡ true }
@@ -242,6 +242,7 @@ impl<A: Allocator + Copy> ServiceStates<A> {
         ensures err { OnErr result (self.new ≡ self.old) }
         ensures quiet { moments ≡ 0 → IsOk result }
     {
+        // A moment adds two runs at most (`put`).
         let Some(room) = moments.checked_mul(2) else {
             return Err(NoMemory);
         };
@@ -304,22 +305,26 @@ impl<A: Allocator> ServiceStates<A> {
         ensures room { self.old.spare_capacity ≤ self.new.spare_capacity + 2 }
     {
         let place = place_of(&self.runs, sid);
+        // The service has a run of its own: that run says the new state.
         if is_of_one(&self.runs, place, sid) {
             set_run(&mut self.runs, place, sid, state);
             self.tidy_at(place);
             return;
         }
+        // The run just below it says the new state already: it reaches one serial further.
         if is_said_before(&self.runs, place, sid, state) {
             set_run(&mut self.runs, place - 1, sid, state);
             return;
         }
+        // Else its run is cut: the serials below it, as they were, it alone, and those above it.
         let was = state_of_service(&self.runs, sid);
         insert_run(&mut self.runs, place, sid, state);
         insert_below(&mut self.runs, place, sid, was);
         self.tidy(place);
     }
 
-    // Takes out the runs that are not needed, at the four places from one before this one to two after it.
+    // Takes out the runs that are not needed, at the four places from one before this one to two after it. The last one is looked at
+    // first, so that the places of the others stay.
     fn tidy(&mut self, place: usize)
         ensures states { (sid : ℕ) → state_in self.new.runs sid ≡ state_in self.old.runs sid }
         ensures room { self.old.spare_capacity ≤ self.new.spare_capacity }

@@ -1,4 +1,4 @@
-//! What the newest marks of a service say, in all the history and since a waiter began: its letter, a start, a failure, an end.
+//! What the newest marks of a service say, in all the history and since a waiter was made: its letter, a start, a failure, an end.
 ghost use Rattle.std.specs.Prelude.{◌≡◌, []};
 ghost use Rattle.s6_events.specs.CurrentLetter.{letter_after};
 ghost use Rattle.s6_events.specs.Newest.{mark_of};
@@ -15,7 +15,7 @@ pub struct SupervisorState {
     pub ended: bool,
 }
 
-/// What is known of a service since a waiter began: whether it was started, and whether it failed for good and was not started since.
+/// What is known of a service since a waiter was made: whether it was started, and whether it failed for good and was not started since.
 #[derive(Clone, Copy, Debug)]
 pub struct SinceState {
     pub spawned: bool,
@@ -42,7 +42,7 @@ fn next_letter(mark: Option<Mark>, letter: Mark) -> Mark
     }
 }
 
-// Whether a service was started since the waiter began, after one more mark, if there is one; `spawned` is whether it was before.
+// Whether a service was started since the waiter was made, after one more mark, if there is one; `spawned` is whether it was before.
 fn next_spawned(mark: Option<Mark>, spawned: bool) -> bool
     ensures { result ≡ spawned_after mark spawned }
 {

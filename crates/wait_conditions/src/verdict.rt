@@ -10,9 +10,9 @@ use s6_events::Mode;
 pub enum Verdict {
     /// The condition held, of all the services at one moment or of one of them.
     Held,
-    /// It was given up, and a service failed for good.
+    /// The condition was given up, and a service failed for good.
     Failed,
-    /// It was given up, since supervisors have ended.
+    /// The condition was given up, since supervisors have ended.
     Gone,
     /// The clock came to the deadline first.
     TimedOut,

@@ -14,9 +14,12 @@ use std::marker::Model;
 /// What becomes of the list of waiters after the moments of a step.
 #[derive(Drop)]
 pub enum PlannedChange<A: Allocator> {
+    /// No waiter is added or taken out.
     Stay,
+    /// This new waiter is added.
     // A waiter is large, and most steps make none: so a plan has a place for its box alone.
     Join(Box<Waiter, A>),
+    /// The waiter of this serial is taken out, if there is one.
     Leave(WaitId),
 }
 
@@ -27,7 +30,9 @@ pub struct WaitsPlan<A: Allocator> {
     pub(crate) answer: WaitAnswer,
     pub(crate) moments: Vec<Moment, A>,
     pub(crate) change: PlannedChange<A>,
+    // The serial of the next new waiter, after the step.
     pub(crate) next: u64,
+    // The serials of the waiters that the moments touch, which rise.
     pub(crate) touched: Vec<WaitId, A>,
 }
 
@@ -60,7 +65,7 @@ impl<A: Allocator> WaitsPlan<A> {
 }
 
 impl<A: Allocator + Copy> WaitsPlan<A> {
-    /// The plan of these moments alone, where no waiter stands: nobody is touched.
+    /// The plan of these moments alone, where there is no waiter: nobody is touched.
     pub(crate) fn of_nobody(moments: Vec<Moment, A>, next: u64) -> WaitsPlan<A>
         ensures { result ≡ record {
           released = [];

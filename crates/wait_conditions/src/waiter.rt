@@ -29,9 +29,11 @@ pub struct Waiter {
     pub condition: Condition,
     pub mode: Mode,
     pub deadline: Option<u64>,
+    /// How many moments had come when it was made.
     pub place: u64,
     pub watched: ArrayVec<WatchedService, 16>,
     pub counts: Counts,
+    /// Whether it waits still, or with which verdict it was released.
     pub standing: WaitState,
 }
 
@@ -124,6 +126,7 @@ pub fn copy_of(waiter: &Waiter) -> Waiter
     ensures counted { IsCounted result }
 {
     let mut watched = ArrayVec::new();
+    // Both lists have room for 16.
     watched
         .try_extend_from_slice(waiter.watched.as_slice())
         .unwrap();

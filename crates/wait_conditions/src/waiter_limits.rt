@@ -9,7 +9,7 @@ use s6_events::Sid;
 /// The most services of one waiter.
 pub const MOST_SERVICES: usize = 16;
 
-/// The most waiters that stand at one time.
+/// The most waiters that there are at one time, those that were released and not cancelled included.
 pub const WAITER_LIMIT: usize = 1024;
 
 // Whether the service of this serial is one of these.
@@ -31,7 +31,7 @@ fn has_repeat(sids: &[Sid]) -> bool
     false
 }
 
-/// Why a waiter for these services is refused, where `standing` waiters stand; None where it is not.
+/// Why a waiter for these services is refused, where there are `standing` waiters already; None where it is not refused.
 pub fn refusal_for(standing: usize, sids: &[Sid]) -> Option<AddFault>
     ensures { result ≡ add_refusal standing sids.now }
 {

@@ -24,8 +24,9 @@ use std::marker::Model;
 /// The most services that one waiter watches.
 const MOST_WATCHED: usize = 16;
 
-/// The waiters that stand, in the order in which they were made. Beside them it keeps which waiter watches which service, and a moment:
-/// no waiter that waits has a deadline before it. So the waiters that a moment touches are mostly found without a look at the others.
+/// The waiters that stand, in the order in which they were made: a waiter stands until it is cancelled, released or not. Beside them it
+/// keeps which waiter watches which service, and a moment (`due`): no waiter that waits has a deadline before it. So the waiters that a
+/// moment touches are mostly found without a look at the others.
 #[derive(Drop)]
 pub struct WaiterList<A: Allocator> {
     waiters: Vec<Waiter, A>,
@@ -67,7 +68,7 @@ impl<A: Allocator> WaiterList<A> {
         find_standing(&self.waiters, id)
     }
 
-    /// The place of the oldest of those that wait still; None where none does.
+    /// How many moments had come when the oldest of those that wait still was made (its place); None where none waits.
     pub fn oldest(&self) -> Option<u64>
         ensures { result ≡ oldest_place self.now.waiters }
     {
@@ -125,6 +126,7 @@ impl<A: Allocator> WaiterList<A> {
         ensures { self.new.waiters ≡ filter (is_other id) self.old.waiters }
     {
         self.watchers.leave(id);
+        // `due` stays: it need not be a deadline, so long as none of those that wait is before it.
         drop_named(&mut self.waiters, id);
     }
 
@@ -139,6 +141,7 @@ impl<A: Allocator> WaiterList<A> {
             return;
         }
         change_touched(&mut self.waiters, &mut self.watchers, touched, moments);
+        // Waiters with the least deadline may be released now: the least of the others is looked for.
         if is_reached(self.due, moments) {
             self.due = least_deadline(&self.waiters);
         }
@@ -223,7 +226,7 @@ fn find_standing(waiters: &[Waiter], id: WaitId) -> Option<WaitState>
     find_stored(waiters, id)
 }
 
-// The state of the waiter of this serial; None where there is none. As `find_standing`, but its clause speaks of the waiters as stored.
+// As `find_standing`, for the proof: its clause speaks of the waiters as stored.
 fn find_stored(waiters: &[Waiter], id: WaitId) -> Option<WaitState>
     ensures { result ≡ standing_stored id waiters.now }
 {
@@ -235,7 +238,7 @@ fn find_stored(waiters: &[Waiter], id: WaitId) -> Option<WaitState>
     None
 }
 
-// The place of the first one that waits still, which is the oldest of those that do.
+// The place in the history of the first waiter that waits still, which is the oldest of those that do.
 fn oldest_of(waiters: &[Waiter]) -> Option<u64>
     requires { BeganInOrder (waiters_view waiters.now) }
     ensures { result ≡ oldest_place (waiters_view waiters.now) }

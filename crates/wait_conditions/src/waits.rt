@@ -35,8 +35,8 @@ use std::marker::Model;
 /// Fewer moments than this are counted: 2^63.
 const COUNT_LIMIT: u64 = 9_223_372_036_854_775_808;
 
-/// The waiters that stand, at most `WAITER_LIMIT`, and what is known of every service. Pages `s6-svwait` and `s6-svlisten`; that the
-/// history alone says when a waiter is released is chosen here.
+/// The waiters that stand (a waiter does until it is cancelled, released or not), at most `WAITER_LIMIT`, and what is known of every
+/// service. Pages `s6-svwait` and `s6-svlisten`; that the history alone says when a waiter is released is chosen here.
 ///
 /// A step is worked out first (`prepare`), which changes nothing that is shown, and its plan is then made (`commit`); or one thing
 /// alone is done at once (`add`, `moment`, `cancel`).
@@ -46,9 +46,12 @@ const COUNT_LIMIT: u64 = 9_223_372_036_854_775_808;
 /// that watch the one service of its marks, or at none.
 #[derive(Drop)]
 pub struct Waits<A: Allocator> {
+    // How many moments have come.
     count: u64,
+    // What is known of every service, for new waiters.
     states: ServiceStates<A>,
     list: WaiterList<A>,
+    // The serial of the next new waiter.
     next: u64,
     // The list of the last step's moments, kept so that the next step can use its memory.
     spare: Vec<Moment, A>,
@@ -67,7 +70,7 @@ impl<A: Allocator> Model for Waits<A> {
 }
 
 impl<A: Allocator + Copy> Waits<A> {
-    /// No waiter is made yet, and no moment came. It keeps the allocator.
+    /// No waiter is made yet, and no moment has come. It keeps the allocator.
     pub fn new(alloc: A) -> Waits<A>
         ensures empty { WaitsFor result new_watch }
         ensures serials { result.next ≡ 1 }
@@ -88,7 +91,7 @@ impl<A: Allocator + Copy> Waits<A> {
         self.stored_result(id)
     }
 
-    // As `result`; its clause speaks only of what is stored.
+    // As `result`, for the proof: its clause speaks only of what is stored.
     fn stored_result(&self, id: WaitId) -> Option<WaitState>
         ensures { result ≡ standing_kept id self.now.waiters }
     {
@@ -115,7 +118,7 @@ impl<A: Allocator + Copy> Waits<A> {
         self.stored_deadline()
     }
 
-    // As `next_deadline`; its clause speaks only of what is stored.
+    // As `next_deadline`, for the proof: its clause speaks only of what is stored.
     fn stored_deadline(&self) -> Option<u64>
         ensures { result ≡ earliest (map stored_until self.now.waiters) }
     {
@@ -165,7 +168,7 @@ impl<A: Allocator + Copy> Waits<A> {
         self.admit(condition, mode, sids, timeout, start)
     }
 
-    // As `add`; its clauses speak only of what is stored.
+    // As `add`, for the proof: its clauses speak only of what is stored.
     fn admit(
         &mut self,
         condition: Condition,
@@ -218,7 +221,7 @@ impl<A: Allocator + Copy> Waits<A> {
         self.take_moment(moment)
     }
 
-    // As `moment`; its clauses speak only of what is stored.
+    // As `moment`, for the proof: its clauses speak only of what is stored.
     fn take_moment(&mut self, moment: &Moment) -> Result<Vec<(WaitId, Verdict), A>, NoMemory>
         ensures ok { IfOk result (λ released.
             (released.items ≡ filter_map (release_seen moment.now) self.old.waiters)
@@ -253,7 +256,7 @@ impl<A: Allocator + Copy> Waits<A> {
         stood
     }
 
-    // As `cancel`, but it returns nothing; its clause speaks only of what is stored.
+    // As `cancel`, but it returns nothing, for the proof: its clause speaks only of what is stored.
     fn take_out(&mut self, id: WaitId)
         ensures { CancelsWaiter (waits_shown self.old) (waits_shown self.new) id }
     {
@@ -286,7 +289,7 @@ impl<A: Allocator + Copy> Waits<A> {
         self.prepare_stored(moments, change)
     }
 
-    // As `prepare`; its clauses speak only of what is stored.
+    // As `prepare`, for the proof: its clauses speak only of what is stored.
     #[inline(always)]
     fn prepare_stored(
         &mut self,
@@ -304,6 +307,7 @@ impl<A: Allocator + Copy> Waits<A> {
         ensures quiet { moments.now ≡ [] → wait_request_of change.now ≡ no_wait_request
             → IsOkAnd result (λ plan. plan.answer ≡ answer.Nothing) }
     {
+        // Without a waiter, and where nothing is asked, the moments touch nobody.
         if self.list.is_empty() {
             if let WaitChange::Nothing = change {
                 self.make_room(moments.len(), change)?;
@@ -314,7 +318,7 @@ impl<A: Allocator + Copy> Waits<A> {
         self.prepare_any(moments, change)
     }
 
-    // `prepare_stored`, whoever stands. It stands apart, since most steps find no waiter.
+    // `prepare_stored`, whichever waiters there are. It is a function of its own, since most steps find no waiter.
     #[inline(never)]
     fn prepare_any(
         &mut self,
@@ -349,7 +353,7 @@ impl<A: Allocator + Copy> Waits<A> {
         })
     }
 
-    // Makes room for the moments of a step, and for the waiter that it may add.
+    // Makes room for the moments of a step, and for the waiter that it may add. NoMemory also where 2^63 moments would have come.
     fn make_room(&mut self, moments: usize, change: &WaitChange) -> Result<(), NoMemory>
         ensures shown { waits_shown self.new ≡ waits_shown self.old }
         ensures count { OnOk result (self.new.count + moments < 2 ^ 63) }
@@ -456,7 +460,7 @@ impl<A: Allocator + Copy> Waits<A> {
         })
     }
 
-    /// Makes the step of a plan that these waiters prepared; nothing has changed since.
+    /// Makes the step of a plan. It has to be a plan of these waiters, and nothing may have changed since it was made.
     pub fn commit(&mut self, plan: WaitsPlan<A>)
         requires { FitsWaits plan self.old }
         ensures makes { MakesPlan plan (waits_shown self.old) (waits_shown self.new) }
@@ -466,7 +470,7 @@ impl<A: Allocator + Copy> Waits<A> {
         self.make(plan);
     }
 
-    // As `commit`; its clause speaks only of what is stored.
+    // As `commit`, for the proof: its clause speaks only of what is stored.
     #[inline(always)]
     fn make(&mut self, plan: WaitsPlan<A>)
         requires { FitsWaits plan self.old }

@@ -16,7 +16,7 @@ pub struct Watcher {
     pub waiter: WaitId,
 }
 
-/// The waiters that wait, by their services: those of one service stand together, in rising serial.
+/// The waiters that wait, by their services: those of one service lie side by side, in rising serial.
 #[derive(Drop)]
 pub struct Watchers<A: Allocator> {
     list: Vec<Watcher, A>,
